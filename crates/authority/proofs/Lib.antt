@@ -1,0 +1,15 @@
+pub mod Ahead
+pub mod Flags
+pub mod KeyRanks
+pub mod Keys
+pub mod NamesSize
+pub mod Pieces
+pub mod Questions
+pub mod Sizes
+pub mod Standing
+pub mod Written
+pub mod ZoneEntries
+pub mod ZoneMapsBy
+pub mod ZoneNodes
+pub mod ZoneRecords
+pub mod ZoneSets

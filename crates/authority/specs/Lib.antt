@@ -1,0 +1,15 @@
+pub mod Codes
+pub mod Headers
+pub mod Keys
+pub mod NameLaws
+pub mod Names
+pub mod Octets
+pub mod Plans
+pub mod RecordData
+pub mod Records
+pub mod Replies
+pub mod Requests
+pub mod Serving
+pub mod Wire
+pub mod ZoneMaps
+pub mod Zones

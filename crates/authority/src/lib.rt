@@ -1,0 +1,18 @@
+//! An authoritative DNS server, from the octets of a request to the octets of its reply.
+#![tactic(auto)]
+
+mod codes;
+mod message;
+mod names;
+mod record_data;
+mod records;
+mod response;
+mod server;
+mod zone;
+
+pub use codes::{DNSClass, RecordType};
+pub use names::{Label, Name};
+pub use record_data::{A, NS, RData, SOA};
+pub use records::{Record, RecordSet};
+pub use zone::settings::{AxfrPolicy, NxProofKind, Salt, ZoneSettings, ZoneType};
+pub use server::Protocol;
