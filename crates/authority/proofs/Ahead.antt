@@ -16,7 +16,10 @@ pub record LabelsAhead (message : List ℕ) (place : ℕ) (labels : List (List �
 
 pub ahead_start : (message : List ℕ) (place : ℕ) → LabelsAhead message place [] 1 place
 ahead_start message place = record {
-  each = tt; counted = refl; small = omega arith; after = omega arith;
+  each = tt;
+  counted = refl;
+  small = omega arith;
+  after = omega arith;
   sound = λ rest end s. s;
   only = λ all end s. (all, refl, s);
 }
@@ -49,9 +52,9 @@ ahead_more message place labels size at one behind a is s fits = record {
   after = omega (arith, a.after, s.behind);
   sound = λ rest end spelled. subst (λ (all : List (List ℕ)). Spells message place all end) (sym (append_assoc labels (one ∷ []) rest)) (a.sound (one ∷ rest) end (label is s spelled));
   only = λ all end spelled.
-    let before = a.only all end spelled in
-    let next = label_first message at one behind before.0 end is s before.2 in
-    (next.0, before.1 ∙ ap (λ (ls : List (List ℕ)). labels ++ ls) next.1 ∙ sym (append_assoc labels (one ∷ []) next.0), next.2);
+      let before = a.only all end spelled in
+      let next = label_first message at one behind before.0 end is s before.2 in
+      (next.0, before.1 ∙ ap (λ (ls : List (List ℕ)). labels ++ ls) next.1 ∙ sym (append_assoc labels (one ∷ []) next.0), next.2);
 }
 
 pub ahead_name : (message : List ℕ) (place : ℕ) (labels : List (List ℕ)) (size at : ℕ) → LabelsAhead message place labels size at → Stands message at (0 ∷ []) (at + 1) → NameAt message place (record { fqdn = true; labels = labels }) (at + 1)

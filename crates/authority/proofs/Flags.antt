@@ -48,9 +48,9 @@ pub flags_back : (m : Metadata) → FitsHeader m → metadata_of m.id (high_octe
 unfolding made
 flags_back m f =
     let h = five_bits (flag (is_response m.message_type)) (op_code_number m.op_code) (flag m.authoritative) (flag m.truncation) (flag m.recursion_desired)
-        (flag_small (is_response m.message_type)) f.small_op_code (flag_small m.authoritative) (flag_small m.truncation) (flag_small m.recursion_desired) in
+    (flag_small (is_response m.message_type)) f.small_op_code (flag_small m.authoritative) (flag_small m.truncation) (flag_small m.recursion_desired) in
     let l = three_bits (flag m.recursion_available) (flag m.authentic_data) (flag m.checking_disabled) (response_code_number m.response_code)
-        (flag_small m.recursion_available) (flag_small m.authentic_data) (flag_small m.checking_disabled) f.small_response_code in
+    (flag_small m.recursion_available) (flag_small m.authentic_data) (flag_small m.checking_disabled) f.small_response_code in
     let t = type_back m.message_type _ (bit_is _ _ h.0) in
     let op = ap op_code_of h.1 ∙ f.op_code in
     let code = ap response_code_of l.3 ∙ f.response_code in

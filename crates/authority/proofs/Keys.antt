@@ -136,6 +136,7 @@ starts_at_end xs needle = ⊎_elim short long (cases_lt (length xs) (length need
     short h =
         starts_past (reverse needle) (reverse xs) (simp length-reverse (omega arith))
         ∙ sym (pointwise_apart needle (drop (length xs - length needle) xs) (simp length-drop (omega arith)))
+
     long : length needle ≤ length xs → starts (reverse needle) (reverse xs) ≡ ends_with label_eq xs needle
     long h =
         let n : ℕ = length xs - length needle in
@@ -150,6 +151,7 @@ same_key a b = by a.fqdn b.fqdn
   where
     labels : bytes_eq (labels_key a.labels) (labels_key b.labels) ≡ pointwise label_eq a.labels b.labels
     labels = labels_same (reverse a.labels) (reverse b.labels) ∙ pointwise_reversed a.labels b.labels
+
     by : (f g : Bool) → bytes_eq ((if f then 1 else 0) ∷ labels_key a.labels) ((if g then 1 else 0) ∷ labels_key b.labels) ≡ (beq f g && pointwise label_eq a.labels b.labels)
     by true true = labels
     by true false = refl

@@ -13,3 +13,5 @@ pub mod ZoneMapsBy
 pub mod ZoneNodes
 pub mod ZoneRecords
 pub mod ZoneSets
+pub mod Asked
+pub mod ServedRuns

@@ -36,7 +36,7 @@ pub spells_octets : (message : List ℕ) (place : ℕ) (labels : List (List ℕ)
 spells_octets message place [] end sound s = ends s
 spells_octets message place (l ∷ ls) end sound s =
     label sound.0 (stands_first message place (length l ∷ l) (name_octets ls) end s)
-        (spells_octets message (place + length (length l ∷ l)) ls end sound.1 (stands_second message place (length l ∷ l) (name_octets ls) end s))
+    (spells_octets message (place + length (length l ∷ l)) ls end sound.1 (stands_second message place (length l ∷ l) (name_octets ls) end s))
 
 pub name_stands : (message : List ℕ) (place : ℕ) (name : DomainName) (end : ℕ) → IsDomainName name → name.fqdn ≡ true → Stands message place (name_octets name.labels) end → NameAt message place name end
 name_stands message place name end sound full s = record {
@@ -67,7 +67,7 @@ stands_over m n from to same place octets end low high s =
     let n_here = rest_at n from to same.octets same.in_n place low (omega (arith, after)) in
     let n_end = rest_at n from to same.octets same.in_n end (omega (arith, after)) high in
     let both : drop (place - from) same.octets ++ drop to m ≡ (octets ++ drop (end - from) same.octets) ++ drop to m =
-        sym m_here ∙ s.there ∙ ap (λ (rest : List ℕ). octets ++ rest) m_end ∙ sym (append_assoc octets (drop (end - from) same.octets) (drop to m)) in
+    sym m_here ∙ s.there ∙ ap (λ (rest : List ℕ). octets ++ rest) m_end ∙ sym (append_assoc octets (drop (end - from) same.octets) (drop to m)) in
     let front : drop (place - from) same.octets ≡ octets ++ drop (end - from) same.octets = append_cancel_right _ _ (drop to m) both in
     record {
       there = n_here ∙ ap (λ (rest : List ℕ). rest ++ drop to n) front ∙ append_assoc octets (drop (end - from) same.octets) (drop to n) ∙ ap (λ (rest : List ℕ). octets ++ rest) (sym n_end);
@@ -84,7 +84,7 @@ spells_over m n from to same place [] end low high (ends s) = ends (stands_over 
 spells_over m n from to same place (l ∷ ls) end low high (label {behind = behind} is s others) =
     let after = spells_after m behind ls end others in
     label is (stands_over m n from to same place (length l ∷ l) behind low (omega (arith, after)) s)
-        (spells_over m n from to same behind ls end (omega (arith, s.behind)) high others)
+    (spells_over m n from to same behind ls end (omega (arith, s.behind)) high others)
 
 get_over : (m n : List ℕ) (from to : ℕ) → SameThere m n from to → (place : ℕ) → from ≤ place → place < to → get_or m place 0 ≡ get_or n place 0
 get_over m n from to same place low high =

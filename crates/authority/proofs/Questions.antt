@@ -33,12 +33,13 @@ question_is message place q end p =
 -- One place holds one question.
 pub question_once : (message : List ℕ) (place : ℕ) (a b : Query) (e f : ℕ) → QuestionAt message place a e → QuestionAt message place b f → (a ≡ b) × (e ≡ f)
 question_once message place a b e f p q =
-    let names = name_once message place a.name b.name p.middle q.middle p.name q.name in
-    (question_is message place a e p
-        ∙ ap (λ (n : DomainName). query_of n (number_16 message p.middle) (number_16 message (p.middle + 2))) names.0
-        ∙ ap (λ (m : ℕ). query_of b.name (number_16 message m) (number_16 message (m + 2))) names.1
-        ∙ sym (question_is message place b f q)
-    , p.behind ∙ ap (λ (m : ℕ). m + 4) names.1 ∙ sym q.behind)
+    let names = name_once message place a.name b.name p.middle q.middle p.name q.name in (
+      question_is message place a e p
+          ∙ ap (λ (n : DomainName). query_of n (number_16 message p.middle) (number_16 message (p.middle + 2))) names.0
+          ∙ ap (λ (m : ℕ). query_of b.name (number_16 message m) (number_16 message (m + 2))) names.1
+          ∙ sym (question_is message place b f q),
+      p.behind ∙ ap (λ (m : ℕ). m + 4) names.1 ∙ sym q.behind,
+    )
 
 -- What was read, and what is still ahead.
 pub record EntriesAhead {X : Type 0} (At : ℕ → X → ℕ → Type 0) (place : ℕ) (before : List X) (at : ℕ) : Type 0 where
@@ -62,10 +63,10 @@ pub entries_more : {X : Type 0} (At : ℕ → X → ℕ → Type 0) → ((place 
 entries_more {X} At once place before at x behind a here = record {
   sound = λ rest end e. subst (λ (all : List X). Entries At place all end) (sym (append_assoc before (x ∷ []) rest)) (a.sound (x ∷ rest) end (behind, here, e));
   only = λ all end e long.
-    let pushed : length (before ++ x ∷ []) ≡ length before + 1 = length-append before (x ∷ []) in
-    let found = a.only all end e (omega (arith, pushed)) in
-    let next = entry_first At once at x behind found.0 end here found.2 (longer before found.0 all found.1 (omega (arith, pushed))) in
-    (next.0, found.1 ∙ ap (λ (xs : List X). before ++ xs) next.1 ∙ sym (append_assoc before (x ∷ []) next.0), next.2);
+      let pushed : length (before ++ x ∷ []) ≡ length before + 1 = length-append before (x ∷ []) in
+      let found = a.only all end e (omega (arith, pushed)) in
+      let next = entry_first At once at x behind found.0 end here found.2 (longer before found.0 all found.1 (omega (arith, pushed))) in
+      (next.0, found.1 ∙ ap (λ (xs : List X). before ++ xs) next.1 ∙ sym (append_assoc before (x ∷ []) next.0), next.2);
 }
 
 pub entries_all : {X : Type 0} (At : ℕ → X → ℕ → Type 0) (place : ℕ) (before : List X) (at : ℕ) → EntriesAhead At place before at → Entries At place before at

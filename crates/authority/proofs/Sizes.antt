@@ -22,17 +22,26 @@ pub length-soa_numbers : (soa : SOA) → length (soa_numbers soa) ≡ 20
 length-soa_numbers soa = simp (length-append, length-octets_32) refl
 
 pub length-soa_octets : (soa : SOA) → length (soa_octets soa) ≡ name_size soa.mname.labels + name_size soa.rname.labels + 20
-length-soa_octets soa = omega (arith,
-    length-append (name_octets soa.mname.labels) (name_octets soa.rname.labels ++ soa_numbers soa), length-append (name_octets soa.rname.labels) (soa_numbers soa),
-    size_of_octets soa.mname.labels, size_of_octets soa.rname.labels, length-soa_numbers soa)
+length-soa_octets soa = omega (
+  arith,
+  length-append (name_octets soa.mname.labels) (name_octets soa.rname.labels ++ soa_numbers soa),
+  length-append (name_octets soa.rname.labels) (soa_numbers soa),
+  size_of_octets soa.mname.labels,
+  size_of_octets soa.rname.labels,
+  length-soa_numbers soa,
+)
 
 pub length-fixed_octets : (r : Record) → length (fixed_octets r) ≡ 10
 length-fixed_octets r = simp (length-append, length-octets_32) refl
 
 pub length-record_octets : (r : Record) → length (record_octets r) ≡ name_size r.name.labels + 10 + length (rdata_octets r.rdata)
-length-record_octets r = omega (arith,
-    length-append (name_octets r.name.labels) (fixed_octets r ++ rdata_octets r.rdata), length-append (fixed_octets r) (rdata_octets r.rdata),
-    size_of_octets r.name.labels, length-fixed_octets r)
+length-record_octets r = omega (
+  arith,
+  length-append (name_octets r.name.labels) (fixed_octets r ++ rdata_octets r.rdata),
+  length-append (fixed_octets r) (rdata_octets r.rdata),
+  size_of_octets r.name.labels,
+  length-fixed_octets r,
+)
 
 pub ruleset sizes = (size_of_octets, length-soa_octets, length-record_octets)
 

@@ -98,9 +98,11 @@ questions_over : (m n : List ℕ) (from to : ℕ) → SameThere m n from to → 
 questions_over m n from to same place [] end low high long e = e
 questions_over m n from to same place (q ∷ qs) end low high long (behind, at, more) =
     let after = questions_after m behind qs end more in
-    let before = spells_after m place q.name.labels at.middle at.name.spelled in
-    (behind, question_over m n from to same place q behind low (omega (arith, after)) long at,
-        questions_over m n from to same behind qs end (omega (arith, before, at.behind)) high long more)
+    let before = spells_after m place q.name.labels at.middle at.name.spelled in (
+      behind,
+      question_over m n from to same place q behind low (omega (arith, after)) long at,
+      questions_over m n from to same behind qs end (omega (arith, before, at.behind)) high long more,
+    )
 
 -- The pieces of a reply, each where it stands.
 record PiecesStand (reply question answers authorities : List ℕ) (first middle end : ℕ) : Type 0 where
@@ -139,14 +141,14 @@ whole_reply message reply request parts limit is full_answers full_authorities w
     let reply_is : length reply ≡ w.end = omega (arith, p.whole, middle_is, end_is) in
     let answered : Stands reply first (flat_map record_octets answers) w.middle = subst (λ (k : ℕ). Stands reply first (flat_map record_octets answers) k) middle_is p.answered in
     let behind : Stands reply w.middle (flat_map record_octets authorities) (length reply) =
-        subst (λ (k : ℕ). Stands reply k (flat_map record_octets authorities) (length reply)) middle_is (subst (λ (k : ℕ). Stands reply (first + length (flat_map record_octets answers)) (flat_map record_octets authorities) k) p.whole p.behind) in
+    subst (λ (k : ℕ). Stands reply k (flat_map record_octets authorities) (length reply)) middle_is (subst (λ (k : ℕ). Stands reply (first + length (flat_map record_octets answers)) (flat_map record_octets authorities) k) p.whole p.behind) in
     let kept_is : length answers ≡ w.kept = omega (arith, length-take w.kept parts.answers, w.answers_plan.some) in
     let kept_authorities_is : length authorities ≡ w.kept_authorities = omega (arith, length-take w.kept_authorities parts.authorities, w.authorities_plan.some) in
     let asked_end : is.end ≡ first = omega (arith, is.octets.behind) in
     let same : SameThere message reply 12 first = record { octets = request.question_octets; in_m = subst (λ (k : ℕ). Stands message 12 request.question_octets k) asked_end is.octets; in_n = p.asked } in
     let within : first ≤ length reply = omega (arith, p.whole) in
-    let in_message : Entries (QuestionAt message) 12 request.questions first = subst (λ (k : ℕ). Entries (QuestionAt message) 12 request.questions k) asked_end is.questions.0 in
-    (record {
+    let in_message : Entries (QuestionAt message) 12 request.questions first = subst (λ (k : ℕ). Entries (QuestionAt message) 12 request.questions k) asked_end is.questions.0 in (
+      record {
         questions_end = first;
         answers = answers;
         answers_end = w.middle;
@@ -156,7 +158,9 @@ whole_reply message reply request parts limit is full_answers full_authorities w
         answers_front = front_stands reply limit first parts.answers w.kept w.middle full_answers w.answers_names w.answers_plan.full answered;
         authorities_front = front_stands reply limit w.middle parts.authorities w.kept_authorities (length reply) full_authorities w.authorities_names (λ r rest e. omega (arith, reply_is, w.authorities_plan.full r rest e)) behind;
         header = ap header_of w.octets ∙ w.header_is _ ∙ (λ i. header_with parts.metadata (nat_lt (sym kept_is i) (length parts.answers) || nat_lt (sym kept_authorities_is i) (length parts.authorities)) (length request.questions) (sym kept_is i) (sym kept_authorities_is i));
-      }, omega (arith, reply_is, w.authorities_plan.fits))
+      },
+      omega (arith, reply_is, w.authorities_plan.fits),
+    )
 
 -- Where the questions fit.
 pub reply_of_written : (message reply : List ℕ) (request : Request) (parts : ReplyParts) (limit : ℕ) → IsRequest message request →

@@ -67,8 +67,8 @@ module _ {K V : Type 0} (octets : K → List ℕ) (sets : V → List RRset) wher
   lookup_replaced q k (e ∷ es) v w found =
       replaced_parts (at_key k e.0) (at_key q) e es (set_value (at_key k) es w) w
       ∙ replaced_pick (at_key k e.0) (bytes_eq q k) (at_key q e.0) w e.1 (lookup (at_key q) es) (lookup (at_key q) (set_value (at_key k) es w))
-        (at_same q k e.0) (not_at q k e.0)
-        (λ h. lookup_replaced q k es v w (sym (ap (λ (t : Bool). cond t (Some e.1) (lookup (at_key k) es)) h) ∙ found))
+      (at_same q k e.0) (not_at q k e.0)
+      (λ h. lookup_replaced q k es v w (sym (ap (λ (t : Bool). cond t (Some e.1) (lookup (at_key k) es)) h) ∙ found))
 
   nodes_step : (a : Bool) (k : List ℕ) (e : K × V) (es rest : List (K × V)) (w : V) → (a ≡ true → IsNode (octets e.0) (sets w)) → AreNodes (e ∷ es) → AreNodes rest
       → AreNodes (cond a ((e.0, w) ∷ es) (e ∷ rest))
@@ -159,16 +159,16 @@ module _ {K V : Type 0} (octets : K → List ℕ) (sets : V → List RRset) wher
       by : (name : DomainName) (t : RecordType) (b : Bool) → bytes_eq (name_key name) (name_key r.name) ≡ b
           → set_in octets sets (cond b (Some w) (lookup (at_key (name_key name)) old)) t
           ≡ cond (name_eq name r.name && same_type (rdata_type r.rdata) t)
-            (Some (set_with (stored (sets_of octets sets old) name t) r)) (stored (sets_of octets sets old) name t)
+          (Some (set_with (stored (sets_of octets sets old) name t) r)) (stored (sets_of octets sets old) name t)
       by name t true e =
           let there : List RRset = node_sets (lookup (at_key (name_key r.name)) old) in
           let named : name_eq name r.name ≡ true = sym (same_key name r.name) ∙ e in
           let before : stored (sets_of octets sets old) name t ≡ find (is_of_type t) there
-              = stored_in octets sets name t old was.nodes was.ordered
-              ∙ ap (λ (q : List ℕ). set_in octets sets (lookup (at_key q) old) t) (same_octets (name_key name) (name_key r.name) e)
-              ∙ find_in_node (lookup (at_key (name_key r.name)) old) t in
+          = stored_in octets sets name t old was.nodes was.ordered
+          ∙ ap (λ (q : List ℕ). set_in octets sets (lookup (at_key q) old) t) (same_octets (name_key name) (name_key r.name) e)
+          ∙ find_in_node (lookup (at_key (name_key r.name)) old) t in
           let after : find (is_of_type t) (sets w) ≡ cond (same_type (rdata_type r.rdata) t) (Some (set_with (find (is_of_type t) there) r)) (find (is_of_type t) there)
-              = ap (find (is_of_type t)) holds ∙ find_with t there r (rises (name_key r.name) old was.nodes) in
+          = ap (find (is_of_type t)) holds ∙ find_with t there r (rises (name_key r.name) old was.nodes) in
           rw (named, before) after
       by name t false e =
           let named : name_eq name r.name ≡ false = sym (same_key name r.name) ∙ e in

@@ -84,7 +84,7 @@ any_under_key : (name : DomainName) (key : List ℕ) (sets : List RRset) → nam
 any_under_key name key [] full all e = refl
 any_under_key name key (set ∷ sets) full all e =
     let first : is_at_or_below set.owner name ≡ false
-        = sym (above_begins set.owner name all.0.full full) ∙ ap (begins (name_key name)) all.0.owner ∙ e in
+    = sym (above_begins set.owner name all.0.full full) ∙ ap (begins (name_key name)) all.0.owner ∙ e in
     let rest : list_any (λ set. is_at_or_below set.owner name) sets ≡ false = any_under_key name key sets full all.1 e in
     rw (first, rest) refl
 
@@ -95,6 +95,7 @@ exists_under_key name key (set ∷ sets) full node = by (begins (name_key name) 
   where
     first : is_at_or_below set.owner name ≡ begins (name_key name) key
     first = sym (above_begins set.owner name node.owned.0.full full) ∙ ap (begins (name_key name)) node.owned.0.owner
+
     by : (b : Bool) → begins (name_key name) key ≡ b → (is_at_or_below set.owner name || list_any (λ set. is_at_or_below set.owner name) sets) ≡ begins (name_key name) key
     by true e = rw (first, e) refl
     by false e = rw (first, e) (any_under_key name key sets full node.owned.1 e)
@@ -119,24 +120,24 @@ begins_between (x ∷ q) (y ∷ k) (z ∷ l) le less e =
     let xz : x ≡ z = eqb-true x z p.0 in
     ⊎_elim
     (λ (xy : x ≡ y).
-      let a : nat_lt x y ≡ false = le-ltb x y (omega arith) in
-      let b : nat_eq x y ≡ true = eq-eqb x y xy in
-      let c : nat_lt y z ≡ false = le-ltb y z (omega arith) in
-      let d : nat_eq y z ≡ true = eq-eqb y z (omega arith) in
-      let le1 : is_le (slice_cmp nat_cmp q k) ≡ true = rw (a, b) at le in
-      let less1 : slice_cmp nat_cmp k l ≡ Less = rw (c, d) at less in
-      rw b (begins_between q k l le1 less1 p.1))
+    let a : nat_lt x y ≡ false = le-ltb x y (omega arith) in
+    let b : nat_eq x y ≡ true = eq-eqb x y xy in
+    let c : nat_lt y z ≡ false = le-ltb y z (omega arith) in
+    let d : nat_eq y z ≡ true = eq-eqb y z (omega arith) in
+    let le1 : is_le (slice_cmp nat_cmp q k) ≡ true = rw (a, b) at le in
+    let less1 : slice_cmp nat_cmp k l ≡ Less = rw (c, d) at less in
+    rw b (begins_between q k l le1 less1 p.1))
     (⊎_elim
-      (λ (below : x < y).
-        let c : nat_lt y z ≡ false = le-ltb y z (omega arith) in
-        let d : nat_eq y z ≡ false = ne_eqb y z (λ (h : y ≡ z). omega arith) in
-        let less1 : Greater ≡ Less = rw (c, d) at less in
-        cc)
-      (λ (above : y < x).
-        let a : nat_lt x y ≡ false = le-ltb x y (omega arith) in
-        let b : nat_eq x y ≡ false = ne_eqb x y (λ (h : x ≡ y). omega arith) in
-        let le1 : false ≡ true = rw (a, b) at le in
-        absurd (true≢false (sym le1))))
+    (λ (below : x < y).
+    let c : nat_lt y z ≡ false = le-ltb y z (omega arith) in
+    let d : nat_eq y z ≡ false = ne_eqb y z (λ (h : y ≡ z). omega arith) in
+    let less1 : Greater ≡ Less = rw (c, d) at less in
+    cc)
+    (λ (above : y < x).
+    let a : nat_lt x y ≡ false = le-ltb x y (omega arith) in
+    let b : nat_eq x y ≡ false = ne_eqb x y (λ (h : x ≡ y). omega arith) in
+    let le1 : false ≡ true = rw (a, b) at le in
+    absurd (true≢false (sym le1))))
     (cases_order x y)
 
 -- ---- all entries
@@ -167,7 +168,7 @@ module _ {K V : Type 0} (octets : K → List ℕ) (sets : V → List RRset) wher
   none_later name t k [] nodes later e = refl
   none_later name t k (entry ∷ es) nodes later e =
       let first : find (is_set_at name t) (sets entry.1) ≡ None
-          = none_under_key name t (octets entry.0) (sets entry.1) nodes.0.owned (past_key (name_key name) (octets k) (octets entry.0) e later.0) in
+      = none_under_key name t (octets entry.0) (sets entry.1) nodes.0.owned (past_key (name_key name) (octets k) (octets entry.0) e later.0) in
       let rest : find (is_set_at name t) (sets_of octets sets es) ≡ None = none_later name t k es nodes.1 later.1 e in
       find_append (is_set_at name t) (sets entry.1) (sets_of octets sets es) ∙ rw (first, rest) refl
 
@@ -180,10 +181,10 @@ module _ {K V : Type 0} (octets : K → List ℕ) (sets : V → List RRset) wher
       let o : Option V = lookup (is_at (λ k. slice_cmp nat_cmp (name_key name) (octets k))) es in
       find_append (is_set_at name t) (sets entry.1) (sets_of octets sets es)
       ∙ pick b (find (is_set_at name t) (sets entry.1)) (find (is_set_at name t) (sets_of octets sets es)) (find (is_of_type t) (sets entry.1)) (set_in o t)
-        (found_under_key name t (octets entry.0) (sets entry.1) nodes.0.owned)
-        (none_later name t entry.0 es nodes.1 ordered.0)
-        (none_under_key name t (octets entry.0) (sets entry.1) nodes.0.owned)
-        (λ e. stored_in name t es nodes.1 ordered.1)
+      (found_under_key name t (octets entry.0) (sets entry.1) nodes.0.owned)
+      (none_later name t entry.0 es nodes.1 ordered.0)
+      (none_under_key name t (octets entry.0) (sets entry.1) nodes.0.owned)
+      (λ e. stored_in name t es nodes.1 ordered.1)
       ∙ sym (ap (λ (w : Bool). set_in (cond w (Some entry.1) o) t) (is_eq-slice_cmp (name_key name) (octets entry.0)) ∙ set_in_cond b entry.1 o t)
 
   -- ---- whether a name exists
@@ -241,6 +242,6 @@ module _ {K V : Type 0} (octets : K → List ℕ) (sets : V → List RRset) wher
   exists_from name (entry ∷ es) full nodes ordered =
       any_append (λ set. is_at_or_below set.owner name) (sets entry.1) (sets_of octets sets es)
       ∙ rw (exists_under_key name (octets entry.0) (sets entry.1) full nodes.0)
-        (exists_step (name_key name) entry es (any_exists name es) (is_le (slice_cmp nat_cmp (name_key name) (octets entry.0))) refl
-          (none_exists name entry.0 es full nodes.1 ordered.0)
-          (exists_from name es full nodes.1 ordered.1))
+      (exists_step (name_key name) entry es (any_exists name es) (is_le (slice_cmp nat_cmp (name_key name) (octets entry.0))) refl
+      (none_exists name entry.0 es full nodes.1 ordered.0)
+      (exists_from name es full nodes.1 ordered.1))

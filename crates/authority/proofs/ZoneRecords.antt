@@ -42,6 +42,7 @@ put_record_found xs r i e = by (nat_lt n (length xs)) refl e
   where
     n : ℕ
     n = position_or_len (equal r.rdata) xs
+
     by : (b : Bool) → nat_lt n (length xs) ≡ b → Some i ≡ cond b (Some n) None → set xs i r ≡ put_record xs r
     by true t s = let j : i ≡ n = cc in ap (λ k. set xs k r) j ∙ sym (found xs r (ltb-true n (length xs) t))
     by false t s = cc
@@ -51,6 +52,7 @@ put_record_missed xs r e = by (nat_lt n (length xs)) refl e
   where
     n : ℕ
     n = position_or_len (equal r.rdata) xs
+
     by : (b : Bool) → nat_lt n (length xs) ≡ b → None ≡ cond b (Some n) None → xs ++ r ∷ [] ≡ put_record xs r
     by true t s = cc
     by false t s = sym (missed xs r (ltb-false n (length xs) t))
@@ -84,11 +86,11 @@ pub IsRRset-single : (r : Record) → has_only_full_names r ≡ true
     → IsRRset (record { owner = r.name; record_type = rdata_type r.rdata; records = r ∷ [] })
 IsRRset-single r full =
     let h : IsRecordOf r.name (rdata_type r.rdata) r
-        = record {
-          at_owner = name_eq_equiv.refl r.name;
-          of_type = eq-eqb (type_code (rdata_type r.rdata)) (type_code (rdata_type r.rdata)) refl;
-          full_names = full
-        } in
+    = record {
+      at_owner = name_eq_equiv.refl r.name;
+      of_type = eq-eqb (type_code (rdata_type r.rdata)) (type_code (rdata_type r.rdata)) refl;
+      full_names = full;
+    } in
     record { not_empty = omega arith; records = (h, tt) }
 
 -- after a try to put a record there

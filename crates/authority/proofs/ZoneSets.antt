@@ -44,7 +44,7 @@ found_step true c s sets after r d i k same owner more e =
       below = let h : f.j < length sets = f.below in omega arith;
       owner = f.owner;
       of_type = f.of_type;
-      after_is = ap (λ (t : List RRset). s ∷ t) f.after_is
+      after_is = ap (λ (t : List RRset). s ∷ t) f.after_is;
     }
 found_step false true s sets after r d i k same owner more e =
     let h : i ≡ k = cc in
@@ -75,7 +75,7 @@ missed_step true c s sets after r i k more e =
       j = suc f.j;
       is = let h : k ≡ i + 1 + f.j = f.is in omega arith;
       within = let h : f.j ≤ length sets = f.within in omega arith;
-      after_is = ap (λ (t : List RRset). s ∷ t) f.after_is
+      after_is = ap (λ (t : List RRset). s ∷ t) f.after_is;
     }
 missed_step false true s sets after r i k more e = let h : ⊥ = cc in absurd h
 missed_step false false s sets after r i k more e =
@@ -125,7 +125,7 @@ rise (s ∷ sets) r old =
     rise_step (nat_lt (type_code s.record_type) (code_of r)) (type_code s.record_type == code_of r) s sets r
     (ltb-true (type_code s.record_type) (code_of r))
     (λ b c. let h : code_of r ≤ type_code s.record_type = ltb-false (type_code s.record_type) (code_of r) b in
-      let ne : type_code s.record_type ≡ code_of r → ⊥ = eqb-false (type_code s.record_type) (code_of r) c in omega arith)
+    let ne : type_code s.record_type ≡ code_of r → ⊥ = eqb-false (type_code s.record_type) (code_of r) c in omega arith)
     old.0 old.1 (rise sets r old.1)
 
 owned_step : (b c : Bool) (key : List ℕ) (s : RRset) (sets : List RRset) (r : Record) → r.name.fqdn ≡ true → name_key r.name ≡ key
@@ -168,8 +168,8 @@ none_above n t (s ∷ sets) h all =
 find_parts : (b e : Bool) (t : RecordType) (s : RRset) (sets after : List RRset) (r : Record)
     → find (is_of_type t) (cond b (s ∷ after) (cond e (set_with (Some s) r ∷ sets) (set_with None r ∷ s ∷ sets)))
     ≡ cond b (cond (is_of_type t s) (Some s) (find (is_of_type t) after))
-      (cond e (cond (is_of_type t s) (Some (set_with (Some s) r)) (find (is_of_type t) sets))
-        (cond (same_type (rdata_type r.rdata) t) (Some (set_with None r)) (cond (is_of_type t s) (Some s) (find (is_of_type t) sets))))
+    (cond e (cond (is_of_type t s) (Some (set_with (Some s) r)) (find (is_of_type t) sets))
+    (cond (same_type (rdata_type r.rdata) t) (Some (set_with None r)) (cond (is_of_type t s) (Some s) (find (is_of_type t) sets))))
 find_parts true e t s sets after r = refl
 find_parts false true t s sets after r = refl
 find_parts false false t s sets after r = refl
@@ -196,14 +196,14 @@ find_with t (s ∷ sets) r old =
     let e : Bool = n == code_of r in
     find_parts b e t s sets (with_record sets r) r
     ∙ choose b e (is_of_type t s) (same_type (rdata_type r.rdata) t) s r (find (is_of_type t) sets) (find (is_of_type t) (with_record sets r))
-      (λ before at. ne_eqb (code_of r) (type_code t)
-        (λ (h : code_of r ≡ type_code t). let g = ltb-true n (code_of r) before in let f = eqb-true n (type_code t) at in omega arith))
-      (λ same. ap (λ (m : ℕ). m == type_code t) (sym (eqb-true n (code_of r) same)))
-      (λ before same at. ne_eqb n (type_code t)
-        (λ (h : n ≡ type_code t). let g = eqb-true (code_of r) (type_code t) at in let f = eqb-false n (code_of r) same in omega arith))
-      (λ before same at. none_above n t sets
-        (let g = eqb-true (code_of r) (type_code t) at in let f = ltb-false n (code_of r) before in omega arith) old.0)
-      (find_with t sets r old.1)
+    (λ before at. ne_eqb (code_of r) (type_code t)
+    (λ (h : code_of r ≡ type_code t). let g = ltb-true n (code_of r) before in let f = eqb-true n (type_code t) at in omega arith))
+    (λ same. ap (λ (m : ℕ). m == type_code t) (sym (eqb-true n (code_of r) same)))
+    (λ before same at. ne_eqb n (type_code t)
+    (λ (h : n ≡ type_code t). let g = eqb-true (code_of r) (type_code t) at in let f = eqb-false n (code_of r) same in omega arith))
+    (λ before same at. none_above n t sets
+    (let g = eqb-true (code_of r) (type_code t) at in let f = ltb-false n (code_of r) before in omega arith) old.0)
+    (find_with t sets r old.1)
 
 -- ---- as the code finds them
 pub record FoundHere (k : ℕ) (sets : List RRset) (r : Record) (d : RRset) : Type 0 where
@@ -217,12 +217,12 @@ found_here sets r d k full owned e =
     let f : FoundAt 0 k sets r d (with_record sets r) = found_at sets r d 0 k owned (sym e) in
     let same : f.j ≡ k = let h : k ≡ 0 + f.j = f.is in omega arith in
     let P : ℕ → Type 0 = λ n. (n < length sets) × (name_eq r.name (get_or sets n d).owner ≡ true)
-      × (type_code (get_or sets n d).record_type ≡ code_of r) × (with_record sets r ≡ set sets n (set_with (Some (get_or sets n d)) r)) in
+    × (type_code (get_or sets n d).record_type ≡ code_of r) × (with_record sets r ≡ set sets n (set_with (Some (get_or sets n d)) r)) in
     let h : P k = subst P same (f.below, f.owner, f.of_type, f.after_is) in
     record {
       below = h.0;
       is_record = record { at_owner = h.1; of_type = eq-eqb (code_of r) (type_code (get_or sets k d).record_type) (sym h.2); full_names = full };
-      after_is = h.3
+      after_is = h.3;
     }
 
 pub record MissedHere (k : ℕ) (sets : List RRset) (r : Record) : Type 0 where

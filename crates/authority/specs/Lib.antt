@@ -1,6 +1,7 @@
 pub mod Codes
 pub mod Headers
 pub mod Keys
+pub mod Lookups
 pub mod NameLaws
 pub mod Names
 pub mod Octets
@@ -13,3 +14,5 @@ pub mod Serving
 pub mod Wire
 pub mod ZoneMaps
 pub mod Zones
+pub mod Servers
+pub mod Runs

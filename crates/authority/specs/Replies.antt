@@ -85,9 +85,16 @@ pub record IsWholeReply (reply : List ℕ) (parts : ReplyParts) (request : Reque
 -- What is left to say where not even the questions fit.
 abbrev pub bare_failure : ℕ → Metadata
 bare_failure id = record {
-  id = id; message_type = messages.Response; op_code = operations.Query;
-  authoritative = false; truncation = false; recursion_desired = false; recursion_available = false;
-  authentic_data = false; checking_disabled = false; response_code = responses.ServFail;
+  id = id;
+  message_type = messages.Response;
+  op_code = operations.Query;
+  authoritative = false;
+  truncation = false;
+  recursion_desired = false;
+  recursion_available = false;
+  authentic_data = false;
+  checking_disabled = false;
+  response_code = responses.ServFail;
 }
 
 -- A reply of these parts to this request, within the limit.

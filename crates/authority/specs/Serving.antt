@@ -24,9 +24,15 @@ use Rattle.authority.specs.Replies.{ReplyParts, IsReply}
 -- The header of a reply repeats the identifier, the operation, RD and CD.
 abbrev pub reply_metadata : Metadata → Bool → ResponseCode → Metadata
 reply_metadata m authoritative code = record {
-  id = m.id; message_type = messages.Response; op_code = m.op_code;
-  authoritative = authoritative; truncation = false; recursion_desired = m.recursion_desired;
-  recursion_available = false; authentic_data = false; checking_disabled = m.checking_disabled;
+  id = m.id;
+  message_type = messages.Response;
+  op_code = m.op_code;
+  authoritative = authoritative;
+  truncation = false;
+  recursion_desired = m.recursion_desired;
+  recursion_available = false;
+  authentic_data = false;
+  checking_disabled = m.checking_disabled;
   response_code = code;
 }
 
@@ -59,7 +65,7 @@ abbrev pub question_parts : View → Metadata → Query → ReplyParts
 question_parts view m q =
     if is_at_or_below q.name view.origin
     then if same_type q.query_type types.AXFR then error_parts m responses.ServFail
-         else outcome_parts view m q.query_type (lookup_result view q.name q.query_type)
+    else outcome_parts view m q.query_type (lookup_result view q.name q.query_type)
     else error_parts m responses.Refused
 
 -- A query asks one question.

@@ -5,6 +5,7 @@ use Rattle.std.specs.List.Sorted.{IsStrictlySortedBy}
 use Rattle.std.specs.Ordering.{nat_cmp}
 use Rattle.std.specs.Cmp.Lexicographic.{slice_cmp}
 use Rattle.std.specs.Map.{keys_of}
+use Rattle.authority.specs.Names.{DomainName}
 use Rattle.authority.specs.Codes.{type_code, same_type}
 use Rattle.authority.specs.Keys.{name_key}
 use Rattle.authority.specs.declared.records.Record.{Record}
@@ -52,3 +53,8 @@ module _ {K V : Type 0} (octets : K → List ℕ) (sets : V → List RRset) wher
   pub record IsZone (entries : List (K × V)) : Type 0 where
     pub nodes : AllByRecursion (λ entry. IsNode (octets entry.0) (sets entry.1)) entries
     pub ordered : IsStrictlySortedBy (λ a b. slice_cmp nat_cmp (octets a) (octets b)) (keys_of entries)
+
+-- The origin ends at the root, and has this key.
+pub record IsOrigin (origin : DomainName) (key : List ℕ) : Type 0 where
+  pub full : origin.fqdn ≡ true
+  pub at : key ≡ name_key origin

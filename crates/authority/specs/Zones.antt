@@ -7,6 +7,7 @@ use Rattle.authority.specs.declared.records.Record.{Record}
 use Rattle.authority.specs.declared.zone.settings.ZoneType.{ZoneType}
 use Rattle.authority.specs.declared.zone.settings.AxfrPolicy.{AxfrPolicy}
 use Rattle.authority.specs.declared.zone.settings.NxProofKind.{NxProofKind}
+use Rattle.authority.specs.declared.zone.settings.ZoneSettings.{ZoneSettings}
 use Rattle.authority.specs.Names.{DomainName, name_eq, is_at_or_below}
 use Rattle.authority.specs.Codes.{same_type}
 use Rattle.authority.specs.RecordData.{rdata_type, rdata_eq}
@@ -43,6 +44,16 @@ pub record View : Type 0 where
   pub axfr_policy : AxfrPolicy
   pub nx_proof_kind : Option NxProofKind
   pub sets : List RRset
+
+-- A zone without records.
+abbrev pub empty_zone : DomainName → ZoneSettings → View
+empty_zone name settings =
+    record { origin = name; zone_type = settings.zone_type; axfr_policy = settings.axfr_policy; nx_proof_kind = settings.nx_proof_kind; sets = [] }
+
+-- The zone after is the one before with this record added.
+pub record AddsTo (old : View) (r : Record) (new : View) : Type 0 where
+  pub adds : Adds old.sets r new.sets
+  pub rest : new ≡ record old { sets = new.sets }
 
 -- Why there is no answer (RFC 2308, section 2), or the answer.
 pub data Outcome : Type 0 where

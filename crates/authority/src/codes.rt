@@ -46,6 +46,28 @@ impl RecordType {
     }
 }
 
+impl PartialEq for RecordType {
+    ghost use Rattle.std.specs.Prelude.{◌==◌};
+    ghost use Rattle.std.specs.Cmp.Rules.{comparing};
+    ghost use Rattle.std.proofs.Common.{rules};
+    ghost use Rattle.authority.specs.Codes.{same_type};
+
+    ghost eq = { same_type };
+
+    ghost laws = { Prim.search (comparing, rules) };
+
+    fn eq(&self, other: &RecordType) -> bool {
+        self.code() == other.code()
+    }
+}
+
+impl Eq for RecordType {
+    ghost use Rattle.std.specs.Cmp.Rules.{comparing};
+    ghost use Rattle.std.proofs.Common.{rules};
+
+    ghost laws = { Prim.search (comparing, rules) };
+}
+
 /// The class of a record or of a question.
 #[derive(Clone, Copy, Debug)]
 pub enum DNSClass {

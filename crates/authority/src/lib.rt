@@ -14,5 +14,5 @@ pub use codes::{DNSClass, RecordType};
 pub use names::{Label, Name};
 pub use record_data::{A, NS, RData, SOA};
 pub use records::{Record, RecordSet};
-pub use zone::settings::{AxfrPolicy, NxProofKind, Salt, ZoneSettings, ZoneType};
 pub use server::Protocol;
+pub use zone::settings::{AxfrPolicy, NxProofKind, Salt, ZoneSettings, ZoneType};

@@ -37,7 +37,11 @@ impl<T: Drop> From<AllocFailed<T>> for ReadError {
 }
 
 // The label at a place and the place behind it, or None where a zero ends the name.
-fn read_label(alloc: Global, message: &[u8], place: usize) -> Result<Option<(Label, usize)>, ReadError>
+fn read_label(
+    alloc: Global,
+    message: &[u8],
+    place: usize,
+) -> Result<Option<(Label, usize)>, ReadError>
     ensures { LabelRead message.now place result }
 {
     if message.len() <= place {

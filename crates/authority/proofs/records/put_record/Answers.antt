@@ -14,4 +14,4 @@ pub returns-in_ok-push-in-None-clause-ok : goal.returns-in_ok-push-in-None-claus
 returns-in_ok-push-in-None-clause-ok c =
     c.in_ok-push-in-None.ensures.items
     ∙ put_record_missed c.args.records.now.items c.args.next
-      (c.in-None.ensures ∙ ap (position (λ (s : Record). rdata_eq s.rdata c.args.next.rdata)) c.deref.ensures.value)
+    (c.in-None.ensures ∙ ap (position (λ (s : Record). rdata_eq s.rdata c.args.next.rdata)) c.deref.ensures.value)

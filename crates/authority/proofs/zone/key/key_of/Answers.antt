@@ -11,18 +11,27 @@ push_reserved-requires c =
 
 pub push_label-requires : goal.push_label-requires
 push_label-requires c =
-    omega (arith, ap name_size c.in-Some.ensures.cases.0, name_size_push c.in-Some.above.now c.in-Some.label.now,
-      name_size_above_zero c.in-Some.above.now, ap length c.as_bytes.ensures.value)
+    omega (
+      arith,
+      ap name_size c.in-Some.ensures.cases.0,
+      name_size_push c.in-Some.above.now c.in-Some.label.now,
+      name_size_above_zero c.in-Some.above.now,
+      ap length c.as_bytes.ensures.value,
+    )
 
 pub loop-label-preserved : goal.loop-label-preserved
 loop-label-preserved c = record {
   items =
-    rw (c.push_label.ensures.items, c.as_bytes.ensures.value)
-    (append_assoc c.loop-label.key.items (label_key c.in-Some.label.now) (labels_key c.in-Some.above.now)
-    ∙ ap (λ t. c.loop-label.key.items ++ t)
+      rw (c.push_label.ensures.items, c.as_bytes.ensures.value)
+      (append_assoc c.loop-label.key.items (label_key c.in-Some.label.now) (labels_key c.in-Some.above.now)
+      ∙ ap (λ t. c.loop-label.key.items ++ t)
       (sym (ap labels_key c.in-Some.ensures.cases.0 ∙ labels_key_push c.in-Some.above.now c.in-Some.label.now))
-    ∙ c.loop-label.invariant.items);
+      ∙ c.loop-label.invariant.items);
   room =
-    omega (arith, ap name_size c.in-Some.ensures.cases.0, name_size_push c.in-Some.above.now c.in-Some.label.now,
-      ap length c.as_bytes.ensures.value)
+      omega (
+        arith,
+        ap name_size c.in-Some.ensures.cases.0,
+        name_size_push c.in-Some.above.now c.in-Some.label.now,
+        ap length c.as_bytes.ensures.value,
+      );
 }

@@ -7,7 +7,7 @@ use Rattle.authority.proofs.zone.key.key_of.Given as goal
 abbrev pub invariant-loop-label : goal.invariant-loop-label
 invariant-loop-label l = record {
   items : l.key.items ++ labels_key l.rest ≡ name_key l.name;
-  room : vec_len l.key + name_size l.rest ≤ vec_capacity l.key + 1
+  room : vec_len l.key + name_size l.rest ≤ vec_capacity l.key + 1;
 }
 
 abbrev pub decreases-loop-label : goal.decreases-loop-label

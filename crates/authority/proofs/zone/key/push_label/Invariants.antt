@@ -6,5 +6,5 @@ abbrev pub invariant-loop-octet : goal.invariant-loop-octet
 invariant-loop-octet l = record {
   items : l.key.items ≡ l.initial.key.items ++ map rank (take l.octet-index l.octets);
   len : vec_len l.key ≡ vec_len l.initial.key + l.octet-index;
-  capacity : vec_capacity l.key ≡ vec_capacity l.initial.key
+  capacity : vec_capacity l.key ≡ vec_capacity l.initial.key;
 }

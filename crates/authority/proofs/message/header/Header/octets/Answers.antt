@@ -5,6 +5,6 @@ use Rattle.authority.proofs.message.header.Header.octets.Goals as goal
 pub returns-clause-value : goal.returns-clause-value
 returns-clause-value c rest =
     header_back c.args.self _ _ _ _ _ _ _ _ _ _ _ _ rest c.requires
-        (two_octets _ _ (search rules) c.to_be_bytes.ensures) c.high_octet.ensures c.low_octet.ensures
-        (two_octets _ _ (search rules) c.to_be_bytes-2.ensures) (two_octets _ _ (search rules) c.to_be_bytes-3.ensures)
-        (two_octets _ _ (search rules) c.to_be_bytes-4.ensures) (two_octets _ _ (search rules) c.to_be_bytes-5.ensures)
+    (two_octets _ _ (search rules) c.to_be_bytes.ensures) c.high_octet.ensures c.low_octet.ensures
+    (two_octets _ _ (search rules) c.to_be_bytes-2.ensures) (two_octets _ _ (search rules) c.to_be_bytes-3.ensures)
+    (two_octets _ _ (search rules) c.to_be_bytes-4.ensures) (two_octets _ _ (search rules) c.to_be_bytes-5.ensures)

@@ -20,14 +20,14 @@ invariant_of-self c =
     zone_replaced octets sets c.in_ok-key.key.items c.self.inside.nodes.entries (c.get_mut.follows.lender w).entries w c.self.invariant
     (c.get_mut.follows.holds w).0 (c.get_mut.follows.holds w).4
     (node_tried c.in_ok-key.key.items c.in-Some.sets.now.items w.items c.args.next c.add_to_node.result
-      (node_found octets sets c.in_ok-key.key.items c.self.inside.nodes.entries c.in-Some.sets.now c.self.invariant.nodes (sym c.in-Some.ensures.value))
-      c.in_ok-key.ensures c.requires c.add_to_node.ensures.ok c.add_to_node.ensures.err)
+    (node_found octets sets c.in_ok-key.key.items c.self.inside.nodes.entries c.in-Some.sets.now c.self.invariant.nodes (sym c.in-Some.ensures.value))
+    c.in_ok-key.ensures c.requires c.add_to_node.ensures.ok c.add_to_node.ensures.err)
 
 pub invariant_of-self-in-None : goal.invariant_of-self-in-None
 invariant_of-self-in-None c =
     zone_inserted octets sets c.in_ok-key.key c.self.inside.nodes.entries c.insert.new.self.entries c.in_ok-node-in-None.node c.self.invariant
     (c.in_ok-insert-in-None.ensures.entries
-      ∙ ap (λ (m : BTreeMap Key Node). insert_entry (key_cmp octets sets) m.entries c.in_ok-key.key c.in_ok-node-in-None.node) c.get_mut.follows.holds-at-none)
+    ∙ ap (λ (m : BTreeMap Key Node). insert_entry (key_cmp octets sets) m.entries c.in_ok-key.key c.in_ok-node-in-None.node) c.get_mut.follows.holds-at-none)
     c.insert.ensures.ordered
     (node_alone c.in_ok-key.key.items c.in_ok-node-in-None.node.items c.args.next c.in_ok-key.ensures c.requires c.in_ok-node-in-None.ensures)
 
@@ -44,8 +44,8 @@ returns-in-Some-clause-ok c =
     let w = c.add_to_node.new.sets in
     on_ok c.add_to_node.result
     (λ e. subst (λ (z : List RRset). Adds z c.args.next (sets_of octets sets (c.get_mut.follows.lender w).entries)) c.self.view_is
-      (adds_replaced octets sets c.in_ok-key.key.items c.self.inside.nodes.entries (c.get_mut.follows.lender w).entries c.in-Some.sets.now w c.args.next
-        c.self.invariant (invariant_of-self c) c.in_ok-key.ensures c.in-Some.ensures.value (c.get_mut.follows.holds w).0 e))
+    (adds_replaced octets sets c.in_ok-key.key.items c.self.inside.nodes.entries (c.get_mut.follows.lender w).entries c.in-Some.sets.now w c.args.next
+    c.self.invariant (invariant_of-self c) c.in_ok-key.ensures c.in-Some.ensures.value (c.get_mut.follows.holds w).0 e))
     c.add_to_node.ensures.ok
 
 pub returns-in-Some-clause-err : goal.returns-in-Some-clause-err
@@ -53,15 +53,15 @@ returns-in-Some-clause-err c =
     let w = c.add_to_node.new.sets in
     on_err c.add_to_node.result
     (λ e. ap (sets_of octets sets) (c.get_mut.follows.holds w).0
-      ∙ same_sets octets sets c.in_ok-key.key.items c.self.inside.nodes.entries c.in-Some.sets.now w (sym c.in-Some.ensures.value) e
-      ∙ c.self.view_is)
+    ∙ same_sets octets sets c.in_ok-key.key.items c.self.inside.nodes.entries c.in-Some.sets.now w (sym c.in-Some.ensures.value) e
+    ∙ c.self.view_is)
     c.add_to_node.ensures.err
 
 pub returns-in_ok-insert-in-None-clause-ok : goal.returns-in_ok-insert-in-None-clause-ok
 returns-in_ok-insert-in-None-clause-ok c =
     subst (λ (z : List RRset). Adds z c.args.next (sets_of octets sets c.insert.new.self.entries)) c.self.view_is
     (adds_inserted octets sets c.in_ok-key.key c.self.inside.nodes.entries c.insert.new.self.entries c.in_ok-node-in-None.node c.args.next c.self.invariant
-      (invariant_of-self-in-None c) c.in_ok-key.ensures c.in-None.ensures.value
-      (c.in_ok-insert-in-None.ensures.entries
-        ∙ ap (λ (m : BTreeMap Key Node). insert_entry (key_cmp octets sets) m.entries c.in_ok-key.key c.in_ok-node-in-None.node) c.get_mut.follows.holds-at-none)
-      c.in_ok-node-in-None.ensures)
+    (invariant_of-self-in-None c) c.in_ok-key.ensures c.in-None.ensures.value
+    (c.in_ok-insert-in-None.ensures.entries
+    ∙ ap (λ (m : BTreeMap Key Node). insert_entry (key_cmp octets sets) m.entries c.in_ok-key.key c.in_ok-node-in-None.node) c.get_mut.follows.holds-at-none)
+    c.in_ok-node-in-None.ensures)

@@ -1,0 +1,21 @@
+use Rattle.std.proofs.Common.{◌≡◌, ◌+◌, ◌-◌, ◌≤◌, length, subst, ap, arith}
+use Rattle.authority.specs.Replies.{ReplyParts, IsReply}
+use Rattle.authority.specs.Servers.{parts_of}
+use Rattle.authority.proofs.Asked.{asks_full, fits_request}
+use Rattle.authority.proofs.Written.{reply_of_written}
+use Rattle.authority.proofs.server.answer.reply_to.Goals as goal
+
+pub response_to-requires : goal.response_to-requires
+response_to-requires g c = asks_full c.args.message.now c.args.request.now c.requires.message
+
+pub encode-requires-clause-metadata : goal.encode-requires-clause-metadata
+encode-requires-clause-metadata g c = (c.in_ok-response.ensures.sound (fits_request c.args.message.now c.args.request.now c.requires.message)).metadata
+
+pub returns : goal.returns
+returns g c =
+    let sound = c.in_ok-response.ensures.sound (fits_request c.args.message.now c.args.request.now c.requires.message) in
+    let octets_is = c.question_octets-question_octets.ensures in
+    let room : 12 + length c.args.request.now.question_octets ≤ c.args.limit = omega (arith, ap length octets_is, c.if-limit-question_octets.false, c.requires.lower) in
+    let written = rw (c.questions.ensures, octets_is) at c.in_ok-reply.ensures in
+    subst (λ (p : ReplyParts). IsReply c.in_ok-reply.reply.items p c.args.request.now c.args.limit) c.in_ok-response.ensures.value
+    (reply_of_written c.args.message.now c.in_ok-reply.reply.items c.args.request.now (parts_of c.in_ok-response.response) c.args.limit c.requires.message sound.answers sound.authorities room written)

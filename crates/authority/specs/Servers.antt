@@ -1,0 +1,45 @@
+-- The server's own values, as the definitions of serving see them.
+use Rattle.std.specs.Prelude.{◌≡◌, ◌⊎◌, ◌<◌, Bool, true, false, List, map}
+use Rattle.std.specs.List.{AllByRecursion}
+use Rattle.authority.specs.declared.records.Record.{Record}
+use Rattle.authority.specs.declared.response.encode.MessageResponse.{MessageResponse}
+use Rattle.authority.specs.declared.zone.settings.ZoneType.{ZoneType}
+use Rattle.authority.specs.declared.zone.settings.ZoneType.TheVariants as zones
+use Rattle.authority.specs.declared.message.header.ResponseCode.{ResponseCode}
+use Rattle.authority.specs.Headers.{FitsHeader, response_code_of, response_code_number}
+use Rattle.authority.specs.Requests.{Request}
+use Rattle.authority.specs.Records.{has_only_full_names}
+use Rattle.authority.specs.Replies.{ReplyParts}
+use Rattle.authority.specs.Zones.{View}
+
+abbrev pub serves_kind : ZoneType → Bool
+serves_kind zones.Primary = true
+serves_kind zones.Secondary = true
+serves_kind zones.External = false
+
+-- What a response holds.
+abbrev pub parts_of : MessageResponse → ReplyParts
+parts_of r = record { metadata = r.metadata; answers = r.answers.now; authorities = r.authorities.now }
+
+-- Every name of the record ends at the root.
+abbrev pub IsFull : Record → Type 0
+IsFull r = has_only_full_names r ≡ true
+
+-- A response that can be written and read back.
+pub record IsSound (r : MessageResponse) : Type 0 where
+  pub metadata : FitsHeader r.metadata
+  pub answers : AllByRecursion IsFull r.answers.now
+  pub authorities : AllByRecursion IsFull r.authorities.now
+
+-- A response code with a name of its own in four bits.
+pub record IsKnown (code : ResponseCode) : Type 0 where
+  pub back : response_code_of (response_code_number code) ≡ code
+  pub small : response_code_number code < 16
+
+-- Each name asked for ends at the root.
+abbrev pub AsksFullNames : Request → Type 0
+AsksFullNames request = AllByRecursion (λ q. q.name.fqdn ≡ true) request.questions
+
+-- A zone that its server answers for: a primary's or a secondary's.
+pub record IsServed (view : View) : Type 0 where
+  pub kept_here : serves_kind view.zone_type ≡ true
