@@ -1,6 +1,6 @@
 -- Ranks of octets: none is 0, they fit an octet, and two octets have one rank where they are equal up to case.
-use Rattle.std.proofs.Common.{◌≡◌, ℕ, ◌<◌, arith, sym}
-use Rattle.std.specs.Prelude.{nat_eq, Bool, false, true}
+use Rattle.std.proofs.Common.{◌≡◌, ℕ, ◌<◌, arith}
+use Rattle.std.specs.Prelude.{nat_eq, false}
 use Rattle.std.specs.Char.{to_ascii_lowercase}
 use Rattle.std.proofs.lemmas.Bool.Decides.{nat_tests}
 use Rattle.authority.specs.Keys.{rank}

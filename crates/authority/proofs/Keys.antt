@@ -1,6 +1,6 @@
 -- Keys of names: two are the same where the names are equal, and one begins another where its name lies above.
-use Rattle.std.proofs.Common.{◌≡◌, ℕ, ◌+◌, ◌-◌, ◌<◌, ◌≤◌, refl, sym, ◌∙◌, ap, arith, append_assoc, length, take, drop, ⊎_elim, reverse}
-use Rattle.std.specs.Prelude.{nat_eq, nat_lt, Bool, false, true, ◌&&◌, List, [], ◌∷◌, ◌++◌, map, if◌then◌else◌}
+use Rattle.std.proofs.Common.{◌≡◌, ℕ, ◌-◌, ◌<◌, ◌≤◌, refl, sym, ◌∙◌, ap, arith, append_assoc, length, take, drop, ⊎_elim, reverse}
+use Rattle.std.specs.Prelude.{nat_eq, Bool, false, true, ◌&&◌, List, [], ◌∷◌, ◌++◌, map, if◌then◌else◌}
 use mathlib.Core.Bool.{beq}
 use Rattle.std.proofs.lemmas.List.{length-reverse, length-drop, take-append-drop, reverse-append}
 use Rattle.std.proofs.lemmas.Grind.{reverse_onto}

@@ -12,7 +12,6 @@ use Rattle.std.specs.Cmp.Lexicographic.{slice_cmp}
 use Rattle.std.specs.Str.{bytes_eq}
 use Rattle.std.proofs.lemmas.Map.Text.{is_eq-slice_cmp}
 use Rattle.std.proofs.lemmas.Slice.Eq.{bytes_eq-Decides}
-use Rattle.std.proofs.lemmas.Bool.{true≢false}
 use Rattle.authority.specs.declared.codes.RecordType.{RecordType}
 use Rattle.authority.specs.declared.records.Record.{Record}
 use Rattle.authority.specs.Names.{DomainName, name_eq}

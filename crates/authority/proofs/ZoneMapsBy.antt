@@ -1,5 +1,5 @@
 -- What the map's own calls say of a zone.
-use Rattle.std.proofs.Common.{◌≡◌, ℕ, ◌∙◌, sym, ap, refl, Vec, Global}
+use Rattle.std.proofs.Common.{◌≡◌, ℕ, ◌∙◌, sym, ap, Vec, Global}
 use Rattle.std.specs.Prelude.{Bool, true, List, Option}
 use Rattle.std.specs.Map.{lookup}
 use Rattle.std.specs.BTreeMap.{is_at}

@@ -1,25 +1,25 @@
 -- What a zone's entries say of a name: which set is stored there, and whether it exists.
-use Rattle.std.proofs.Common.{◌≡◌, ℕ, ◌+◌, ◌<◌, refl, ap, sym, ◌∙◌, arith, length, ⊎_elim}
-use Rattle.std.specs.Prelude.{Bool, true, false, not, ◌&&◌, ◌||◌, List, [], ◌∷◌, ◌++◌, Option, Some, None, cond, find, nat_eq, nat_lt, map}
-use Rattle.std.specs.List.{AllByRecursion, list_any, flat_map, filter}
+use Rattle.std.proofs.Common.{◌≡◌, ℕ, ◌<◌, refl, ap, sym, ◌∙◌, arith, ⊎_elim}
+use Rattle.std.specs.Prelude.{Bool, true, false, ◌&&◌, ◌||◌, List, [], ◌∷◌, ◌++◌, Option, Some, None, cond, find, nat_eq, nat_lt}
+use Rattle.std.specs.List.{AllByRecursion, list_any, filter}
 use Rattle.std.specs.List.Sorted.{IsStrictlySortedBy}
 use Rattle.std.specs.Map.{keys_of, lookup}
 use Rattle.std.specs.BTreeMap.{is_at}
-use Rattle.std.specs.Ordering.{nat_cmp, is_eq, is_le, ordering_then}
+use Rattle.std.specs.Ordering.{nat_cmp, is_eq, is_le}
 use Rattle.std.specs.declared.cmp.Ordering.{Ordering}
-use Rattle.std.specs.declared.cmp.Ordering.TheVariants.{Less, Equal, Greater}
+use Rattle.std.specs.declared.cmp.Ordering.TheVariants.{Less, Greater}
 use Rattle.std.specs.Cmp.Lexicographic.{slice_cmp}
 use Rattle.std.specs.Str.{bytes_eq}
 use Rattle.std.proofs.lemmas.Map.Text.{is_eq-slice_cmp}
 use Rattle.std.proofs.lemmas.Slice.Eq.{bytes_eq-Decides}
-use Rattle.std.proofs.lemmas.Bool.{eqb-true, cases_order, and_parts, true≢false, cond-true, cond-false, le-ltb, lt-ltb, ne_eqb, eq-eqb}
+use Rattle.std.proofs.lemmas.Bool.{eqb-true, cases_order, and_parts, true≢false, le-ltb, ne_eqb, eq-eqb}
 use Rattle.authority.specs.declared.codes.RecordType.{RecordType}
 use Rattle.authority.specs.Names.{DomainName, name_eq, is_at_or_below}
 use Rattle.authority.specs.Codes.{same_type}
 use Rattle.authority.specs.Keys.{name_key, begins}
 use Rattle.authority.specs.Records.{RRset}
 use Rattle.authority.specs.Zones.{stored, exists_in}
-use Rattle.authority.specs.ZoneMaps.{IsOwnedAt, IsNode, IsZone, sets_of}
+use Rattle.authority.specs.ZoneMaps.{IsOwnedAt, IsNode, sets_of}
 use Rattle.authority.proofs.Keys.{same_key, above_begins}
 
 -- ---- tests of lists

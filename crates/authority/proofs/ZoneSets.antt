@@ -1,13 +1,13 @@
 -- The sets of one owner with one record more: where they differ, and what each type's set is then.
 use Rattle.std.proofs.Common.{◌≡◌, ℕ, ◌+◌, ◌<◌, ◌≤◌, suc, refl, ap, sym, ◌∙◌, arith, length, get_or, set, take, drop, subst}
-use Rattle.std.specs.Prelude.{Bool, true, false, ◌&&◌, ◌==◌, List, [], ◌∷◌, ◌++◌, Option, Some, None, cond, find, nat_eq, nat_lt, Result, Ok, Err, OnOk, OnErr}
+use Rattle.std.specs.Prelude.{Bool, true, false, ◌==◌, List, [], ◌∷◌, ◌++◌, Option, Some, None, cond, find, nat_lt, Result, Ok, Err, OnOk, OnErr}
 use Rattle.std.specs.declared.alloc.AllocError.{AllocError}
 use Rattle.std.specs.Str.{bytes_eq}
 use Rattle.std.specs.List.{AllByRecursion, insert}
 use Rattle.std.proofs.lemmas.Bool.{eqb-true, eqb-false, ltb-true, ltb-false, eq-eqb, ne_eqb, and_parts}
 use Rattle.authority.specs.declared.codes.RecordType.{RecordType}
 use Rattle.authority.specs.declared.records.Record.{Record}
-use Rattle.authority.specs.Names.{DomainName, name_eq}
+use Rattle.authority.specs.Names.{name_eq}
 use Rattle.authority.specs.Codes.{type_code, same_type}
 use Rattle.authority.specs.Keys.{name_key}
 use Rattle.authority.specs.NameLaws.{name_eq_equiv}

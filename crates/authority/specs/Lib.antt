@@ -1,8 +1,10 @@
 pub mod Codes
+pub mod Frames
 pub mod Headers
 pub mod Keys
 pub mod Lookups
 pub mod NameLaws
+pub mod NameText
 pub mod Names
 pub mod Octets
 pub mod Plans
@@ -10,9 +12,10 @@ pub mod RecordData
 pub mod Records
 pub mod Replies
 pub mod Requests
+pub mod Runs
+pub mod Servers
 pub mod Serving
 pub mod Wire
 pub mod ZoneMaps
+pub mod ZoneText
 pub mod Zones
-pub mod Servers
-pub mod Runs

@@ -1,12 +1,7 @@
 -- What a loaded zone answers.
-use Rattle.std.specs.Prelude.{◌≡◌, List, [], true}
-use Rattle.authority.specs.declared.records.Record.{Record}
-use Rattle.authority.specs.declared.zone.settings.ZoneSettings.{ZoneSettings}
 use Rattle.authority.specs.declared.zone.handler.Lookup.{Lookup}
 use Rattle.authority.specs.declared.zone.handler.Lookup.TheVariants as lookups
-use Rattle.authority.specs.Names.{DomainName}
-use Rattle.authority.specs.Keys.{name_key}
-use Rattle.authority.specs.Zones.{View, Outcome, answered, name_exists, name_error, out_of_zone, Adds}
+use Rattle.authority.specs.Zones.{Outcome, answered, name_exists, name_error, out_of_zone}
 
 -- What a lookup found, without the loans.
 abbrev pub outcome : Lookup → Outcome

@@ -1,8 +1,7 @@
 -- Domain names: RFC 1035, section 3.1; their order: RFC 4034, section 6.1.
-use Rattle.std.specs.Prelude.{◌≡◌, ℕ, ◌+◌, ◌-◌, ◌<◌, ◌≤◌, Bool, true, false, ◌&&◌, List, [], ◌∷◌, ◌++◌, length, map, reverse, if◌then◌else◌, nat_lt}
-use Rattle.std.specs.List.{AllByRecursion, flat_map, ends_with}
+use Rattle.std.specs.Prelude.{ℕ, ◌+◌, ◌<◌, ◌≤◌, Bool, ◌&&◌, List, [], ◌∷◌, ◌++◌, length}
+use Rattle.std.specs.List.{AllByRecursion, ends_with}
 use mathlib.Core.Bool.{beq}
-use Rattle.std.specs.Char.{to_ascii_lowercase}
 use Rattle.std.specs.Str.{str_eq_ignore_ascii_case}
 use Rattle.std.specs.Cmp.Lexicographic.{pointwise}
 

@@ -1,8 +1,7 @@
 -- A zone: a finite map from owner and type to the set of records stored there (RFC 1035, section 4.3.2).
-use Rattle.std.specs.Prelude.{◌≡◌, ℕ, Bool, true, false, List, [], ◌∷◌, ◌++◌, Option, Some, None, ◌&&◌, find, if◌then◌else◌, option_map, unwrap_or}
-use Rattle.std.specs.List.{list_any, AllByRecursion}
+use Rattle.std.specs.Prelude.{◌≡◌, Bool, List, [], ◌∷◌, Option, Some, None, ◌&&◌, find, if◌then◌else◌}
+use Rattle.std.specs.List.{list_any}
 use Rattle.authority.specs.declared.codes.RecordType.{RecordType}
-use Rattle.authority.specs.declared.codes.RecordType.TheVariants as types
 use Rattle.authority.specs.declared.records.Record.{Record}
 use Rattle.authority.specs.declared.zone.settings.ZoneType.{ZoneType}
 use Rattle.authority.specs.declared.zone.settings.AxfrPolicy.{AxfrPolicy}
@@ -11,7 +10,7 @@ use Rattle.authority.specs.declared.zone.settings.ZoneSettings.{ZoneSettings}
 use Rattle.authority.specs.Names.{DomainName, name_eq, is_at_or_below}
 use Rattle.authority.specs.Codes.{same_type}
 use Rattle.authority.specs.RecordData.{rdata_type, rdata_eq}
-use Rattle.authority.specs.Records.{RRset, IsRRset}
+use Rattle.authority.specs.Records.{RRset}
 
 -- The set of a type at a name.
 abbrev pub stored : List RRset → DomainName → RecordType → Option RRset

@@ -4,6 +4,8 @@ ghost use Rattle.std.specs.Prelude.{◌≡◌, ◌≤◌, true, IfOk};
 ghost use Rattle.std.specs.List.{AllByRecursion};
 ghost use Rattle.authority.specs.Names.{DomainName, IsLabel, IsDomainName, name_size};
 
+pub mod text;
+
 use smallvec::SmallVec;
 use std::alloc::{AllocError, Global};
 use std::marker::Model;

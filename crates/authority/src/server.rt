@@ -95,6 +95,11 @@ impl<S, K> Authority<S, K> {
         Authority { alloc, suite, zone }
     }
 
+    // The allocator that the server was made with.
+    pub(crate) fn alloc(&self) -> Global {
+        self.alloc
+    }
+
     /// Serves one message. A message outside the request grammar gets no reply; each other gets one, within the
     /// transport's limit, that holds what the zone answers.
     pub fn serve(

@@ -4,3 +4,5 @@ pub mod handler;
 pub mod key;
 pub mod map;
 pub mod settings;
+#[cfg(test)]
+mod tests;

@@ -42,6 +42,7 @@ impl RrKey {
 }
 
 /// What a zone holds for a name and a type, or why there is nothing (RFC 2308 section 2).
+#[derive(Clone, Copy)]
 pub enum Lookup<'z> {
     /// The set of that owner and type.
     Answer(&'z RecordSet),

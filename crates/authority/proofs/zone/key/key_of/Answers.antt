@@ -1,4 +1,4 @@
-use Rattle.std.proofs.Common.{◌≡◌, ◌+◌, ◌<◌, ◌∙◌, sym, ap, arith, length, append_assoc, ◌++◌}
+use Rattle.std.proofs.Common.{◌∙◌, sym, ap, arith, length, append_assoc, ◌++◌}
 use Rattle.authority.specs.Names.{name_size}
 use Rattle.authority.specs.Keys.{label_key, labels_key}
 use Rattle.authority.proofs.NamesSize.{name_size_above_zero, name_size_push}
@@ -7,7 +7,7 @@ use Rattle.authority.proofs.zone.key.key_of.Goals as goal
 
 pub push_reserved-requires : goal.push_reserved-requires
 push_reserved-requires c =
-    omega (arith, name_size_above_zero c.args.name.now.labels, c.len.ensures, c.in_ok-key.ensures.capacity, c.in_ok-key.ensures.len)
+    omega (arith, name_size_above_zero c.args.name.now.labels, c.len.ensures.value, c.in_ok-key.ensures.capacity, c.in_ok-key.ensures.len)
 
 pub push_label-requires : goal.push_label-requires
 push_label-requires c =

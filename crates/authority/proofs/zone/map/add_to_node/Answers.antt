@@ -1,4 +1,4 @@
-use Rattle.std.proofs.Common.{◌≡◌, ◌∙◌, sym, ap, arith, ℕ, subst, length, set}
+use Rattle.std.proofs.Common.{◌∙◌, sym, ap, arith, subst, length, set}
 use Rattle.std.specs.Prelude.{List, [], Some, Result, Ok, Err, OnOk}
 use Rattle.std.specs.List.{insert}
 use Rattle.authority.specs.Zones.{set_with}

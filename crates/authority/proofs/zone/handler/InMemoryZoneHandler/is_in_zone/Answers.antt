@@ -1,7 +1,7 @@
-use Rattle.std.proofs.Common.{◌≡◌, ◌∙◌, sym, ap, ℕ, nat_eq}
-use Rattle.std.specs.Prelude.{List, true}
+use Rattle.std.proofs.Common.{◌∙◌, sym, ap, ℕ, nat_eq}
+use Rattle.std.specs.Prelude.{List}
 use Rattle.std.specs.List.{starts_with}
-use Rattle.authority.specs.Names.{DomainName, is_at_or_below}
+use Rattle.authority.specs.Names.{is_at_or_below}
 use Rattle.authority.specs.Keys.{begins, name_key}
 use Rattle.authority.specs.Zones.{View}
 use Rattle.authority.proofs.Keys.{begins-starts_with, above_begins}

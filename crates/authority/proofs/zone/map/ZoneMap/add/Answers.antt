@@ -1,9 +1,9 @@
-use Rattle.std.proofs.Common.{◌≡◌, ◌∙◌, sym, ap, subst}
-use Rattle.std.specs.Prelude.{List, Some, None, Result, Ok, Err, OnOk, OnErr}
+use Rattle.std.proofs.Common.{◌∙◌, sym, ap, subst}
+use Rattle.std.specs.Prelude.{List, Result, Ok, Err, OnOk, OnErr}
 use Rattle.std.specs.BTreeMap.{BTreeMap, insert_entry}
 use Rattle.authority.specs.Records.{RRset}
 use Rattle.authority.specs.Zones.{Adds}
-use Rattle.authority.specs.ZoneMaps.{IsNode, IsZone, sets_of}
+use Rattle.authority.specs.ZoneMaps.{sets_of}
 use Rattle.authority.proofs.ZoneMapsBy.{Key, Node, octets, sets}
 use Rattle.authority.proofs.ZoneSets.{same_owner, node_tried, node_alone}
 use Rattle.authority.proofs.ZoneEntries.{key_cmp, node_found, zone_replaced, adds_replaced, same_sets, zone_inserted, adds_inserted}

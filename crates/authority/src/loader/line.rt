@@ -1,0 +1,182 @@
+//! The record of a line.
+
+ghost use Rattle.std.specs.Prelude.{◌≡◌, ◌<◌, ◌∷◌, length, MatchOption, true, is_some};
+ghost use Rattle.authority.specs.declared.codes.RecordType.TheVariants as types;
+ghost use Rattle.authority.specs.Names.{DomainName};
+ghost use Rattle.authority.specs.NameText.{ReadsText};
+ghost use Rattle.authority.specs.Keys.{name_key};
+ghost use Rattle.authority.specs.RecordData.{has_full_names};
+ghost use Rattle.authority.specs.Zones.{stored};
+ghost use Rattle.authority.specs.ZoneText.{words_of, IsOwnerText, type_of_text, is_internet, is_start, with_cause, HeaderGives, LineGives};
+
+use crate::codes::{DNSClass, RecordType};
+use crate::loader::LoadCause;
+use crate::loader::data::parse_rdata;
+use crate::loader::number::parse_u32;
+use crate::loader::words::Words;
+use crate::names::Name;
+use crate::names::text::{TextError, parse_name};
+use crate::record_data::RData;
+use crate::records::Record;
+use crate::zone::handler::{InMemoryZoneHandler, Lookup};
+use crate::zone::key::key_of;
+use std::alloc::Global;
+
+/// The first four words of a line, and the words of the data.
+#[derive(Clone, Copy)]
+struct Fields<'a> {
+    owner: &'a [u8],
+    ttl: &'a [u8],
+    dns_class: &'a [u8],
+    record_type: &'a [u8],
+    rdata: Words<'a>,
+}
+
+/// What the first four words of a line say, and the words of the data.
+#[derive(Drop)]
+struct Header<'a> {
+    name: Name,
+    ttl: u32,
+    record_type: RecordType,
+    rdata: Words<'a>,
+}
+
+/// The record of a line that may be added to the zone, or the first cause why it may not.
+pub fn record_of<K>(alloc: Global, zone: &InMemoryZoneHandler<K>, line: &[u8]) -> Result<Record, LoadCause>
+    ensures { LineGives zone.now (words_of line.now) result }
+{
+    let header = header_of(alloc, line)?;
+    let key = match key_of(alloc, &header.name) {
+        Ok(key) => key,
+        Err(_) => return Err(LoadCause::OutOfMemory),
+    };
+    if !zone.is_in_zone(&key) {
+        return Err(LoadCause::OutsideZone);
+    }
+    let rdata = or_cause(parse_rdata(alloc, header.record_type, header.rdata), LoadCause::Data)?;
+    if !ends_at_root(&rdata) {
+        return Err(LoadCause::NotReadBack);
+    }
+    if is_soa(header.record_type) && has_soa(zone, &key) {
+        return Err(LoadCause::SecondSoa);
+    }
+    Ok(Record {
+        name: header.name,
+        dns_class: DNSClass::IN,
+        ttl: header.ttl,
+        rdata,
+    })
+}
+
+/// What the first four words of a line say.
+fn header_of(alloc: Global, line: &[u8]) -> Result<Header<'_>, LoadCause>
+    ensures { HeaderGives (words_of line.now) (λ h. record { name = h.name; ttl = h.ttl; record_type = h.record_type; rdata = words_of h.rdata.rest.now }) result }
+{
+    let Some(fields) = fields_of(line) else {
+        return Err(LoadCause::FieldCount);
+    };
+    let name = or_cause(parse_owner(alloc, fields.owner), LoadCause::Owner)?;
+    let ttl = or_cause(parse_u32(fields.ttl), LoadCause::Ttl)?;
+    if !is_internet_word(fields.dns_class) {
+        return Err(LoadCause::Class);
+    }
+    let Some(record_type) = parse_type(fields.record_type) else {
+        return Err(LoadCause::UnknownType);
+    };
+    Ok(Header {
+        name,
+        ttl,
+        record_type,
+        rdata: fields.rdata,
+    })
+}
+
+/// The words of a line, where there are at least four.
+fn fields_of(line: &[u8]) -> Option<Fields<'_>>
+    ensures { MatchOption result (length (words_of line.now) < 4) (λ f. words_of line.now ≡ f.owner.now ∷ f.ttl.now ∷ f.dns_class.now ∷ f.record_type.now ∷ words_of f.rdata.rest.now) }
+{
+    let mut words = Words { rest: line };
+    Some(Fields {
+        owner: words.next()?,
+        ttl: words.next()?,
+        dns_class: words.next()?,
+        record_type: words.next()?,
+        rdata: words,
+    })
+}
+
+/// The name of a text, where it ends at the root.
+pub fn parse_owner(alloc: Global, word: &[u8]) -> Result<Name, TextError>
+    ensures { ReadsText (IsOwnerText word.now) result }
+{
+    let name = parse_name(alloc, word)?;
+    if name.is_fqdn() {
+        Ok(name)
+    } else {
+        Err(TextError::Malformed)
+    }
+}
+
+/// What was read, or the cause where the text is malformed.
+fn or_cause<X>(read: Result<X, TextError>, cause: LoadCause) -> Result<X, LoadCause>
+    ensures { result ≡ with_cause cause read }
+{
+    match read {
+        Ok(value) => Ok(value),
+        Err(TextError::Malformed) => Err(cause),
+        Err(TextError::OutOfMemory) => Err(LoadCause::OutOfMemory),
+    }
+}
+
+/// Whether a word names the class of the Internet.
+fn is_internet_word(word: &[u8]) -> bool
+    ensures { result ≡ is_internet word.now }
+{
+    word.eq_ignore_ascii_case(b"IN")
+}
+
+/// The type that a word names.
+fn parse_type(word: &[u8]) -> Option<RecordType>
+    ensures { result ≡ type_of_text word.now }
+{
+    if word.eq_ignore_ascii_case(b"A") {
+        Some(RecordType::A)
+    } else if word.eq_ignore_ascii_case(b"NS") {
+        Some(RecordType::NS)
+    } else if word.eq_ignore_ascii_case(b"SOA") {
+        Some(RecordType::SOA)
+    } else {
+        None
+    }
+}
+
+/// Whether a type is the start of authority.
+fn is_soa(record_type: RecordType) -> bool
+    ensures { result ≡ is_start record_type }
+{
+    match record_type {
+        RecordType::SOA => true,
+        RecordType::A | RecordType::NS | RecordType::AXFR | RecordType::Unknown(_) => false,
+    }
+}
+
+/// Whether the zone has a start of authority at the name of a key, which ends at the root.
+fn has_soa<K>(zone: &InMemoryZoneHandler<K>, key: &Vec<u8>) -> bool
+    ensures { (name : DomainName) → name.fqdn ≡ true → key.now.items ≡ name_key name → result ≡ is_some (stored zone.now.sets name types.SOA) }
+{
+    match zone.lookup_at(key, RecordType::SOA) {
+        Lookup::Answer(_) => true,
+        Lookup::NameExists | Lookup::NxDomain | Lookup::Refused => false,
+    }
+}
+
+/// Whether each name in the data ends at the root.
+fn ends_at_root(rdata: &RData) -> bool
+    ensures { result ≡ has_full_names rdata.now }
+{
+    match rdata {
+        RData::A(_) => true,
+        RData::NS(ns) => ns.0.is_fqdn(),
+        RData::SOA(soa) => soa.mname.is_fqdn() && soa.rname.is_fqdn(),
+    }
+}

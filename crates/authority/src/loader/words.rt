@@ -1,0 +1,77 @@
+//! The words of a line.
+
+ghost use Rattle.std.specs.Prelude.{◌≡◌, ◌<◌, not, [], ◌∷◌, length, position, MatchOption, IfSome};
+ghost use Rattle.std.specs.List.{list_all};
+ghost use Rattle.authority.specs.ZoneText.{is_blank, is_skipped_line, words_of};
+
+/// The words of a line that are left, between spaces and tabs.
+#[derive(Clone, Copy)]
+pub struct Words<'a> {
+    /// The rest of the line.
+    pub rest: &'a [u8],
+}
+
+impl<'a> Iterator for Words<'a> {
+    type Item = &'a [u8];
+
+    ghost use Rattle.std.specs.Iterator.{YieldsFirstRef, item_count};
+
+    ghost next_gives = { YieldsFirstRef (λ s. words_of s.rest.now) };
+
+    ghost remaining = { item_count (λ s. words_of s.rest.now) };
+
+    fn next(&mut self) -> Option<&'a [u8]> {
+        let (word, behind) = first_word(self.rest)?;
+        self.rest = behind;
+        Some(word)
+    }
+}
+
+/// The first word, and what stands behind it.
+fn first_word(text: &[u8]) -> Option<(&[u8], &[u8])>
+    ensures { MatchOption result (words_of text.now ≡ []) (λ p. words_of text.now ≡ p.0.now ∷ words_of p.1.now) }
+{
+    let (_, from_word) = text.split_at(first_plain(text)?);
+    let len = first_blank(from_word).unwrap_or(from_word.len());
+    Some(from_word.split_at(len))
+}
+
+/// Where the first octet stands that is no space and no tab.
+fn first_plain(text: &[u8]) -> Option<usize>
+    ensures place { result ≡ position (λ octet. not (is_blank octet)) text.now }
+    ensures bound { IfSome result (λ place. place < length text.now) }
+{
+    text.iter().position(|octet| !is_blank_octet(*octet))
+}
+
+/// Where the first space or tab stands.
+fn first_blank(text: &[u8]) -> Option<usize>
+    ensures place { result ≡ position is_blank text.now }
+    ensures bound { IfSome result (λ place. place < length text.now) }
+{
+    text.iter().position(|octet| is_blank_octet(*octet))
+}
+
+/// Whether an octet is a space or a tab.
+fn is_blank_octet(octet: u8) -> bool
+    ensures { result ≡ is_blank octet }
+{
+    octet == b' ' || octet == b'\t'
+}
+
+/// Whether a line has no record: it is blank, or begins with `;`.
+pub fn is_skipped(line: &[u8]) -> bool
+    ensures { result ≡ is_skipped_line line.now }
+{
+    match line.first() {
+        Some(b';') => true,
+        _ => is_blank_text(line),
+    }
+}
+
+/// Whether a text has only spaces and tabs.
+fn is_blank_text(line: &[u8]) -> bool
+    ensures { result ≡ list_all is_blank line.now }
+{
+    line.iter().all(|octet| is_blank_octet(*octet))
+}

@@ -1,0 +1,175 @@
+//! A small zone, by its public calls.
+
+ghost use Rattle.std.specs.Prelude.{◌≡◌, true, IfOk};
+ghost use Rattle.authority.specs.Names.{IsLabel};
+ghost use Rattle.authority.specs.Records.{has_only_full_names};
+
+use crate::codes::{DNSClass, RecordType};
+use crate::names::{Label, Name};
+use crate::record_data::{A, RData, SOA};
+use crate::records::Record;
+use crate::zone::handler::{InMemoryZoneHandler, Lookup, RrKey};
+use crate::zone::key::key_of;
+use crate::zone::settings::{AxfrPolicy, ZoneSettings, ZoneType};
+use std::alloc::Global;
+use std::net::Ipv4Addr;
+use std::process::Abort;
+use std::test::Fail;
+
+fn label(alloc: Global, rt: &impl Abort, text: &[u8]) -> Result<Label, Fail>
+    ensures { IfOk result (λ label. IsLabel label) }
+{
+    assert!(rt; !text.is_empty() && text.len() <= 63);
+    Ok(Label::from_raw_bytes(alloc, text)?)
+}
+
+fn name1(alloc: Global, rt: &impl Abort, a: &[u8]) -> Result<Name, Fail>
+    ensures { IfOk result (λ name. name.fqdn ≡ true) }
+{
+    let labels = vec![in alloc; label(alloc, rt, a)?]?;
+    Ok(Name::from_labels(labels, true))
+}
+
+fn name2(alloc: Global, rt: &impl Abort, a: &[u8], b: &[u8]) -> Result<Name, Fail>
+    ensures { IfOk result (λ name. name.fqdn ≡ true) }
+{
+    let labels = vec![in alloc; label(alloc, rt, a)?, label(alloc, rt, b)?]?;
+    Ok(Name::from_labels(labels, true))
+}
+
+fn name3(alloc: Global, rt: &impl Abort, a: &[u8], b: &[u8], c: &[u8]) -> Result<Name, Fail>
+    ensures { IfOk result (λ name. name.fqdn ≡ true) }
+{
+    let labels = vec![in alloc;
+        label(alloc, rt, a)?,
+        label(alloc, rt, b)?,
+        label(alloc, rt, c)?,
+    ]?;
+    Ok(Name::from_labels(labels, true))
+}
+
+fn address(name: Name, ttl: u32, last: u8) -> Record
+    requires { name.fqdn ≡ true }
+    ensures { has_only_full_names result ≡ true }
+{
+    Record {
+        name,
+        dns_class: DNSClass::IN,
+        ttl,
+        rdata: RData::A(A(Ipv4Addr::new(192, 0, 2, last))),
+    }
+}
+
+/// The zone example. with its SOA, and addresses at WWW.example. and a.b.example.
+fn zone(alloc: Global, rt: &impl Abort) -> Result<InMemoryZoneHandler<()>, Fail> {
+    let settings = ZoneSettings {
+        zone_type: ZoneType::Primary,
+        axfr_policy: AxfrPolicy::AllowAll,
+        nx_proof_kind: None,
+    };
+    let origin = name1(alloc, rt, b"example")?;
+    let mut zone = InMemoryZoneHandler::empty(alloc, origin, settings)?;
+    let soa = Record {
+        name: name1(alloc, rt, b"EXAMPLE")?,
+        dns_class: DNSClass::IN,
+        ttl: 3600,
+        rdata: RData::SOA(SOA {
+            mname: name2(alloc, rt, b"ns", b"example")?,
+            rname: name2(alloc, rt, b"admin", b"example")?,
+            serial: 1,
+            refresh: 3600,
+            retry: 1800,
+            expire: 604800,
+            minimum: 86400,
+        }),
+    };
+    zone.insert(alloc, soa)?;
+    let www = name2(alloc, rt, b"WWW", b"example")?;
+    zone.insert(alloc, address(www, 3600, 1))?;
+    let deep = name3(alloc, rt, b"a", b"b", b"example")?;
+    zone.insert(alloc, address(deep, 3600, 2))?;
+    Ok(zone)
+}
+
+fn word(found: &Lookup) -> &'static str {
+    match found {
+        Lookup::Answer(_) => "answer",
+        Lookup::NameExists => "name exists",
+        Lookup::NxDomain => "name error",
+        Lookup::Refused => "refused",
+    }
+}
+
+#[test]
+fn zone_answers(rt: HostRuntime) -> Result<(), Fail> {
+    let alloc = rt.alloc();
+    let zone = zone(alloc, &rt)?;
+    let www = name2(alloc, &rt, b"www", b"Example")?;
+    let between = name2(alloc, &rt, b"b", b"example")?;
+    let absent = name2(alloc, &rt, b"z", b"example")?;
+    let longer = name2(alloc, &rt, b"wwww", b"example")?;
+    let outside = name2(alloc, &rt, b"www", b"example2")?;
+    let cases = [
+        (&www, RecordType::A, "answer"),
+        (&www, RecordType::Unknown(1), "answer"),
+        (&www, RecordType::NS, "name exists"),
+        (&between, RecordType::A, "name exists"),
+        (&absent, RecordType::A, "name error"),
+        (&longer, RecordType::A, "name error"),
+        (&outside, RecordType::A, "refused"),
+        (zone.origin(), RecordType::SOA, "answer"),
+    ];
+    for (name, record_type, want) in cases {
+        assert!(rt; name.is_fqdn());
+        let found = zone.lookup(alloc, name, record_type)?;
+        assert_eq!(rt; word(&found), want);
+    }
+    assert!(rt; zone.apex(RecordType::SOA).is_some());
+    assert!(rt; zone.apex(RecordType::NS).is_none());
+    Ok(())
+}
+
+#[test]
+fn equal_data_are_replaced(rt: HostRuntime) -> Result<(), Fail> {
+    let alloc = rt.alloc();
+    let mut zone = zone(alloc, &rt)?;
+    for (ttl, last) in [(60, 1), (60, 3), (90, 3)] {
+        let www = name2(alloc, &rt, b"www", b"example")?;
+        zone.insert(alloc, address(www, ttl, last))?;
+    }
+    let at = RrKey::new(name2(alloc, &rt, b"www", b"example")?, RecordType::A);
+    match zone.get(alloc, &at)? {
+        Some(set) => {
+            assert_eq!(rt; set.records().len(), 2);
+            for (stored, ttl) in set.records().iter().zip([60, 90]) {
+                assert_eq!(rt; stored.ttl, ttl);
+            }
+        }
+        None => assert!(rt; false),
+    }
+    Ok(())
+}
+
+/// The names of RFC 4034 section 6.1, in their order.
+#[test]
+fn keys_rise_in_canonical_order(rt: HostRuntime) -> Result<(), Fail> {
+    let alloc = rt.alloc();
+    let names = [
+        name1(alloc, &rt, b"example")?,
+        name2(alloc, &rt, b"a", b"example")?,
+        name3(alloc, &rt, b"yljkjljk", b"a", b"example")?,
+        name3(alloc, &rt, b"Z", b"a", b"example")?,
+        name3(alloc, &rt, b"zABC", b"a", b"EXAMPLE")?,
+        name2(alloc, &rt, b"z", b"example")?,
+        name3(alloc, &rt, b"\x01", b"z", b"example")?,
+        name3(alloc, &rt, b"*", b"z", b"example")?,
+        name3(alloc, &rt, b"\xc8", b"z", b"example")?,
+    ];
+    let mut last = vec![in alloc]?;
+    for name in &names {
+        let key = key_of(alloc, name)?;
+        assert!(rt; last < key);
+        last = key;
+    }
+    Ok(())
+}
