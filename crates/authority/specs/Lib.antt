@@ -8,6 +8,7 @@ pub mod NameText
 pub mod Names
 pub mod Octets
 pub mod Plans
+pub mod Programs
 pub mod RecordData
 pub mod Records
 pub mod Replies

@@ -5,6 +5,7 @@ mod codes;
 mod loader;
 mod message;
 mod names;
+pub mod program;
 mod record_data;
 mod records;
 mod response;

@@ -1,0 +1,88 @@
+-- What the program does with its words, its zone's file and its input.
+use Rattle.std.specs.Prelude.{◌≡◌, ℕ, ◌⊎◌, false, List, [], ◌∷◌, Option, Some, None, Result, Ok, Err}
+use Rattle.std.specs.Io.KnownBytes.{IsAtEnd}
+use Rattle.authority.specs.declared.loader.LoadCause.TheVariants as causes
+use Rattle.authority.specs.declared.loader.LoadError.{LoadError}
+use Rattle.authority.specs.declared.names.text.TextError.{TextError}
+use Rattle.authority.specs.declared.names.text.TextError.TheVariants as texts
+use Rattle.authority.specs.declared.program.Fault.{Fault}
+use Rattle.authority.specs.declared.program.Fault.TheVariants as faults
+use Rattle.authority.specs.declared.stream.StreamError.TheVariants as streams
+use Rattle.authority.specs.declared.zone.settings.ZoneType.TheVariants as kinds
+use Rattle.authority.specs.declared.zone.settings.AxfrPolicy.TheVariants as policies
+use Rattle.authority.specs.Names.{DomainName}
+use Rattle.authority.specs.Zones.{View}
+use Rattle.authority.specs.ZoneText.{IsOwnerText, IsNumberText, IsZoneText, IsRefusedAt}
+
+-- Three words: an origin that ends at the root, a file, and a moment of 64 bits.
+pub record AreWords (words : List (List ℕ)) (origin : DomainName) (now : ℕ) : Type 0 where
+  pub origin_word : List ℕ
+  pub file : List ℕ
+  pub now_word : List ℕ
+  pub spelled : words ≡ origin_word ∷ file ∷ now_word ∷ []
+  pub origin_text : IsOwnerText origin_word origin
+  pub now_text : IsNumberText 64 now_word now
+
+-- The zone that the program begins with: kept here, transferred to everybody, without proofs of absence or records.
+abbrev pub first_zone : DomainName → View
+first_zone name =
+    record { origin = name; zone_type = kinds.Primary; axfr_policy = policies.AllowAll; nx_proof_kind = None; sets = [] }
+
+-- The words are right, and the file is the text of a zone.
+pub record Starts (words : List (List ℕ)) (file : Option (List ℕ)) : Type 0 where
+  pub origin : DomainName
+  pub now : ℕ
+  pub text : List ℕ
+  pub zone : View
+  pub right_words : AreWords words origin now
+  pub readable : file ≡ Some text
+  pub loaded : IsZoneText (first_zone origin) text zone
+
+-- The fault stands: wrong words; a file that could not be read; a text that is refused at a line; a stream that was left.
+-- Want of memory may be answered at any time.
+abbrev pub FaultStands : List (List ℕ) → Option (List ℕ) → Fault → Type 0
+FaultStands words file faults.Words = (origin : DomainName) (now : ℕ) → AreWords words origin now → ⊥
+FaultStands words file faults.ZoneFile = (origin : DomainName) × (now : ℕ) × AreWords words origin now × (file ≡ None)
+FaultStands words file (faults.Zone error) =
+    (origin : DomainName) × (now : ℕ) × (text : List ℕ) × AreWords words origin now × (file ≡ Some text)
+    × ((error.cause ≡ causes.OutOfMemory → ⊥) → IsRefusedAt (first_zone origin) text error.line error.cause)
+FaultStands words file (faults.Stream error) = (error ≡ streams.OutOfMemory false) ⊎ Starts words file
+
+-- What the program answers: it ends with its input, or a fault stands.
+abbrev pub Answers : {X : Type 0} → List (List ℕ) → Option (List ℕ) → Option (List ℕ) → Result X Fault → Type 0
+Answers words file left (Ok done) = Starts words file × IsAtEnd left
+Answers words file left (Err fault) = FaultStands words file fault
+
+-- The status of a fault.
+abbrev pub status_of : Fault → ℕ
+status_of faults.Words = 2
+status_of faults.ZoneFile = 3
+status_of (faults.Zone error) = 3
+status_of (faults.Stream error) = 4
+
+-- The status of the program: 0 where it ends with its input, else that of a fault that stands.
+abbrev pub StatusIs : List (List ℕ) → Option (List ℕ) → Option (List ℕ) → ℕ → Type 0
+StatusIs words file left status =
+    ((status ≡ 0) × Starts words file × IsAtEnd left) ⊎ ((fault : Fault) × (status ≡ status_of fault) × FaultStands words file fault)
+
+-- What was read of a word, where a malformed one is a fault.
+abbrev pub read_or_usage : {X : Type 0} → Result X TextError → Result X Fault
+read_or_usage (Ok x) = Ok x
+read_or_usage (Err texts.Malformed) = Err faults.Words
+read_or_usage (Err texts.OutOfMemory) = Err (faults.Stream (streams.OutOfMemory false))
+
+-- What the words give.
+abbrev pub WordsGive : {C : Type 0} → List (List ℕ) → (C → DomainName) → (C → ℕ) → Result C Fault → Type 0
+WordsGive words origin now (Ok command) = AreWords words (origin command) (now command)
+WordsGive words origin now (Err faults.Words) = (name : DomainName) (n : ℕ) → AreWords words name n → ⊥
+WordsGive words origin now (Err faults.ZoneFile) = ⊥
+WordsGive words origin now (Err (faults.Zone error)) = ⊥
+WordsGive words origin now (Err (faults.Stream error)) = error ≡ streams.OutOfMemory false
+
+-- What the text gives.
+abbrev pub TextGives : DomainName → List ℕ → Result View Fault → Type 0
+TextGives origin text (Ok zone) = IsZoneText (first_zone origin) text zone × (zone.zone_type ≡ kinds.Primary)
+TextGives origin text (Err faults.Words) = ⊥
+TextGives origin text (Err faults.ZoneFile) = ⊥
+TextGives origin text (Err (faults.Zone error)) = (error.cause ≡ causes.OutOfMemory → ⊥) → IsRefusedAt (first_zone origin) text error.line error.cause
+TextGives origin text (Err (faults.Stream error)) = ⊥

@@ -1,0 +1,277 @@
+//! The body of the program: a zone's text in, framed questions in, framed replies out.
+
+ghost use Rattle.std.specs.Prelude.{◌≡◌, true, map, option_copied};
+ghost use Rattle.std.specs.String.{string_bytes};
+ghost use Rattle.authority.specs.Programs.{Answers, StatusIs, TextGives, WordsGive, read_or_usage, status_of};
+
+use crate::loader::line::parse_owner;
+use crate::loader::{LoadError, load_zone, parse_u64};
+use crate::names::Name;
+use crate::names::text::TextError;
+use crate::server::{Authority, NoSuite};
+use crate::stream::StreamError;
+use crate::zone::handler::InMemoryZoneHandler;
+use crate::zone::settings::{AxfrPolicy, ZoneSettings, ZoneType};
+use std::alloc::Global;
+use std::io::{Read, Write};
+use std::net::{Ipv4Addr, SocketAddr, SocketAddrV4};
+use thiserror::Error;
+
+/// The program's zone is signed by nobody.
+#[derive(Clone, Copy, Debug)]
+pub struct NoSigner;
+
+/// Why the program ends before its input does.
+#[derive(Clone, Copy, Debug, Error)]
+pub enum Fault {
+    /// The words are not an origin, a file and a moment.
+    #[error("usage: authority ORIGIN ZONEFILE NOW")]
+    Words,
+    /// The zone's file could not be read as text.
+    #[error("zone file unreadable")]
+    ZoneFile,
+    /// The zone's text is refused.
+    #[error("{0}")]
+    Zone(LoadError),
+    /// The stream was left, or memory was refused before it.
+    #[error("stream: {0}")]
+    Stream(StreamError),
+}
+
+/// What the words say.
+#[derive(Drop)]
+struct Command {
+    /// Where the zone begins; it ends at the root.
+    origin: Name,
+    /// The moment at which each message is served, in seconds.
+    now: u64,
+}
+
+/// Loads a zone and serves framed messages from the reader to the writer until the input ends.
+///
+/// The words are those behind the program's name; the zone is the text of the file that the second one names, or None
+/// where it could not be read. The status: 0 at the end of the input, 2 for wrong words, 3 for the zone, 4 for the
+/// stream. A status other than 0 comes with one line to `faults`.
+pub fn run<R: Read, W: Write, F: Write>(
+    alloc: Global,
+    words: &[String],
+    zone: Option<&str>,
+    reader: &mut R,
+    writer: &mut W,
+    faults: &mut F,
+) -> u8
+    ensures { StatusIs (map string_bytes words.now) (option_copied zone.entry) (R.remaining reader.new) result }
+{
+    match serve(alloc, words, zone, reader, writer) {
+        Ok(()) => 0,
+        Err(fault) => {
+            let _ = writeln!(faults, "{fault}");
+            status(&fault)
+        }
+    }
+}
+
+/// The status of a fault.
+fn status(fault: &Fault) -> u8
+    ensures { result ≡ status_of fault.now }
+{
+    match fault {
+        Fault::Words => 2,
+        Fault::ZoneFile | Fault::Zone(_) => 3,
+        Fault::Stream(_) => 4,
+    }
+}
+
+/// Does all that the program does, but for its line about a fault.
+fn serve<R: Read, W: Write>(
+    alloc: Global,
+    words: &[String],
+    zone: Option<&str>,
+    reader: &mut R,
+    writer: &mut W,
+) -> Result<(), Fault>
+    ensures { Answers (map string_bytes words.now) (option_copied zone.entry) (R.remaining reader.new) result }
+{
+    let command = read_words(alloc, words)?;
+    let Some(text) = zone else {
+        return Err(Fault::ZoneFile);
+    };
+    let zone = load(alloc, command.origin, text)?;
+    let source = SocketAddr::V4(SocketAddrV4::new(Ipv4Addr::new(127, 0, 0, 1), 53));
+    let mut server = Authority::with_zone(alloc, NoSuite, zone);
+    match server.serve_stream(reader, writer, source, command.now) {
+        Ok(()) => Ok(()),
+        Err(fault) => Err(Fault::Stream(fault)),
+    }
+}
+
+/// The zone of the text: kept here, to be transferred by everybody, without proofs of absence.
+fn load(alloc: Global, origin: Name, text: &str) -> Result<InMemoryZoneHandler<NoSigner>, Fault>
+    requires { origin.fqdn ≡ true }
+    ensures { TextGives origin text.now result }
+{
+    let settings = ZoneSettings {
+        zone_type: ZoneType::Primary,
+        axfr_policy: AxfrPolicy::AllowAll,
+        nx_proof_kind: None,
+    };
+    match load_zone(alloc, origin, settings, text) {
+        Ok(zone) => Ok(zone),
+        Err(error) => Err(Fault::Zone(error)),
+    }
+}
+
+/// What the words say.
+fn read_words(alloc: Global, words: &[String]) -> Result<Command, Fault>
+    ensures { WordsGive (map string_bytes words.now) (λ command. command.origin) (λ command. command.now) result }
+{
+    match words {
+        [origin, _, now] => {
+            let origin = or_usage(parse_owner(alloc, origin.as_bytes()))?;
+            let now = or_usage(parse_u64(now.as_bytes()))?;
+            Ok(Command { origin, now })
+        }
+        _ => Err(Fault::Words),
+    }
+}
+
+/// What was read, or the fault.
+fn or_usage<X>(read: Result<X, TextError>) -> Result<X, Fault>
+    ensures { result ≡ read_or_usage read }
+{
+    match read {
+        Ok(value) => Ok(value),
+        Err(TextError::Malformed) => Err(Fault::Words),
+        Err(TextError::OutOfMemory) => Err(Fault::Stream(StreamError::OutOfMemory { applied: false })),
+    }
+}
+
+#[cfg(test)]
+mod tests {
+    use super::*;
+    use std::io;
+    use std::test::Fail;
+
+    const ZONE: &str = "example.com. 3600 IN SOA ns.example.com. admin.example.com. 1 3600 1800 604800 86400\nwww.example.com. 3600 IN A 192.0.2.1\n";
+
+    /// A length, and a question for the address of www.example.com.
+    const QUESTION: &[u8] = b"\x00\x21\x12\x34\x00\x00\x00\x01\x00\x00\x00\x00\x00\x00\x03www\x07example\x03com\x00\x00\x01\x00\x01";
+
+    /// Its reply, behind its length.
+    const REPLY: &[u8] = b"\x00\x40\x12\x34\x84\x00\x00\x01\x00\x01\x00\x00\x00\x00\x03www\x07example\x03com\x00\x00\x01\x00\x01\x03www\x07example\x03com\x00\x00\x01\x00\x01\x00\x00\x0e\x10\x00\x04\xc0\x00\x02\x01";
+
+    /// Gives its octets one at a time, and then fails if it is to.
+    #[derive(Drop)]
+    struct Slow<'a> {
+        octets: &'a [u8],
+        fails: bool,
+    }
+
+    impl Read for Slow<'_> {
+        fn read(&mut self, buf: &mut [u8]) -> io::Result<usize> {
+            match self.octets.split_first() {
+                Some((first, rest)) if !buf.is_empty() => {
+                    buf[0] = *first;
+                    self.octets = rest;
+                    Ok(1)
+                }
+                Some(_) => Ok(0),
+                None if self.fails => Err(io::Error::from(io::ErrorKind::Other)),
+                None => Ok(0),
+            }
+        }
+    }
+
+    /// Takes so many octets, one at a time; then it fails, or takes none.
+    #[derive(Drop)]
+    struct Short {
+        taken: Vec<u8>,
+        room: usize,
+        fails: bool,
+        flushes: bool,
+    }
+
+    impl Write for Short {
+        fn write(&mut self, buf: &[u8]) -> io::Result<usize> {
+            match buf.first() {
+                Some(first) if self.room > 0 => {
+                    self.room -= 1;
+                    if self.taken.push(*first).is_err() {
+                        return Err(io::Error::from(io::ErrorKind::OutOfMemory));
+                    }
+                    Ok(1)
+                }
+                _ if self.fails => Err(io::Error::from(io::ErrorKind::Other)),
+                _ => Ok(0),
+            }
+        }
+
+        fn flush(&mut self) -> io::Result<()> {
+            if self.flushes { Ok(()) } else { Err(io::Error::from(io::ErrorKind::Other)) }
+        }
+    }
+
+    fn writer_of(rt: &impl AllocGlobal, room: usize, fails: bool, flushes: bool) -> Short {
+        Short {
+            taken: Vec::new(rt.alloc()),
+            room,
+            fails,
+            flushes,
+        }
+    }
+
+    fn words(rt: &impl AllocGlobal, texts: &[&str]) -> Result<Vec<String>, Fail> {
+        let mut words = Vec::new(rt.alloc());
+        for text in texts {
+            words.push(String::from_str(rt.alloc(), text)?)?;
+        }
+        Ok(words)
+    }
+
+    #[test]
+    fn statuses_and_their_lines(rt: HostRuntime) -> Result<(), Fail> {
+        for (texts, zone, status, line) in [
+            (["example.com.", "z", "0"].as_slice(), Some(ZONE), 0, ""),
+            (["example.com.", "z"].as_slice(), Some(ZONE), 2, "usage: authority ORIGIN ZONEFILE NOW\n"),
+            (["example.com", "z", "0"].as_slice(), None, 2, "usage: authority ORIGIN ZONEFILE NOW\n"),
+            (["example.com.", "z", "+1"].as_slice(), Some(ZONE), 2, "usage: authority ORIGIN ZONEFILE NOW\n"),
+            (["example.com.", "z", "18446744073709551616"].as_slice(), Some(ZONE), 2, "usage: authority ORIGIN ZONEFILE NOW\n"),
+            (["example.com.", "z", "18446744073709551615"].as_slice(), None, 3, "zone file unreadable\n"),
+            (["example.com.", "z", "0"].as_slice(), Some("\nx"), 3, "line 2: FieldCount\n"),
+        ] {
+            let mut reader = Slow { octets: b"", fails: false };
+            let mut writer = writer_of(&rt, 0, true, true);
+            let mut faults = writer_of(&rt, 100, true, true);
+            let words = words(&rt, texts)?;
+            assert_eq!(rt; run(rt.alloc(), &words, zone, &mut reader, &mut writer, &mut faults), status);
+            assert_eq!(rt; faults.taken.as_slice(), line.as_bytes());
+        }
+        Ok(())
+    }
+
+    #[test]
+    fn streams(rt: HostRuntime) -> Result<(), Fail> {
+        let words = words(&rt, &["example.com.", "z", "0"])?;
+        let mut input = b"\x00\x0b\x00\x00\x00\x00\x00\x00\x00\x00\x00\x00\x00".to_vec(rt.alloc())?;
+        input.extend_from_slice(QUESTION)?;
+        let mut cut = input.clone()?;
+        cut.push(0)?;
+        for (octets, reads, room, writes, flushes, status, line, out) in [
+            (input.as_slice(), true, 100, true, true, 0, "", 66),
+            (cut.as_slice(), true, 100, true, true, 4, "stream: CutFrame\n", 66),
+            (cut.as_slice(), false, 100, true, true, 4, "stream: Read\n", 66),
+            (input.as_slice(), true, 5, true, true, 4, "stream: Write\n", 5),
+            (input.as_slice(), true, 5, false, true, 4, "stream: Write\n", 5),
+            (input.as_slice(), true, 100, true, false, 4, "stream: Write\n", 66),
+        ] {
+            let mut reader = Slow { octets, fails: !reads };
+            let mut writer = writer_of(&rt, room, writes, flushes);
+            let mut faults = writer_of(&rt, 100, true, true);
+            assert_eq!(rt; run(rt.alloc(), &words, Some(ZONE), &mut reader, &mut writer, &mut faults), status);
+            assert_eq!(rt; faults.taken.as_slice(), line.as_bytes());
+            assert_eq!(rt; writer.taken.len(), out);
+            assert!(rt; REPLY.starts_with(writer.taken.as_slice()));
+        }
+        Ok(())
+    }
+}
