@@ -136,9 +136,9 @@ same_full words (rdata.SOA a) (rdata.SOA b) of-a of-b e =
 pub none_11 : (zone : View) (words : List (List ℕ)) (value : RData) → NoneBefore zone words 8 → AreData words value → has_full_names value ≡ true → NoneBefore zone words 11
 none_11 zone words value before is full =
     let n10 : NoneBefore zone words 10 = none_next zone words causes.NotReadBack (none_9 zone words value before is) (λ relative.
-        let types-same : Some (rdata_type relative.0) ≡ Some (rdata_type value) = sym relative.1.0 ∙ is.0 in
-        let type-same : rdata_type relative.0 ≡ rdata_type value = cc in
-        both_ways (has_full_names value) (sym (same_full (drop 4 words) relative.0 value relative.1.1 is.1 type-same) ∙ relative.2) full) in
+    let types-same : Some (rdata_type relative.0) ≡ Some (rdata_type value) = sym relative.1.0 ∙ is.0 in
+    let type-same : rdata_type relative.0 ≡ rdata_type value = cc in
+    both_ways (has_full_names value) (sym (same_full (drop 4 words) relative.0 value relative.1.1 is.1 type-same) ∙ relative.2) full) in
     none_next zone words causes.BesideCname n10 (λ wrong. wrong)
 
 -- A start of authority where there is one.
@@ -152,6 +152,7 @@ second_stands zone words h known start there =
     start_is types.SOA e = refl
     start_is types.AXFR e = cc
     start_is (types.Unknown n) e = cc
+
     some_there : {X : Type 0} (o : Option X) → is_some o ≡ true → IsSome o
     some_there o e = e
 

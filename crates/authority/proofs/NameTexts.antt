@@ -41,9 +41,10 @@ not_dot test octet fails passes true e = let same : octet ≡ 46 = eqb-true octe
 
 continues_free : (octets : List ℕ) → list_all continues_label octets ≡ true → AllByRecursion (λ octet. is_dot octet ≡ false) octets
 continues_free [] h = tt
-continues_free (o ∷ os) h =
-    (not_dot continues_label o refl (and_left (continues_label o) (list_all continues_label os) h) (is_dot o) refl,
-     continues_free os (and_right (continues_label o) (list_all continues_label os) h))
+continues_free (o ∷ os) h = (
+  not_dot continues_label o refl (and_left (continues_label o) (list_all continues_label os) h) (is_dot o) refl,
+  continues_free os (and_right (continues_label o) (list_all continues_label os) h),
+)
 
 -- No octet of a label's text is a dot.
 pub dot_free : (label : List ℕ) → is_label_text label ≡ true → AllByRecursion (λ octet. is_dot octet ≡ false) label
@@ -126,7 +127,7 @@ label_of_text : (label : List ℕ) → is_label_text label ≡ true → IsLabel 
 label_of_text [] h = cc
 label_of_text (o ∷ os) h =
     let short : length os ≤ 62 = leb-true (length os) 62 (and_right (list_all continues_label os) _ (and_right (begins_label o) _ h)) in
-    record { not_empty = omega arith; short = omega arith; }
+    record { not_empty = omega arith; short = omega arith }
 
 pub labels_of_texts : (labels : List (List ℕ)) → AllByRecursion (λ label. is_label_text label ≡ true) labels → AllByRecursion IsLabel labels
 labels_of_texts [] h = tt
@@ -166,6 +167,6 @@ pub same_name : (text : List ℕ) (a b : DomainName) → IsNameText text a → I
 same_name text a b of-a of-b =
     let end : a.fqdn ≡ b.fqdn = same_end text a b of-a of-b a.fqdn b.fqdn refl refl in
     let whole : join_with_byte 46 a.labels ++ (if b.fqdn then codes "." else []) ≡ join_with_byte 46 b.labels ++ (if b.fqdn then codes "." else []) =
-        ap (λ f. join_with_byte 46 a.labels ++ (if f then codes "." else [])) (sym end) ∙ sym of-a.spelled ∙ of-b.spelled in
+    ap (λ f. join_with_byte 46 a.labels ++ (if f then codes "." else [])) (sym end) ∙ sym of-a.spelled ∙ of-b.spelled in
     let labels : a.labels ≡ b.labels = same_labels a.labels b.labels of-a.labels.texts of-b.labels.texts (append_cancel_right _ _ (if b.fqdn then codes "." else []) whole) in
     same_parts a b end labels

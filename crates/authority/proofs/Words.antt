@@ -44,10 +44,11 @@ pub words_from : (text : List ℕ) (i : ℕ) (rest : List ℕ) → position (λ 
     → (words_of text ≡ words_of rest) × (is_blank (get_or rest 0 0) ≡ false) × (0 < length rest)
 words_from text i rest found e =
     let at = position-Some (λ octet. not (is_blank octet)) text i 0 found in
-    let behind : rest ≡ get_or text i 0 ∷ drop (suc i) text = e ∙ drop-cons text i 0 at.0 in
-    (sym (skip i text (λ k lt. at.2 k lt) (omega (arith, at.0))) ∙ ap words_of (sym e),
-     ap (λ xs. is_blank (get_or xs 0 0)) behind ∙ not_true (is_blank (get_or text i 0)) at.1,
-     omega (arith, ap length behind))
+    let behind : rest ≡ get_or text i 0 ∷ drop (suc i) text = e ∙ drop-cons text i 0 at.0 in (
+      sym (skip i text (λ k lt. at.2 k lt) (omega (arith, at.0))) ∙ ap words_of (sym e),
+      ap (λ xs. is_blank (get_or xs 0 0)) behind ∙ not_true (is_blank (get_or text i 0)) at.1,
+      omega (arith, ap length behind),
+    )
 
 filtered : (word : List ℕ) (parts : List (List ℕ)) → 0 < length word → no_words (word ∷ parts) ≡ word ∷ no_words parts
 filtered [] parts lt = absurd (omega arith)
@@ -78,6 +79,7 @@ word_first text lt plain (Some n) e =
     above : (m : ℕ) → is_blank (get_or text m 0) ≡ true → 0 < m
     above zero yes-blank = absurd (both_ways (is_blank (get_or text 0 0)) plain yes-blank)
     above (suc m) yes-blank = omega arith
+
     front_plain : (m : ℕ) → position is_blank text ≡ Some m → All (λ octet. is_blank octet ≡ false) (take m text)
     front_plain m found = λ k d below.
         let k-below : k < m = omega (arith, length-take m text) in

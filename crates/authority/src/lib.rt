@@ -15,6 +15,7 @@ mod zone;
 
 pub use codes::{DNSClass, RecordType};
 pub use loader::{LoadCause, LoadError, load_zone};
+pub use names::text::TextError;
 pub use names::{Label, Name};
 pub use record_data::{A, NS, RData, SOA};
 pub use records::{Record, RecordSet};

@@ -13,10 +13,9 @@ use crate::loader::line::record_of;
 use crate::names::Name;
 use crate::zone::handler::InMemoryZoneHandler;
 use crate::zone::settings::ZoneSettings;
+pub use number::parse_u64;
 use std::alloc::Global;
 use thiserror::Error;
-
-pub use number::parse_u64;
 
 /// Why a line of a zone's text is refused, in the order in which the causes are tried but for the last.
 #[derive(Clone, Copy, Debug, PartialEq, Eq)]
@@ -62,28 +61,43 @@ pub struct LoadError {
 /// Lines end at LF or CR LF. Empty lines, lines of spaces and tabs, and lines that begin with `;` are passed over. Every
 /// other line is a record: owner, time to live, class, type and data, between spaces and tabs. A record given twice is
 /// taken once, with its later time to live.
-pub fn load_zone<K>(alloc: Global, origin: Name, settings: ZoneSettings, text: &str) -> Result<InMemoryZoneHandler<K>, LoadError>
+pub fn load_zone<K>(
+    alloc: Global,
+    origin: Name,
+    settings: ZoneSettings,
+    text: &str,
+) -> Result<InMemoryZoneHandler<K>, LoadError>
     requires { origin.fqdn ≡ true }
     ensures answers { LoadAnswers (empty_zone origin settings) text.now result }
     ensures settings { IfOk result (λ zone. zone ≡ record (empty_zone origin settings) { sets = zone.sets }) }
 {
     let mut zone = match InMemoryZoneHandler::empty(alloc, origin, settings) {
         Ok(zone) => zone,
-        Err(_) => return Err(LoadError { line: 1, cause: LoadCause::OutOfMemory }),
+        Err(_) => return Err(LoadError {
+            line: 1,
+            cause: LoadCause::OutOfMemory,
+        }),
     };
     let mut number = 0usize;
     for line in text.lines() {
         number += 1;
         match load_line(alloc, &mut zone, line.as_bytes()) {
             Ok(()) => {}
-            Err(cause) => return Err(LoadError { line: number, cause }),
+            Err(cause) => return Err(LoadError {
+                line: number,
+                cause,
+            }),
         }
     }
     Ok(zone)
 }
 
 /// Adds the record of a line to the zone, if the line has one.
-fn load_line<K>(alloc: Global, zone: &mut InMemoryZoneHandler<K>, line: &[u8]) -> Result<(), LoadCause>
+fn load_line<K>(
+    alloc: Global,
+    zone: &mut InMemoryZoneHandler<K>,
+    line: &[u8],
+) -> Result<(), LoadCause>
     ensures { LineLoads zone.old line.now zone.new result }
 {
     if words::is_skipped(line) {
@@ -101,7 +115,8 @@ mod tests {
     use crate::zone::settings::{AxfrPolicy, ZoneType};
     use std::test::Fail;
 
-    const SOA_LINE: &str = "example.com. 3600 IN SOA ns.example.com. admin.example.com. 1 3600 1800 604800 86400\n";
+    const SOA_LINE: &str =
+        "example.com. 3600 IN SOA ns.example.com. admin.example.com. 1 3600 1800 604800 86400\n";
 
     struct NoSigner;
 
@@ -111,7 +126,10 @@ mod tests {
             axfr_policy: AxfrPolicy::AllowAll,
             nx_proof_kind: None,
         };
-        let unread = LoadError { line: 0, cause: LoadCause::OutOfMemory };
+        let unread = LoadError {
+            line: 0,
+            cause: LoadCause::OutOfMemory,
+        };
         let Ok(origin) = parse_name(rt.alloc(), b"example.com.") else {
             return Err(unread);
         };
@@ -146,25 +164,47 @@ mod tests {
             ("www.example.com. 60 IN OPT x", LoadCause::UnknownType),
             ("www.example.org. 60 IN A 1", LoadCause::OutsideZone),
             ("www.example.com. 60 IN A", LoadCause::Data),
-            ("www.example.com. 60 IN A 192.0.2.1 192.0.2.2", LoadCause::Data),
+            (
+                "www.example.com. 60 IN A 192.0.2.1 192.0.2.2",
+                LoadCause::Data,
+            ),
             ("www.example.com. 60 IN A 192.0.2.256", LoadCause::Data),
-            ("example.com. 60 IN SOA a. b. 1 2147483648 1 1 1", LoadCause::Data),
+            (
+                "example.com. 60 IN SOA a. b. 1 2147483648 1 1 1",
+                LoadCause::Data,
+            ),
             ("example.com. 60 IN SOA a. b. 1 1 1 1", LoadCause::Data),
             ("example.com. 60 IN NS ns", LoadCause::NotReadBack),
-            ("example.com. 60 IN SOA a. b 1 1 1 1 1", LoadCause::NotReadBack),
-            ("EXAMPLE.com. 60 IN SOA a. b. 1 1 1 1 1", LoadCause::SecondSoa),
+            (
+                "example.com. 60 IN SOA a. b 1 1 1 1 1",
+                LoadCause::NotReadBack,
+            ),
+            (
+                "EXAMPLE.com. 60 IN SOA a. b. 1 1 1 1 1",
+                LoadCause::SecondSoa,
+            ),
         ] {
-            assert_eq!(rt; refusal(&rt, line), Some(LoadError { line: 2, cause }), "{line}");
+            assert_eq!(rt;
+                refusal(&rt, line),
+                Some(LoadError { line: 2, cause }),
+                "{line}"
+            );
         }
         Ok(())
     }
 
     #[test]
     fn lines_that_are_passed_over(rt: HostRuntime) -> Result<(), Fail> {
-        let text = "; c\r\n\n \t\r\n  www.example.com.\t60 in a 192.0.2.1\nwww.example.com. 61 IN A 192.0.2.1";
+        let text =
+            "; c\r\n\n \t\r\n  www.example.com.\t60 in a 192.0.2.1\nwww.example.com. 61 IN A 192.0.2.1";
         let zone = load(&rt, text)?;
-        let name = parse_name(rt.alloc(), b"WWW.example.com.").ok().ok_or("name")?;
-        let found = zone.get(rt.alloc(), &crate::zone::handler::RrKey::new(name, RecordType::A))?;
+        let name = parse_name(rt.alloc(), b"WWW.example.com.")
+            .ok()
+            .ok_or("name")?;
+        let found = zone.get(
+            rt.alloc(),
+            &crate::zone::handler::RrKey::new(name, RecordType::A),
+        )?;
         let set = found.ok_or("no set")?;
         assert_eq!(rt; set.records().len(), 1);
         assert_eq!(rt; set.records()[0].ttl, 61);
@@ -173,8 +213,18 @@ mod tests {
 
     #[test]
     fn numbers_of_lines(rt: HostRuntime) -> Result<(), Fail> {
-        assert_eq!(rt; load(&rt, "; c\n\nwww.example.com. 60 IN").err(), Some(LoadError { line: 3, cause: LoadCause::FieldCount }));
-        let printed = LoadError { line: 3, cause: LoadCause::FieldCount }.to_string(rt.alloc())?;
+        assert_eq!(rt;
+            load(&rt, "; c\n\nwww.example.com. 60 IN").err(),
+            Some(LoadError {
+                line: 3,
+                cause: LoadCause::FieldCount
+            })
+        );
+        let printed = LoadError {
+            line: 3,
+            cause: LoadCause::FieldCount,
+        }
+        .to_string(rt.alloc())?;
         assert_eq!(rt; printed.as_str(), "line 3: FieldCount");
         Ok(())
     }

@@ -2,6 +2,9 @@
 //! standard output.
 #![tactic(auto)]
 
+#[cfg(test)]
+mod tests;
+
 use authority::program;
 use std::alloc::{AllocError, Global};
 use std::io::{self, BufReader, BufWriter, ErrorKind, Write};

@@ -14,7 +14,11 @@ use std::alloc::Global;
 use std::net::Ipv4Addr;
 
 /// The data of a type from all words that are left.
-pub fn parse_rdata(alloc: Global, record_type: RecordType, words: Words<'_>) -> Result<RData, TextError>
+pub fn parse_rdata(
+    alloc: Global,
+    record_type: RecordType,
+    words: Words<'_>,
+) -> Result<RData, TextError>
     ensures { ReadsText (IsTextOf record_type (words_of words.entry.rest.now)) result }
 {
     match record_type {

@@ -42,7 +42,11 @@ struct Header<'a> {
 }
 
 /// The record of a line that may be added to the zone, or the first cause why it may not.
-pub fn record_of<K>(alloc: Global, zone: &InMemoryZoneHandler<K>, line: &[u8]) -> Result<Record, LoadCause>
+pub fn record_of<K>(
+    alloc: Global,
+    zone: &InMemoryZoneHandler<K>,
+    line: &[u8],
+) -> Result<Record, LoadCause>
     ensures { LineGives zone.now (words_of line.now) result }
 {
     let header = header_of(alloc, line)?;
@@ -53,7 +57,10 @@ pub fn record_of<K>(alloc: Global, zone: &InMemoryZoneHandler<K>, line: &[u8]) -
     if !zone.is_in_zone(&key) {
         return Err(LoadCause::OutsideZone);
     }
-    let rdata = or_cause(parse_rdata(alloc, header.record_type, header.rdata), LoadCause::Data)?;
+    let rdata = or_cause(
+        parse_rdata(alloc, header.record_type, header.rdata),
+        LoadCause::Data,
+    )?;
     if !ends_at_root(&rdata) {
         return Err(LoadCause::NotReadBack);
     }

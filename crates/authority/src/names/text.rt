@@ -26,6 +26,16 @@ impl From<AllocError> for TextError {
     }
 }
 
+impl Name {
+    /// The name of a text: labels of letters, digits, `_`, a first `*` and a later `-`, between dots; with a dot at the
+    /// end it ends at the root (RFC 1035 section 5.1).
+    pub fn from_ascii(alloc: Global, text: &str) -> Result<Name, TextError>
+        ensures { ReadsText (IsNameText text.now) result }
+    {
+        parse_name(alloc, text.as_bytes())
+    }
+}
+
 /// The name of a text: labels between dots, a dot at the end where it ends at the root.
 pub fn parse_name(alloc: Global, text: &[u8]) -> Result<Name, TextError>
     ensures { ReadsText (IsNameText text.now) result }
@@ -118,7 +128,15 @@ mod tests {
         assert!(rt; reads(&rt, b".", 0, true));
         assert!(rt; reads(&rt, b"web", 1, false));
         assert!(rt; reads(&rt, b"_sip.*.a-b.Example.com.", 5, true));
-        for text in [b"..".as_slice(), b".a", b"a..b", b"-a.", b"a*.", b"a b.", b"\\097."] {
+        for text in [
+            b"..".as_slice(),
+            b".a",
+            b"a..b",
+            b"-a.",
+            b"a*.",
+            b"a b.",
+            b"\\097.",
+        ] {
             assert!(rt; matches!(parse_name(rt.alloc(), text), Err(TextError::Malformed)));
         }
         Ok(())

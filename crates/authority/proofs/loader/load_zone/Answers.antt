@@ -22,8 +22,8 @@ loop-line-preserved g c =
     record {
       count = omega (arith, c.loop-line.invariant.count);
       loads = subst (λ k. Loads (empty_zone c.args.origin c.args.settings) (take k (lines c.args.text.now)) c.load_line.new.zone) (sym n)
-        (loads_more (empty_zone c.args.origin c.args.settings) (lines c.args.text.now) (length c.loop-line.yielded) c.in-Some.line.now c.loop-line.zone c.load_line.new.zone t c.loop-line.invariant.loads
-        (subst (λ x. LoadsLine c.loop-line.zone x c.load_line.new.zone) c.as_bytes.ensures.value c.in-Ok-load_line.ensures));
+          (loads_more (empty_zone c.args.origin c.args.settings) (lines c.args.text.now) (length c.loop-line.yielded) c.in-Some.line.now c.loop-line.zone c.load_line.new.zone t c.loop-line.invariant.loads
+          (subst (λ x. LoadsLine c.loop-line.zone x c.load_line.new.zone) c.as_bytes.ensures.value c.in-Ok-load_line.ensures));
     }
 
 pub returns-clause-answers : goal.returns-clause-answers

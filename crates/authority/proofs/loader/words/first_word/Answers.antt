@@ -13,8 +13,8 @@ returns c =
     let first = word_first c.split_at.result.1.now from.2 from.1 c.first_blank.result (sym c.first_blank.ensures.place) in
     let len = c.unwrap_or-len.ensures in
     let front : c.split_at-2.result.0.now ≡ take (unwrap_or c.first_blank.result (length c.split_at.result.1.now)) c.split_at.result.1.now =
-        c.split_at-2.ensures.front ∙ ap (λ n. take n c.split_at.result.1.now) len in
+    c.split_at-2.ensures.front ∙ ap (λ n. take n c.split_at.result.1.now) len in
     let behind : c.split_at-2.result.1.now ≡ drop (unwrap_or c.first_blank.result (length c.split_at.result.1.now)) c.split_at.result.1.now =
-        c.split_at-2.ensures.back ∙ ap (λ n. drop n c.split_at.result.1.now) len in
+    c.split_at-2.ensures.back ∙ ap (λ n. drop n c.split_at.result.1.now) len in
     from.0 ∙ first ∙ ap (λ w. w ∷ words_of (drop (unwrap_or c.first_blank.result (length c.split_at.result.1.now)) c.split_at.result.1.now)) (sym front)
     ∙ ap (λ r. c.split_at-2.result.0.now ∷ words_of r) (sym behind)

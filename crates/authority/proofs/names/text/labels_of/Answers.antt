@@ -69,9 +69,11 @@ pub returns : goal.returns
 returns c =
     let t = YieldsList-end (YieldsList-from_slice_split _ is_dot c.args.text.now (search rules) (search rules) (search rules) (λ x r q k. search (rules, tests))) c.loop-part.yielded _ c.loop-part.yielded_by _ _ c.in-None.is c.next.ensures.steps in
     let whole : c.loop-part.labels.items ≡ slice_split is_dot c.args.text.now =
-        c.loop-part.invariant.items ∙ ap (λ k. take k (slice_split is_dot c.args.text.now)) t.1 ∙ take-length _ in
-    let size : name_size c.loop-part.labels.items ≤ 255 = omega (arith, c.loop-part.invariant.size, c.loop-part.invariant.short) in
-    (whole, record {
-      texts = subst (λ xs. AllByRecursion (λ label. is_label_text label ≡ true) xs) whole c.loop-part.invariant.texts;
-      size = subst (λ xs. name_size xs ≤ 255) whole size;
-    })
+    c.loop-part.invariant.items ∙ ap (λ k. take k (slice_split is_dot c.args.text.now)) t.1 ∙ take-length _ in
+    let size : name_size c.loop-part.labels.items ≤ 255 = omega (arith, c.loop-part.invariant.size, c.loop-part.invariant.short) in (
+      whole,
+      record {
+        texts = subst (λ xs. AllByRecursion (λ label. is_label_text label ≡ true) xs) whole c.loop-part.invariant.texts;
+        size = subst (λ xs. name_size xs ≤ 255) whole size;
+      },
+    )
