@@ -21,3 +21,4 @@ pub mod ZoneMapsBy
 pub mod ZoneNodes
 pub mod ZoneRecords
 pub mod ZoneSets
+pub mod WorkedRows

@@ -1,0 +1,131 @@
+"""Runs of a program under callgrind, and what they counted."""
+
+import collections
+import os
+import re
+import subprocess
+
+import generate
+import replies
+
+HERE = os.path.dirname(os.path.abspath(__file__))
+TOP = os.path.dirname(HERE)
+# Where the generated files and the counts go; never committed.
+FOLDER = os.path.join(HERE, "out")
+
+# What takes memory from the C library, and how many callers are told apart behind each.
+ALLOCATORS = ("malloc", "calloc", "realloc", "aligned_alloc", "posix_memalign")
+CALLERS = 8
+# The C library's calls into the kernel, whose instructions callgrind does not see.
+SYSTEM = ("read", "write")
+
+# The zone is dropped at the end, and what the heap's fast bins then cost turns on what was freed last: with a large
+# zone, a few questions more or less change it by thousands of instructions each. So they are turned off; questions
+# never reach them, for the heap's per-thread cache serves what they take.
+HEAP = {"GLIBC_TUNABLES": "glibc.malloc.mxfast=0"}
+
+# What a run counted: all instructions; calls of ALLOCATORS and SYSTEM, by the function called and, for ALLOCATORS, the
+# functions that the call came through; and by function the instructions of its own, those with what it calls, and
+# how often it is called.
+Run = collections.namedtuple("Run", "instructions calls own inclusive called")
+
+
+class Failed(Exception):
+    """A run that says nothing."""
+
+
+def callgrind(program, zone_file, questions_file, base):
+    """Runs the program under callgrind; leaves its replies in base.replies and the counts in base.callgrind."""
+    command = [
+        "valgrind", "--tool=callgrind", f"--callgrind-out-file={base}.callgrind",
+        *(f"--separate-callers{CALLERS}={name}" for name in ALLOCATORS),
+        program, generate.ORIGIN, zone_file, "0",
+    ]
+    environment = {**os.environ, **HEAP}
+    with open(questions_file, "rb") as asked, open(base + ".replies", "wb") as said, open(base + ".log", "wb") as log:
+        status = subprocess.run(command, stdin=asked, stdout=said, stderr=log, env=environment).returncode
+    if status != 0:
+        with open(base + ".log", errors="replace") as log:
+            raise Failed(f"status {status} of {' '.join(command)}\n{log.read()}")
+
+
+def split_callers(name):
+    """A function and its callers, which callgrind joins by apostrophes; those between < and > are a name's own."""
+    parts, depth = [""], 0
+    for letter in name:
+        depth += (letter == "<") - (letter == ">")
+        if letter == "'" and depth <= 0:
+            parts.append("")
+        else:
+            parts[-1] += letter
+    # What stands between < and > says for which types a function was built, as a number.
+    return tuple(re.sub(r"(::)?<.*>", "", part) for part in parts)
+
+
+def read_counts(path):
+    """The Run of a callgrind file: https://valgrind.org/docs/manual/cl-format.html."""
+    names, run = {}, Run(0, *(collections.Counter() for _ in range(4)))
+    function = callee = None
+    is_call = False
+
+    def name_of(line):
+        number, _, name = line.rstrip("\n").partition("=")[2].partition(" ")
+        if name:
+            names[number] = split_callers(name)
+        return names[number]
+
+    with open(path, errors="replace") as lines:
+        for line in lines:
+            if line.startswith("fn="):
+                function = name_of(line)
+            elif line.startswith("cfn="):
+                callee = name_of(line)
+            elif line.startswith("calls="):
+                count = int(line[6:].split()[0])
+                run.called[callee[0]] += count
+                if callee[0] in ALLOCATORS + SYSTEM:
+                    run.calls[callee] += count
+                is_call = True
+            elif line.startswith("summary:"):
+                run = run._replace(instructions=int(line.split()[1]))
+            elif function and line[0] in "+-*0123456789":
+                instructions = int(line.split()[1])
+                if not is_call:
+                    run.own[function[0]] += instructions
+                if not is_call or callee[0] != function[0]:
+                    run.inclusive[function[0]] += instructions
+                is_call = False
+    if not run.instructions:
+        raise Failed(f"no counts in {path}")
+    return run
+
+
+def check_kinds(kinds, names, kind):
+    """Hits are to be hits, and misses and deep names misses."""
+    wanted = {
+        "hit": {(replies.NO_ERROR, 1, 0)}, "miss": {(replies.NX_DOMAIN, 0, 1)},
+        "deep": {(replies.NX_DOMAIN, 0, 1)}, "empty": set(),
+    }
+    if kind in wanted and set(kinds) != wanted[kind]:
+        raise Failed(f"replies of a wrong kind to {names}.{kind}: {dict(kinds)}")
+
+
+def count(program, folder, names, kind):
+    """One run of the program over files that generate.write_all left in the folder, its replies checked."""
+    base = os.path.join(folder, f"{names}.{kind}")
+    zone_file = os.path.join(folder, f"{names}.zone")
+    callgrind(program, zone_file, base, base)
+    with open(zone_file) as zone, open(base, "rb") as asked, open(base + ".replies", "rb") as said:
+        try:
+            kinds = replies.check_stream(zone.read(), asked.read(), said.read())
+        except replies.Wrong as wrong:
+            raise Failed(f"wrong replies to {names}.{kind}: {wrong}") from None
+    check_kinds(kinds, names, kind)
+    return read_counts(base + ".callgrind")
+
+
+def minus(counter, base):
+    """A Counter less another, with what falls below zero."""
+    difference = collections.Counter(counter)
+    difference.subtract(base)
+    return difference

@@ -1,0 +1,151 @@
+#!/usr/bin/env python3
+"""Zone files and framed question streams for the measurements of this folder.
+
+    generate.py zone NAMES                 a zone file with NAMES hosts under example.com.
+    generate.py questions KIND NAMES COUNT a stream of COUNT questions for that zone
+    generate.py all FOLDER [COUNT]         all of them, as files in FOLDER
+
+KIND is one of hit, miss, mixed, deep, empty. Everything is written to standard
+output, but for `all`. The same arguments give the same octets: each file has a
+generator of random numbers of its own, seeded by its arguments.
+"""
+
+import os
+import random
+import struct
+import sys
+
+ORIGIN = "example.com."
+SIZES = (2, 1000, 100000)
+KINDS = ("empty", "hit", "miss", "mixed", "deep")
+
+TYPE_A, TYPE_NS, TYPE_SOA, TYPE_AAAA = 1, 2, 6, 28
+CLASS_IN = 1
+
+# A question of so many one-octet labels under the origin has 253 of the 255 octets of a name.
+DEEP_LABELS = 120
+LETTERS = "abcdefghijklmnopqrstuvwxyz"
+
+
+def host(number):
+    """The name of a host of the zone."""
+    return f"h{number:05}.{ORIGIN}"
+
+
+def zone(names):
+    """The lines of a zone of so many hosts: the origin's SOA and NS, then one A for each host, shuffled."""
+    lines = [
+        f"{ORIGIN} 3600 IN SOA ns.example.org. admin.{ORIGIN} 1 3600 1800 604800 86400",
+        f"{ORIGIN} 3600 IN NS ns.example.org.",
+    ]
+    numbers = list(range(names))
+    random.Random(f"zone {names}").shuffle(numbers)
+    for number in numbers:
+        address = f"10.{number >> 16}.{number >> 8 & 255}.{number & 255}"
+        lines.append(f"{host(number)} 3600 IN A {address}")
+    return lines
+
+
+def wire_name(name):
+    """The octets of a fully qualified name, uncompressed."""
+    labels = name[:-1].split(".") if name != "." else []
+    return b"".join(bytes([len(label)]) + label.encode("ascii") for label in labels) + b"\0"
+
+
+def question(number, name, record_type, flags=0):
+    """A query for one name and type."""
+    header = struct.pack("!6H", number & 0xFFFF, flags, 1, 0, 0, 0)
+    return header + wire_name(name) + struct.pack("!2H", record_type, CLASS_IN)
+
+
+def missing(dice, names):
+    """A name of the zone that does not exist, as long as a host's, and spread among the hosts."""
+    number = dice.randrange(names)
+    return f"h{number // 10:04}{dice.choice(LETTERS)}.{ORIGIN}"
+
+
+def deep(dice):
+    """A name of DEEP_LABELS one-octet labels under the origin."""
+    return "".join(dice.choice(LETTERS) + "." for _ in range(DEEP_LABELS)) + ORIGIN
+
+
+def mixed(dice, names):
+    """A name and a type: 50 in 100 a host's A, 25 a missing name, 10 a type that a host lacks, 5 each the
+    origin's SOA, its NS, and a name outside the zone. Half of the names have letters of random case."""
+    choice = dice.randrange(100)
+    if choice < 50:
+        name, record_type = host(dice.randrange(names)), TYPE_A
+    elif choice < 75:
+        name, record_type = missing(dice, names), TYPE_A
+    elif choice < 85:
+        name, record_type = host(dice.randrange(names)), TYPE_AAAA
+    elif choice < 90:
+        name, record_type = ORIGIN, TYPE_SOA
+    elif choice < 95:
+        name, record_type = ORIGIN, TYPE_NS
+    else:
+        name, record_type = f"h{dice.randrange(names):05}.example.org.", TYPE_A
+    if dice.randrange(2) == 1:
+        name = "".join(dice.choice((letter.lower(), letter.upper())) for letter in name)
+    return name, record_type
+
+
+def questions(kind, names, count):
+    """So many questions of a kind for the zone of so many hosts; none for the kind empty."""
+    dice = random.Random(f"questions {kind} {names}")
+    if kind == "empty":
+        return []
+    if kind == "hit":
+        return [question(n, host(dice.randrange(names)), TYPE_A) for n in range(count)]
+    if kind == "miss":
+        return [question(n, missing(dice, names), TYPE_A) for n in range(count)]
+    if kind == "deep":
+        return [question(n, deep(dice), TYPE_A) for n in range(count)]
+    if kind == "mixed":
+        # RD is set in every second question.
+        return [question(n, *mixed(dice, names), flags=0x0100 * (n & 1)) for n in range(count)]
+    raise ValueError(f"unknown kind of questions: {kind}")
+
+
+def framed(messages):
+    """Messages as on a TCP stream: each behind its length in two octets."""
+    return b"".join(struct.pack("!H", len(message)) + message for message in messages)
+
+
+def zone_text(names):
+    """A zone file."""
+    return "".join(line + "\n" for line in zone(names)).encode("ascii")
+
+
+def stream(kind, names, count):
+    """A question stream."""
+    return framed(questions(kind, names, count))
+
+
+def write_all(folder, count):
+    """Writes each zone and each stream into a folder."""
+    os.makedirs(folder, exist_ok=True)
+    for names in SIZES:
+        with open(os.path.join(folder, f"{names}.zone"), "wb") as out:
+            out.write(zone_text(names))
+        for kind in KINDS:
+            with open(os.path.join(folder, f"{names}.{kind}"), "wb") as out:
+                out.write(stream(kind, names, count))
+
+
+def main(words):
+    try:
+        if len(words) == 2 and words[0] == "zone":
+            sys.stdout.buffer.write(zone_text(int(words[1])))
+        elif len(words) == 4 and words[0] == "questions":
+            sys.stdout.buffer.write(stream(words[1], int(words[2]), int(words[3])))
+        elif len(words) in (2, 3) and words[0] == "all":
+            write_all(words[1], int(words[2]) if len(words) == 3 else 2000)
+        else:
+            sys.exit(__doc__)
+    except ValueError as error:
+        sys.exit(str(error))
+
+
+if __name__ == "__main__":
+    main(sys.argv[1:])
