@@ -22,3 +22,4 @@ pub mod ZoneNodes
 pub mod ZoneRecords
 pub mod ZoneSets
 pub mod WorkedRows
+pub mod StreamRuns

@@ -34,7 +34,9 @@ elsewhere = record { fqdn = true; labels = codes "example" ∷ codes "org" ∷ [
 
 abbrev start : Record
 start = record {
-  name = example; dns_class = classes.IN; ttl = 3600;
+  name = example;
+  dns_class = classes.IN;
+  ttl = 3600;
   rdata = rdata.SOA (record { mname = below (codes "ns"); rname = below (codes "admin"); serial = 1; refresh = pos 3600; retry = pos 1800; expire = pos 604800; minimum = 86400 });
 }
 
@@ -43,7 +45,10 @@ address = record { name = below (codes "www"); dns_class = classes.IN; ttl = 360
 
 abbrev zone : View
 zone = record {
-  origin = example; zone_type = kinds.Primary; axfr_policy = policies.AllowAll; nx_proof_kind = None;
+  origin = example;
+  zone_type = kinds.Primary;
+  axfr_policy = policies.AllowAll;
+  nx_proof_kind = None;
   sets = record { owner = example; record_type = types.SOA; records = start ∷ [] } ∷ record { owner = below (codes "www"); record_type = types.A; records = address ∷ [] } ∷ [];
 }
 
@@ -53,8 +58,16 @@ question = 18 ∷ 52 ∷ 0 ∷ 0 ∷ 0 ∷ 1 ∷ 0 ∷ 0 ∷ 0 ∷ 0 ∷ 0 ∷ 0
 
 abbrev plain_metadata : Metadata
 plain_metadata = record {
-  id = 4660; message_type = messages.Query; op_code = operations.Query; authoritative = false; truncation = false;
-  recursion_desired = false; recursion_available = false; authentic_data = false; checking_disabled = false; response_code = responses.NoError;
+  id = 4660;
+  message_type = messages.Query;
+  op_code = operations.Query;
+  authoritative = false;
+  truncation = false;
+  recursion_desired = false;
+  recursion_available = false;
+  authentic_data = false;
+  checking_disabled = false;
+  response_code = responses.NoError;
 }
 
 -- The header of the question.
@@ -63,8 +76,17 @@ question_header = refl
 
 -- A header with every flag: a4 10 is a response of operation 4 with AA and CD, 85 80 one with AA, RD and RA.
 flags_of_notify : (header_of (0 ∷ 0 ∷ 164 ∷ 16 ∷ [])).metadata ≡ record {
-  id = 0; message_type = messages.Response; op_code = operations.Notify; authoritative = true; truncation = false;
-  recursion_desired = false; recursion_available = false; authentic_data = false; checking_disabled = true; response_code = responses.NoError }
+  id = 0;
+  message_type = messages.Response;
+  op_code = operations.Notify;
+  authoritative = true;
+  truncation = false;
+  recursion_desired = false;
+  recursion_available = false;
+  authentic_data = false;
+  checking_disabled = true;
+  response_code = responses.NoError;
+}
 flags_of_notify = refl
 
 -- Names are equal up to case, and lie below what their labels end in.
@@ -129,8 +151,16 @@ one name = record { name = name; query_type = types.A; query_class = classes.IN 
 
 abbrev answer_metadata : Bool → ResponseCode → Metadata
 answer_metadata authoritative code = record {
-  id = 4660; message_type = messages.Response; op_code = operations.Query; authoritative = authoritative; truncation = false;
-  recursion_desired = false; recursion_available = false; authentic_data = false; checking_disabled = false; response_code = code;
+  id = 4660;
+  message_type = messages.Response;
+  op_code = operations.Query;
+  authoritative = authoritative;
+  truncation = false;
+  recursion_desired = false;
+  recursion_available = false;
+  authentic_data = false;
+  checking_disabled = false;
+  response_code = code;
 }
 
 -- What full replies hold.

@@ -1,10 +1,13 @@
 -- Messages on a stream: RFC 1035, section 4.2.2.
-use Rattle.std.specs.Prelude.{◌≡◌, ℕ, false, List, [], ◌++◌, length, Option, Some, None}
+use Rattle.std.specs.Prelude.{◌≡◌, ℕ, false, List, [], ◌++◌, length, map, Option, Some, None}
+use Rattle.std.specs.List.{flat_map}
+use Rattle.std.specs.declared.net.SocketAddr.{SocketAddr}
+use Rattle.authority.specs.declared.server.Protocol.TheVariants as protocols
 use Rattle.std.specs.Int.{w16, to_be_bytes}
-use Rattle.std.specs.Io.KnownBytes.{Appends, IsAtEnd}
+use Rattle.std.specs.Io.KnownBytes.{Appends, Consumes, IsAtEnd}
 use Rattle.authority.specs.declared.stream.StreamError.{StreamError}
 use Rattle.authority.specs.declared.stream.StreamError.TheVariants as errors
-use Rattle.authority.specs.Serving.{World, Received, Serves}
+use Rattle.authority.specs.Serving.{World, Received, Serves, ServesAll}
 
 -- A message behind its length.
 abbrev pub framed : List ℕ → List ℕ
@@ -35,3 +38,16 @@ IsServeFault errors.TooLong = ⊥
 abbrev pub ServesFrame : World → Received → Option (List ℕ) → Option (List ℕ) → World → Type 0
 ServesFrame old received before after new =
     (answer : Option (List ℕ)) × Serves old received answer new × Appends before after (framed_answer answer)
+
+-- A message as it comes over a stream.
+abbrev pub streamed : SocketAddr → ℕ → List ℕ → Received
+streamed source moment message = record { message = message; source = source; transport = protocols.Tcp; now = moment }
+
+-- The frames of these messages were read, and the messages served in order, each answer's frame written behind those
+-- before. Of a reader or a writer that doesn't tell its octets nothing is said.
+pub record ServesFrames (old : World) (source : SocketAddr) (moment : ℕ) (left rest before after : Option (List ℕ)) (new : World) : Type 0 where
+  pub messages : List (List ℕ)
+  pub answers : List (Option (List ℕ))
+  pub read : Consumes left rest (flat_map framed messages)
+  pub run : ServesAll old (map (streamed source moment) messages) answers new
+  pub written : Appends before after (flat_map framed_answer answers)

@@ -1,9 +1,9 @@
 //! Framed messages over a stream: two octets of length before each (RFC 1035 section 4.2.2).
 
-ghost use Rattle.std.specs.Prelude.{◌≡◌, ◌<◌, ◌≤◌, ◌^◌, true, false, length, take, Ok, Err, IfOk, IfErr, IfSome, OnOk, None};
+ghost use Rattle.std.specs.Prelude.{◌≡◌, ◌<◌, ◌≤◌, ◌^◌, true, false, length, take, [], Ok, Err, IfOk, IfErr, IfSome, OnOk, None};
 ghost use Rattle.std.specs.Int.{w16, to_be_bytes};
 ghost use Rattle.std.specs.Io.KnownBytes.{Consumes, Appends, IsAtEnd};
-ghost use Rattle.authority.specs.Frames.{framed, IsReadFault, IsServeFault, ServesFrame};
+ghost use Rattle.authority.specs.Frames.{framed, streamed, IsReadFault, IsServeFault, ServesFrame, ServesFrames};
 
 use crate::server::{Authority, Protocol, ServeError};
 use std::io::{Read, Write};
@@ -63,7 +63,7 @@ fn length_in(octets: &[u8]) -> u16
 // Reads the length of the next message, or None where the input ended before it.
 fn read_length<R: Read>(reader: &mut R) -> Result<Option<u16>, StreamError>
     ensures whole { IfOk result (λ found. IfSome found (λ size. Consumes (R.remaining reader.old) (R.remaining reader.new) (to_be_bytes w16 size))) }
-    ensures end { result ≡ Ok None → IsAtEnd (R.remaining reader.new) }
+    ensures end { result ≡ Ok None → Consumes (R.remaining reader.old) (R.remaining reader.new) [] × IsAtEnd (R.remaining reader.new) }
     ensures fault { IfErr result (IsReadFault (R.remaining reader.new)) }
 {
     let mut octets = [0u8; 2];
@@ -97,7 +97,7 @@ fn read_message<R: Read>(reader: &mut R, frame: &mut Vec<u8>, size: u16) -> Resu
 // Reads one frame: whether one came before the input ended.
 fn read_frame<R: Read>(reader: &mut R, frame: &mut Vec<u8>) -> Result<bool, StreamError>
     ensures whole { result ≡ Ok true → Consumes (R.remaining reader.old) (R.remaining reader.new) (framed frame.new.items) }
-    ensures end { result ≡ Ok false → IsAtEnd (R.remaining reader.new) }
+    ensures end { result ≡ Ok false → Consumes (R.remaining reader.old) (R.remaining reader.new) [] × IsAtEnd (R.remaining reader.new) }
     ensures fault { IfErr result (IsReadFault (R.remaining reader.new)) }
 {
     match read_length(reader)? {
@@ -148,7 +148,7 @@ impl<S, K> Authority<S, K> {
         src: SocketAddr,
         now: u64,
     ) -> Result<(), StreamError>
-        ensures served { OnOk result (ServesFrame self.old (record { message = message.now; source = src; transport = Protocol.Tcp; now = now }) (W.contents writer.old) (W.contents writer.new) self.new) }
+        ensures served { OnOk result (ServesFrame self.old (streamed src now message.now) (W.contents writer.old) (W.contents writer.new) self.new) }
         ensures fault { IfErr result (λ e. IsServeFault e × (self.new ≡ self.old)) }
     {
         match self.serve(message, src, Protocol::Tcp, now) {
@@ -168,6 +168,7 @@ impl<S, K> Authority<S, K> {
         now: u64,
     ) -> Result<(), StreamError>
         ensures unchanged { self.new ≡ self.old }
+        ensures served { OnOk result (ServesFrames self.old src now (R.remaining reader.old) (R.remaining reader.new) (W.contents writer.old) (W.contents writer.new) self.new) }
         ensures ended { OnOk result (IsAtEnd (R.remaining reader.new)) }
         ensures cut { result ≡ Err StreamError.CutFrame → IsAtEnd (R.remaining reader.new) }
     {
