@@ -14,6 +14,10 @@ use Rattle.authority.specs.declared.message.header.ResponseCode.TheVariants as r
 use Rattle.authority.specs.declared.message.header.Metadata.{Metadata}
 use Rattle.authority.specs.declared.message.request.Query.{Query}
 use Rattle.authority.specs.Names.{DomainName, IsLabel, name_octets, name_size, name_eq, is_at_or_below}
+use Rattle.std.specs.Cmp.Lexicographic.{slice_cmp}
+use Rattle.std.specs.Ordering.{nat_cmp}
+use Rattle.std.specs.declared.cmp.Ordering.TheVariants.{Less}
+use Rattle.authority.specs.Keys.{rank, name_key}
 use Rattle.authority.specs.Octets.{Stands, octets_32}
 use Rattle.authority.specs.Headers.{header_of}
 use Rattle.authority.specs.Records.{RRset, record_octets}
@@ -175,3 +179,22 @@ outside_parts = refl
 
 no_question_parts : reply_parts zone (asks plain_metadata []) ≡ record { metadata = answer_metadata false responses.FormErr; answers = []; authorities = [] }
 no_question_parts = refl
+
+-- Keys rise in the canonical order: the nine names of RFC 4034, section 6.1.
+abbrev named : List (List ℕ) → DomainName
+named labels = record { fqdn = true; labels = labels }
+
+abbrev rises : List (List ℕ) → List (List ℕ) → Type 0
+rises a b = slice_cmp nat_cmp (name_key (named a)) (name_key (named b)) ≡ Less
+
+canonical_order :
+    rises (codes "example" ∷ []) (codes "a" ∷ codes "example" ∷ [])
+    × rises (codes "a" ∷ codes "example" ∷ []) (codes "yljkjljk" ∷ codes "a" ∷ codes "example" ∷ [])
+    × rises (codes "yljkjljk" ∷ codes "a" ∷ codes "example" ∷ []) (codes "Z" ∷ codes "a" ∷ codes "example" ∷ [])
+    × rises (codes "Z" ∷ codes "a" ∷ codes "example" ∷ []) (codes "zABC" ∷ codes "a" ∷ codes "EXAMPLE" ∷ [])
+    × rises (codes "zABC" ∷ codes "a" ∷ codes "EXAMPLE" ∷ []) (codes "z" ∷ codes "example" ∷ [])
+    × rises (codes "z" ∷ codes "example" ∷ []) ((1 ∷ []) ∷ codes "z" ∷ codes "example" ∷ [])
+    × rises ((1 ∷ []) ∷ codes "z" ∷ codes "example" ∷ []) (codes "*" ∷ codes "z" ∷ codes "example" ∷ [])
+    × rises (codes "*" ∷ codes "z" ∷ codes "example" ∷ []) ((200 ∷ []) ∷ codes "z" ∷ codes "example" ∷ [])
+unfolding rank
+canonical_order = (refl, refl, refl, refl, refl, refl, refl, refl)

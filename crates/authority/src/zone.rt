@@ -4,5 +4,3 @@ pub mod handler;
 pub mod key;
 pub mod map;
 pub mod settings;
-#[cfg(test)]
-mod tests;

@@ -108,37 +108,3 @@ fn continues(octet: u8) -> bool
 {
     octet.is_ascii_alphanumeric() || octet == b'_' || octet == b'-'
 }
-
-#[cfg(test)]
-mod tests {
-    use super::*;
-    use std::test::Fail;
-
-    /// Whether the text is read, as a name of so many labels that ends at the root or not.
-    fn reads(rt: &impl AllocGlobal, text: &[u8], labels: usize, is_fqdn: bool) -> bool {
-        match parse_name(rt.alloc(), text) {
-            Ok(name) => name.labels().len() == labels && name.is_fqdn() == is_fqdn,
-            Err(_) => false,
-        }
-    }
-
-    #[test]
-    fn texts_of_names(rt: HostRuntime) -> Result<(), Fail> {
-        assert!(rt; reads(&rt, b"", 0, false));
-        assert!(rt; reads(&rt, b".", 0, true));
-        assert!(rt; reads(&rt, b"web", 1, false));
-        assert!(rt; reads(&rt, b"_sip.*.a-b.Example.com.", 5, true));
-        for text in [
-            b"..".as_slice(),
-            b".a",
-            b"a..b",
-            b"-a.",
-            b"a*.",
-            b"a b.",
-            b"\\097.",
-        ] {
-            assert!(rt; matches!(parse_name(rt.alloc(), text), Err(TextError::Malformed)));
-        }
-        Ok(())
-    }
-}

@@ -4,13 +4,10 @@ ghost use Rattle.std.specs.Prelude.{◌≡◌, true, IfOk};
 ghost use Rattle.authority.specs.Names.{IsLabel};
 ghost use Rattle.authority.specs.Records.{has_only_full_names};
 
-use crate::codes::{DNSClass, RecordType};
-use crate::names::{Label, Name};
-use crate::record_data::{A, RData, SOA};
-use crate::records::Record;
-use crate::zone::handler::{InMemoryZoneHandler, Lookup, RrKey};
-use crate::zone::key::key_of;
-use crate::zone::settings::{AxfrPolicy, ZoneSettings, ZoneType};
+use authority::{
+    A, AxfrPolicy, DNSClass, InMemoryZoneHandler, Label, Lookup, Name, RData, Record, RecordType,
+    RrKey, SOA, ZoneSettings, ZoneType,
+};
 use std::alloc::Global;
 use std::net::Ipv4Addr;
 use std::process::Abort;
@@ -146,30 +143,6 @@ fn equal_data_are_replaced(rt: HostRuntime) -> Result<(), Fail> {
             }
         }
         None => assert!(rt; false),
-    }
-    Ok(())
-}
-
-/// The names of RFC 4034 section 6.1, in their order.
-#[test]
-fn keys_rise_in_canonical_order(rt: HostRuntime) -> Result<(), Fail> {
-    let alloc = rt.alloc();
-    let names = [
-        name1(alloc, &rt, b"example")?,
-        name2(alloc, &rt, b"a", b"example")?,
-        name3(alloc, &rt, b"yljkjljk", b"a", b"example")?,
-        name3(alloc, &rt, b"Z", b"a", b"example")?,
-        name3(alloc, &rt, b"zABC", b"a", b"EXAMPLE")?,
-        name2(alloc, &rt, b"z", b"example")?,
-        name3(alloc, &rt, b"\x01", b"z", b"example")?,
-        name3(alloc, &rt, b"*", b"z", b"example")?,
-        name3(alloc, &rt, b"\xc8", b"z", b"example")?,
-    ];
-    let mut last = vec![in alloc]?;
-    for name in &names {
-        let key = key_of(alloc, name)?;
-        assert!(rt; last < key);
-        last = key;
     }
     Ok(())
 }
