@@ -1,5 +1,5 @@
 -- What a zone's entries say of a name: which set is stored there, and whether it exists.
-use Rattle.std.proofs.Common.{◌≡◌, ℕ, ◌<◌, refl, ap, sym, ◌∙◌, arith, ⊎_elim}
+use Rattle.std.proofs.Common.{◌≡◌, ℕ, ◌<◌, ◌≤◌, length, refl, ap, sym, ◌∙◌, arith, ⊎_elim}
 use Rattle.std.specs.Prelude.{Bool, true, false, ◌&&◌, ◌||◌, List, [], ◌∷◌, ◌++◌, Option, Some, None, cond, find, nat_eq, nat_lt}
 use Rattle.std.specs.List.{AllByRecursion, list_any, filter}
 use Rattle.std.specs.List.Sorted.{IsStrictlySortedBy}
@@ -7,10 +7,11 @@ use Rattle.std.specs.Map.{keys_of, lookup}
 use Rattle.std.specs.BTreeMap.{is_at}
 use Rattle.std.specs.Ordering.{nat_cmp, is_eq, is_le}
 use Rattle.std.specs.declared.cmp.Ordering.{Ordering}
-use Rattle.std.specs.declared.cmp.Ordering.TheVariants.{Less, Greater}
+use Rattle.std.specs.declared.cmp.Ordering.TheVariants.{Less, Equal, Greater}
 use Rattle.std.specs.Cmp.Lexicographic.{slice_cmp}
 use Rattle.std.specs.Str.{bytes_eq}
 use Rattle.std.proofs.lemmas.Map.Text.{is_eq-slice_cmp}
+use Rattle.std.proofs.lemmas.Cmp.{nat_list_cmp_total}
 use Rattle.std.proofs.lemmas.Slice.Eq.{bytes_eq-Decides}
 use Rattle.std.proofs.lemmas.Bool.{eqb-true, cases_order, and_parts, true≢false, le-ltb, ne_eqb, eq-eqb}
 use Rattle.authority.specs.declared.codes.RecordType.{RecordType}
@@ -140,6 +141,32 @@ begins_between (x ∷ q) (y ∷ k) (z ∷ l) le less e =
     absurd (true≢false (sym le1))))
     (cases_order x y)
 
+-- ---- a key and one that begins with it
+pub not_begun_differs : (q k : List ℕ) → begins q k ≡ false → bytes_eq q k ≡ false
+not_begun_differs [] [] e = absurd (true≢false e)
+not_begun_differs [] (y ∷ k) e = refl
+not_begun_differs (x ∷ q) [] e = refl
+not_begun_differs (x ∷ q) (y ∷ k) e = by (nat_eq x y) refl (not_begun_differs q k)
+  where
+    by : (b : Bool) → nat_eq x y ≡ b → (begins q k ≡ false → bytes_eq q k ≡ false) → (b && bytes_eq q k) ≡ false
+    by true t more = more (sym (ap (λ (u : Bool). u && begins q k) t) ∙ e)
+    by false t more = refl
+
+pub longer_differs : (q k : List ℕ) → length q < length k → bytes_eq q k ≡ false
+longer_differs q k longer = by (bytes_eq q k) refl
+  where
+    by : (b : Bool) → bytes_eq q k ≡ b → b ≡ false
+    by true t = absurd (omega (arith, longer, ap length ((bytes_eq-Decides q k).0 t)))
+    by false t = refl
+
+pub begun_is_same : (q k : List ℕ) → begins q k ≡ true → length k ≤ length q → bytes_eq q k ≡ true
+begun_is_same [] [] e short = refl
+begun_is_same [] (y ∷ k) e short = absurd (omega (arith, short))
+begun_is_same (x ∷ q) [] e short = absurd (true≢false (sym e))
+begun_is_same (x ∷ q) (y ∷ k) e short =
+    let p = and_parts (nat_eq x y) (begins q k) e in
+    rw p.0 (begun_is_same q k p.1 (omega (arith, short)))
+
 -- ---- all entries
 module _ {K V : Type 0} (octets : K → List ℕ) (sets : V → List RRset) where
   abbrev key_cmp : K → K → Ordering
@@ -245,3 +272,35 @@ module _ {K V : Type 0} (octets : K → List ℕ) (sets : V → List RRset) wher
       (exists_step (name_key name) entry es (any_exists name es) (is_le (slice_cmp nat_cmp (name_key name) (octets entry.0))) refl
       (none_exists name entry.0 es full nodes.1 ordered.0)
       (exists_from name es full nodes.1 ordered.1))
+
+  -- ---- which node stands under a key
+  -- the first of some entries, if it has this key
+  abbrev pub first_at : List ℕ → List (K × V) → Option V
+  first_at q [] = None
+  first_at q (entry ∷ es) = cond (bytes_eq q (octets entry.0)) (Some entry.1) None
+
+  none_past : (q : List ℕ) (k : K) (es : List (K × V)) → slice_cmp nat_cmp q (octets k) ≡ Less → AllByRecursion (λ l. key_cmp k l ≡ Less) (keys_of es)
+      → lookup (is_at (λ k. slice_cmp nat_cmp q (octets k))) es ≡ None
+  none_past q k [] less later = refl
+  none_past q k (entry ∷ es) less later =
+      let h : slice_cmp nat_cmp q (octets entry.0) ≡ Less = nat_list_cmp_total.trans q (octets k) (octets entry.0) less later.0 in
+      ap (λ (o : Ordering). cond (is_eq o) (Some entry.1) (lookup (is_at (λ k. slice_cmp nat_cmp q (octets k))) es)) h ∙ none_past q k es less later.1
+
+  first_step : (q : List ℕ) (entry : K × V) (es : List (K × V)) (found : Option V) (o : Ordering) → slice_cmp nat_cmp q (octets entry.0) ≡ o
+      → (o ≡ Less → found ≡ None) → found ≡ first_at q (from_key q es)
+      → cond (is_eq o) (Some entry.1) found ≡ first_at q (cond (is_le o && true) (entry ∷ from_key q es) (from_key q es))
+  first_step q entry es found Less e none more =
+      none refl ∙ sym (ap (λ (b : Bool). cond b (Some entry.1) None) (sym (is_eq-slice_cmp q (octets entry.0)) ∙ ap is_eq e))
+  first_step q entry es found Equal e none more =
+      sym (ap (λ (b : Bool). cond b (Some entry.1) None) (sym (is_eq-slice_cmp q (octets entry.0)) ∙ ap is_eq e))
+  first_step q entry es found Greater e none more = more
+
+  -- what stands under a key stands under the first key from it on
+  pub lookup_first : (q : List ℕ) (es : List (K × V)) → IsStrictlySortedBy key_cmp (keys_of es)
+      → lookup (is_at (λ k. slice_cmp nat_cmp q (octets k))) es ≡ first_at q (from_key q es)
+  unfolding IsStrictlySortedBy
+  lookup_first q [] ordered = refl
+  lookup_first q (entry ∷ es) ordered =
+      first_step q entry es (lookup (is_at (λ k. slice_cmp nat_cmp q (octets k))) es) (slice_cmp nat_cmp q (octets entry.0)) refl
+      (λ less. none_past q entry.0 es less ordered.0)
+      (lookup_first q es ordered.1)

@@ -1,6 +1,10 @@
 -- What a loaded zone answers.
+use Rattle.std.specs.Prelude.{Bool, true, false, Option, Some, None}
+use Rattle.authority.specs.declared.zone.map.Found.{Found}
+use Rattle.authority.specs.declared.zone.map.Found.TheVariants as finds
 use Rattle.authority.specs.declared.zone.handler.Lookup.{Lookup}
 use Rattle.authority.specs.declared.zone.handler.Lookup.TheVariants as lookups
+use Rattle.authority.specs.Records.{RRset}
 use Rattle.authority.specs.Zones.{Outcome, answered, name_exists, name_error, out_of_zone}
 
 -- What a lookup found, without the loans.
@@ -9,3 +13,15 @@ outcome (lookups.Answer set) = answered set.now.records
 outcome lookups.NameExists = name_exists
 outcome lookups.NxDomain = name_error
 outcome lookups.Refused = out_of_zone
+
+-- The set that a search of the zone's map found, without the loan.
+abbrev pub set_found : Found → Option RRset
+set_found (finds.Set set) = Some set.now
+set_found finds.Exists = None
+set_found finds.Nothing = None
+
+-- Whether that search found the name: an owner that equals it or lies below it.
+abbrev pub name_found : Found → Bool
+name_found (finds.Set set) = true
+name_found finds.Exists = true
+name_found finds.Nothing = false

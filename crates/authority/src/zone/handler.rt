@@ -4,14 +4,14 @@ ghost use Rattle.std.specs.Prelude.{◌≡◌, true, option_copied, IfOk, OnOk, 
 ghost use Rattle.authority.specs.Names.{DomainName, is_at_or_below};
 ghost use Rattle.authority.specs.Keys.{name_key};
 ghost use Rattle.authority.specs.Records.{has_only_full_names};
-ghost use Rattle.authority.specs.Zones.{stored, denied, lookup_result, empty_zone, AddsTo};
+ghost use Rattle.authority.specs.Zones.{stored, lookup_result, empty_zone, AddsTo};
 ghost use Rattle.authority.specs.Lookups.{outcome};
 
 use crate::codes::RecordType;
 use crate::names::Name;
 use crate::records::{Record, RecordSet};
 use crate::zone::key::key_of;
-use crate::zone::map::ZoneMap;
+use crate::zone::map::{Found, ZoneMap};
 use crate::zone::settings::{AxfrPolicy, NxProofKind, ZoneSettings, ZoneType};
 use std::alloc::{AllocError, Global};
 use std::marker::{Model, PhantomData};
@@ -169,22 +169,11 @@ impl<K> InMemoryZoneHandler<K> {
     pub fn lookup_at(&self, key: &Vec<u8>, record_type: RecordType) -> Lookup<'_>
         ensures { (name : DomainName) → name.fqdn ≡ true → key.now.items ≡ name_key name → outcome result ≡ lookup_result self.now name record_type }
     {
-        match self.sets.get(key, record_type) {
-            Some(set) => Lookup::Answer(set),
-            None => self.denied(key),
-        }
-    }
-
-    /// Why nothing is stored at the name of a key, which ends at the root.
-    fn denied(&self, key: &Vec<u8>) -> Lookup<'_>
-        ensures { (name : DomainName) → name.fqdn ≡ true → key.now.items ≡ name_key name → outcome result ≡ denied self.now name }
-    {
-        if self.sets.exists(key) {
-            Lookup::NameExists
-        } else if self.is_in_zone(key) {
-            Lookup::NxDomain
-        } else {
-            Lookup::Refused
+        match self.sets.find(key, record_type) {
+            Found::Set(set) => Lookup::Answer(set),
+            Found::Exists => Lookup::NameExists,
+            Found::Nothing if self.is_in_zone(key) => Lookup::NxDomain,
+            Found::Nothing => Lookup::Refused,
         }
     }
 

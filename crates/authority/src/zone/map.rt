@@ -8,6 +8,7 @@ ghost use Rattle.authority.specs.Codes.{type_code, same_type};
 ghost use Rattle.authority.specs.Records.{has_only_full_names};
 ghost use Rattle.authority.specs.Zones.{stored, exists_in, set_with, Adds};
 ghost use Rattle.authority.specs.ZoneMaps.{with_record, place_from};
+ghost use Rattle.authority.specs.Lookups.{set_found, name_found};
 
 use crate::codes::RecordType;
 use crate::records::{Record, RecordSet};
@@ -15,6 +16,17 @@ use crate::zone::key::key_of;
 use std::alloc::{AllocError, Global};
 use std::collections::BTreeMap;
 use std::marker::Model;
+
+/// What a map holds for a name and a type.
+#[derive(Clone, Copy)]
+pub enum Found<'z> {
+    /// The set of that owner and type.
+    Set(&'z RecordSet),
+    /// The name exists, without a set of the type.
+    Exists,
+    /// The name does not exist.
+    Nothing,
+}
 
 /// The sets of a zone, by owner in canonical order (RFC 4034 section 6.1), then by type.
 #[derive(Drop)]
@@ -56,13 +68,24 @@ impl ZoneMap {
         }
     }
 
-    /// Whether an owner equals the name of a key, which ends at the root, or lies below it (RFC 4592 section 2.2.2).
-    pub fn exists(&self, key: &Vec<u8>) -> bool
-        ensures { (name : DomainName) → name.fqdn ≡ true → key.now.items ≡ name_key name → result ≡ exists_in self.now name }
+    /// The set of a type at the name of a key, which ends at the root; else whether the name exists: whether an owner
+    /// equals it or lies below it (RFC 4592 section 2.2.2). The first key that is not before this one tells both.
+    pub fn find(&self, key: &Vec<u8>, record_type: RecordType) -> Found<'_>
+        ensures set { (name : DomainName) → key.now.items ≡ name_key name → set_found result ≡ stored self.now name record_type }
+        ensures name { (name : DomainName) → name.fqdn ≡ true → key.now.items ≡ name_key name → name_found result ≡ exists_in self.now name }
     {
-        match self.nodes.range(key..).next() {
-            Some((owner, _)) => owner.starts_with(key),
-            None => false,
+        let Some((owner, sets)) = self.nodes.range(key..).next() else {
+            return Found::Nothing;
+        };
+        if !owner.starts_with(key) {
+            return Found::Nothing;
+        }
+        if owner.len() > key.len() {
+            return Found::Exists;
+        }
+        match find_set(sets, record_type) {
+            Some(set) => Found::Set(set),
+            None => Found::Exists,
         }
     }
 
