@@ -1,0 +1,5 @@
+pub mod DNSClass
+pub mod Digits
+pub mod ProtoError
+pub mod RecordType
+pub mod SerialNumber

@@ -1,0 +1,86 @@
+-- Lengths of names.
+use Rattle.std.proofs.Common.{◌≡◌, ℕ, ◌≤◌, ◌+◌, List, [], ◌∷◌, ◌++◌, length, refl, arith, map, drop, Bool}
+use Rattle.std.specs.Str.{str_to_ascii_lowercase}
+use Rattle.std.proofs.lemmas.List.{length-map}
+use Rattle.std.proofs.lemmas.List.Elements.{All-drop, All-map, All-cons, All-head, All-tail, All-weaker, All-push, All-append}
+use Rattle.std.proofs.lemmas.List.Sums.{sum_by-cons, sum_by-take-drop, sum_by_push, sum_by-append}
+use Rattle.dnw_name.specs.Label.{IsLabel, wildcard_label}
+use Rattle.dnw_name.specs.DomainName.{IsDomainName, domain_name, labels_len}
+
+pub labels_len-cons : (label : List ℕ) (labels : List (List ℕ)) → labels_len (label ∷ labels) ≡ length label + 1 + labels_len labels
+labels_len-cons = sum_by-cons (λ label. length label + 1)
+
+pub length-le-labels_len : (labels : List (List ℕ)) → length labels ≤ labels_len labels
+length-le-labels_len [] = omega arith
+length-le-labels_len (label ∷ labels) = omega (arith, labels_len-cons label labels, length-le-labels_len labels)
+
+labels_len-drop : (n : ℕ) (labels : List (List ℕ)) → labels_len (drop n labels) ≤ labels_len labels
+labels_len-drop n labels = omega (arith, sum_by-take-drop (λ label. length label + 1) labels n)
+
+-- The last labels of a name are a name.
+pub IsDomainName-drop : (f : Bool) (labels : List (List ℕ)) (n : ℕ) → IsDomainName (domain_name f labels) → IsDomainName (domain_name f (drop n labels))
+IsDomainName-drop f labels n name =
+    record { each = All-drop IsLabel n labels name.each; short = omega (arith, labels_len-drop n labels, name.short) }
+
+same-length : (label : List ℕ) → length (str_to_ascii_lowercase label) ≡ length label
+same-length label = simp length-map
+
+IsLabel-lower : (label : List ℕ) → IsLabel label → IsLabel (str_to_ascii_lowercase label)
+IsLabel-lower label h = record { some = omega (arith, same-length label, h.some); few = omega (arith, same-length label, h.few) }
+
+labels_len-lower : (labels : List (List ℕ)) → labels_len (map str_to_ascii_lowercase labels) ≡ labels_len labels
+labels_len-lower [] = refl
+labels_len-lower (label ∷ labels) =
+    omega (
+      arith,
+      labels_len-cons label labels,
+      labels_len-cons (str_to_ascii_lowercase label) (map str_to_ascii_lowercase labels),
+      same-length label,
+      labels_len-lower labels,
+    )
+
+-- A name in lower case is a name.
+pub IsDomainName-lower : (f : Bool) (labels : List (List ℕ)) → IsDomainName (domain_name f labels) → IsDomainName (domain_name f (map str_to_ascii_lowercase labels))
+IsDomainName-lower f labels name =
+    record {
+      each = All-map IsLabel str_to_ascii_lowercase labels (All-weaker IsLabel (λ label. IsLabel (str_to_ascii_lowercase label)) IsLabel-lower labels name.each);
+      short = omega (arith, labels_len-lower labels, name.short);
+    }
+
+IsLabel-wildcard : IsLabel wildcard_label
+IsLabel-wildcard = record { some = omega arith; few = omega arith }
+
+-- So is a name whose first label is replaced by an asterisk.
+pub IsDomainName-wildcard : (f : Bool) (label : List ℕ) (labels : List (List ℕ)) → IsDomainName (domain_name f (label ∷ labels)) → IsDomainName (domain_name f (wildcard_label ∷ labels))
+IsDomainName-wildcard f label labels name =
+    let first = All-head IsLabel label labels name.each in
+    record {
+      each = All-cons IsLabel wildcard_label labels IsLabel-wildcard (All-tail IsLabel label labels name.each);
+      short = omega (arith, labels_len-cons label labels, labels_len-cons wildcard_label labels, first.some, name.short);
+    }
+
+-- A label more.
+pub IsDomainName-push : (f : Bool) (labels : List (List ℕ)) (label : List ℕ) → IsDomainName (domain_name f labels) → IsLabel label → labels_len labels + length label + 2 ≤ 255 → IsDomainName (domain_name f (labels ++ label ∷ []))
+IsDomainName-push f labels label name h fits =
+    record {
+      each = All-push IsLabel labels label name.each h;
+      short = omega (arith, sum_by_push (λ l. length l + 1) labels label, fits);
+    }
+
+pub IsDomainName-cons : (f : Bool) (label : List ℕ) (labels : List (List ℕ)) → IsDomainName (domain_name f labels) → IsLabel label → labels_len labels + length label + 2 ≤ 255 → IsDomainName (domain_name f (label ∷ labels))
+IsDomainName-cons f label labels name h fits =
+    record {
+      each = All-cons IsLabel label labels h name.each;
+      short = omega (arith, labels_len-cons label labels, fits);
+    }
+
+-- One name behind another.
+pub IsDomainName-append : (f g : Bool) (front labels : List (List ℕ)) → IsDomainName (domain_name f front) → IsDomainName (domain_name g labels) → labels_len front + labels_len labels + 1 ≤ 255 → IsDomainName (domain_name g (front ++ labels))
+IsDomainName-append f g front labels left right fits =
+    record {
+      each = All-append IsLabel front labels left.each right.each;
+      short = omega (arith, sum_by-append (λ l. length l + 1) front labels, fits);
+    }
+
+pub IsDomainName-flag : (f g : Bool) (labels : List (List ℕ)) → IsDomainName (domain_name f labels) → IsDomainName (domain_name g labels)
+IsDomainName-flag f g labels name = record { each = name.each; short = name.short }

@@ -1,0 +1,6 @@
+pub mod Fronts
+pub mod KeyOrder
+pub mod Lengths
+pub mod Orders
+pub mod RoundTrip
+pub mod TextLemmas

@@ -1,0 +1,9 @@
+use Rattle.std.proofs.Common.{◌≡◌, length, false}
+use Rattle.dnw_name.proofs.TextLemmas.{LabelsSoFar}
+use Rattle.dnw_name.proofs.name_text.name_of_labels.Given as goal
+
+abbrev pub invariant-labels : goal.invariant-labels
+invariant-labels l = LabelsSoFar l.text l.name.labels l.rest × (l.name.fqdn ≡ false)
+
+abbrev pub decreases-labels : goal.decreases-labels
+decreases-labels l = length l.rest

@@ -1,0 +1,62 @@
+-- What a label and a name feed a hasher: the same where they are equal.
+use Rattle.std.proofs.Common.{◌≡◌, ℕ, Bool, true, false, ◌&&◌, suc, List, [], ◌∷◌, ◌++◌, length, ap, refl, sym, ◌∙◌}
+use Rattle.std.specs.Hash as fed
+use Rattle.std.specs.Hash.{HashWrites}
+use Rattle.std.specs.Str.{str_to_ascii_lowercase}
+use Rattle.std.specs.Bool.{beq}
+use Rattle.std.specs.Char.{to_ascii_lowercase}
+use Rattle.std.specs.Cmp.Lexicographic.{same_text, pointwise}
+use Rattle.std.specs.List.{flat_map}
+use Rattle.std.proofs.lemmas.List.{length-map}
+use Rattle.dnw_name.specs.Label.{label_eq}
+use Rattle.dnw_name.specs.DomainName.{DomainName, name_eq}
+
+-- The length, and the octets in lower case.
+abbrev pub label_writes : List ℕ → HashWrites
+label_writes label = fed.u8 (length label) ++ str_to_ascii_lowercase label ∷ []
+
+pub label_writes-alike : (x y : List ℕ) → label_eq x y ≡ true → label_writes x ≡ label_writes y
+label_writes-alike x y same =
+    let lower : str_to_ascii_lowercase x ≡ str_to_ascii_lowercase y = same_text (str_to_ascii_lowercase x) (str_to_ascii_lowercase y) (sym same) in
+    let left : length (str_to_ascii_lowercase x) ≡ length x = length-map x to_ascii_lowercase in
+    let right : length (str_to_ascii_lowercase y) ≡ length y = length-map y to_ascii_lowercase in
+    let long : length x ≡ length y = sym left ∙ ap length lower ∙ right in
+    cc
+
+-- The flag, and each label.
+abbrev pub name_writes : DomainName → HashWrites
+name_writes name = fed.bool name.fqdn ++ fed.slice label_writes name.labels
+
+pub labels_writes-alike : (xs ys : List (List ℕ)) → pointwise label_eq xs ys ≡ true → fed.slice label_writes xs ≡ fed.slice label_writes ys
+labels_writes-alike xs ys same =
+    ap2 (λ n w. fed.usize n ++ w) (same-length xs ys same) (same-writes xs ys same)
+  where
+    and-parts : (a b : Bool) → (a && b) ≡ true → (a ≡ true) × (b ≡ true)
+    and-parts true b e = (refl, e)
+    and-parts false b e = absurd (cc)
+
+    same-length : (xs ys : List (List ℕ)) → pointwise label_eq xs ys ≡ true → length xs ≡ length ys
+    same-length [] [] e = refl
+    same-length [] (y ∷ ys) e = absurd (cc)
+    same-length (x ∷ xs) [] e = absurd (cc)
+    same-length (x ∷ xs) (y ∷ ys) e = ap suc (same-length xs ys (and-parts (label_eq x y) (pointwise label_eq xs ys) e).1)
+
+    same-writes : (xs ys : List (List ℕ)) → pointwise label_eq xs ys ≡ true → flat_map label_writes xs ≡ flat_map label_writes ys
+    same-writes [] [] e = refl
+    same-writes [] (y ∷ ys) e = absurd (cc)
+    same-writes (x ∷ xs) [] e = absurd (cc)
+    same-writes (x ∷ xs) (y ∷ ys) e =
+        let parts = and-parts (label_eq x y) (pointwise label_eq xs ys) e in
+        ap (λ w. w ++ flat_map label_writes xs) (label_writes-alike x y parts.0) ∙ ap (λ w. label_writes y ++ w) (same-writes xs ys parts.1)
+
+    ap2 : {A B C : Type 0} (f : A → B → C) {a a' : A} {b b' : B} → a ≡ a' → b ≡ b' → f a b ≡ f a' b'
+    ap2 f {a} {a'} {b} {b'} p q = ap (λ x. f x b) p ∙ ap (f a') q
+
+pub name_writes-alike : (x y : DomainName) → name_eq x y ≡ true → name_writes x ≡ name_writes y
+name_writes-alike x y same = both x.fqdn y.fqdn same
+  where
+    both : (f g : Bool) → (beq f g && pointwise label_eq x.labels y.labels) ≡ true → fed.bool f ++ fed.slice label_writes x.labels ≡ fed.bool g ++ fed.slice label_writes y.labels
+    both true true e = ap (λ w. fed.bool true ++ w) (labels_writes-alike x.labels y.labels e)
+    both false false e = ap (λ w. fed.bool false ++ w) (labels_writes-alike x.labels y.labels e)
+    both true false e = absurd (cc)
+    both false true e = absurd (cc)

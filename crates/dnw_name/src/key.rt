@@ -1,0 +1,61 @@
+//! The key under which a map in plain order keeps names in canonical order.
+ghost use Rattle.std.specs.Prelude.{◌≡◌, ◌++◌, ◌∷◌, [], map, length, reverse, IfOk, Bool, List, ℕ, nat_eq, ◌<◌};
+ghost use Rattle.std.specs.List.{starts_with};
+ghost use Rattle.std.specs.Cmp.Lexicographic.{slice_cmp};
+ghost use Rattle.std.specs.Ordering.{nat_cmp};
+ghost use Rattle.dnw_name.specs.NameKey.{rank, label_key, labels_key, name_key};
+ghost use Rattle.dnw_name.specs.DomainName.{DomainName, domain_name, name_cmp, is_at_or_below};
+
+use crate::name::Name;
+use std::alloc::{AllocError, Global};
+
+/// The key of a name: octets whose plain order is the canonical order of names (RFC 4034 6.1).
+///
+/// It begins with the flag, then come the labels from the root down, without regard to case. So the key of
+/// a suffix is a front of the key, and a name is at or below another, flags aside, where the other's key
+/// without its first octet is a front of its own.
+pub fn key_of(alloc: Global, name: &Name) -> Result<Vec<u8>, AllocError>
+    ensures key { IfOk result (λ key. key.items ≡ name_key name.now) }
+
+    // Keys stand as names do, and an ancestor's key, flags aside, is a front.
+    ensures order { (other : DomainName) → slice_cmp nat_cmp (name_key name.now) (name_key other) ≡ name_cmp name.now other }
+    ensures front { (ancestor : DomainName) → starts_with nat_eq (labels_key name.now.labels) (labels_key ancestor.labels)
+        ≡ is_at_or_below name.now ancestor }
+{
+    let mut key = Vec::with_capacity(alloc, name.len() + 1)?;
+    key.push(u8::from(name.is_fqdn()))?;
+    let mut labels = name.iter();
+    'labels: while let Some(label) = labels.next_back() {
+        push_label(&mut key, label)?;
+    }
+    Ok(key)
+}
+
+/// The key of the name without its first label, where a name's key and that label are handed in: a front of
+/// the key. So the keys of all suffixes are lent, one after another, as the labels are gone through.
+pub fn base_key<'k>(key: &'k [u8], first: &[u8]) -> &'k [u8]
+    requires { length first.now < length key.now }
+    ensures { (fqdn : Bool) → (labels : List (List ℕ)) → key.now ≡ name_key (domain_name fqdn (first.now ∷ labels))
+        → result.now ≡ name_key (domain_name fqdn labels) }
+{
+    &key[..key.len() - first.len() - 1]
+}
+
+// Writes a label's octets by their ranks, then 0.
+fn push_label(key: &mut Vec<u8>, label: &[u8]) -> Result<(), AllocError>
+    ensures { IfOk result (λ _. key.new.items ≡ key.old.items ++ label_key label.now) }
+{
+    'octets: for octet in label {
+        key.push(rank(*octet))?;
+    }
+    key.push(0)?;
+    Ok(())
+}
+
+// The place of an octet among the octets without capitals, from 1 on.
+fn rank(octet: u8) -> u8
+    ensures { result ≡ rank octet }
+{
+    let low = octet.to_ascii_lowercase();
+    if low < b'A' { low + 1 } else { low - 25 }
+}

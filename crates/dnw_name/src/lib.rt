@@ -1,0 +1,28 @@
+//! Domain names and their labels (RFC 1035 2.3 and 3.1), in the canonical order of RFC 4034 6.1.
+//!
+//! A contract sees a `Name` as a `DomainName`: a flag and the labels from the left. `name_cmp` is its order and
+//! `name_eq` its equality, and `is_at_or_below` says that a name lies in a zone. `Name::zone_of` says that a
+//! zone's origin stands before its names and that they stand together; `key_of` gives octets whose plain order
+//! is that of names and whose fronts are the keys of suffixes; `Name::from_ascii` and `Name::to_ascii` read and
+//! print texts, each exactly by its definition.
+#![tactic(auto)]
+
+mod key;
+mod label;
+mod label_iter;
+mod lower_name;
+mod name;
+mod name_print;
+mod name_text;
+mod rr_key;
+
+pub use key::{base_key, key_of};
+pub use label::{CaseInsensitive, CaseSensitive, IntoLabel, Label, LabelCmp};
+pub use label_iter::LabelIter;
+pub use lower_name::LowerName;
+pub use name::Name;
+pub use name_text::IntoName;
+pub use rr_key::RrKey;
+
+#[cfg(test)]
+mod tests;

@@ -1,0 +1,28 @@
+//! Owner and type of a record set.
+ghost use Rattle.std.specs.Prelude.{◌≡◌};
+
+use crate::lower_name::LowerName;
+use dnw_codes::RecordType;
+
+/// The owner and the type of a record set, in the order of owners and then of types.
+#[derive(PartialEq, Eq, PartialOrd, Ord, Hash, Drop)]
+pub struct RrKey {
+    pub name: LowerName,
+    pub record_type: RecordType,
+}
+
+impl RrKey {
+    /// The key of the sets of this owner and type.
+    pub fn new(name: LowerName, record_type: RecordType) -> RrKey
+        ensures { result ≡ record { name = name; record_type = record_type } }
+    {
+        RrKey { name, record_type }
+    }
+
+    /// The owner.
+    pub fn name(&self) -> &LowerName
+        ensures { result.now ≡ self.now.name }
+    {
+        &self.name
+    }
+}

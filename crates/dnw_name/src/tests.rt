@@ -1,0 +1,313 @@
+//! Order, sizes and texts of names, by RFC 4034 6.1, RFC 1035 and RFC 4343.
+use crate::{IntoLabel, IntoName, Label, LowerName, Name, RrKey, base_key, key_of};
+use dnw_codes::{DecodeError, ProtoError, RecordType};
+use std::alloc::Global;
+use std::cmp::Ordering;
+use std::hash::{DefaultHasher, Hash, Hasher};
+use std::process::Abort;
+use std::test::Fail;
+
+// A fully qualified name of labels from raw octets.
+fn of_octets(alloc: Global, labels: &[&[u8]]) -> Result<Name, ProtoError> {
+    let mut made = Name::root(alloc);
+    for label in labels {
+        made = made.append_label(*label)?;
+    }
+    Ok(made)
+}
+
+fn prints(rt: &impl Abort, alloc: Global, name: &Name, text: &str) -> Result<(), Fail> {
+    let printed = name.to_ascii(alloc)?;
+    assert_eq!(rt; printed.as_str(), text);
+    Ok(())
+}
+
+fn rises(rt: &impl Abort, alloc: Global, low: &Name, high: &Name) -> Result<(), Fail> {
+    assert!(rt; low < high);
+    assert!(rt; low != high);
+    let low_key = key_of(alloc, low)?;
+    let high_key = key_of(alloc, high)?;
+    assert!(rt; low_key.as_slice() < high_key.as_slice());
+    Ok(())
+}
+
+fn hash_of(name: &Name) -> u64 {
+    let mut state = DefaultHasher::new();
+    name.hash(&mut state);
+    state.finish()
+}
+
+// The list of RFC 4034 6.1.
+#[test]
+fn canonical_order(rt: HostRuntime) -> Result<(), Fail> {
+    let alloc = rt.alloc();
+    let names: [&[&[u8]]; 9] = [
+        &[b"example"],
+        &[b"a", b"example"],
+        &[b"yljkjljk", b"a", b"example"],
+        &[b"Z", b"a", b"example"],
+        &[b"zABC", b"a", b"EXAMPLE"],
+        &[b"z", b"example"],
+        &[&[1], b"z", b"example"],
+        &[b"*", b"z", b"example"],
+        &[&[200], b"z", b"example"],
+    ];
+    let mut earlier = Name::from_ascii(alloc, "zzz.zzz")?;
+    for labels in names {
+        let later = of_octets(alloc, labels)?;
+        rises(&rt, alloc, &earlier, &later)?;
+        earlier = later;
+    }
+    Ok(())
+}
+
+#[test]
+fn equality(rt: HostRuntime) -> Result<(), Fail> {
+    let alloc = rt.alloc();
+    let one = Name::from_ascii(alloc, "www.Example.COM.")?;
+    let two = Name::from_ascii(alloc, "WWW.example.com.")?;
+    assert!(rt; one == two);
+    assert!(rt; one.cmp(&two) == Ordering::Equal);
+    assert!(rt; one.cmp_case(&two) == Ordering::Less);
+    assert!(rt; !one.eq_case(&two));
+    assert_eq!(rt; hash_of(&one), hash_of(&two));
+    Ok(())
+}
+
+#[test]
+fn equality_of_labels_alone(rt: HostRuntime) -> Result<(), Fail> {
+    let alloc = rt.alloc();
+    let one = Name::from_ascii(alloc, "www.Example.COM.")?;
+    let relative = Name::from_ascii(alloc, "WWW.example.com")?;
+    assert!(rt; one != relative);
+    assert!(rt; one.eq_ignore_root(&relative));
+    assert!(rt; !one.eq_ignore_root_case(&relative));
+    Ok(())
+}
+
+#[test]
+fn lower_case(rt: HostRuntime) -> Result<(), Fail> {
+    let alloc = rt.alloc();
+    let name = Name::from_ascii(alloc, "WWW.example.COM.")?;
+    let lower = LowerName::new(&name)?;
+    prints(&rt, alloc, &lower, "www.example.com.")?;
+    let converted = LowerName::from(name);
+    assert!(rt; lower == converted);
+    let key = RrKey::new(lower, RecordType::A);
+    let higher = RrKey::new(converted, RecordType::NS);
+    assert!(rt; key < higher);
+    assert!(rt; *key.name() == *higher.name());
+    Ok(())
+}
+
+#[test]
+fn zones(rt: HostRuntime) -> Result<(), Fail> {
+    let alloc = rt.alloc();
+    let zone = Name::from_ascii(alloc, "Example.com.")?;
+    for (text, below, exactly) in [
+        ("www.example.COM.", true, false),
+        ("www.Example.com.", true, true),
+        ("example.com", true, false),
+        ("com.", false, false),
+        ("www.example.org.", false, false),
+        ("xexample.com.", false, false),
+    ] {
+        let name = Name::from_ascii(alloc, text)?;
+        assert_eq!(rt; zone.zone_of(&name), below);
+        assert_eq!(rt; zone.zone_of_case(&name), exactly);
+    }
+    Ok(())
+}
+
+#[test]
+fn parts(rt: HostRuntime) -> Result<(), Fail> {
+    let alloc = rt.alloc();
+    for (text, labels, len, base, star) in [
+        (
+            "www.example.com.",
+            3u8,
+            16usize,
+            "example.com.",
+            "*.example.com.",
+        ),
+        ("*.example.com", 2, 14, "example.com", "*.example.com"),
+        ("com.", 1, 4, ".", "*."),
+        (".", 0, 1, ".", "."),
+    ] {
+        let name = Name::from_ascii(alloc, text)?;
+        assert_eq!(rt; name.num_labels(), labels);
+        assert_eq!(rt; name.len(), len);
+        prints(&rt, alloc, &name.base_name()?, base)?;
+        prints(&rt, alloc, &name.into_wildcard()?, star)?;
+    }
+    Ok(())
+}
+
+#[test]
+fn joined(rt: HostRuntime) -> Result<(), Fail> {
+    let alloc = rt.alloc();
+    let origin = Name::from_ascii(alloc, "example.com.")?;
+    prints(
+        &rt,
+        alloc,
+        &origin.prepend_label("ns1")?,
+        "ns1.example.com.",
+    )?;
+    prints(&rt, alloc, &origin.trim_to(1)?, "com.")?;
+    prints(&rt, alloc, &origin.trim_to(9)?, "example.com.")?;
+    let relative = Name::from_ascii(alloc, "ns1")?;
+    prints(
+        &rt,
+        alloc,
+        &relative.append_name(&origin)?,
+        "ns1.example.com.",
+    )?;
+    Ok(())
+}
+
+#[test]
+fn completed(rt: HostRuntime) -> Result<(), Fail> {
+    let alloc = rt.alloc();
+    let origin = Name::from_ascii(alloc, "example.com.")?;
+    prints(
+        &rt,
+        alloc,
+        &Name::parse(alloc, "ns1", Some(&origin))?,
+        "ns1.example.com.",
+    )?;
+    prints(
+        &rt,
+        alloc,
+        &Name::parse(alloc, "ns1.", Some(&origin))?,
+        "ns1.",
+    )?;
+    prints(&rt, alloc, &Name::parse(alloc, "ns1", None)?, "ns1")?;
+    Ok(())
+}
+
+#[test]
+fn labels(rt: HostRuntime) -> Result<(), Fail> {
+    let alloc = rt.alloc();
+    let www = Name::from_ascii(alloc, "www.example.com.")?;
+    let mut labels = www.iter();
+    assert_eq!(rt; labels.len(), 3);
+    assert!(rt; labels.next() == Some(b"www".as_slice()));
+    assert!(rt; labels.next_back() == Some(b"com".as_slice()));
+    assert!(rt; labels.next() == Some(b"example".as_slice()));
+    assert!(rt; labels.next_back() == None);
+    Ok(())
+}
+
+#[test]
+fn keys(rt: HostRuntime) -> Result<(), Fail> {
+    let alloc = rt.alloc();
+    let www = Name::from_ascii(alloc, "www.com.")?;
+    let com = Name::from_ascii(alloc, "COM.")?;
+    let key = key_of(alloc, &www)?;
+    let base = key_of(alloc, &com)?;
+    assert!(rt; key.len() > 3);
+    assert!(rt; base_key(&key, b"www") == base.as_slice());
+    Ok(())
+}
+
+// Labels of 63, 63, 63 and 61 octets make 255 octets in all.
+#[test]
+fn longest_name(rt: HostRuntime) -> Result<(), Fail> {
+    let alloc = rt.alloc();
+    let octets = [b'a'; 63];
+    let long = of_octets(alloc, &[&octets, &octets, &octets])?;
+    assert_eq!(rt; long.clone()?.append_label(&octets[..61])?.len(), 254);
+    assert!(rt;
+        matches!(
+            long.append_label(&octets[..62]),
+            Err(ProtoError::Decode(DecodeError::DomainNameTooLong(256)))
+        )
+    );
+    Ok(())
+}
+
+#[test]
+fn most_labels(rt: HostRuntime) -> Result<(), Fail> {
+    let alloc = rt.alloc();
+    let mut many = Name::root(alloc);
+    for _ in 0..127 {
+        many = many.append_label(b"a".as_slice())?;
+    }
+    assert_eq!(rt; many.num_labels(), 127);
+    assert!(rt; many.append_label(b"a".as_slice()).is_err());
+    Ok(())
+}
+
+#[test]
+fn sizes_of_labels(rt: HostRuntime) {
+    let alloc = rt.alloc();
+    let octets = [b'a'; 64];
+    assert!(rt; Label::from_raw_bytes(alloc, &octets[..63]).is_ok());
+    assert!(rt;
+        matches!(
+            Label::from_raw_bytes(alloc, &octets),
+            Err(ProtoError::Decode(DecodeError::LabelBytesTooLong(64)))
+        )
+    );
+    assert!(rt;
+        matches!(
+            Label::from_raw_bytes(alloc, &octets[..0]),
+            Err(ProtoError::Message(_))
+        )
+    );
+}
+
+#[test]
+fn texts(rt: HostRuntime) -> Result<(), Fail> {
+    let alloc = rt.alloc();
+    for (text, printed) in [
+        ("", ""),
+        (".", "."),
+        ("www.example.com.", "www.example.com."),
+        ("www.example.com", "www.example.com"),
+        ("*.a", "*.a"),
+        ("_sip._tcp.a-b.", "_sip._tcp.a-b."),
+        ("a\\.b.c.", "a\\.b.c."),
+        ("\\141b.", "ab."),
+        ("\\a.", "a."),
+    ] {
+        prints(&rt, alloc, &Name::from_ascii(alloc, text)?, printed)?;
+    }
+    Ok(())
+}
+
+#[test]
+fn refused_texts(rt: HostRuntime) {
+    let alloc = rt.alloc();
+    for text in [
+        "..", "a..b", ".a", "-a", "a b", "a\\", "a\\1", "a\\08", "a\\400", "a\\189", "é", "a*",
+    ] {
+        assert!(rt; Name::from_ascii(alloc, text).is_err());
+    }
+}
+
+#[test]
+fn printed_octets(rt: HostRuntime) -> Result<(), Fail> {
+    let alloc = rt.alloc();
+    let odd = of_octets(alloc, &[&[0, 32, b'"', b'-', 200], b"-"])?;
+    prints(&rt, alloc, &odd, "\\000\\040\\\"-\\310.\\-.")
+}
+
+#[test]
+fn texts_of_labels(rt: HostRuntime) -> Result<(), Fail> {
+    let alloc = rt.alloc();
+    let label = "x".into_label(alloc)?;
+    assert_eq!(rt; label.to_ascii(alloc)?.as_str(), "x");
+    assert!(rt; Label::from_ascii(alloc, "a.b").is_ok());
+    assert!(rt; Label::from_ascii(alloc, "a/b").is_err());
+    assert!(rt; Label::wildcard(alloc).is_wildcard());
+    Ok(())
+}
+
+#[test]
+fn names_of_texts(rt: HostRuntime) -> Result<(), Fail> {
+    let alloc = rt.alloc();
+    let text = String::from_str(alloc, "a.b")?;
+    prints(&rt, alloc, &(&text).into_name(alloc)?, "a.b")?;
+    prints(&rt, alloc, &"a.b.".into_name(alloc)?, "a.b.")
+}
