@@ -1,6 +1,7 @@
 -- What the program does with its words, its zone's file and its input.
 use Rattle.std.specs.Prelude.{◌≡◌, ℕ, ◌⊎◌, false, List, [], ◌∷◌, Option, Some, None, Result, Ok, Err}
 use Rattle.std.specs.Io.KnownBytes.{IsAtEnd}
+use Rattle.std.specs.declared.net.SocketAddr.{SocketAddr}
 use Rattle.authority.specs.declared.loader.LoadCause.TheVariants as causes
 use Rattle.authority.specs.declared.loader.LoadError.{LoadError}
 use Rattle.authority.specs.declared.names.text.TextError.{TextError}
@@ -13,6 +14,7 @@ use Rattle.authority.specs.declared.zone.settings.AxfrPolicy.TheVariants as poli
 use Rattle.authority.specs.Names.{DomainName}
 use Rattle.authority.specs.Zones.{View}
 use Rattle.authority.specs.ZoneText.{IsOwnerText, IsNumberText, IsZoneText, IsRefusedAt}
+use Rattle.authority.specs.Frames.{ServesFrames}
 
 -- Three words: an origin that ends at the root, a file, and a moment of 64 bits.
 pub record AreWords (words : List (List ℕ)) (origin : DomainName) (now : ℕ) : Type 0 where
@@ -38,6 +40,13 @@ pub record Starts (words : List (List ℕ)) (file : Option (List ℕ)) : Type 0 
   pub readable : file ≡ Some text
   pub loaded : IsZoneText (first_zone origin) text zone
 
+-- It started, and served the frames of its input over that zone, up to the input's end; the zone is as before.
+pub record Finishes (words : List (List ℕ)) (file left rest before after : Option (List ℕ)) : Type 0 where
+  pub starts : Starts words file
+  pub source : SocketAddr
+  pub frames : ServesFrames (record { zone = starts.zone }) source starts.now left rest before after (record { zone = starts.zone })
+  pub ended : IsAtEnd rest
+
 -- The fault stands: wrong words; a file that could not be read; a text that is refused at a line; a stream that was left.
 -- Want of memory may be answered at any time.
 abbrev pub FaultStands : List (List ℕ) → Option (List ℕ) → Fault → Type 0
@@ -49,9 +58,9 @@ FaultStands words file (faults.Zone error) =
 FaultStands words file (faults.Stream error) = (error ≡ streams.OutOfMemory false) ⊎ Starts words file
 
 -- What the program answers: it ends with its input, or a fault stands.
-abbrev pub Answers : {X : Type 0} → List (List ℕ) → Option (List ℕ) → Option (List ℕ) → Result X Fault → Type 0
-Answers words file left (Ok done) = Starts words file × IsAtEnd left
-Answers words file left (Err fault) = FaultStands words file fault
+abbrev pub Answers : {X : Type 0} → List (List ℕ) → Option (List ℕ) → Option (List ℕ) → Option (List ℕ) → Option (List ℕ) → Option (List ℕ) → Result X Fault → Type 0
+Answers words file left rest before after (Ok done) = Finishes words file left rest before after
+Answers words file left rest before after (Err fault) = FaultStands words file fault
 
 -- The status of a fault.
 abbrev pub status_of : Fault → ℕ
@@ -61,9 +70,9 @@ status_of (faults.Zone error) = 3
 status_of (faults.Stream error) = 4
 
 -- The status of the program: 0 where it ends with its input, else that of a fault that stands.
-abbrev pub StatusIs : List (List ℕ) → Option (List ℕ) → Option (List ℕ) → ℕ → Type 0
-StatusIs words file left status =
-    ((status ≡ 0) × Starts words file × IsAtEnd left) ⊎ ((fault : Fault) × (status ≡ status_of fault) × FaultStands words file fault)
+abbrev pub StatusIs : List (List ℕ) → Option (List ℕ) → Option (List ℕ) → Option (List ℕ) → Option (List ℕ) → Option (List ℕ) → ℕ → Type 0
+StatusIs words file left rest before after status =
+    ((status ≡ 0) × Finishes words file left rest before after) ⊎ ((fault : Fault) × (status ≡ status_of fault) × FaultStands words file fault)
 
 -- What was read of a word, where a malformed one is a fault.
 abbrev pub read_or_usage : {X : Type 0} → Result X TextError → Result X Fault

@@ -60,7 +60,7 @@ pub fn run<R: Read, W: Write, F: Write>(
     writer: &mut W,
     faults: &mut F,
 ) -> u8
-    ensures { StatusIs (map string_bytes words.now) (option_copied zone.entry) (R.remaining reader.new) result }
+    ensures { StatusIs (map string_bytes words.now) (option_copied zone.entry) (R.remaining reader.old) (R.remaining reader.new) (W.contents writer.old) (W.contents writer.new) result }
 {
     match serve(alloc, words, zone, reader, writer) {
         Ok(()) => 0,
@@ -90,7 +90,7 @@ fn serve<R: Read, W: Write>(
     reader: &mut R,
     writer: &mut W,
 ) -> Result<(), Fault>
-    ensures { Answers (map string_bytes words.now) (option_copied zone.entry) (R.remaining reader.new) result }
+    ensures { Answers (map string_bytes words.now) (option_copied zone.entry) (R.remaining reader.old) (R.remaining reader.new) (W.contents writer.old) (W.contents writer.new) result }
 {
     let command = read_words(alloc, words)?;
     let Some(text) = zone else {
