@@ -1,16 +1,12 @@
 -- What a request that was read says: full names, and a header that can be written.
-use Rattle.std.proofs.Common.{◌≡◌, ℕ, ◌+◌, ◌/◌, ◌%◌, ◌<◌, Bool, true, false, List, [], ◌∷◌, length, refl, sym, ap, subst, ◌∙◌, arith, eqb}
-use Rattle.std.specs.Prelude.{◌==◌, if◌then◌else◌, get_or}
+use Rattle.std.proofs.Common.{◌≡◌, ℕ, ◌/◌, ◌%◌, true, List, [], ◌∷◌, sym, ap, subst, arith}
+use Rattle.std.specs.Prelude.{get_or}
 use Rattle.std.specs.List.{AllByRecursion}
-use Rattle.std.proofs.lemmas.Bool.{eqb-true}
-use Rattle.authority.specs.declared.message.header.OpCode.{OpCode}
-use Rattle.authority.specs.declared.message.header.ResponseCode.{ResponseCode}
-use Rattle.authority.specs.declared.message.header.Metadata.{Metadata}
-use Rattle.authority.specs.declared.message.request.Query.{Query}
-use Rattle.authority.specs.Octets.{number_16}
-use Rattle.authority.specs.Headers.{op_code_of, op_code_number, response_code_of, response_code_number, metadata_of, FitsHeader}
-use Rattle.authority.specs.Wire.{Entries}
-use Rattle.authority.specs.Requests.{Request, IsRequest, QuestionAt}
+use Rattle.zsv_message.specs.declared.request.Query.{Query}
+use Rattle.zst_record.specs.Octets.{number_16}
+use Rattle.zsv_message.specs.Headers.{op_code_of, op_code_number, response_code_of, response_code_number, metadata_of, FitsHeader}
+use Rattle.zsv_message.specs.Wire.{Entries}
+use Rattle.zsv_message.specs.Requests.{Request, IsRequest, QuestionAt}
 use Rattle.authority.specs.Servers.{AsksFullNames}
 
 full_questions : (m : List ℕ) (place : ℕ) (qs : List Query) (end : ℕ) → Entries (QuestionAt m) place qs end → AllByRecursion (λ q. q.name.fqdn ≡ true) qs

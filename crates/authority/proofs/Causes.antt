@@ -1,20 +1,20 @@
 -- The causes of a refused line, in their order.
-use Rattle.std.proofs.Common.{suc, zero, ◌≡◌, refl, sym, ap, ◌∙◌, subst, ℕ, ◌+◌, ◌<◌, ◌≤◌, Bool, true, false, ◌&&◌, eqb, if◌then◌else◌, List, [], ◌∷◌, length, drop, get_or, Option, Some, None, IsSome, is_some, Result, Ok, Err, arith}
+use Rattle.std.proofs.Common.{◌≡◌, refl, sym, ap, ◌∙◌, subst, ℕ, ◌+◌, ◌<◌, ◌≤◌, Bool, true, false, ◌&&◌, eqb, if◌then◌else◌, List, [], ◌∷◌, length, drop, get_or, Option, Some, IsSome, is_some, Result, Ok, Err, arith}
 use Rattle.std.proofs.lemmas.Bool.{eqb-true, eqb-false, both_ways}
-use Rattle.authority.specs.declared.codes.RecordType.{RecordType}
-use Rattle.authority.specs.declared.codes.RecordType.TheVariants as types
+use Rattle.zst_record.specs.declared.codes.RecordType.{RecordType}
+use Rattle.zst_record.specs.declared.codes.RecordType.TheVariants as types
 use Rattle.authority.specs.declared.loader.LoadCause.{LoadCause}
 use Rattle.authority.specs.declared.loader.LoadCause.TheVariants as causes
-use Rattle.authority.specs.declared.names.text.TextError.{TextError}
-use Rattle.authority.specs.declared.names.text.TextError.TheVariants as errors
-use Rattle.authority.specs.declared.record_data.RData.{RData}
-use Rattle.authority.specs.declared.record_data.RData.TheVariants as rdata
-use Rattle.authority.specs.Names.{DomainName, is_at_or_below}
-use Rattle.authority.specs.NameText.{IsNameText, ReadsText}
-use Rattle.authority.specs.RecordData.{rdata_type, has_full_names}
-use Rattle.authority.specs.Zones.{View, stored}
-use Rattle.authority.specs.ZoneText.{field, IsOwnerText, IsNumberText, is_internet, type_of_text, AreData, IsDataText, IsSoaText, IsTextOf, is_start, StandsAt, NoneBefore, turn, with_cause, IsHeading, Heading}
-use Rattle.authority.proofs.NameTexts.{same_name}
+use Rattle.zst_record.specs.declared.names.text.TextError.{TextError}
+use Rattle.zst_record.specs.declared.names.text.TextError.TheVariants as errors
+use Rattle.zst_record.specs.declared.record_data.RData.{RData}
+use Rattle.zst_record.specs.declared.record_data.RData.TheVariants as rdata
+use Rattle.zst_record.specs.Names.{DomainName, is_at_or_below}
+use Rattle.zst_record.specs.NameText.{IsNameText, ReadsText}
+use Rattle.zst_record.specs.RecordData.{rdata_type, has_full_names}
+use Rattle.zst_zone.specs.Zones.{View, stored}
+use Rattle.authority.specs.ZoneText.{field, IsOwnerText, IsNumberText, is_internet, AreData, IsDataText, IsTextOf, is_start, StandsAt, NoneBefore, turn, with_cause, IsHeading, Heading}
+use Rattle.zst_record.proofs.NameTexts.{same_name}
 
 cause_at : ℕ → LoadCause
 cause_at n =

@@ -1,19 +1,19 @@
 -- Data from words: what a failure at one word means for the whole.
-use Rattle.std.proofs.Common.{◌≡◌, refl, sym, ap, ◌∙◌, subst, ℕ, ◌<◌, ◌^◌, arith, List, [], ◌∷◌, Result, Ok, Err}
+use Rattle.std.proofs.Common.{◌≡◌, ap, ◌∙◌, subst, ℕ, ◌<◌, ◌^◌, arith, List, ◌∷◌, Result, Ok, Err}
 use mir.Val.{to_z, of_z}
 use mir.Syntax.{w32}
 use Rattle.std.specs.Prelude.{ℤ, pos}
 use Rattle.std.proofs.lemmas.Int.{ints}
-use Rattle.authority.specs.declared.codes.RecordType.{RecordType}
-use Rattle.authority.specs.declared.codes.RecordType.TheVariants as types
-use Rattle.authority.specs.declared.names.text.TextError.{TextError}
-use Rattle.authority.specs.declared.names.text.TextError.TheVariants as errors
-use Rattle.authority.specs.declared.record_data.RData.{RData}
-use Rattle.authority.specs.declared.record_data.RData.TheVariants as rdata
-use Rattle.authority.specs.declared.record_data.A.{A}
-use Rattle.authority.specs.declared.record_data.NS.{NS}
-use Rattle.authority.specs.declared.record_data.SOA.{SOA}
-use Rattle.authority.specs.NameText.{ReadsText}
+use Rattle.zst_record.specs.declared.codes.RecordType.{RecordType}
+use Rattle.zst_record.specs.declared.codes.RecordType.TheVariants as types
+use Rattle.zst_record.specs.declared.names.text.TextError.{TextError}
+use Rattle.zst_record.specs.declared.names.text.TextError.TheVariants as errors
+use Rattle.zst_record.specs.declared.record_data.RData.{RData}
+use Rattle.zst_record.specs.declared.record_data.RData.TheVariants as rdata
+use Rattle.zst_record.specs.declared.record_data.A.{A}
+use Rattle.zst_record.specs.declared.record_data.NS.{NS}
+use Rattle.zst_record.specs.declared.record_data.SOA.{SOA}
+use Rattle.zst_record.specs.NameText.{ReadsText}
 use Rattle.authority.specs.ZoneText.{TakesWord, IsTextOf, IsAddressText, IsNsText, IsSoaText, IsSignedText}
 
 -- The first word is read.

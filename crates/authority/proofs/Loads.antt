@@ -1,14 +1,14 @@
 -- Loading, line by line.
-use Rattle.std.proofs.Common.{suc, zero, ◌≡◌, refl, sym, ap, ◌∙◌, subst, ℕ, ◌+◌, ◌-◌, ◌<◌, ◌≤◌, Bool, true, false, List, [], ◌∷◌, ◌++◌, length, take, get_or, eqb, cond, length-append, arith}
+use Rattle.std.proofs.Common.{◌≡◌, refl, sym, ap, ◌∙◌, subst, ℕ, ◌+◌, ◌-◌, ◌<◌, ◌≤◌, Bool, true, false, List, [], ◌∷◌, ◌++◌, length, take, get_or, eqb, length-append, arith}
 use Rattle.std.specs.List.{slice_split, join_with_byte}
 use Rattle.std.specs.Str.Lines.{lines, lines_of_parts}
 use Rattle.std.specs.Bool.{MatchBool}
-use Rattle.std.proofs.lemmas.Bool.{eqb-true, eqb-false}
+use Rattle.std.proofs.lemmas.Bool.{eqb-false}
 use Rattle.std.proofs.lemmas.List.{take_more, get_or_default}
 use Rattle.std.proofs.lemmas.List.Splits.{join_with_byte-slice_split}
-use Rattle.authority.specs.declared.records.Record.{Record}
+use Rattle.zst_record.specs.declared.records.Record.{Record}
 use Rattle.authority.specs.declared.loader.LoadCause.{LoadCause}
-use Rattle.authority.specs.Zones.{View, AddsTo}
+use Rattle.zst_zone.specs.Zones.{View, AddsTo}
 use Rattle.authority.specs.ZoneText.{Loads, LoadsLine, IsTaken, RefusesLine, IsRefusedAt, is_skipped_line, words_of}
 
 loads_push : (zone : View) (xs : List (List ℕ)) (x : List ℕ) (mid end : View) → Loads zone xs mid → LoadsLine mid x end → Loads zone (xs ++ x ∷ []) end

@@ -1,5 +1,5 @@
 -- A run of the server, one message more at a time.
-use Rattle.std.proofs.Common.{◌≡◌, ℕ, ◌+◌, ◌<◌, ◌≤◌, List, [], ◌∷◌, ◌++◌, length, get_or, map, take, drop, Option, None, Some, refl, sym, ap, subst, ◌∙◌, arith, append_assoc, append-nil, Vec, Global}
+use Rattle.std.proofs.Common.{◌≡◌, ℕ, ◌+◌, ◌<◌, List, [], ◌∷◌, ◌++◌, length, get_or, map, take, Option, None, Some, refl, sym, ap, subst, ◌∙◌, arith, append_assoc, append-nil, Vec, Global}
 use Rattle.std.proofs.lemmas.List.{length-append, map-append, map_more, take-map}
 use Rattle.authority.specs.declared.server.Arrival.{Arrival}
 use Rattle.authority.specs.Serving.{World, Received, Serves, ServesAll}

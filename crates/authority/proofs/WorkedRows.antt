@@ -1,30 +1,29 @@
 -- The definitions computed on worked rows: a zone with a start of authority and one address, and what it is asked.
 use Rattle.std.proofs.Common.{◌≡◌, ℕ, Bool, true, false, List, [], ◌∷◌, ◌++◌, length, refl, arith}
-use Rattle.std.specs.Prelude.{codes, pos, Option, Some, None}
-use Rattle.authority.specs.declared.codes.RecordType.TheVariants as types
-use Rattle.authority.specs.declared.codes.DNSClass.TheVariants as classes
-use Rattle.authority.specs.declared.record_data.RData.TheVariants as rdata
-use Rattle.authority.specs.declared.records.Record.{Record}
-use Rattle.authority.specs.declared.zone.settings.ZoneType.TheVariants as kinds
-use Rattle.authority.specs.declared.zone.settings.AxfrPolicy.TheVariants as policies
-use Rattle.authority.specs.declared.message.header.MessageType.TheVariants as messages
-use Rattle.authority.specs.declared.message.header.OpCode.TheVariants as operations
-use Rattle.authority.specs.declared.message.header.ResponseCode.{ResponseCode}
-use Rattle.authority.specs.declared.message.header.ResponseCode.TheVariants as responses
-use Rattle.authority.specs.declared.message.header.Metadata.{Metadata}
-use Rattle.authority.specs.declared.message.request.Query.{Query}
-use Rattle.authority.specs.Names.{DomainName, IsLabel, name_octets, name_size, name_eq, is_at_or_below}
+use Rattle.std.specs.Prelude.{codes, pos, None}
+use Rattle.zst_record.specs.declared.codes.RecordType.TheVariants as types
+use Rattle.zst_record.specs.declared.codes.DNSClass.TheVariants as classes
+use Rattle.zst_record.specs.declared.record_data.RData.TheVariants as rdata
+use Rattle.zst_record.specs.declared.records.Record.{Record}
+use Rattle.zst_zone.specs.declared.settings.ZoneType.TheVariants as kinds
+use Rattle.zst_zone.specs.declared.settings.AxfrPolicy.TheVariants as policies
+use Rattle.zsv_message.specs.declared.header.MessageType.TheVariants as messages
+use Rattle.zsv_message.specs.declared.header.OpCode.TheVariants as operations
+use Rattle.zsv_message.specs.declared.header.ResponseCode.{ResponseCode}
+use Rattle.zsv_message.specs.declared.header.ResponseCode.TheVariants as responses
+use Rattle.zsv_message.specs.declared.header.Metadata.{Metadata}
+use Rattle.zsv_message.specs.declared.request.Query.{Query}
+use Rattle.zst_record.specs.Names.{DomainName, name_octets, name_eq, is_at_or_below}
 use Rattle.std.specs.Cmp.Lexicographic.{slice_cmp}
 use Rattle.std.specs.Ordering.{nat_cmp}
 use Rattle.std.specs.declared.cmp.Ordering.TheVariants.{Less}
-use Rattle.authority.specs.Keys.{rank, name_key}
-use Rattle.authority.specs.Octets.{Stands, octets_32}
-use Rattle.authority.specs.Headers.{header_of}
-use Rattle.authority.specs.Records.{RRset, record_octets}
-use Rattle.authority.specs.Wire.{Spells, NameAt, ends, label}
-use Rattle.authority.specs.Requests.{Request, QuestionAt}
-use Rattle.authority.specs.Zones.{View, lookup_result, answered, name_exists, name_error, out_of_zone}
-use Rattle.authority.specs.Replies.{ReplyParts}
+use Rattle.zst_zone.specs.Keys.{rank, name_key}
+use Rattle.zst_record.specs.Octets.{octets_32}
+use Rattle.zsv_message.specs.Headers.{header_of}
+use Rattle.zst_record.specs.Records.{record_octets}
+use Rattle.zsv_message.specs.Wire.{NameAt, ends, label}
+use Rattle.zsv_message.specs.Requests.{Request, QuestionAt}
+use Rattle.zst_zone.specs.Zones.{View, lookup_result, answered, name_exists, name_error, out_of_zone}
 use Rattle.authority.specs.Serving.{reply_parts}
 
 abbrev example : DomainName

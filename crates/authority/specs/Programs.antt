@@ -3,16 +3,15 @@ use Rattle.std.specs.Prelude.{◌≡◌, ℕ, ◌⊎◌, false, List, [], ◌∷
 use Rattle.std.specs.Io.KnownBytes.{IsAtEnd}
 use Rattle.std.specs.declared.net.SocketAddr.{SocketAddr}
 use Rattle.authority.specs.declared.loader.LoadCause.TheVariants as causes
-use Rattle.authority.specs.declared.loader.LoadError.{LoadError}
-use Rattle.authority.specs.declared.names.text.TextError.{TextError}
-use Rattle.authority.specs.declared.names.text.TextError.TheVariants as texts
+use Rattle.zst_record.specs.declared.names.text.TextError.{TextError}
+use Rattle.zst_record.specs.declared.names.text.TextError.TheVariants as texts
 use Rattle.authority.specs.declared.program.Fault.{Fault}
 use Rattle.authority.specs.declared.program.Fault.TheVariants as faults
 use Rattle.authority.specs.declared.stream.StreamError.TheVariants as streams
-use Rattle.authority.specs.declared.zone.settings.ZoneType.TheVariants as kinds
-use Rattle.authority.specs.declared.zone.settings.AxfrPolicy.TheVariants as policies
-use Rattle.authority.specs.Names.{DomainName}
-use Rattle.authority.specs.Zones.{View}
+use Rattle.zst_zone.specs.declared.settings.ZoneType.TheVariants as kinds
+use Rattle.zst_zone.specs.declared.settings.AxfrPolicy.TheVariants as policies
+use Rattle.zst_record.specs.Names.{DomainName}
+use Rattle.zst_zone.specs.Zones.{View}
 use Rattle.authority.specs.ZoneText.{IsOwnerText, IsNumberText, IsZoneText, IsRefusedAt}
 use Rattle.authority.specs.Frames.{ServesFrames}
 
@@ -95,3 +94,13 @@ TextGives origin text (Err faults.Words) = ⊥
 TextGives origin text (Err faults.ZoneFile) = ⊥
 TextGives origin text (Err (faults.Zone error)) = (error.cause ≡ causes.OutOfMemory → ⊥) → IsRefusedAt (first_zone origin) text error.line error.cause
 TextGives origin text (Err (faults.Stream error)) = ⊥
+
+-- A status that stands for some words, file and streams: those of a process have no value in a clause.
+pub record IsExitStatus (status : ℕ) : Type 0 where
+  pub words : List (List ℕ)
+  pub file : Option (List ℕ)
+  pub left : Option (List ℕ)
+  pub rest : Option (List ℕ)
+  pub before : Option (List ℕ)
+  pub after : Option (List ℕ)
+  pub stands : StatusIs words file left rest before after status

@@ -1,5 +1,5 @@
 -- A run of the server over messages as they arrive.
-use Rattle.std.specs.Prelude.{◌≡◌, ℕ, List, [], ◌∷◌, ◌++◌, length, map, take, Option, Some, None, option_map}
+use Rattle.std.specs.Prelude.{◌≡◌, ℕ, List, [], ◌∷◌, ◌++◌, length, take, Option, option_map}
 use Rattle.std.proofs.Common.{Vec, Global}
 use Rattle.authority.specs.declared.server.Arrival.{Arrival}
 use Rattle.authority.specs.Serving.{World, Received, Serves, ServesAll}

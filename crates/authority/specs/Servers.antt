@@ -1,16 +1,16 @@
 -- The server's own values, as the definitions of serving see them.
-use Rattle.std.specs.Prelude.{◌≡◌, ◌⊎◌, ◌<◌, Bool, true, false, List, map}
+use Rattle.std.specs.Prelude.{◌≡◌, ◌<◌, Bool, true, false}
 use Rattle.std.specs.List.{AllByRecursion}
-use Rattle.authority.specs.declared.records.Record.{Record}
-use Rattle.authority.specs.declared.response.encode.MessageResponse.{MessageResponse}
-use Rattle.authority.specs.declared.zone.settings.ZoneType.{ZoneType}
-use Rattle.authority.specs.declared.zone.settings.ZoneType.TheVariants as zones
-use Rattle.authority.specs.declared.message.header.ResponseCode.{ResponseCode}
-use Rattle.authority.specs.Headers.{FitsHeader, response_code_of, response_code_number}
-use Rattle.authority.specs.Requests.{Request}
-use Rattle.authority.specs.Records.{has_only_full_names}
-use Rattle.authority.specs.Replies.{ReplyParts}
-use Rattle.authority.specs.Zones.{View}
+use Rattle.zst_record.specs.declared.records.Record.{Record}
+use Rattle.zsv_message.specs.declared.encode.MessageResponse.{MessageResponse}
+use Rattle.zst_zone.specs.declared.settings.ZoneType.{ZoneType}
+use Rattle.zst_zone.specs.declared.settings.ZoneType.TheVariants as zones
+use Rattle.zsv_message.specs.declared.header.ResponseCode.{ResponseCode}
+use Rattle.zsv_message.specs.Headers.{FitsHeader, response_code_of, response_code_number}
+use Rattle.zsv_message.specs.Requests.{Request}
+use Rattle.zst_record.specs.Records.{has_only_full_names}
+use Rattle.zsv_message.specs.Replies.{ReplyParts}
+use Rattle.zst_zone.specs.Zones.{View}
 
 abbrev pub serves_kind : ZoneType → Bool
 serves_kind zones.Primary = true

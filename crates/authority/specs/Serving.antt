@@ -1,25 +1,25 @@
 -- What a server answers: RFC 1034, section 4.3.2; RFC 2308, section 3. One message, and a list of them.
 use Rattle.std.specs.Prelude.{◌≡◌, ℕ, Bool, true, false, List, [], ◌∷◌, Option, Some, None, if◌then◌else◌}
 use Rattle.std.specs.declared.net.SocketAddr.{SocketAddr}
-use Rattle.authority.specs.declared.codes.RecordType.{RecordType}
-use Rattle.authority.specs.declared.codes.RecordType.TheVariants as types
-use Rattle.authority.specs.declared.records.Record.{Record}
-use Rattle.authority.specs.declared.message.header.Metadata.{Metadata}
-use Rattle.authority.specs.declared.message.header.MessageType.{MessageType}
-use Rattle.authority.specs.declared.message.header.MessageType.TheVariants as messages
-use Rattle.authority.specs.declared.message.header.OpCode.{OpCode}
-use Rattle.authority.specs.declared.message.header.OpCode.TheVariants as operations
-use Rattle.authority.specs.declared.message.header.ResponseCode.{ResponseCode}
-use Rattle.authority.specs.declared.message.header.ResponseCode.TheVariants as responses
-use Rattle.authority.specs.declared.message.request.Query.{Query}
+use Rattle.zst_record.specs.declared.codes.RecordType.{RecordType}
+use Rattle.zst_record.specs.declared.codes.RecordType.TheVariants as types
+use Rattle.zst_record.specs.declared.records.Record.{Record}
+use Rattle.zsv_message.specs.declared.header.Metadata.{Metadata}
+use Rattle.zsv_message.specs.declared.header.MessageType.{MessageType}
+use Rattle.zsv_message.specs.declared.header.MessageType.TheVariants as messages
+use Rattle.zsv_message.specs.declared.header.OpCode.{OpCode}
+use Rattle.zsv_message.specs.declared.header.OpCode.TheVariants as operations
+use Rattle.zsv_message.specs.declared.header.ResponseCode.{ResponseCode}
+use Rattle.zsv_message.specs.declared.header.ResponseCode.TheVariants as responses
+use Rattle.zsv_message.specs.declared.request.Query.{Query}
 use Rattle.authority.specs.declared.server.Protocol.{Protocol}
 use Rattle.authority.specs.declared.server.Protocol.TheVariants as protocols
-use Rattle.authority.specs.Names.{is_at_or_below}
-use Rattle.authority.specs.Codes.{same_type}
-use Rattle.authority.specs.Records.{RRset}
-use Rattle.authority.specs.Zones.{View, Outcome, answered, name_exists, name_error, out_of_zone, stored, lookup_result}
-use Rattle.authority.specs.Requests.{Request, IsRequest}
-use Rattle.authority.specs.Replies.{ReplyParts, IsReply}
+use Rattle.zst_record.specs.Names.{is_at_or_below}
+use Rattle.zst_record.specs.Codes.{same_type}
+use Rattle.zst_record.specs.Records.{RRset}
+use Rattle.zst_zone.specs.Zones.{View, Outcome, answered, name_exists, name_error, out_of_zone, stored, lookup_result}
+use Rattle.zsv_message.specs.Requests.{Request, IsRequest}
+use Rattle.zsv_message.specs.Replies.{ReplyParts, IsReply}
 
 -- The header of a reply repeats the identifier, the operation, RD and CD.
 abbrev pub reply_metadata : Metadata → Bool → ResponseCode → Metadata

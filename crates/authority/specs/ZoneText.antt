@@ -1,29 +1,29 @@
 -- The text of a zone: RFC 1035, section 5.1, in a plain form: one record a line, no directives, no relative owners.
-use Rattle.std.specs.Prelude.{◌≡◌, ℕ, ◌-◌, ◌^◌, ◌<◌, ◌≤◌, Bool, true, false, not, ◌||◌, List, [], ◌∷◌, length, take, drop, filter, get_or, if◌then◌else◌, nat_lt, ◌==◌, codes, Option, Some, None, IsSome, Result, Ok, Err, ℤ, pos}
+use Rattle.std.specs.Prelude.{◌≡◌, ℕ, ◌-◌, ◌^◌, ◌<◌, ◌≤◌, Bool, true, false, ◌||◌, List, [], ◌∷◌, length, take, drop, filter, get_or, if◌then◌else◌, nat_lt, ◌==◌, codes, Option, Some, None, IsSome, Result, Ok, Err, ℤ, pos}
 use Rattle.std.specs.List.{list_all, slice_split}
 use Rattle.std.specs.Str.{str_eq_ignore_ascii_case}
 use Rattle.std.specs.Str.Lines.{lines}
 use Rattle.std.specs.Bool.{MatchBool}
 use Rattle.std.specs.Net.Grammar.{IsIpv4Text, IsNumber}
-use Rattle.authority.specs.declared.codes.RecordType.{RecordType}
-use Rattle.authority.specs.declared.codes.RecordType.TheVariants as types
-use Rattle.authority.specs.declared.codes.DNSClass.TheVariants as classes
+use Rattle.zst_record.specs.declared.codes.RecordType.{RecordType}
+use Rattle.zst_record.specs.declared.codes.RecordType.TheVariants as types
+use Rattle.zst_record.specs.declared.codes.DNSClass.TheVariants as classes
 use Rattle.authority.specs.declared.loader.LoadCause.{LoadCause}
 use Rattle.authority.specs.declared.loader.LoadCause.TheVariants as causes
 use Rattle.authority.specs.declared.loader.LoadError.{LoadError}
-use Rattle.authority.specs.declared.names.text.TextError.{TextError}
-use Rattle.authority.specs.declared.names.text.TextError.TheVariants as errors
-use Rattle.authority.specs.declared.record_data.A.{A}
-use Rattle.authority.specs.declared.record_data.NS.{NS}
-use Rattle.authority.specs.declared.record_data.SOA.{SOA}
-use Rattle.authority.specs.declared.record_data.RData.{RData}
-use Rattle.authority.specs.declared.record_data.RData.TheVariants as rdata
-use Rattle.authority.specs.declared.records.Record.{Record}
-use Rattle.authority.specs.Names.{DomainName, is_at_or_below}
-use Rattle.authority.specs.NameText.{IsNameText}
-use Rattle.authority.specs.RecordData.{rdata_type, has_full_names}
-use Rattle.authority.specs.Records.{has_only_full_names}
-use Rattle.authority.specs.Zones.{View, AddsTo, stored}
+use Rattle.zst_record.specs.declared.names.text.TextError.{TextError}
+use Rattle.zst_record.specs.declared.names.text.TextError.TheVariants as errors
+use Rattle.zst_record.specs.declared.record_data.A.{A}
+use Rattle.zst_record.specs.declared.record_data.NS.{NS}
+use Rattle.zst_record.specs.declared.record_data.SOA.{SOA}
+use Rattle.zst_record.specs.declared.record_data.RData.{RData}
+use Rattle.zst_record.specs.declared.record_data.RData.TheVariants as rdata
+use Rattle.zst_record.specs.declared.records.Record.{Record}
+use Rattle.zst_record.specs.Names.{DomainName, is_at_or_below}
+use Rattle.zst_record.specs.NameText.{IsNameText}
+use Rattle.zst_record.specs.RecordData.{rdata_type, has_full_names}
+use Rattle.zst_record.specs.Records.{has_only_full_names}
+use Rattle.zst_zone.specs.Zones.{View, AddsTo, stored}
 
 -- A space or a tab.
 abbrev pub is_blank : ℕ → Bool

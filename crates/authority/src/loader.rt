@@ -6,16 +6,15 @@ mod number;
 mod words;
 
 ghost use Rattle.std.specs.Prelude.{◌≡◌, true, IfOk};
-ghost use Rattle.authority.specs.Zones.{empty_zone};
+ghost use Rattle.zst_zone.specs.Zones.{empty_zone};
 ghost use Rattle.authority.specs.ZoneText.{LoadAnswers, LineLoads};
 
 use crate::loader::line::record_of;
-use crate::names::Name;
-use crate::zone::handler::InMemoryZoneHandler;
-use crate::zone::settings::ZoneSettings;
 pub use number::parse_u64;
 use std::alloc::Global;
 use thiserror::Error;
+use zst_record::Name;
+use zst_zone::{InMemoryZoneHandler, ZoneSettings};
 
 /// Why a line of a zone's text is refused, in the order in which the causes are tried but for the last.
 #[derive(Clone, Copy, Debug, PartialEq, Eq)]

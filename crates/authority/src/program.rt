@@ -6,16 +6,14 @@ ghost use Rattle.authority.specs.Programs.{Answers, StatusIs, TextGives, WordsGi
 
 use crate::loader::line::parse_owner;
 use crate::loader::{LoadError, load_zone, parse_u64};
-use crate::names::Name;
-use crate::names::text::TextError;
 use crate::server::{Authority, NoSuite};
 use crate::stream::StreamError;
-use crate::zone::handler::InMemoryZoneHandler;
-use crate::zone::settings::{AxfrPolicy, ZoneSettings, ZoneType};
 use std::alloc::Global;
 use std::io::{Read, Write};
 use std::net::{Ipv4Addr, SocketAddr, SocketAddrV4};
 use thiserror::Error;
+use zst_record::{Name, TextError};
+use zst_zone::{AxfrPolicy, InMemoryZoneHandler, ZoneSettings, ZoneType};
 
 /// The program's zone is signed by nobody.
 #[derive(Clone, Copy, Debug)]

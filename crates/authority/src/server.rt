@@ -4,15 +4,13 @@ ghost use Rattle.std.specs.Prelude.{◌≡◌, ◌+◌, ◌<◌, vec_len, vec_ca
 ghost use Rattle.authority.specs.Serving.{limit_of, Serves};
 ghost use Rattle.authority.specs.Runs.{octets_of, received, ServesNext, ServesFront};
 
-use crate::message::read::ReadError;
-use crate::message::request::MessageRequest;
 use crate::server::answer::reply_to;
-use crate::zone::handler::InMemoryZoneHandler;
-use crate::zone::settings::ZoneType;
 use std::alloc::Global;
 use std::marker::Model;
 use std::net::SocketAddr;
 use thiserror::Error;
+use zst_zone::{InMemoryZoneHandler, ZoneType};
+use zsv_message::{MessageRequest, ReadError};
 
 pub mod answer;
 

@@ -2,6 +2,9 @@
 //! standard output.
 #![tactic(auto)]
 
+ghost use Rattle.std.specs.Prelude.{◌≡◌, ◌≢◌, length, IfOk, None, Ok};
+ghost use Rattle.authority.specs.Programs.{IsExitStatus};
+
 #[cfg(test)]
 mod tests;
 
@@ -11,14 +14,18 @@ use std::io::{self, BufReader, BufWriter, ErrorKind, Write};
 use std::process::ExitCode;
 use std::{env, fs};
 
-// Want of memory before the zone is served.
-fn out_of_memory(faults: &mut impl Write) -> u8 {
+// The status for want of memory before the zone is served, with its line.
+fn out_of_memory(faults: &mut impl Write) -> u8
+    ensures { result ≡ 4 }
+{
     let _ = writeln!(faults, "stream: OutOfMemory");
     4
 }
 
-// The text of the zone's file, or None where it can't be read as text.
-fn zone_text(rt: &HostRuntime, words: &[String]) -> Result<Option<String>, AllocError> {
+// The text of the zone's file, or None where it can't be read as text or the words name no file.
+fn zone_text(rt: &HostRuntime, words: &[String]) -> Result<Option<String>, AllocError>
+    ensures { length words.now ≢ 3 → result ≡ Ok None }
+{
     let [_, path, _] = words else {
         return Ok(None);
     };
@@ -34,7 +41,9 @@ fn zone_text(rt: &HostRuntime, words: &[String]) -> Result<Option<String>, Alloc
 }
 
 // Runs the program; the error is want of memory before the zone is served.
-fn run(rt: &HostRuntime, alloc: Global, faults: &mut impl Write) -> io::Result<u8> {
+fn run(rt: &HostRuntime, alloc: Global, faults: &mut impl Write) -> io::Result<u8>
+    ensures { IfOk result IsExitStatus }
+{
     let words: Vec<String> = env::args(rt)?.skip(1).collect(alloc)?;
     let zone = zone_text(rt, &words)?;
     let text = match &zone {

@@ -1,17 +1,14 @@
 //! Record data from their words.
 
 ghost use Rattle.std.specs.Prelude.{◌≡◌};
-ghost use Rattle.authority.specs.NameText.{IsNameText, ReadsText};
+ghost use Rattle.zst_record.specs.NameText.{IsNameText, ReadsText};
 ghost use Rattle.authority.specs.ZoneText.{IsNumberText, IsSignedText, IsAddressText, IsNsText, IsSoaText, IsTextOf, TakesWord, EndsWords, words_of};
 
-use crate::codes::RecordType;
 use crate::loader::number::{parse_i32, parse_u32};
 use crate::loader::words::Words;
-use crate::names::Name;
-use crate::names::text::{TextError, parse_name};
-use crate::record_data::{A, NS, RData, SOA};
 use std::alloc::Global;
 use std::net::Ipv4Addr;
+use zst_record::{A, NS, Name, RData, RecordType, SOA, TextError, parse_name};
 
 /// The data of a type from all words that are left.
 pub fn parse_rdata(

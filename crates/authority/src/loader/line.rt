@@ -1,26 +1,21 @@
 //! The record of a line.
 
 ghost use Rattle.std.specs.Prelude.{◌≡◌, ◌<◌, ◌∷◌, length, MatchOption, true, is_some};
-ghost use Rattle.authority.specs.declared.codes.RecordType.TheVariants as types;
-ghost use Rattle.authority.specs.Names.{DomainName};
-ghost use Rattle.authority.specs.NameText.{ReadsText};
-ghost use Rattle.authority.specs.Keys.{name_key};
-ghost use Rattle.authority.specs.RecordData.{has_full_names};
-ghost use Rattle.authority.specs.Zones.{stored};
+ghost use Rattle.zst_record.specs.declared.codes.RecordType.TheVariants as types;
+ghost use Rattle.zst_record.specs.Names.{DomainName};
+ghost use Rattle.zst_record.specs.NameText.{ReadsText};
+ghost use Rattle.zst_zone.specs.Keys.{name_key};
+ghost use Rattle.zst_record.specs.RecordData.{has_full_names};
+ghost use Rattle.zst_zone.specs.Zones.{stored};
 ghost use Rattle.authority.specs.ZoneText.{words_of, IsOwnerText, type_of_text, is_internet, is_start, with_cause, HeaderGives, LineGives};
 
-use crate::codes::{DNSClass, RecordType};
 use crate::loader::LoadCause;
 use crate::loader::data::parse_rdata;
 use crate::loader::number::parse_u32;
 use crate::loader::words::Words;
-use crate::names::Name;
-use crate::names::text::{TextError, parse_name};
-use crate::record_data::RData;
-use crate::records::Record;
-use crate::zone::handler::{InMemoryZoneHandler, Lookup};
-use crate::zone::key::key_of;
 use std::alloc::Global;
+use zst_record::{DNSClass, Name, RData, Record, RecordType, TextError, parse_name};
+use zst_zone::{InMemoryZoneHandler, Lookup, key_of};
 
 /// The first four words of a line, and the words of the data.
 #[derive(Clone, Copy)]

@@ -2,10 +2,10 @@
 
 ghost use Rattle.std.specs.Prelude.{◌+◌, ◌*◌, ◌^◌, ◌<◌, SomeIff};
 ghost use Rattle.std.specs.Char.{digit_value};
-ghost use Rattle.authority.specs.NameText.{ReadsText};
+ghost use Rattle.zst_record.specs.NameText.{ReadsText};
 ghost use Rattle.authority.specs.ZoneText.{IsNumberText, IsSignedText};
 
-use crate::names::text::TextError;
+use zst_record::TextError;
 
 /// The number of a text, of 64 bits.
 pub fn parse_u64(text: &[u8]) -> Result<u64, TextError>

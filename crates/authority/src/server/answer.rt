@@ -2,21 +2,20 @@
 
 ghost use Rattle.std.specs.Prelude.{◌≡◌, ◌^◌, ◌<◌, ◌≤◌, true, [], Ok, IfOk, length, option_copied};
 ghost use Rattle.std.specs.List.{AllByRecursion};
-ghost use Rattle.authority.specs.Headers.{FitsHeader, response_code_of, response_code_number};
-ghost use Rattle.authority.specs.Lookups.{outcome};
-ghost use Rattle.authority.specs.Replies.{bare_failure, IsReply};
-ghost use Rattle.authority.specs.Requests.{IsRequest};
+ghost use Rattle.zsv_message.specs.Headers.{FitsHeader, response_code_of, response_code_number};
+ghost use Rattle.zst_zone.specs.Lookups.{outcome};
+ghost use Rattle.zsv_message.specs.Replies.{bare_failure, IsReply};
+ghost use Rattle.zsv_message.specs.Requests.{IsRequest};
 ghost use Rattle.authority.specs.Serving.{reply_metadata, error_parts, records_of, apex, beside_answer, outcome_parts, question_parts, query_parts, operation_parts, reply_parts};
 ghost use Rattle.authority.specs.Servers.{parts_of, IsFull, IsSound, IsKnown, AsksFullNames};
 
-use crate::codes::RecordType;
-use crate::message::header::{MessageType, Metadata, OpCode, ResponseCode};
-use crate::message::request::{MessageRequest, Query};
-use crate::records::{Record, RecordSet};
-use crate::response::encode::{MessageResponse, encode_header};
-use crate::zone::handler::{InMemoryZoneHandler, Lookup};
-use crate::zone::key::key_of;
 use std::alloc::{AllocError, Global};
+use zst_record::{Record, RecordSet, RecordType};
+use zst_zone::{InMemoryZoneHandler, Lookup, key_of};
+use zsv_message::{
+    MessageRequest, MessageResponse, MessageType, Metadata, OpCode, Query, ResponseCode,
+    encode_header,
+};
 
 // The header of a reply: it repeats the identifier, the operation, RD and CD.
 fn reply_header(request: Metadata, authoritative: bool, response_code: ResponseCode) -> Metadata

@@ -1,8 +1,8 @@
 //! A small zone, by its public calls.
 
 ghost use Rattle.std.specs.Prelude.{◌≡◌, true, IfOk};
-ghost use Rattle.authority.specs.Names.{IsLabel};
-ghost use Rattle.authority.specs.Records.{has_only_full_names};
+ghost use Rattle.zst_record.specs.Names.{IsLabel};
+ghost use Rattle.zst_record.specs.Records.{has_only_full_names};
 
 use authority::{
     A, AxfrPolicy, DNSClass, InMemoryZoneHandler, Label, Lookup, Name, RData, Record, RecordType,

@@ -1,10 +1,10 @@
-use Rattle.std.proofs.Common.{◌≡◌, sym, ap, ◌∙◌, subst, ◌+◌, ◌∷◌, [], ◌++◌, length, take, arith, rules}
+use Rattle.std.proofs.Common.{sym, ap, ◌∙◌, subst, length, take, arith, rules}
 use Rattle.std.specs.Str.Lines.{lines}
 use Rattle.std.proofs.Math.Seq.{take-length}
 use Rattle.std.proofs.lemmas.List.{length_push}
 use Rattle.std.proofs.lemmas.Iterator.Splits.{YieldsList-from_lines}
 use Rattle.std.proofs.lemmas.Iterator.Consumers.{YieldsList-turn, YieldsList-end}
-use Rattle.authority.specs.Zones.{empty_zone}
+use Rattle.zst_zone.specs.Zones.{empty_zone}
 use Rattle.authority.specs.ZoneText.{Loads, LoadsLine, RefusesLine}
 use Rattle.authority.proofs.Loads.{loads_more, loads_keep, refused_at}
 use Rattle.authority.proofs.loader.load_zone.Goals as goal

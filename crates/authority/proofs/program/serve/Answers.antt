@@ -1,4 +1,4 @@
-use Rattle.std.proofs.Common.{◌≡◌, ap, option_copied, refl}
+use Rattle.std.proofs.Common.{◌≡◌, ap, option_copied}
 use Rattle.std.specs.Prelude.{ℕ, List, Option}
 use Rattle.std.specs.declared.net.SocketAddr.{SocketAddr}
 use Rattle.authority.specs.Serving.{World}

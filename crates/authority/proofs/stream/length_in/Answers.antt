@@ -1,4 +1,4 @@
-use Rattle.std.proofs.Common.{◌≡◌, ◌≢◌, ◌+◌, ◌*◌, ◌/◌, ◌%◌, ◌<◌, ℕ, ◌≤◌, List, ◌∷◌, [], arith, rules, length, get_or, take, subst, sym, ◌∙◌, ap, refl}
+use Rattle.std.proofs.Common.{◌≡◌, ◌+◌, ◌*◌, ◌/◌, ◌%◌, ◌<◌, ℕ, List, ◌∷◌, [], arith, length, get_or, sym}
 use Rattle.authority.proofs.stream.length_in.Goals as goal
 
 -- Two octets are the octets of their number.

@@ -1,4 +1,3 @@
-use Rattle.std.proofs.Common.{◌≡◌}
 use Rattle.std.proofs.lemmas.Result.{err_from_is_err_and}
 use Rattle.authority.specs.ZoneText.{words_of}
 use Rattle.authority.proofs.DataTexts.{address_fails, server_fails}

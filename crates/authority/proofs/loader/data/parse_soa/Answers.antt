@@ -1,6 +1,6 @@
-use Rattle.std.proofs.Common.{[], ◌≡◌, ◌∷◌, refl, sym, ◌∙◌, List, ℕ, arith}
+use Rattle.std.proofs.Common.{[], ◌∷◌}
 use Rattle.std.proofs.lemmas.Result.{err_from_is_err_and}
-use Rattle.authority.specs.NameText.{IsNameText}
+use Rattle.zst_record.specs.NameText.{IsNameText}
 use Rattle.authority.specs.ZoneText.{IsSoaText, IsSignedText, words_of}
 use Rattle.authority.proofs.DataTexts.{fails, signed_back}
 use Rattle.authority.proofs.loader.data.parse_soa.Goals as goal

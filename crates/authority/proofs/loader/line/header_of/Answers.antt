@@ -1,4 +1,4 @@
-use Rattle.std.proofs.Common.{◌≡◌, sym, ◌∙◌, ap, ◌≤◌, ◌∷◌, length, arith}
+use Rattle.std.proofs.Common.{sym, ap, ◌≤◌, length, arith}
 use Rattle.std.proofs.lemmas.Result.{err_from_is_err_and}
 use Rattle.authority.specs.declared.loader.LoadCause.TheVariants as causes
 use Rattle.authority.specs.ZoneText.{words_of, IsOwnerText}

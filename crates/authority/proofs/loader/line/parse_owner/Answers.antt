@@ -1,5 +1,5 @@
-use Rattle.std.proofs.Common.{◌≡◌, sym, ◌∙◌}
-use Rattle.authority.proofs.NameTexts.{one_end}
+use Rattle.std.proofs.Common.{sym, ◌∙◌}
+use Rattle.zst_record.proofs.NameTexts.{one_end}
 use Rattle.authority.proofs.loader.line.parse_owner.Goals as goal
 
 pub returns-else-is_fqdn : goal.returns-else-is_fqdn

@@ -1,6 +1,5 @@
-use Rattle.std.proofs.Common.{◌≡◌, sym, ◌∙◌, ap, subst, ℕ, ◌+◌, ◌*◌, ◌^◌, ◌<◌, length, get_or, arith, rules}
+use Rattle.std.proofs.Common.{◌≡◌, sym, subst, ◌+◌, ◌*◌, ◌^◌, ◌<◌, length, get_or, arith}
 use Rattle.std.specs.Char.{digit_value}
-use Rattle.authority.specs.ZoneText.{IsNumberText}
 use Rattle.authority.proofs.Numbers.{ReadSoFar, digit_at, read_more, too_large, read_all}
 use Rattle.authority.proofs.loader.number.parse_u64.Goals as goal
 

@@ -1,6 +1,5 @@
-use Rattle.std.proofs.Common.{◌≡◌, sym, ◌∙◌, ap, ◌∷◌, ◌<◌, false, take, drop, length, get_or, unwrap_or}
-use Rattle.std.specs.List.{position}
-use Rattle.authority.specs.ZoneText.{words_of, is_blank}
+use Rattle.std.proofs.Common.{◌≡◌, sym, ◌∙◌, ap, ◌∷◌, take, drop, length, unwrap_or}
+use Rattle.authority.specs.ZoneText.{words_of}
 use Rattle.authority.proofs.Words.{words_none, words_from, word_first}
 use Rattle.authority.proofs.loader.words.first_word.Goals as goal
 

@@ -1,5 +1,5 @@
-use Rattle.std.proofs.Common.{◌≡◌, ◌+◌, ◌≤◌, length, arith}
-use Rattle.authority.proofs.ServedRuns.{Served, served_more, served_front}
+use Rattle.std.proofs.Common.{arith}
+use Rattle.authority.proofs.ServedRuns.{served_more, served_front}
 use Rattle.authority.proofs.server.Authority.serve_all.Goals as goal
 
 pub loop-arrival-preserved : goal.loop-arrival-preserved

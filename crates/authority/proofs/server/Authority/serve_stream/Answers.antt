@@ -1,7 +1,7 @@
-use Rattle.std.proofs.Common.{◌≡◌, ◌∙◌, refl, ap, Bool, Ok}
+use Rattle.std.proofs.Common.{◌∙◌, refl, ap, Bool, Ok}
 use Rattle.authority.specs.Frames.{streamed}
 use Rattle.authority.proofs.ServedRuns.{serves_keeps}
-use Rattle.authority.proofs.StreamRuns.{frames_none, frames_more, frames_end}
+use Rattle.authority.proofs.StreamRuns.{frames_none, frames_more}
 use Rattle.authority.proofs.server.Authority.serve_stream.Goals as goal
 
 pub frames-init : goal.frames-init

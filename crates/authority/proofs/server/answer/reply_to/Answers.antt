@@ -1,8 +1,8 @@
-use Rattle.std.proofs.Common.{◌≡◌, ◌+◌, ◌-◌, ◌≤◌, length, subst, ap, arith}
-use Rattle.authority.specs.Replies.{ReplyParts, IsReply}
+use Rattle.std.proofs.Common.{◌+◌, ◌≤◌, length, subst, ap, arith}
+use Rattle.zsv_message.specs.Replies.{ReplyParts, IsReply}
 use Rattle.authority.specs.Servers.{parts_of}
 use Rattle.authority.proofs.Asked.{asks_full, fits_request}
-use Rattle.authority.proofs.Written.{reply_of_written}
+use Rattle.zsv_message.proofs.Written.{reply_of_written}
 use Rattle.authority.proofs.server.answer.reply_to.Goals as goal
 
 pub response_to-requires : goal.response_to-requires

@@ -1,6 +1,0 @@
-use Rattle.authority.proofs.ZoneRecords.{IsRRset-single}
-use Rattle.authority.proofs.records.RecordSet.from_record.Goals as goal
-
-pub invariant_of-result : goal.invariant_of-result
-invariant_of-result c =
-    rw (c.push_reserved.ensures.items, c.in_ok-records.ensures.items, c.record_type-record_type.ensures, c.in_ok-name.ensures.cases) (IsRRset-single c.args.first c.requires)

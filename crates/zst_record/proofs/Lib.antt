@@ -1,0 +1,3 @@
+pub mod NameTexts
+pub mod NamesSize
+pub mod PutRecords

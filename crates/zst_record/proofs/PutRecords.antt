@@ -1,0 +1,101 @@
+-- A set's records with one more.
+use Rattle.std.proofs.Common.{◌≡◌, ℕ, ◌+◌, ◌<◌, ◌≤◌, suc, refl, ap, sym, ◌∙◌, arith, length, set}
+use Rattle.std.specs.Prelude.{Bool, true, false, not, List, [], ◌∷◌, ◌++◌, Some, None, position, cond, nat_lt}
+use Rattle.std.specs.List.{AllByRecursion, position_or_len}
+use Rattle.std.specs.Prelude.{Result, Ok, Err, OnOk, OnErr}
+use Rattle.std.specs.declared.alloc.AllocError.{AllocError}
+use Rattle.std.proofs.lemmas.Bool.{ltb-true, ltb-false, eq-eqb}
+use Rattle.zst_record.specs.declared.codes.RecordType.{RecordType}
+use Rattle.zst_record.specs.declared.records.Record.{Record}
+use Rattle.zst_record.specs.declared.record_data.RData.{RData}
+use Rattle.zst_record.specs.Names.{DomainName}
+use Rattle.zst_record.specs.NameLaws.{name_eq_equiv}
+use Rattle.zst_record.specs.Codes.{type_code}
+use Rattle.zst_record.specs.RecordData.{rdata_type, rdata_eq}
+use Rattle.zst_record.specs.Records.{RRset, IsRecordOf, IsRRset, has_only_full_names}
+use Rattle.zst_record.specs.Records.{put_record}
+
+-- ---- by where the record with equal data stands
+abbrev equal : RData → Record → Bool
+equal rdata s = rdata_eq s.rdata rdata
+
+found_step : (b : Bool) (x r : Record) (xs : List Record) (n : ℕ) → (n < length xs → put_record xs r ≡ set xs n r)
+    → cond (not b) (1 + n) 0 < 1 + length xs → cond b (r ∷ xs) (x ∷ put_record xs r) ≡ set (x ∷ xs) (cond (not b) (1 + n) 0) r
+found_step true x r xs n more h = refl
+found_step false x r xs n more h = let e : 1 + n ≡ suc n = omega arith in rw (more (omega arith), e) refl
+
+found : (xs : List Record) (r : Record) → position_or_len (equal r.rdata) xs < length xs → put_record xs r ≡ set xs (position_or_len (equal r.rdata) xs) r
+found [] r h = absurd (omega arith)
+found (x ∷ xs) r h = found_step (equal r.rdata x) x r xs (position_or_len (equal r.rdata) xs) (found xs r) (omega arith)
+
+missed_step : (b : Bool) (x r : Record) (xs : List Record) (n : ℕ) → (length xs ≤ n → put_record xs r ≡ xs ++ r ∷ [])
+    → 1 + length xs ≤ cond (not b) (1 + n) 0 → cond b (r ∷ xs) (x ∷ put_record xs r) ≡ x ∷ xs ++ r ∷ []
+missed_step true x r xs n more h = absurd (omega arith)
+missed_step false x r xs n more h = rw (more (omega arith)) refl
+
+missed : (xs : List Record) (r : Record) → length xs ≤ position_or_len (equal r.rdata) xs → put_record xs r ≡ xs ++ r ∷ []
+missed [] r h = refl
+missed (x ∷ xs) r h = missed_step (equal r.rdata x) x r xs (position_or_len (equal r.rdata) xs) (missed xs r) (omega arith)
+
+pub put_record_found : (xs : List Record) (r : Record) (i : ℕ) → Some i ≡ position (λ s. rdata_eq s.rdata r.rdata) xs → set xs i r ≡ put_record xs r
+put_record_found xs r i e = by (nat_lt n (length xs)) refl e
+  where
+    n : ℕ
+    n = position_or_len (equal r.rdata) xs
+
+    by : (b : Bool) → nat_lt n (length xs) ≡ b → Some i ≡ cond b (Some n) None → set xs i r ≡ put_record xs r
+    by true t s = let j : i ≡ n = cc in ap (λ k. set xs k r) j ∙ sym (found xs r (ltb-true n (length xs) t))
+    by false t s = cc
+
+pub put_record_missed : (xs : List Record) (r : Record) → None ≡ position (λ s. rdata_eq s.rdata r.rdata) xs → xs ++ r ∷ [] ≡ put_record xs r
+put_record_missed xs r e = by (nat_lt n (length xs)) refl e
+  where
+    n : ℕ
+    n = position_or_len (equal r.rdata) xs
+
+    by : (b : Bool) → nat_lt n (length xs) ≡ b → None ≡ cond b (Some n) None → xs ++ r ∷ [] ≡ put_record xs r
+    by true t s = cc
+    by false t s = sym (missed xs r (ltb-false n (length xs) t))
+
+-- ---- the set is one still
+filled : (xs : List Record) (r : Record) → 0 < length (put_record xs r)
+filled [] r = omega arith
+filled (x ∷ xs) r = by (rdata_eq x.rdata r.rdata)
+  where
+    by : (b : Bool) → 0 < length (cond b (r ∷ xs) (x ∷ put_record xs r))
+    by true = omega arith
+    by false = omega arith
+
+all_step : (owner : DomainName) (t : RecordType) (x r : Record) (xs : List Record) (b : Bool) → IsRecordOf owner t r
+    → AllByRecursion (IsRecordOf owner t) (x ∷ xs) → AllByRecursion (IsRecordOf owner t) (put_record xs r)
+    → AllByRecursion (IsRecordOf owner t) (cond b (r ∷ xs) (x ∷ put_record xs r))
+all_step owner t x r xs true h all more = (h, all.1)
+all_step owner t x r xs false h all more = (all.0, more)
+
+all : (owner : DomainName) (t : RecordType) (xs : List Record) (r : Record) → IsRecordOf owner t r
+    → AllByRecursion (IsRecordOf owner t) xs → AllByRecursion (IsRecordOf owner t) (put_record xs r)
+all owner t [] r h a = (h, tt)
+all owner t (x ∷ xs) r h a = all_step owner t x r xs (rdata_eq x.rdata r.rdata) h a (all owner t xs r h a.1)
+
+pub IsRRset-put : (set : RRset) (r : Record) → IsRRset set → IsRecordOf set.owner set.record_type r
+    → IsRRset (record { owner = set.owner; record_type = set.record_type; records = put_record set.records r })
+IsRRset-put set r is h =
+    record { not_empty = filled set.records r; records = all set.owner set.record_type set.records r h is.records }
+
+pub IsRRset-single : (r : Record) → has_only_full_names r ≡ true
+    → IsRRset (record { owner = r.name; record_type = rdata_type r.rdata; records = r ∷ [] })
+IsRRset-single r full =
+    let h : IsRecordOf r.name (rdata_type r.rdata) r
+    = record {
+      at_owner = name_eq_equiv.refl r.name;
+      of_type = eq-eqb (type_code (rdata_type r.rdata)) (type_code (rdata_type r.rdata)) refl;
+      full_names = full;
+    } in
+    record { not_empty = omega arith; records = (h, tt) }
+
+-- after a try to put a record there
+pub IsRRset-tried : (set : RRset) (r : Record) (new : List Record) (result : Result (Unit {0}) AllocError) → IsRRset set
+    → IsRecordOf set.owner set.record_type r → OnOk result (new ≡ put_record set.records r) → OnErr result (new ≡ set.records)
+    → IsRRset (record { owner = set.owner; record_type = set.record_type; records = new })
+IsRRset-tried set r new (Ok u) is h done kept = rw done (IsRRset-put set r is h)
+IsRRset-tried set r new (Err e) is h done kept = rw kept (record { not_empty = is.not_empty; records = is.records })

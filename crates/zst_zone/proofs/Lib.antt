@@ -1,0 +1,6 @@
+pub mod KeyRanks
+pub mod Keys
+pub mod ZoneEntries
+pub mod ZoneMapsBy
+pub mod ZoneNodes
+pub mod ZoneSets

@@ -1,0 +1,4 @@
+pub mod Keys
+pub mod Lookups
+pub mod ZoneMaps
+pub mod Zones

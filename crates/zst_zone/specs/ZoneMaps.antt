@@ -1,0 +1,60 @@
+-- How a zone's sets stand in its map: under each owner's key, the owner's sets by rising type.
+use Rattle.std.specs.Prelude.{◌≡◌, ℕ, ◌+◌, ◌<◌, true, List, [], ◌∷◌, length, if◌then◌else◌, nat_lt, ◌==◌, None, Some, Result, Ok, Err}
+use Rattle.std.specs.List.{AllByRecursion, flat_map}
+use Rattle.std.specs.List.Sorted.{IsStrictlySortedBy}
+use Rattle.std.specs.Ordering.{nat_cmp}
+use Rattle.std.specs.Cmp.Lexicographic.{slice_cmp}
+use Rattle.std.specs.Map.{keys_of}
+use Rattle.zst_record.specs.Names.{DomainName}
+use Rattle.zst_record.specs.Codes.{type_code, same_type}
+use Rattle.zst_zone.specs.Keys.{name_key}
+use Rattle.zst_record.specs.declared.records.Record.{Record}
+use Rattle.zst_record.specs.RecordData.{rdata_type}
+use Rattle.zst_record.specs.Records.{RRset}
+use Rattle.zst_record.specs.Records.{set_with}
+
+-- The set's owner ends at the root, and has this key.
+pub record IsOwnedAt (key : List ℕ) (set : RRset) : Type 0 where
+  pub full : set.owner.fqdn ≡ true
+  pub owner : name_key set.owner ≡ key
+
+-- Each type is above those before it.
+abbrev pub TypesRise : List RRset → Type 0
+TypesRise [] = Unit {0}
+TypesRise (set ∷ sets) = AllByRecursion (λ later. type_code set.record_type < type_code later.record_type) sets × TypesRise sets
+
+-- What stands under a key: at least one set, the sets of the owner of that key, by rising type.
+pub record IsNode (key : List ℕ) (sets : List RRset) : Type 0 where
+  pub filled : 0 < length sets
+  pub owned : AllByRecursion (IsOwnedAt key) sets
+  pub rise : TypesRise sets
+
+-- The sets of one owner with one record more.
+abbrev pub with_record : List RRset → Record → List RRset
+with_record [] r = set_with None r ∷ []
+with_record (set ∷ sets) r =
+    if nat_lt (type_code set.record_type) (type_code (rdata_type r.rdata)) then set ∷ with_record sets r
+    else if same_type set.record_type (rdata_type r.rdata) then set_with (Some set) r ∷ sets
+    else set_with None r ∷ set ∷ sets
+
+-- The place of the set of a type (Ok), or where it would go (Err), in sets that start at a place.
+abbrev pub place_from : ℕ → List RRset → ℕ → Result ℕ ℕ
+place_from i [] code = Err i
+place_from i (set ∷ sets) code =
+    if nat_lt (type_code set.record_type) code then place_from (i + 1) sets code
+    else if type_code set.record_type == code then Ok i else Err i
+
+module _ {K V : Type 0} (octets : K → List ℕ) (sets : V → List RRset) where
+  -- The zone's sets, by owner, then by type.
+  abbrev pub sets_of : List (K × V) → List RRset
+  sets_of entries = flat_map (λ entry. sets entry.1) entries
+
+  -- Each entry is a node, and the keys rise.
+  pub record IsZone (entries : List (K × V)) : Type 0 where
+    pub nodes : AllByRecursion (λ entry. IsNode (octets entry.0) (sets entry.1)) entries
+    pub ordered : IsStrictlySortedBy (λ a b. slice_cmp nat_cmp (octets a) (octets b)) (keys_of entries)
+
+-- The origin ends at the root, and has this key.
+pub record IsOrigin (origin : DomainName) (key : List ℕ) : Type 0 where
+  pub full : origin.fqdn ≡ true
+  pub at : key ≡ name_key origin

@@ -1,0 +1,187 @@
+//! A zone kept in memory, and what it answers.
+
+ghost use Rattle.std.specs.Prelude.{◌≡◌, true, option_copied, IfOk, OnOk, OnErr};
+ghost use Rattle.zst_record.specs.Names.{DomainName, is_at_or_below};
+ghost use Rattle.zst_zone.specs.Keys.{name_key};
+ghost use Rattle.zst_record.specs.Records.{has_only_full_names};
+ghost use Rattle.zst_zone.specs.Zones.{stored, lookup_result, empty_zone, AddsTo};
+ghost use Rattle.zst_zone.specs.Lookups.{outcome};
+
+use crate::key::key_of;
+use crate::map::{Found, ZoneMap};
+use crate::settings::{AxfrPolicy, NxProofKind, ZoneSettings, ZoneType};
+use std::alloc::{AllocError, Global};
+use std::marker::{Model, PhantomData};
+use zst_record::{Name, Record, RecordSet, RecordType};
+
+/// The owner and the type of a set.
+#[derive(Drop)]
+pub struct RrKey {
+    /// The owner.
+    pub name: Name,
+    /// The type.
+    pub record_type: RecordType,
+}
+
+impl RrKey {
+    /// The key of an owner and a type.
+    pub fn new(name: Name, record_type: RecordType) -> RrKey
+        ensures { result ≡ record { name = name; record_type = record_type } }
+    {
+        RrKey { name, record_type }
+    }
+
+    /// The owner.
+    pub fn name(&self) -> &Name
+        ensures { result.now ≡ self.now.name }
+    {
+        &self.name
+    }
+}
+
+/// What a zone holds for a name and a type, or why there is nothing (RFC 2308 section 2).
+#[derive(Clone, Copy)]
+pub enum Lookup<'z> {
+    /// The set of that owner and type.
+    Answer(&'z RecordSet),
+    /// The name exists, without a set of the type.
+    NameExists,
+    /// The name is in the zone and does not exist.
+    NxDomain,
+    /// The name is outside the zone.
+    Refused,
+}
+
+/// A zone kept in memory. `K` is to sign it.
+#[derive(Drop)]
+pub struct InMemoryZoneHandler<K> {
+    origin: Name,
+    /// The origin's key, made once.
+    origin_key: Vec<u8>,
+    zone_type: ZoneType,
+    axfr_policy: AxfrPolicy,
+    nx_proof_kind: Option<NxProofKind>,
+    sets: ZoneMap,
+    signer: PhantomData<K>,
+}
+
+impl<K> Model for InMemoryZoneHandler<K> {
+    ghost use Rattle.zst_zone.specs.Zones.{View};
+    ghost use Rattle.zst_zone.specs.ZoneMaps.{IsOrigin};
+
+    ghost Value = { View };
+
+    ghost view = { λ zone. record { origin = zone.origin; zone_type = zone.zone_type; axfr_policy = zone.axfr_policy; nx_proof_kind = zone.nx_proof_kind; sets = zone.sets } };
+
+    ghost invariant = { λ zone. IsOrigin zone.origin zone.origin_key.items };
+}
+
+impl<K> InMemoryZoneHandler<K> {
+    /// A zone without records.
+    pub fn empty(
+        alloc: Global,
+        origin: Name,
+        settings: ZoneSettings,
+    ) -> Result<InMemoryZoneHandler<K>, AllocError>
+        requires { origin.fqdn ≡ true }
+        ensures { IfOk result (λ zone. zone ≡ empty_zone origin settings) }
+    {
+        let origin_key = key_of(alloc, &origin)?;
+        Ok(InMemoryZoneHandler {
+            origin,
+            origin_key,
+            zone_type: settings.zone_type,
+            axfr_policy: settings.axfr_policy,
+            nx_proof_kind: settings.nx_proof_kind,
+            sets: ZoneMap::new(alloc),
+            signer: PhantomData,
+        })
+    }
+
+    /// Where the zone begins.
+    pub fn origin(&self) -> &Name
+        ensures value { result.now ≡ self.now.origin }
+        ensures full { self.now.origin.fqdn ≡ true }
+    {
+        &self.origin
+    }
+
+    /// What this server is to the zone.
+    pub fn zone_type(&self) -> ZoneType
+        ensures { result ≡ self.now.zone_type }
+    {
+        self.zone_type
+    }
+
+    /// Who may transfer the zone.
+    pub fn axfr_policy(&self) -> AxfrPolicy
+        ensures { result ≡ self.now.axfr_policy }
+    {
+        self.axfr_policy
+    }
+
+    /// How the zone proves that a name is absent, if it does.
+    pub fn nx_proof_kind(&self) -> Option<&NxProofKind>
+        ensures { option_copied result ≡ self.now.nx_proof_kind }
+    {
+        self.nx_proof_kind.as_ref()
+    }
+
+    /// The set of a type at the origin.
+    pub fn apex(&self, record_type: RecordType) -> Option<&RecordSet>
+        ensures { option_copied result ≡ stored self.now.sets self.now.origin record_type }
+    {
+        self.sets.get(&self.origin_key, record_type)
+    }
+
+    /// Whether the name of a key, which ends at the root, is at or below the origin.
+    pub fn is_in_zone(&self, key: &[u8]) -> bool
+        ensures { (name : DomainName) → name.fqdn ≡ true → key.now ≡ name_key name → result ≡ is_at_or_below name self.now.origin }
+    {
+        key.starts_with(&self.origin_key)
+    }
+
+    /// The set of an owner and a type.
+    pub fn get(&self, alloc: Global, at: &RrKey) -> Result<Option<&RecordSet>, AllocError>
+        ensures { IfOk result (λ found. option_copied found ≡ stored self.now.sets at.now.name at.now.record_type) }
+    {
+        let key = key_of(alloc, &at.name)?;
+        Ok(self.sets.get(&key, at.record_type))
+    }
+
+    /// What the zone answers for a name and a type; it makes one key.
+    pub fn lookup(
+        &self,
+        alloc: Global,
+        name: &Name,
+        record_type: RecordType,
+    ) -> Result<Lookup<'_>, AllocError>
+        requires { name.now.fqdn ≡ true }
+        ensures { IfOk result (λ found. outcome found ≡ lookup_result self.now name.now record_type) }
+    {
+        let key = key_of(alloc, name)?;
+        Ok(self.lookup_at(&key, record_type))
+    }
+
+    /// What the zone answers for the name of a key and a type. The name ends at the root.
+    pub fn lookup_at(&self, key: &Vec<u8>, record_type: RecordType) -> Lookup<'_>
+        ensures { (name : DomainName) → name.fqdn ≡ true → key.now.items ≡ name_key name → outcome result ≡ lookup_result self.now name record_type }
+    {
+        match self.sets.find(key, record_type) {
+            Found::Set(set) => Lookup::Answer(set),
+            Found::Exists => Lookup::NameExists,
+            Found::Nothing if self.is_in_zone(key) => Lookup::NxDomain,
+            Found::Nothing => Lookup::Refused,
+        }
+    }
+
+    /// Adds a record to the set of its owner and type, in place of the one with equal data; where there is no such set,
+    /// one is made. Names of the record end at the root.
+    pub fn insert(&mut self, alloc: Global, next: Record) -> Result<(), AllocError>
+        requires { has_only_full_names next ≡ true }
+        ensures ok { OnOk result (AddsTo self.old next self.new) }
+        ensures err { OnErr result (self.new ≡ self.old) }
+    {
+        self.sets.add(alloc, next)
+    }
+}

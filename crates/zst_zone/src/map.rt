@@ -1,0 +1,158 @@
+//! The sets of a zone, in the canonical order of their owners.
+
+ghost use Rattle.std.specs.Prelude.{◌≡◌, true, [], ◌∷◌, find, option_copied, IfOk, OnOk, OnErr};
+ghost use Rattle.std.specs.List.{AllByRecursion};
+ghost use Rattle.zst_record.specs.Names.{DomainName, name_eq};
+ghost use Rattle.zst_zone.specs.Keys.{name_key};
+ghost use Rattle.zst_record.specs.Codes.{type_code, same_type};
+ghost use Rattle.zst_record.specs.Records.{has_only_full_names};
+ghost use Rattle.zst_zone.specs.Zones.{stored, exists_in, Adds};
+ghost use Rattle.zst_record.specs.Records.{set_with};
+ghost use Rattle.zst_zone.specs.ZoneMaps.{with_record, place_from};
+ghost use Rattle.zst_zone.specs.Lookups.{set_found, name_found};
+
+use crate::key::key_of;
+use std::alloc::{AllocError, Global};
+use std::collections::BTreeMap;
+use std::marker::Model;
+use zst_record::{Record, RecordSet, RecordType};
+
+/// What a map holds for a name and a type.
+#[derive(Clone, Copy)]
+pub enum Found<'z> {
+    /// The set of that owner and type.
+    Set(&'z RecordSet),
+    /// The name exists, without a set of the type.
+    Exists,
+    /// The name does not exist.
+    Nothing,
+}
+
+/// The sets of a zone, by owner in canonical order (RFC 4034 section 6.1), then by type.
+#[derive(Drop)]
+pub struct ZoneMap {
+    /// The sets of each owner, by rising type, under the owner's key.
+    nodes: BTreeMap<Vec<u8>, Vec<RecordSet>>,
+}
+
+impl Model for ZoneMap {
+    ghost use Rattle.std.specs.Prelude.{List};
+    ghost use Rattle.zst_record.specs.Records.{RRset};
+
+    ghost Value = { List RRset };
+
+    ghost use Rattle.zst_zone.specs.ZoneMaps.{sets_of, IsZone};
+
+    ghost view = { λ zone. sets_of (λ key. key.items) (λ node. node.items) zone.nodes.entries };
+
+    ghost invariant = { λ zone. IsZone (λ key. key.items) (λ node. node.items) zone.nodes.entries };
+}
+
+impl ZoneMap {
+    /// No sets.
+    pub fn new(alloc: Global) -> ZoneMap
+        ensures { result ≡ [] }
+    {
+        ZoneMap {
+            nodes: BTreeMap::new(alloc),
+        }
+    }
+
+    /// The set of a type at the name of a key.
+    pub fn get(&self, key: &[u8], record_type: RecordType) -> Option<&RecordSet>
+        ensures { (name : DomainName) → key.now ≡ name_key name → option_copied result ≡ stored self.now name record_type }
+    {
+        match self.nodes.get(key) {
+            Some(sets) => find_set(sets, record_type),
+            None => None,
+        }
+    }
+
+    /// The set of a type at the name of a key, which ends at the root; else whether the name exists: whether an owner
+    /// equals it or lies below it (RFC 4592 section 2.2.2). The first key that is not before this one tells both.
+    pub fn find(&self, key: &Vec<u8>, record_type: RecordType) -> Found<'_>
+        ensures set { (name : DomainName) → key.now.items ≡ name_key name → set_found result ≡ stored self.now name record_type }
+        ensures name { (name : DomainName) → name.fqdn ≡ true → key.now.items ≡ name_key name → name_found result ≡ exists_in self.now name }
+    {
+        let Some((owner, sets)) = self.nodes.range(key..).next() else {
+            return Found::Nothing;
+        };
+        if !owner.starts_with(key) {
+            return Found::Nothing;
+        }
+        if owner.len() > key.len() {
+            return Found::Exists;
+        }
+        match find_set(sets, record_type) {
+            Some(set) => Found::Set(set),
+            None => Found::Exists,
+        }
+    }
+
+    /// Adds a record to the set of its owner and type, in place of the one with equal data; where there is no such set,
+    /// one is made.
+    pub fn add(&mut self, alloc: Global, next: Record) -> Result<(), AllocError>
+        requires { has_only_full_names next ≡ true }
+        ensures ok { OnOk result (Adds self.old next self.new) }
+        ensures err { OnErr result (self.new ≡ self.old) }
+    {
+        let key = key_of(alloc, &next.name)?;
+        match self.nodes.get_mut(&key) {
+            Some(sets) => add_to_node(alloc, sets, next),
+            None => {
+                let node = node_of(alloc, next)?;
+                self.nodes.insert(key, node)?;
+                Ok(())
+            }
+        }
+    }
+}
+
+/// The sets of an owner that has only one record.
+fn node_of(alloc: Global, next: Record) -> Result<Vec<RecordSet>, AllocError>
+    requires { has_only_full_names next ≡ true }
+    ensures { IfOk result (λ node. node.items ≡ with_record [] next) }
+{
+    let mut node = Vec::with_capacity(alloc, 1)?;
+    node.push_reserved(RecordSet::from_record(alloc, next)?);
+    Ok(node)
+}
+
+/// Adds a record to the sets of its owner.
+fn add_to_node(alloc: Global, sets: &mut Vec<RecordSet>, next: Record) -> Result<(), AllocError>
+    requires full { has_only_full_names next ≡ true }
+    requires owned { AllByRecursion (λ set. name_eq next.name set.owner ≡ true) sets.old.items }
+    ensures ok { OnOk result (sets.new.items ≡ with_record sets.old.items next) }
+    ensures err { OnErr result (sets.new.items ≡ sets.old.items) }
+{
+    match place_of(sets, next.record_type()) {
+        Ok(place) => sets[place].put(next),
+        Err(place) => {
+            let set = RecordSet::from_record(alloc, next)?;
+            sets.insert(place, set)?;
+            Ok(())
+        }
+    }
+}
+
+/// Where the set of a type stands, or where it would go.
+fn place_of(sets: &[RecordSet], record_type: RecordType) -> Result<usize, usize>
+    ensures { result ≡ place_from 0 sets.now (type_code record_type) }
+{
+    let code = record_type.code();
+    for (place, set) in sets.iter().enumerate() {
+        let other = set.record_type().code();
+        if code <= other {
+            return if other == code { Ok(place) } else { Err(place) };
+        }
+    }
+    Err(sets.len())
+}
+
+/// The set of a type.
+fn find_set(sets: &[RecordSet], record_type: RecordType) -> Option<&RecordSet>
+    ensures { option_copied result ≡ find (λ set. same_type set.record_type record_type) sets.now }
+{
+    sets.iter()
+        .find(|set| set.record_type().code() == record_type.code())
+}

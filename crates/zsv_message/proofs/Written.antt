@@ -1,0 +1,174 @@
+-- A reply that was written piece by piece is a reply.
+use Rattle.std.proofs.Common.{◌≡◌, ℕ, zero, suc, ◌+◌, ◌<◌, ◌≤◌, Bool, true, false, ◌&&◌, ◌||◌, List, [], ◌∷◌, ◌++◌, length, take, drop, refl, sym, ap, subst, ◌∙◌, arith}
+use Rattle.std.specs.List.{AllByRecursion, flat_map}
+use Rattle.std.specs.Prelude.{sum_by, nat_lt}
+use Rattle.std.proofs.lemmas.List.{length-append, length-take}
+use Rattle.std.proofs.lemmas.List.Sums.{sum_by-cons}
+use Rattle.zst_record.specs.declared.records.Record.{Record}
+use Rattle.zst_record.specs.declared.record_data.RData.{RData}
+use Rattle.zst_record.specs.declared.record_data.RData.TheVariants as rdata
+use Rattle.zsv_message.specs.declared.request.Query.{Query}
+use Rattle.zst_record.specs.Codes.{type_of, class_of}
+use Rattle.zsv_message.specs.Headers.{header_of}
+use Rattle.zst_record.specs.Octets.{Stands}
+use Rattle.zst_record.specs.Names.{name_octets}
+use Rattle.zst_record.specs.RecordData.{rdata_octets, soa_numbers, has_full_names, SoundData}
+use Rattle.zst_record.specs.Records.{record_octets, fixed_octets, has_only_full_names, HasSoundNames}
+use Rattle.zsv_message.specs.Wire.{Entries}
+use Rattle.zsv_message.specs.Requests.{Request, IsRequest, QuestionAt}
+use Rattle.zsv_message.specs.Replies.{ReplyParts, RDataAt, RecordAt, plain, Front, header_with, IsWholeReply, IsReply}
+use Rattle.zsv_message.specs.Plans.{IsWritten}
+use Rattle.zsv_message.proofs.Pieces.{stands_whole, stands_first, stands_second, name_stands, SameThere, spells_over, spells_after, number_over}
+
+pub and_parts : (a b : Bool) → (a && b) ≡ true → (a ≡ true) × (b ≡ true)
+and_parts true b e = (refl, e)
+and_parts false b e = absurd cc
+
+data_stands : (message : List ℕ) (place : ℕ) (d : RData) (end : ℕ) → SoundData d → has_full_names d ≡ true → Stands message place (rdata_octets d) end → RDataAt message place d end
+data_stands message place (rdata.A a) end sound full s = s
+data_stands message place (rdata.NS ns) end sound full s = name_stands message place ns.0 end sound full s
+data_stands message place (rdata.SOA soa) end sound full s =
+    let both = and_parts soa.mname.fqdn soa.rname.fqdn full in
+    let later = stands_second message place (name_octets soa.mname.labels) (name_octets soa.rname.labels ++ soa_numbers soa) end s in
+    record {
+      middle = place + length (name_octets soa.mname.labels);
+      last = place + length (name_octets soa.mname.labels) + length (name_octets soa.rname.labels);
+      mname = name_stands message place soa.mname _ sound.0 both.0 (stands_first message place (name_octets soa.mname.labels) (name_octets soa.rname.labels ++ soa_numbers soa) end s);
+      rname = name_stands message _ soa.rname _ sound.1 both.1 (stands_first message _ (name_octets soa.rname.labels) (soa_numbers soa) end later);
+      numbers = stands_second message _ (name_octets soa.rname.labels) (soa_numbers soa) end later;
+    }
+
+pub record_stands : (message : List ℕ) (place : ℕ) (r : Record) (end : ℕ) → HasSoundNames r → has_only_full_names r ≡ true → Stands message place (record_octets r) end → RecordAt message place r end
+record_stands message place r end sound full s =
+    let both = and_parts r.name.fqdn (has_full_names r.rdata) full in
+    let later = stands_second message place (name_octets r.name.labels) (fixed_octets r ++ rdata_octets r.rdata) end s in
+    let data_there = stands_second message _ (fixed_octets r) (rdata_octets r.rdata) end later in
+    record {
+      middle = place + length (name_octets r.name.labels);
+      first = place + length (name_octets r.name.labels) + length (fixed_octets r);
+      owner = name_stands message place r.name _ sound.owner both.0 (stands_first message place (name_octets r.name.labels) (fixed_octets r ++ rdata_octets r.rdata) end s);
+      fixed = stands_first message _ (fixed_octets r) (rdata_octets r.rdata) end later;
+      rdata = data_stands message _ r.rdata end sound.rdata both.1 data_there;
+      filled = data_there.behind;
+    }
+
+abbrev pub IsFull : Record → Type 0
+IsFull r = has_only_full_names r ≡ true
+
+-- The records that were kept are a front of the list.
+front_stands : (reply : List ℕ) (limit place : ℕ) (records : List Record) (kept end : ℕ) →
+    AllByRecursion IsFull records → AllByRecursion HasSoundNames (take kept records) →
+    ((r : Record) (rest : List Record) → drop kept records ≡ r ∷ rest → limit < end + plain r) →
+    Stands reply place (flat_map record_octets (take kept records)) end → Front reply limit place records (take kept records) end
+front_stands reply limit place [] zero end full sound cut s = omega (arith, s.behind)
+front_stands reply limit place [] (suc k) end full sound cut s = omega (arith, s.behind)
+front_stands reply limit place (r ∷ rs) zero end full sound cut s =
+    let here : end ≡ place = omega (arith, s.behind) in
+    (here, omega (arith, here, cut r rs refl))
+front_stands reply limit place (r ∷ rs) (suc k) end full sound cut s =
+    let first = stands_first reply place (record_octets r) (flat_map record_octets (take k rs)) end s in
+    let later = stands_second reply place (record_octets r) (flat_map record_octets (take k rs)) end s in
+    (place + plain r, refl, record_stands reply place r _ sound.0 full.0 first, omega arith, front_stands reply limit (place + plain r) rs k end full.1 sound.1 cut later)
+
+pub length-flat_map : (rs : List Record) → length (flat_map record_octets rs) ≡ sum_by plain rs
+length-flat_map [] = refl
+length-flat_map (r ∷ rs) = omega (arith, length-append (record_octets r) (flat_map record_octets rs), length-flat_map rs, sum_by-cons plain r rs)
+
+-- Questions stand wherever their octets do.
+question_over : (m n : List ℕ) (from to : ℕ) → SameThere m n from to → (place : ℕ) (q : Query) (end : ℕ) → from ≤ place → end ≤ to → to ≤ length n → QuestionAt m place q end → QuestionAt n place q end
+question_over m n from to same place q end low high long at =
+    let after = spells_after m place q.name.labels at.middle at.name.spelled in
+    record {
+      middle = at.middle;
+      name = record { full = at.name.full; spelled = spells_over m n from to same place q.name.labels at.middle low (omega (arith, at.behind)) at.name.spelled; size = at.name.size };
+      query_type = at.query_type ∙ ap (λ (k : ℕ). type_of k) (number_over m n from to same at.middle (omega (arith, after)) (omega (arith, at.behind)));
+      query_class = at.query_class ∙ ap (λ (k : ℕ). class_of k) (number_over m n from to same (at.middle + 2) (omega (arith, after)) (omega (arith, at.behind)));
+      behind = at.behind;
+      within = omega (arith, long);
+    }
+
+questions_after : (m : List ℕ) (place : ℕ) (qs : List Query) (end : ℕ) → Entries (QuestionAt m) place qs end → place ≤ end
+questions_after m place [] end e = omega (arith, e)
+questions_after m place (q ∷ qs) end (behind, at, more) =
+    omega (arith, spells_after m place q.name.labels at.middle at.name.spelled, at.behind, questions_after m behind qs end more)
+
+questions_over : (m n : List ℕ) (from to : ℕ) → SameThere m n from to → (place : ℕ) (qs : List Query) (end : ℕ) → from ≤ place → end ≤ to → to ≤ length n → Entries (QuestionAt m) place qs end → Entries (QuestionAt n) place qs end
+questions_over m n from to same place [] end low high long e = e
+questions_over m n from to same place (q ∷ qs) end low high long (behind, at, more) =
+    let after = questions_after m behind qs end more in
+    let before = spells_after m place q.name.labels at.middle at.name.spelled in (
+      behind,
+      question_over m n from to same place q behind low (omega (arith, after)) long at,
+      questions_over m n from to same behind qs end (omega (arith, before, at.behind)) high long more,
+    )
+
+-- The pieces of a reply, each where it stands.
+record PiecesStand (reply question answers authorities : List ℕ) (first middle end : ℕ) : Type 0 where
+  pub asked : Stands reply 12 question first
+  pub answered : Stands reply first answers middle
+  pub behind : Stands reply middle authorities end
+  pub whole : end ≡ length reply
+
+pieces_stand : (reply header question answers authorities : List ℕ) → length header ≡ 12 → reply ≡ header ++ (question ++ (answers ++ authorities)) →
+    PiecesStand reply question answers authorities (12 + length question) (12 + length question + length answers) (12 + length question + length answers + length authorities)
+pieces_stand reply header question answers authorities twelve e =
+    let whole = stands_whole reply _ e in
+    let second : Stands reply 12 (question ++ (answers ++ authorities)) (length reply) = subst (λ (p : ℕ). Stands reply p (question ++ (answers ++ authorities)) (length reply)) (omega (arith, twelve)) (stands_second reply 0 header (question ++ (answers ++ authorities)) _ whole) in
+    let third = stands_second reply 12 question (answers ++ authorities) _ second in
+    let last = stands_second reply (12 + length question) answers authorities _ third in
+    let at_end : 12 + length question + length answers + length authorities ≡ length reply = omega (arith, last.behind) in
+    record {
+      asked = stands_first reply 12 question (answers ++ authorities) _ second;
+      answered = stands_first reply (12 + length question) answers authorities _ third;
+      behind = subst (λ (p : ℕ). Stands reply (12 + length question + length answers) authorities p) (sym at_end) last;
+      whole = at_end;
+    }
+
+-- What was written is the whole reply.
+whole_reply : (message reply : List ℕ) (request : Request) (parts : ReplyParts) (limit : ℕ) → IsRequest message request →
+    AllByRecursion IsFull parts.answers → AllByRecursion IsFull parts.authorities →
+    (w : IsWritten reply parts.metadata parts.answers parts.authorities (length request.questions) request.question_octets limit) →
+    IsWholeReply reply parts request limit × (length reply ≤ limit)
+whole_reply message reply request parts limit is full_answers full_authorities w =
+    let answers = take w.kept parts.answers in
+    let authorities = take w.kept_authorities parts.authorities in
+    let p = pieces_stand reply w.header request.question_octets (flat_map record_octets answers) (flat_map record_octets authorities) w.header_long w.octets in
+    let first = 12 + length request.question_octets in
+    let middle_is : first + length (flat_map record_octets answers) ≡ w.middle = omega (arith, length-flat_map answers, w.answers_plan.sum) in
+    let end_is : w.middle + length (flat_map record_octets authorities) ≡ w.end = omega (arith, length-flat_map authorities, w.authorities_plan.sum) in
+    let reply_is : length reply ≡ w.end = omega (arith, p.whole, middle_is, end_is) in
+    let answered : Stands reply first (flat_map record_octets answers) w.middle = subst (λ (k : ℕ). Stands reply first (flat_map record_octets answers) k) middle_is p.answered in
+    let behind : Stands reply w.middle (flat_map record_octets authorities) (length reply) =
+    subst (λ (k : ℕ). Stands reply k (flat_map record_octets authorities) (length reply)) middle_is (subst (λ (k : ℕ). Stands reply (first + length (flat_map record_octets answers)) (flat_map record_octets authorities) k) p.whole p.behind) in
+    let kept_is : length answers ≡ w.kept = omega (arith, length-take w.kept parts.answers, w.answers_plan.some) in
+    let kept_authorities_is : length authorities ≡ w.kept_authorities = omega (arith, length-take w.kept_authorities parts.authorities, w.authorities_plan.some) in
+    let asked_end : is.end ≡ first = omega (arith, is.octets.behind) in
+    let same : SameThere message reply 12 first = record { octets = request.question_octets; in_m = subst (λ (k : ℕ). Stands message 12 request.question_octets k) asked_end is.octets; in_n = p.asked } in
+    let within : first ≤ length reply = omega (arith, p.whole) in
+    let in_message : Entries (QuestionAt message) 12 request.questions first = subst (λ (k : ℕ). Entries (QuestionAt message) 12 request.questions k) asked_end is.questions.0 in (
+      record {
+        questions_end = first;
+        answers = answers;
+        answers_end = w.middle;
+        authorities = authorities;
+        question_octets = p.asked;
+        questions = (questions_over message reply 12 first same 12 request.questions first (omega arith) (omega arith) within in_message, refl);
+        answers_front = front_stands reply limit first parts.answers w.kept w.middle full_answers w.answers_names w.answers_plan.full answered;
+        authorities_front = front_stands reply limit w.middle parts.authorities w.kept_authorities (length reply) full_authorities w.authorities_names (λ r rest e. omega (arith, reply_is, w.authorities_plan.full r rest e)) behind;
+        header = ap header_of w.octets ∙ w.header_is _ ∙ (λ i. header_with parts.metadata (nat_lt (sym kept_is i) (length parts.answers) || nat_lt (sym kept_authorities_is i) (length parts.authorities)) (length request.questions) (sym kept_is i) (sym kept_authorities_is i));
+      },
+      omega (arith, reply_is, w.authorities_plan.fits),
+    )
+
+-- Where the questions fit.
+pub reply_of_written : (message reply : List ℕ) (request : Request) (parts : ReplyParts) (limit : ℕ) → IsRequest message request →
+    AllByRecursion IsFull parts.answers → AllByRecursion IsFull parts.authorities → 12 + length request.question_octets ≤ limit →
+    IsWritten reply parts.metadata parts.answers parts.authorities (length request.questions) request.question_octets limit →
+    IsReply reply parts request limit
+reply_of_written message reply request parts limit is full_answers full_authorities room w =
+    let whole = whole_reply message reply request parts limit is full_answers full_authorities w in
+    record {
+      within = whole.1;
+      whole = λ _. whole.0;
+      bare = λ less. absurd (omega (arith, less, room));
+    }

@@ -1,0 +1,6 @@
+use Rattle.std.proofs.Common.{◌≡◌, ◌++◌, drop}
+use Rattle.zst_record.specs.Names.{name_octets}
+use Rattle.zsv_message.proofs.emit.emit_name.Given as goal
+
+abbrev pub invariant-loop-label : goal.invariant-loop-label
+invariant-loop-label l = l.out.items ++ name_octets (drop l.label-index l.label-items) ≡ l.initial.out.items ++ name_octets l.label-items

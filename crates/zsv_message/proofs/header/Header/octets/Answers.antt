@@ -1,0 +1,10 @@
+use Rattle.std.proofs.Common.{rules}
+use Rattle.zsv_message.proofs.Flags.{header_back, two_octets}
+use Rattle.zsv_message.proofs.header.Header.octets.Goals as goal
+
+pub returns-clause-value : goal.returns-clause-value
+returns-clause-value c rest =
+    header_back c.args.self _ _ _ _ _ _ _ _ _ _ _ _ rest c.requires
+    (two_octets _ _ (search rules) c.to_be_bytes.ensures) c.high_octet.ensures c.low_octet.ensures
+    (two_octets _ _ (search rules) c.to_be_bytes-2.ensures) (two_octets _ _ (search rules) c.to_be_bytes-3.ensures)
+    (two_octets _ _ (search rules) c.to_be_bytes-4.ensures) (two_octets _ _ (search rules) c.to_be_bytes-5.ensures)

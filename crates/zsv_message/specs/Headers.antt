@@ -1,0 +1,102 @@
+-- The header of a message: RFC 1035, section 4.1.1; RFC 4035, section 3.2 for AD and CD.
+use Rattle.std.specs.Prelude.{◌≡◌, ℕ, ◌+◌, ◌/◌, ◌%◌, ◌^◌, ◌*◌, ◌<◌, ◌==◌, Bool, true, false, List, get_or, if◌then◌else◌}
+use Rattle.zsv_message.specs.declared.header.MessageType.{MessageType}
+use Rattle.zsv_message.specs.declared.header.MessageType.TheVariants as types
+use Rattle.zsv_message.specs.declared.header.OpCode.{OpCode}
+use Rattle.zsv_message.specs.declared.header.OpCode.TheVariants as operations
+use Rattle.zsv_message.specs.declared.header.ResponseCode.{ResponseCode}
+use Rattle.zsv_message.specs.declared.header.ResponseCode.TheVariants as responses
+use Rattle.zsv_message.specs.declared.header.Metadata.{Metadata}
+use Rattle.zsv_message.specs.declared.header.HeaderCounts.{HeaderCounts}
+use Rattle.zsv_message.specs.declared.header.Header.{Header}
+use Rattle.zst_record.specs.Octets.{number_16}
+
+-- The number of an operation, and the operation of a number.
+abbrev pub op_code_number : OpCode → ℕ
+op_code_number operations.Query = 0
+op_code_number operations.Status = 2
+op_code_number operations.Notify = 4
+op_code_number operations.Update = 5
+op_code_number (operations.Unknown n) = n
+
+abbrev pub op_code_of : ℕ → OpCode
+op_code_of n =
+    if n == 0 then operations.Query else if n == 2 then operations.Status else if n == 4 then operations.Notify
+    else if n == 5 then operations.Update else operations.Unknown n
+
+-- The number of a response code, and the response code of a number.
+abbrev pub response_code_number : ResponseCode → ℕ
+response_code_number responses.NoError = 0
+response_code_number responses.FormErr = 1
+response_code_number responses.ServFail = 2
+response_code_number responses.NXDomain = 3
+response_code_number responses.NotImp = 4
+response_code_number responses.Refused = 5
+response_code_number (responses.Unknown n) = n
+
+abbrev pub response_code_of : ℕ → ResponseCode
+response_code_of n =
+    if n == 0 then responses.NoError else if n == 1 then responses.FormErr else if n == 2 then responses.ServFail
+    else if n == 3 then responses.NXDomain else if n == 4 then responses.NotImp else if n == 5 then responses.Refused
+    else responses.Unknown n
+
+-- Whether the bit of weight 2 ^ k is set.
+abbrev pub bit : ℕ → ℕ → Bool
+bit octet k = octet / 2 ^ k % 2 == 1
+
+-- What the third and the fourth octet say, behind the identifier: QR, four bits of operation, AA, TC, RD;
+-- RA, a bit that nobody reads, AD, CD, four bits of response.
+abbrev pub metadata_of : ℕ → ℕ → ℕ → Metadata
+metadata_of id high low = record {
+  id = id;
+  message_type = if bit high 7 then types.Response else types.Query;
+  op_code = op_code_of (high / 8 % 16);
+  authoritative = bit high 2;
+  truncation = bit high 1;
+  recursion_desired = bit high 0;
+  recursion_available = bit low 7;
+  authentic_data = bit low 5;
+  checking_disabled = bit low 4;
+  response_code = response_code_of (low % 16);
+}
+
+-- How many entries each section has.
+abbrev pub counts_of : List ℕ → HeaderCounts
+counts_of message = record {
+  queries = number_16 message 4;
+  answers = number_16 message 6;
+  authorities = number_16 message 8;
+  additionals = number_16 message 10;
+}
+
+-- The header that the first twelve octets hold.
+abbrev pub header_of : List ℕ → Header
+header_of message = record {
+  metadata = metadata_of (number_16 message 0) (get_or message 2 0) (get_or message 3 0);
+  counts = counts_of message;
+}
+
+abbrev pub flag : Bool → ℕ
+flag b = if b then 1 else 0
+
+abbrev pub is_response : MessageType → Bool
+is_response types.Query = false
+is_response types.Response = true
+
+-- The third and the fourth octet, with the bit that nobody reads zero.
+abbrev pub high_octet : Metadata → ℕ
+high_octet m =
+    128 * flag (is_response m.message_type) + 8 * op_code_number m.op_code + 4 * flag m.authoritative
+    + 2 * flag m.truncation + flag m.recursion_desired
+
+abbrev pub low_octet : Metadata → ℕ
+low_octet m =
+    128 * flag m.recursion_available + 32 * flag m.authentic_data + 16 * flag m.checking_disabled
+    + response_code_number m.response_code
+
+-- An operation and a response that four bits hold.
+pub record FitsHeader (m : Metadata) : Type 0 where
+  pub op_code : op_code_of (op_code_number m.op_code) ≡ m.op_code
+  pub small_op_code : op_code_number m.op_code < 16
+  pub response_code : response_code_of (response_code_number m.response_code) ≡ m.response_code
+  pub small_response_code : response_code_number m.response_code < 16

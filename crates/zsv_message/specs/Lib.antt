@@ -1,0 +1,5 @@
+pub mod Headers
+pub mod Plans
+pub mod Replies
+pub mod Requests
+pub mod Wire

@@ -1,0 +1,101 @@
+-- A reply: what it holds in full, and how that stands in octets, cut at a limit (RFC 1035, section 4.1;
+-- RFC 2181, section 9).
+use Rattle.std.specs.Prelude.{◌≡◌, ℕ, ◌+◌, ◌<◌, ◌≤◌, Bool, false, ◌||◌, List, [], ◌∷◌, length, nat_lt}
+use Rattle.zst_record.specs.declared.records.Record.{Record}
+use Rattle.std.specs.Net.Addr.{ipv4_octets}
+use Rattle.zst_record.specs.declared.record_data.SOA.{SOA}
+use Rattle.zst_record.specs.declared.record_data.RData.{RData}
+use Rattle.zst_record.specs.declared.record_data.RData.TheVariants as rdata
+use Rattle.zsv_message.specs.declared.header.Metadata.{Metadata}
+use Rattle.zsv_message.specs.declared.header.Header.{Header}
+use Rattle.zsv_message.specs.declared.header.MessageType.TheVariants as messages
+use Rattle.zsv_message.specs.declared.header.OpCode.TheVariants as operations
+use Rattle.zsv_message.specs.declared.header.ResponseCode.TheVariants as responses
+use Rattle.zsv_message.specs.Headers.{header_of}
+use Rattle.zst_record.specs.Octets.{Stands}
+use Rattle.zst_record.specs.RecordData.{rdata_octets, soa_numbers}
+use Rattle.zst_record.specs.Records.{record_octets, fixed_octets}
+use Rattle.zsv_message.specs.Requests.{Request, QuestionsAt}
+use Rattle.zsv_message.specs.Wire.{NameAt}
+
+-- What a reply holds in full.
+pub record ReplyParts : Type 0 where
+  pub metadata : Metadata
+  pub answers : List Record
+  pub authorities : List Record
+
+-- The data of a start of authority: two names, then five numbers of 32 bits.
+pub record SoaAt (message : List ℕ) (place : ℕ) (soa : SOA) (end : ℕ) : Type 0 where
+  pub middle : ℕ
+  pub last : ℕ
+  pub mname : NameAt message place soa.mname middle
+  pub rname : NameAt message middle soa.rname last
+  pub numbers : Stands message last (soa_numbers soa) end
+
+-- Data at a place, by type.
+abbrev pub RDataAt : List ℕ → ℕ → RData → ℕ → Type 0
+RDataAt message place (rdata.A a) end = Stands message place (ipv4_octets a.0) end
+RDataAt message place (rdata.NS ns) end = NameAt message place ns.0 end
+RDataAt message place (rdata.SOA soa) end = SoaAt message place soa end
+
+-- A record at a place: its owner; its type, class, time to live and the length of its data; its data,
+-- which fill that length.
+pub record RecordAt (message : List ℕ) (place : ℕ) (r : Record) (end : ℕ) : Type 0 where
+  pub middle : ℕ
+  pub first : ℕ
+  pub owner : NameAt message place r.name middle
+  pub fixed : Stands message middle (fixed_octets r) first
+  pub rdata : RDataAt message first r.rdata end
+  pub filled : end ≡ first + length (rdata_octets r.rdata)
+
+-- The octets that a record takes, its names uncompressed.
+abbrev pub plain : Record → ℕ
+plain r = length (record_octets r)
+
+-- The front of a list that stands in a reply from a place on: it ends early only at a record that would pass
+-- the limit, even written plainly, and no record takes more than that.
+abbrev pub Front : List ℕ → ℕ → ℕ → List Record → List Record → ℕ → Type 0
+Front reply limit place [] [] end = end ≡ place
+Front reply limit place (r ∷ rs) [] end = (end ≡ place) × (limit < place + plain r)
+Front reply limit place (r ∷ rs) (k ∷ ks) end = (behind : ℕ) × (k ≡ r) × RecordAt reply place k behind × (behind ≤ place + plain k) × Front reply limit behind rs ks end
+Front reply limit place [] (k ∷ ks) end = ⊥
+
+-- A header with these counts, that says whether something was left out.
+abbrev pub header_with : Metadata → Bool → ℕ → ℕ → ℕ → Header
+header_with m truncated questions answers authorities = record {
+  metadata = record m { truncation = truncated };
+  counts = record { queries = questions; answers = answers; authorities = authorities; additionals = 0 };
+}
+
+-- The reply in which the question section fits: its octets as sent, a front of each list, and nothing behind.
+pub record IsWholeReply (reply : List ℕ) (parts : ReplyParts) (request : Request) (limit : ℕ) : Type 0 where
+  pub questions_end : ℕ
+  pub answers : List Record
+  pub answers_end : ℕ
+  pub authorities : List Record
+  pub question_octets : Stands reply 12 request.question_octets questions_end
+  pub questions : QuestionsAt reply 12 (length request.questions) request.questions questions_end
+  pub answers_front : Front reply limit questions_end parts.answers answers answers_end
+  pub authorities_front : Front reply limit answers_end parts.authorities authorities (length reply)
+  pub header : header_of reply ≡ header_with parts.metadata (nat_lt (length answers) (length parts.answers) || nat_lt (length authorities) (length parts.authorities)) (length request.questions) (length answers) (length authorities)
+
+-- What is left to say where not even the questions fit.
+abbrev pub bare_failure : ℕ → Metadata
+bare_failure id = record {
+  id = id;
+  message_type = messages.Response;
+  op_code = operations.Query;
+  authoritative = false;
+  truncation = false;
+  recursion_desired = false;
+  recursion_available = false;
+  authentic_data = false;
+  checking_disabled = false;
+  response_code = responses.ServFail;
+}
+
+-- A reply of these parts to this request, within the limit.
+pub record IsReply (reply : List ℕ) (parts : ReplyParts) (request : Request) (limit : ℕ) : Type 0 where
+  pub within : length reply ≤ limit
+  pub whole : 12 + length request.question_octets ≤ limit → IsWholeReply reply parts request limit
+  pub bare : limit < 12 + length request.question_octets → (length reply ≡ 12) × (header_of reply ≡ header_with (bare_failure request.metadata.id) false 0 0 0)

@@ -1,0 +1,47 @@
+-- Questions, and the requests that are read: RFC 1035, section 4.1.2.
+use Rattle.std.specs.Prelude.{◌≡◌, ℕ, ◌+◌, ◌≤◌, List, length, Result, Ok, Err}
+use Rattle.zsv_message.specs.declared.header.Metadata.{Metadata}
+use Rattle.zsv_message.specs.declared.request.Query.{Query}
+use Rattle.zsv_message.specs.declared.read.ReadError.{ReadError}
+use Rattle.zsv_message.specs.declared.read.ReadError.TheVariants as errors
+use Rattle.zst_record.specs.Codes.{type_of, class_of}
+use Rattle.zsv_message.specs.Headers.{header_of}
+use Rattle.zst_record.specs.Octets.{Stands, number_16}
+use Rattle.zsv_message.specs.Wire.{NameAt, Entries}
+
+-- A question at a place: a name, then two octets of type and two of class.
+pub record QuestionAt (message : List ℕ) (place : ℕ) (question : Query) (end : ℕ) : Type 0 where
+  pub middle : ℕ
+  pub name : NameAt message place question.name middle
+  pub query_type : question.query_type ≡ type_of (number_16 message middle)
+  pub query_class : question.query_class ≡ class_of (number_16 message (middle + 2))
+  pub behind : end ≡ middle + 4
+  pub within : end ≤ length message
+
+-- So many questions from a place on.
+abbrev pub QuestionsAt : List ℕ → ℕ → ℕ → List Query → ℕ → Type 0
+QuestionsAt message place count questions end = Entries (QuestionAt message) place questions end × (length questions ≡ count)
+
+-- What a request asks: its header's part, its questions, and the octets in which they stand.
+pub record Request : Type 0 where
+  pub metadata : Metadata
+  pub questions : List Query
+  pub question_octets : List ℕ
+
+-- The request grammar: a header, as many questions as it counts, and no records. What stands behind the
+-- last question is free.
+pub record IsRequest (message : List ℕ) (request : Request) : Type 0 where
+  pub long : 12 ≤ length message
+  pub metadata : request.metadata ≡ (header_of message).metadata
+  pub no_answers : (header_of message).counts.answers ≡ 0
+  pub no_authorities : (header_of message).counts.authorities ≡ 0
+  pub no_additionals : (header_of message).counts.additionals ≡ 0
+  pub end : ℕ
+  pub questions : QuestionsAt message 12 (header_of message).counts.queries request.questions end
+  pub octets : Stands message 12 request.question_octets end
+
+-- What reading a request answers, both ways.
+abbrev pub ReadsRequest : List ℕ → Result Request ReadError → Type 0
+ReadsRequest message (Ok request) = IsRequest message request
+ReadsRequest message (Err errors.Malformed) = (request : Request) → IsRequest message request → ⊥
+ReadsRequest message (Err errors.Memory) = Unit {0}

@@ -1,0 +1,91 @@
+//! A reply in octets, cut at its limit (RFC 1035 section 4.1, RFC 2181 section 9).
+
+ghost use Rattle.std.specs.Prelude.{◌≡◌, ◌+◌, ◌^◌, ◌<◌, ◌≤◌, ◌++◌, ◌||◌, nat_lt, length, IfOk, OnOk};
+ghost use Rattle.std.specs.List.{flat_map, AllByRecursion};
+ghost use Rattle.zsv_message.specs.Headers.{header_of, FitsHeader};
+ghost use Rattle.zst_record.specs.Records.{record_octets, HasSoundNames};
+ghost use Rattle.zsv_message.specs.Plans.{IsWritten};
+
+use crate::emit::emit_record;
+use crate::header::{Header, HeaderCounts, Metadata};
+use crate::plan::{Plan, fitting};
+use std::alloc::{AllocError, Global};
+use zst_record::Record;
+
+/// What a reply holds in full.
+#[derive(Clone, Copy)]
+pub struct MessageResponse<'a> {
+    /// What the header says beside the counts; truncation is set when the reply is written.
+    pub metadata: Metadata,
+    /// The records that answer.
+    pub answers: &'a [Record],
+    /// The records of authority.
+    pub authorities: &'a [Record],
+}
+
+// Writes records at the end, one behind the other.
+fn emit_records(out: &mut Vec<u8>, records: &[Record]) -> Result<(), AllocError>
+    ensures octets { OnOk result (out.new.items ≡ out.old.items ++ flat_map record_octets records.now) }
+    ensures names { OnOk result (AllByRecursion HasSoundNames records.now) }
+{
+    for record in records {
+        emit_record(out, record)?;
+    }
+    Ok(())
+}
+
+impl MessageResponse<'_> {
+    // Whether a list is longer than what is kept of it.
+    fn leaves_out(&self, answers: Plan, authorities: Plan) -> bool
+        ensures { result ≡ (nat_lt answers.kept (length self.now.answers.now) || nat_lt authorities.kept (length self.now.authorities.now)) }
+    {
+        answers.kept < self.answers.len() || authorities.kept < self.authorities.len()
+    }
+
+    /// The reply: the header, the questions as they were sent, and what fits of each list.
+    pub fn encode(
+        &self,
+        alloc: Global,
+        questions: u16,
+        question_octets: &[u8],
+        limit: usize,
+    ) -> Result<Vec<u8>, AllocError>
+        requires metadata { FitsHeader self.now.metadata }
+        requires limit { limit < 2 ^ 16 }
+        requires room { 12 + length question_octets.now ≤ limit }
+        ensures { IfOk result (λ reply. IsWritten reply.items self.now.metadata self.now.answers.now self.now.authorities.now questions question_octets.now limit) }
+    {
+        let answers = fitting(self.answers, 12 + question_octets.len(), limit);
+        let authorities = fitting(self.authorities, answers.end, limit);
+        let mut metadata = self.metadata;
+        metadata.truncation = self.leaves_out(answers, authorities);
+        let counts = HeaderCounts {
+            queries: questions,
+            answers: answers.kept as u16,
+            authorities: authorities.kept as u16,
+            additionals: 0,
+        };
+        let mut out = Vec::with_capacity(alloc, authorities.end)?;
+        out.extend_from_slice(&Header { metadata, counts }.octets())?;
+        out.extend_from_slice(question_octets)?;
+        emit_records(&mut out, &self.answers[..answers.kept])?;
+        emit_records(&mut out, &self.authorities[..authorities.kept])?;
+        Ok(out)
+    }
+}
+
+/// A header alone.
+pub fn encode_header(alloc: Global, metadata: Metadata) -> Result<Vec<u8>, AllocError>
+    requires { FitsHeader metadata }
+    ensures long { IfOk result (λ reply. length reply.items ≡ 12) }
+    ensures header { IfOk result (λ reply. header_of reply.items ≡ record { metadata = metadata; counts = record { queries = 0; answers = 0; authorities = 0; additionals = 0 } }) }
+{
+    let counts = HeaderCounts {
+        queries: 0,
+        answers: 0,
+        authorities: 0,
+        additionals: 0,
+    };
+    let reply = Vec::from_slice(alloc, &Header { metadata, counts }.octets())?;
+    Ok(reply)
+}

@@ -1,0 +1,265 @@
+//! The header of a message (RFC 1035 section 4.1.1).
+
+ghost use Rattle.std.specs.Prelude.{◌≡◌, ◌+◌, ◌<◌, ◌≤◌, ◌%◌, ◌/◌, ◌++◌, ℕ, List, length, get_or};
+ghost use Rattle.zst_record.specs.Octets.{number_16};
+ghost use Rattle.zsv_message.specs.Headers.{op_code_of, op_code_number, response_code_of, response_code_number, bit, metadata_of, counts_of, header_of, high_octet, low_octet, FitsHeader};
+
+/// Whether a message asks or answers.
+#[derive(Clone, Copy, Debug, PartialEq, Eq)]
+pub enum MessageType {
+    /// A request.
+    Query,
+    /// A reply.
+    Response,
+}
+
+/// What a request asks for.
+#[derive(Clone, Copy, Debug)]
+pub enum OpCode {
+    /// A question.
+    Query,
+    /// A server's status.
+    Status,
+    /// A zone has changed (RFC 1996).
+    Notify,
+    /// A change of a zone (RFC 2136).
+    Update,
+    /// Any other operation, by its number.
+    Unknown(u8),
+}
+
+impl OpCode {
+    /// The operation of a number.
+    pub fn from_u8(number: u8) -> OpCode
+        ensures { result ≡ op_code_of number }
+    {
+        match number {
+            0 => OpCode::Query,
+            2 => OpCode::Status,
+            4 => OpCode::Notify,
+            5 => OpCode::Update,
+            _ => OpCode::Unknown(number),
+        }
+    }
+
+    /// The number of the operation.
+    pub fn code(self) -> u8
+        ensures { result ≡ op_code_number self }
+    {
+        match self {
+            OpCode::Query => 0,
+            OpCode::Status => 2,
+            OpCode::Notify => 4,
+            OpCode::Update => 5,
+            OpCode::Unknown(number) => number,
+        }
+    }
+}
+
+/// How a request was answered.
+#[derive(Clone, Copy, Debug)]
+pub enum ResponseCode {
+    /// As asked.
+    NoError,
+    /// The request is not one that can be read.
+    FormErr,
+    /// The server failed.
+    ServFail,
+    /// No such name.
+    NXDomain,
+    /// No such operation here.
+    NotImp,
+    /// The server does not answer this.
+    Refused,
+    /// Any other code, by its number.
+    Unknown(u16),
+}
+
+impl ResponseCode {
+    /// The response code of a number.
+    pub fn from_u16(number: u16) -> ResponseCode
+        ensures { result ≡ response_code_of number }
+    {
+        match number {
+            0 => ResponseCode::NoError,
+            1 => ResponseCode::FormErr,
+            2 => ResponseCode::ServFail,
+            3 => ResponseCode::NXDomain,
+            4 => ResponseCode::NotImp,
+            5 => ResponseCode::Refused,
+            _ => ResponseCode::Unknown(number),
+        }
+    }
+
+    /// The number of the response code.
+    pub fn code(self) -> u16
+        ensures { result ≡ response_code_number self }
+    {
+        match self {
+            ResponseCode::NoError => 0,
+            ResponseCode::FormErr => 1,
+            ResponseCode::ServFail => 2,
+            ResponseCode::NXDomain => 3,
+            ResponseCode::NotImp => 4,
+            ResponseCode::Refused => 5,
+            ResponseCode::Unknown(number) => number,
+        }
+    }
+}
+
+/// What a header says beside the counts.
+#[derive(Clone, Copy, Debug)]
+pub struct Metadata {
+    /// The identifier, which a reply repeats.
+    pub id: u16,
+    /// Whether the message asks or answers: QR.
+    pub message_type: MessageType,
+    /// What is asked for.
+    pub op_code: OpCode,
+    /// AA: the answer is an authority's.
+    pub authoritative: bool,
+    /// TC: something was left out.
+    pub truncation: bool,
+    /// RD: recursion is asked for.
+    pub recursion_desired: bool,
+    /// RA: recursion is to be had.
+    pub recursion_available: bool,
+    /// AD: the data were validated (RFC 4035 section 3.2.3).
+    pub authentic_data: bool,
+    /// CD: data that fail validation are welcome (RFC 4035 section 3.2.2).
+    pub checking_disabled: bool,
+    /// How the request was answered.
+    pub response_code: ResponseCode,
+}
+
+/// How many entries each section of a message has.
+#[derive(Clone, Copy, Debug, PartialEq, Eq, Default)]
+pub struct HeaderCounts {
+    /// Questions.
+    pub queries: u16,
+    /// Records that answer.
+    pub answers: u16,
+    /// Records of authority.
+    pub authorities: u16,
+    /// Additional records.
+    pub additionals: u16,
+}
+
+/// A message's first twelve octets.
+#[derive(Clone, Copy, Debug)]
+pub struct Header {
+    /// The identifier, the flags and the codes.
+    pub metadata: Metadata,
+    /// The counts.
+    pub counts: HeaderCounts,
+}
+
+// Whether a bit of an octet is set.
+fn is_set(octet: u8, place: u8) -> bool
+    requires { place < 8 }
+    ensures { result ≡ bit octet place }
+{
+    octet >> place & 1 == 1
+}
+
+/// The number in the two octets at a place.
+pub fn u16_at(message: &[u8], place: usize) -> u16
+    requires { place + 2 ≤ length message.now }
+    ensures { result ≡ number_16 message.now place }
+{
+    u16::from(message[place]) * 256 + u16::from(message[place + 1])
+}
+
+impl Metadata {
+    // QR, the operation, AA, TC and RD.
+    fn high_octet(&self) -> u8
+        requires { op_code_number self.now.op_code < 16 }
+        ensures { result ≡ high_octet self.now }
+    {
+        let is_response = self.message_type == MessageType::Response;
+        128 * u8::from(is_response)
+            + 8 * self.op_code.code()
+            + 4 * u8::from(self.authoritative)
+            + 2 * u8::from(self.truncation)
+            + u8::from(self.recursion_desired)
+    }
+
+    // RA, AD, CD and the response code.
+    fn low_octet(&self) -> u8
+        requires { response_code_number self.now.response_code < 16 }
+        ensures { result ≡ low_octet self.now }
+    {
+        128 * u8::from(self.recursion_available)
+            + 32 * u8::from(self.authentic_data)
+            + 16 * u8::from(self.checking_disabled)
+            + self.response_code.code() as u8
+    }
+
+    // What the identifier and the two octets of flags say.
+    fn from_flags(id: u16, high: u8, low: u8) -> Metadata
+        ensures { result ≡ metadata_of id high low }
+    {
+        Metadata {
+            id,
+            message_type: if is_set(high, 7) {
+                MessageType::Response
+            } else {
+                MessageType::Query
+            },
+            op_code: OpCode::from_u8(high / 8 % 16),
+            authoritative: is_set(high, 2),
+            truncation: is_set(high, 1),
+            recursion_desired: is_set(high, 0),
+            recursion_available: is_set(low, 7),
+            authentic_data: is_set(low, 5),
+            checking_disabled: is_set(low, 4),
+            response_code: ResponseCode::from_u16(u16::from(low % 16)),
+        }
+    }
+}
+
+impl Header {
+    /// The header of a message of at least twelve octets.
+    pub fn read(message: &[u8]) -> Header
+        requires { 12 ≤ length message.now }
+        ensures { result ≡ header_of message.now }
+    {
+        let counts = HeaderCounts {
+            queries: u16_at(message, 4),
+            answers: u16_at(message, 6),
+            authorities: u16_at(message, 8),
+            additionals: u16_at(message, 10),
+        };
+        let metadata = Metadata::from_flags(u16_at(message, 0), message[2], message[3]);
+        Header { metadata, counts }
+    }
+
+    /// The twelve octets of the header.
+    pub fn octets(self) -> [u8; 12]
+        requires { FitsHeader self.metadata }
+        ensures long { length result ≡ 12 }
+        ensures value { (rest : List ℕ) → header_of (result ++ rest) ≡ self }
+    {
+        let metadata = self.metadata;
+        let counts = self.counts;
+        let [id, id_low] = metadata.id.to_be_bytes();
+        let [questions, questions_low] = counts.queries.to_be_bytes();
+        let [answers, answers_low] = counts.answers.to_be_bytes();
+        let [authorities, authorities_low] = counts.authorities.to_be_bytes();
+        let [additionals, additionals_low] = counts.additionals.to_be_bytes();
+        [
+            id,
+            id_low,
+            metadata.high_octet(),
+            metadata.low_octet(),
+            questions,
+            questions_low,
+            answers,
+            answers_low,
+            authorities,
+            authorities_low,
+            additionals,
+            additionals_low,
+        ]
+    }
+}
