@@ -4,6 +4,7 @@ pub mod DataTexts
 pub mod Loads
 pub mod Numbers
 pub mod ServedRuns
+pub mod StreamFaults
 pub mod StreamRuns
 pub mod Words
 pub mod WorkedRows

@@ -7,13 +7,14 @@ use Rattle.zst_record.specs.declared.names.text.TextError.{TextError}
 use Rattle.zst_record.specs.declared.names.text.TextError.TheVariants as texts
 use Rattle.authority.specs.declared.program.Fault.{Fault}
 use Rattle.authority.specs.declared.program.Fault.TheVariants as faults
+use Rattle.authority.specs.declared.stream.StreamError.{StreamError}
 use Rattle.authority.specs.declared.stream.StreamError.TheVariants as streams
 use Rattle.zst_zone.specs.declared.settings.ZoneType.TheVariants as kinds
 use Rattle.zst_zone.specs.declared.settings.AxfrPolicy.TheVariants as policies
 use Rattle.zst_record.specs.Names.{DomainName}
 use Rattle.zst_zone.specs.Zones.{View}
 use Rattle.authority.specs.ZoneText.{IsOwnerText, IsNumberText, IsZoneText, IsRefusedAt}
-use Rattle.authority.specs.Frames.{ServesFrames}
+use Rattle.authority.specs.Frames.{ServesFrames, ServesUntil}
 
 -- Three words: an origin that ends at the root, a file, and a moment of 64 bits.
 pub record AreWords (words : List (List ℕ)) (origin : DomainName) (now : ℕ) : Type 0 where
@@ -46,20 +47,32 @@ pub record Finishes (words : List (List ℕ)) (file left rest before after : Opt
   pub frames : ServesFrames (record { zone = starts.zone }) source starts.now left rest before after (record { zone = starts.zone })
   pub ended : IsAtEnd rest
 
--- The fault stands: wrong words; a file that could not be read; a text that is refused at a line; a stream that was left.
--- Want of memory may be answered at any time.
+-- It started, and left the stream for this fault, behind the frames that were served whole over that zone.
+pub record Stops (words : List (List ℕ)) (file left rest before after : Option (List ℕ)) (fault : StreamError) : Type 0 where
+  pub starts : Starts words file
+  pub source : SocketAddr
+  pub frames : ServesUntil (record { zone = starts.zone }) source starts.now left rest before after (record { zone = starts.zone }) fault
+
+-- The fault stands: wrong words; a file that could not be read; a text that is refused at a line; want of memory before
+-- the zone is served. Want of memory may be answered at any time.
 abbrev pub FaultStands : List (List ℕ) → Option (List ℕ) → Fault → Type 0
 FaultStands words file faults.Words = (origin : DomainName) (now : ℕ) → AreWords words origin now → ⊥
 FaultStands words file faults.ZoneFile = (origin : DomainName) × (now : ℕ) × AreWords words origin now × (file ≡ None)
 FaultStands words file (faults.Zone error) =
     (origin : DomainName) × (now : ℕ) × (text : List ℕ) × AreWords words origin now × (file ≡ Some text)
     × ((error.cause ≡ causes.OutOfMemory → ⊥) → IsRefusedAt (first_zone origin) text error.line error.cause)
-FaultStands words file (faults.Stream error) = (error ≡ streams.OutOfMemory false) ⊎ Starts words file
+FaultStands words file (faults.Stream error) = error ≡ streams.OutOfMemory false
+
+-- The program ends before it serves, and leaves input and output alone, or it leaves the stream.
+abbrev pub EndsBy : List (List ℕ) → Option (List ℕ) → Option (List ℕ) → Option (List ℕ) → Option (List ℕ) → Option (List ℕ) → Fault → Type 0
+EndsBy words file left rest before after fault =
+    ((rest ≡ left) × (after ≡ before) × FaultStands words file fault)
+    ⊎ ((error : StreamError) × (fault ≡ faults.Stream error) × Stops words file left rest before after error)
 
 -- What the program answers: it ends with its input, or a fault stands.
 abbrev pub Answers : {X : Type 0} → List (List ℕ) → Option (List ℕ) → Option (List ℕ) → Option (List ℕ) → Option (List ℕ) → Option (List ℕ) → Result X Fault → Type 0
 Answers words file left rest before after (Ok done) = Finishes words file left rest before after
-Answers words file left rest before after (Err fault) = FaultStands words file fault
+Answers words file left rest before after (Err fault) = EndsBy words file left rest before after fault
 
 -- The status of a fault.
 abbrev pub status_of : Fault → ℕ
@@ -71,7 +84,7 @@ status_of (faults.Stream error) = 4
 -- The status of the program: 0 where it ends with its input, else that of a fault that stands.
 abbrev pub StatusIs : List (List ℕ) → Option (List ℕ) → Option (List ℕ) → Option (List ℕ) → Option (List ℕ) → Option (List ℕ) → ℕ → Type 0
 StatusIs words file left rest before after status =
-    ((status ≡ 0) × Finishes words file left rest before after) ⊎ ((fault : Fault) × (status ≡ status_of fault) × FaultStands words file fault)
+    ((status ≡ 0) × Finishes words file left rest before after) ⊎ ((fault : Fault) × (status ≡ status_of fault) × EndsBy words file left rest before after fault)
 
 -- What was read of a word, where a malformed one is a fault.
 abbrev pub read_or_usage : {X : Type 0} → Result X TextError → Result X Fault

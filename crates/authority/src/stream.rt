@@ -1,9 +1,9 @@
 //! Framed messages over a stream: two octets of length before each (RFC 1035 section 4.2.2).
 
-ghost use Rattle.std.specs.Prelude.{◌≡◌, ◌<◌, ◌≤◌, ◌^◌, true, false, length, take, [], Ok, Err, IfOk, IfErr, IfSome, OnOk, None};
+ghost use Rattle.std.specs.Prelude.{◌≡◌, ◌<◌, ◌≤◌, ◌^◌, ℕ, true, false, length, take, [], Ok, Err, IfOk, IfErr, IfSome, OnOk, None};
 ghost use Rattle.std.specs.Int.{w16, to_be_bytes};
 ghost use Rattle.std.specs.Io.KnownBytes.{Consumes, Appends, IsAtEnd};
-ghost use Rattle.authority.specs.Frames.{framed, streamed, IsReadFault, IsServeFault, ServesFrame, ServesFrames};
+ghost use Rattle.authority.specs.Frames.{framed, streamed, ReadsLess, IsMessageFault, IsReadFault, WritesFront, IsServeFault, ServesFrame, ServesFrames, ServesUntil};
 
 use crate::server::{Authority, Protocol, ServeError};
 use std::io::{Read, Write};
@@ -39,7 +39,7 @@ fn fill<R: Read>(reader: &mut R, buffer: &mut [u8]) -> Result<usize, StreamError
     ensures within { IfOk result (λ count. count ≤ length buffer.new) }
     ensures consumed { IfOk result (λ count. Consumes (R.remaining reader.old) (R.remaining reader.new) (take count buffer.new)) }
     ensures at_end { IfOk result (λ count. count < length buffer.new → IsAtEnd (R.remaining reader.new)) }
-    ensures fault { IfErr result (λ e. e ≡ StreamError.Read) }
+    ensures fault { IfErr result (λ e. (e ≡ StreamError.Read) × ReadsLess (R.remaining reader.old) (R.remaining reader.new) (length buffer.new)) }
 {
     let mut at = 0;
     'filling: while at < buffer.len() {
@@ -64,7 +64,7 @@ fn length_in(octets: &[u8]) -> u16
 fn read_length<R: Read>(reader: &mut R) -> Result<Option<u16>, StreamError>
     ensures whole { IfOk result (λ found. IfSome found (λ size. Consumes (R.remaining reader.old) (R.remaining reader.new) (to_be_bytes w16 size))) }
     ensures end { result ≡ Ok None → Consumes (R.remaining reader.old) (R.remaining reader.new) [] × IsAtEnd (R.remaining reader.new) }
-    ensures fault { IfErr result (IsReadFault (R.remaining reader.new)) }
+    ensures fault { IfErr result (IsReadFault (R.remaining reader.old) (R.remaining reader.new)) }
 {
     let mut octets = [0u8; 2];
     let count = fill(reader, &mut octets)?;
@@ -81,7 +81,7 @@ fn read_length<R: Read>(reader: &mut R) -> Result<Option<u16>, StreamError>
 fn read_message<R: Read>(reader: &mut R, frame: &mut Vec<u8>, size: u16) -> Result<(), StreamError>
     ensures whole { OnOk result (Consumes (R.remaining reader.old) (R.remaining reader.new) frame.new.items) }
     ensures long { OnOk result (length frame.new.items ≡ size) }
-    ensures fault { IfErr result (IsReadFault (R.remaining reader.new)) }
+    ensures fault { IfErr result (IsMessageFault (R.remaining reader.old) (R.remaining reader.new) size) }
 {
     frame.clear();
     if frame.resize(size as usize, 0).is_err() {
@@ -98,7 +98,7 @@ fn read_message<R: Read>(reader: &mut R, frame: &mut Vec<u8>, size: u16) -> Resu
 fn read_frame<R: Read>(reader: &mut R, frame: &mut Vec<u8>) -> Result<bool, StreamError>
     ensures whole { result ≡ Ok true → Consumes (R.remaining reader.old) (R.remaining reader.new) (framed frame.new.items) }
     ensures end { result ≡ Ok false → Consumes (R.remaining reader.old) (R.remaining reader.new) [] × IsAtEnd (R.remaining reader.new) }
-    ensures fault { IfErr result (IsReadFault (R.remaining reader.new)) }
+    ensures fault { IfErr result (IsReadFault (R.remaining reader.old) (R.remaining reader.new)) }
 {
     match read_length(reader)? {
         None => Ok(false),
@@ -112,7 +112,7 @@ fn read_frame<R: Read>(reader: &mut R, frame: &mut Vec<u8>) -> Result<bool, Stre
 // Writes octets.
 fn put<W: Write>(writer: &mut W, octets: &[u8]) -> Result<(), StreamError>
     ensures written { OnOk result (Appends (W.contents writer.old) (W.contents writer.new) octets.now) }
-    ensures fault { IfErr result (λ e. e ≡ StreamError.Write) }
+    ensures fault { IfErr result (λ e. (e ≡ StreamError.Write) × (count : ℕ) × (count ≤ length octets.now) × Appends (W.contents writer.old) (W.contents writer.new) (take count octets.now)) }
 {
     let mut at = 0;
     'writing: while at < octets.len() {
@@ -129,7 +129,7 @@ fn put<W: Write>(writer: &mut W, octets: &[u8]) -> Result<(), StreamError>
 fn write_frame<W: Write>(writer: &mut W, message: &[u8]) -> Result<(), StreamError>
     requires { length message.now < 2 ^ 16 }
     ensures written { OnOk result (Appends (W.contents writer.old) (W.contents writer.new) (framed message.now)) }
-    ensures fault { IfErr result (λ e. e ≡ StreamError.Write) }
+    ensures fault { IfErr result (λ e. (e ≡ StreamError.Write) × WritesFront (W.contents writer.old) (W.contents writer.new) (framed message.now)) }
 {
     put(writer, &(message.len() as u16).to_be_bytes())?;
     put(writer, message)?;
@@ -149,7 +149,7 @@ impl<S, K> Authority<S, K> {
         now: u64,
     ) -> Result<(), StreamError>
         ensures served { OnOk result (ServesFrame self.old (streamed src now message.now) (W.contents writer.old) (W.contents writer.new) self.new) }
-        ensures fault { IfErr result (λ e. IsServeFault e × (self.new ≡ self.old)) }
+        ensures fault { IfErr result (IsServeFault self.old (streamed src now message.now) (W.contents writer.old) (W.contents writer.new) self.new) }
     {
         match self.serve(message, src, Protocol::Tcp, now) {
             Ok(Some(reply)) => write_frame(writer, &reply),
@@ -170,6 +170,7 @@ impl<S, K> Authority<S, K> {
         ensures unchanged { self.new ≡ self.old }
         ensures served { OnOk result (ServesFrames self.old src now (R.remaining reader.old) (R.remaining reader.new) (W.contents writer.old) (W.contents writer.new) self.new) }
         ensures ended { OnOk result (IsAtEnd (R.remaining reader.new)) }
+        ensures left { IfErr result (ServesUntil self.old src now (R.remaining reader.old) (R.remaining reader.new) (W.contents writer.old) (W.contents writer.new) self.new) }
         ensures cut { result ≡ Err StreamError.CutFrame → IsAtEnd (R.remaining reader.new) }
     {
         let mut frame = Vec::new(self.alloc());

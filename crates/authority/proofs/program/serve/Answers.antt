@@ -1,8 +1,9 @@
-use Rattle.std.proofs.Common.{◌≡◌, ap, option_copied}
+use Rattle.std.proofs.Common.{◌≡◌, ap, refl, inr, option_copied}
 use Rattle.std.specs.Prelude.{ℕ, List, Option}
 use Rattle.std.specs.declared.net.SocketAddr.{SocketAddr}
 use Rattle.authority.specs.Serving.{World}
-use Rattle.authority.specs.Frames.{ServesFrames}
+use Rattle.authority.specs.declared.stream.StreamError.{StreamError}
+use Rattle.authority.specs.Frames.{ServesFrames, ServesUntil}
 use Rattle.authority.proofs.program.serve.Goals as goal
 
 over_same : {old new first : World} {source : SocketAddr} {moment : ℕ} {left rest before after : Option (List ℕ)} → old ≡ first → new ≡ old → ServesFrames old source moment left rest before after new → ServesFrames first source moment left rest before after first
@@ -25,3 +26,27 @@ returns-in-Ok g c = record {
   frames = over_same c.with_zone-server.ensures c.in-Ok.ensures.unchanged c.in-Ok.ensures.served;
   ended = c.in-Ok.ensures.ended;
 }
+
+until_same : {old new first : World} {source : SocketAddr} {moment : ℕ} {left rest before after : Option (List ℕ)} {fault : StreamError} → old ≡ first → new ≡ old → ServesUntil old source moment left rest before after new fault → ServesUntil first source moment left rest before after first fault
+until_same is same frames =
+    let kept = rw same at frames in
+    rw is at kept
+
+pub returns : goal.returns
+returns g c = inr (
+  c.in-Err.fault,
+  refl,
+  record {
+    starts = record {
+      origin = c.in_ok-command.command.origin;
+      now = c.in_ok-command.command.now;
+      text = c.in-Some.text.now;
+      zone = c.in_ok-zone.zone;
+      right_words = c.in_ok-command.ensures;
+      readable = ap option_copied c.in-Some.is;
+      loaded = c.in_ok-zone.ensures.0;
+    };
+    source = _;
+    frames = until_same c.with_zone-server.ensures c.in-Err.ensures.unchanged (rw c.in-Err.is at c.serve_stream.ensures.left);
+  },
+)

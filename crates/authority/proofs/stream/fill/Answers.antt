@@ -1,7 +1,7 @@
-use Rattle.std.proofs.Common.{◌≡◌, ℕ, ◌+◌, ◌-◌, ◌≤◌, List, ◌++◌, rules, arith, length, take, slice_range, sym, ap, ◌∙◌, subst, le_refl, drop_at, length-take-le}
+use Rattle.std.proofs.Common.{◌≡◌, refl, ℕ, ◌+◌, ◌-◌, ◌≤◌, List, ◌++◌, rules, arith, length, take, slice_range, sym, ap, ◌∙◌, subst, le_refl, drop_at, length-take-le}
 use Rattle.std.proofs.lemmas.Slice.{take-put_mid_below}
 use Rattle.std.specs.Io.KnownBytes.{Consumes}
-use Rattle.std.proofs.KnownBytes.{Consumes-trans}
+use Rattle.std.proofs.KnownBytes.{Consumes-kept, Consumes-trans}
 use borrow.Rule.Slice.PartMut.{put_mid, post_of}
 use lib.Seq.{take-add, take-append-le}
 use Rattle.authority.proofs.stream.fill.Goals as goal
@@ -29,3 +29,8 @@ filling-preserved g c =
       within = search rules;
       consumed = subst (Consumes _ _) (ap (λ (l : List ℕ). take from c.filling.buffer ++ l) (sym part) ∙ joined) (Consumes-trans _ _ _ _ _ c.filling.invariant.consumed c.in-Ok.ensures.bytes.0);
     }
+
+pub returns-in-Err-clause-fault : goal.returns-in-Err-clause-fault
+returns-in-Err-clause-fault g c =
+    let octets = take c.filling.at c.filling.buffer in
+    (refl, (octets, search rules, Consumes-kept _ _ _ _ c.filling.invariant.consumed c.in-Err.ensures.bytes))
