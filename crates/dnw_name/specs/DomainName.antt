@@ -10,7 +10,7 @@ use Rattle.std.specs.Str.{str_to_ascii_lowercase}
 use Rattle.dnw_codes.specs.declared.error.ProtoError.{ProtoError}
 use Rattle.dnw_codes.specs.declared.error.ProtoError.TheVariants.{Decode}
 use Rattle.dnw_codes.specs.declared.error.DecodeError.TheVariants.{DomainNameTooLong}
-use Rattle.dnw_name.specs.Label.{IsLabel, label_eq, label_cmp, is_wildcard_label, wildcard_label}
+use Rattle.dnw_label.specs.Label.{IsLabel, label_eq, label_cmp, is_wildcard_label, wildcard_label}
 
 -- A name: whether it ends at the root, and its labels from the left.
 pub record DomainName : Type 0 where

@@ -187,7 +187,7 @@ impl PartialOrd for LowerName {
 }
 
 impl Hash for LowerName {
-    ghost use Rattle.dnw_name.specs.LabelHash.{name_writes, name_writes-alike};
+    ghost use Rattle.dnw_name.specs.NameHash.{name_writes, name_writes-alike};
 
     ghost hash_input = { name_writes };
 

@@ -1,13 +1,13 @@
 //! Printed names.
-ghost use Rattle.std.specs.Prelude.{◌≡◌, ◌++◌, ◌∷◌, [], true, false, List, ℕ, IfOk, OnOk, All};
-ghost use Rattle.dnw_name.specs.DomainName.{IsDomainName};
-ghost use Rattle.dnw_name.specs.NameText.{IsTextLabel, NameText};
-ghost use Rattle.std.specs.List.{flat_map};
+ghost use Rattle.std.specs.Prelude.{◌≡◌, ◌∷◌, [], IfOk, All};
 ghost use Rattle.std.specs.String.{string_bytes};
-ghost use Rattle.dnw_name.specs.NamePrint.{is_plain, octet_print, label_print, labels_print, name_print};
+ghost use Rattle.dnw_label.specs.LabelText.{IsTextLabel};
+ghost use Rattle.dnw_name.specs.DomainName.{IsDomainName};
+ghost use Rattle.dnw_name.specs.NameText.{NameText};
+ghost use Rattle.dnw_name.specs.NamePrint.{name_print};
 
-use crate::label::Label;
 use crate::name::Name;
+use dnw_label::push_label;
 use std::alloc::{AllocError, Global};
 
 impl Name {
@@ -38,50 +38,4 @@ fn printed(alloc: Global, name: &Name) -> Result<String, AllocError>
         text.push('.')?;
     }
     Ok(text)
-}
-
-impl Label {
-    /// The label's text, as it stands in that of a name.
-    pub fn to_ascii(&self, alloc: Global) -> Result<String, AllocError>
-        ensures { IfOk result (λ text. string_bytes text ≡ label_print self.now) }
-    {
-        let mut text = String::new(alloc);
-        push_label(&mut text, self.as_bytes())?;
-        Ok(text)
-    }
-}
-
-fn push_label(text: &mut String, label: &[u8]) -> Result<(), AllocError>
-    ensures { OnOk result (string_bytes text.new ≡ string_bytes text.old ++ label_print label.now) }
-{
-    let Some((first, rest)) = label.split_first() else {
-        return Ok(());
-    };
-    push_octet(text, true, *first)?;
-    'octets: for octet in rest {
-        push_octet(text, false, *octet)?;
-    }
-    Ok(())
-}
-
-fn push_octet(text: &mut String, first: bool, octet: u8) -> Result<(), AllocError>
-    ensures { OnOk result (string_bytes text.new ≡ string_bytes text.old ++ octet_print first octet) }
-{
-    if is_plain(first, octet) {
-        return text.push(char::from(octet));
-    }
-    text.push('\\')?;
-    if b'!' <= octet && octet <= b'~' {
-        return text.push(char::from(octet));
-    }
-    text.push(char::from(b'0' + octet / 64))?;
-    text.push(char::from(b'0' + octet / 8 % 8))?;
-    text.push(char::from(b'0' + octet % 8))
-}
-
-fn is_plain(first: bool, octet: u8) -> bool
-    ensures { result ≡ is_plain first octet }
-{
-    let special = if first { b'*' } else { b'-' };
-    octet.is_ascii_alphanumeric() || octet == b'_' || octet == special
 }

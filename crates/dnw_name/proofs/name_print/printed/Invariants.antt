@@ -1,7 +1,8 @@
 use Rattle.std.proofs.Common.{◌≡◌, ◌++◌, ◌∷◌, length}
 use Rattle.std.specs.List.{flat_map}
 use Rattle.std.specs.String.{string_bytes}
-use Rattle.dnw_name.specs.NamePrint.{label_print, labels_print}
+use Rattle.dnw_label.specs.LabelPrint.{label_print}
+use Rattle.dnw_name.specs.NamePrint.{labels_print}
 use Rattle.dnw_name.proofs.name_print.printed.Given as goal
 
 abbrev pub invariant-labels : goal.invariant-labels
