@@ -1,5 +1,5 @@
 //! One label of a name.
-ghost use Rattle.std.specs.Prelude.{◌≡◌, ◌==◌, ◌<◌, ◌≤◌, ◌↔◌, length, IsOk, IfOk, IfErr, IsErrOf, IsErrAnd, OnOk, OnErr, nat_eq};
+ghost use Rattle.std.specs.Prelude.{◌≡◌, false, ◌==◌, ◌<◌, ◌≤◌, ◌↔◌, length, IsOk, IfOk, IfErr, IsErrOf, IsErrAnd, OnOk, OnErr, nat_eq};
 ghost use Rattle.std.specs.Cmp.{partial_equiv_from_equiv, partial_order_from_own_ties};
 ghost use Rattle.std.specs.Cmp.Lexicographic.{slice_cmp};
 ghost use Rattle.std.specs.Cmp.Rules.{comparing, hashing};
@@ -15,6 +15,7 @@ use dnw_codes::{DecodeError, ProtoError};
 use smallvec::SmallVec;
 use std::alloc::{AllocError, Global};
 use std::cmp::Ordering;
+use std::convert::AsSlice;
 use std::hash::{Hash, Hasher};
 use std::marker::Model;
 
@@ -118,6 +119,13 @@ impl Label {
         self.0.len()
     }
 
+    /// Whether there is no octet, which never is.
+    pub fn is_empty(&self) -> bool
+        ensures { result ≡ false }
+    {
+        false
+    }
+
     /// The label `*`.
     pub fn wildcard(alloc: Global) -> Label
         ensures { result ≡ wildcard_label }
@@ -184,6 +192,14 @@ impl Clone for Label {
 
     fn clone(&self) -> Result<Label, AllocError> {
         Ok(Label(SmallVec::from_slice(*self.0.allocator(), self.as_bytes())?))
+    }
+}
+
+impl AsSlice<u8> for Label {
+    ghost items = { λ label. label };
+
+    fn as_slice(&self) -> &[u8] {
+        self.as_bytes()
     }
 }
 

@@ -1,50 +1,88 @@
 //! Printed labels.
-ghost use Rattle.std.specs.Prelude.{◌≡◌, ◌++◌, ◌∷◌, [], true, false, List, ℕ, IfOk, OnOk};
+ghost use Rattle.std.specs.Prelude.{◌≡◌, ◌++◌, ◌∷◌, [], true, false, List, ℕ, IfOk, OnOk, Some};
+ghost use Rattle.std.specs.Fmt.{WritesInCalls, WritesOnOk};
 ghost use Rattle.std.specs.List.{flat_map};
 ghost use Rattle.std.specs.String.{string_bytes};
-ghost use Rattle.dnw_label.specs.LabelPrint.{is_plain, octet_print, label_print};
+ghost use Rattle.dnw_label.specs.LabelPrint.{is_plain, octal_print, octet_print, label_print};
 
 use crate::label::Label;
 use std::alloc::{AllocError, Global};
+use std::fmt;
+use std::fmt::Write;
 
 impl Label {
     /// The label's text, as it stands in that of a name.
     pub fn to_ascii(&self, alloc: Global) -> Result<String, AllocError>
         ensures { IfOk result (λ text. string_bytes text ≡ label_print self.now) }
     {
-        let mut text = String::new(alloc);
-        push_label(&mut text, self.as_bytes())?;
-        Ok(text)
+        self.to_string(alloc)
+    }
+
+    /// The label's text, which is that of its ASCII form.
+    pub fn to_utf8(&self, alloc: Global) -> Result<String, AllocError>
+        ensures { IfOk result (λ text. string_bytes text ≡ label_print self.now) }
+    {
+        self.to_ascii(alloc)
+    }
+
+    /// Writes the label's text.
+    pub fn write_ascii<W: fmt::Write>(&self, f: &mut W) -> fmt::Result
+        ensures { OnOk result (WritesInCalls W.write_str_gives f.old (label_print self.now) f.new) }
+    {
+        f.write(self)
     }
 }
 
-/// Puts a label's text behind the others of a text.
-pub fn push_label(text: &mut String, label: &[u8]) -> Result<(), AllocError>
-    ensures { OnOk result (string_bytes text.new ≡ string_bytes text.old ++ label_print label.now) }
+impl fmt::Display for Label {
+    ghost output = { λ label. Some (label_print label) };
+
+    fn fmt<W: fmt::Write>(&self, f: &mut fmt::Formatter<W>) -> fmt::Result {
+        fmt_label(f, self.as_bytes())
+    }
+}
+
+impl fmt::Debug for Label {
+    ghost debug_output = { λ label. Some (label_print label) };
+
+    fn fmt<W: fmt::Write>(&self, f: &mut fmt::Formatter<W>) -> fmt::Result {
+        fmt_label(f, self.as_bytes())
+    }
+}
+
+/// Writes the text of a label of these octets.
+pub fn fmt_label<W: fmt::Write>(f: &mut fmt::Formatter<W>, label: &[u8]) -> fmt::Result
+    ensures { WritesOnOk W.write_str_gives f.old result (label_print label.now) f.new }
 {
     let Some((first, rest)) = label.split_first() else {
         return Ok(());
     };
-    push_octet(text, true, *first)?;
+    fmt_octet(f, true, *first)?;
     'octets: for octet in rest {
-        push_octet(text, false, *octet)?;
+        fmt_octet(f, false, *octet)?;
     }
     Ok(())
 }
 
-fn push_octet(text: &mut String, first: bool, octet: u8) -> Result<(), AllocError>
-    ensures { OnOk result (string_bytes text.new ≡ string_bytes text.old ++ octet_print first octet) }
+fn fmt_octet<W: fmt::Write>(f: &mut fmt::Formatter<W>, first: bool, octet: u8) -> fmt::Result
+    ensures { WritesOnOk W.write_str_gives f.old result (octet_print first octet) f.new }
 {
     if is_plain(first, octet) {
-        return text.push(char::from(octet));
+        return f.write_char(char::from(octet));
     }
-    text.push('\\')?;
+    f.write_char('\\')?;
     if b'!' <= octet && octet <= b'~' {
-        return text.push(char::from(octet));
+        return f.write_char(char::from(octet));
     }
-    text.push(char::from(b'0' + octet / 64))?;
-    text.push(char::from(b'0' + octet / 8 % 8))?;
-    text.push(char::from(b'0' + octet % 8))
+    fmt_octal(f, octet)
+}
+
+// Writes three octal digits.
+fn fmt_octal<W: fmt::Write>(f: &mut fmt::Formatter<W>, octet: u8) -> fmt::Result
+    ensures { WritesOnOk W.write_str_gives f.old result (octal_print octet) f.new }
+{
+    f.write_char(char::from(b'0' + octet / 64))?;
+    f.write_char(char::from(b'0' + octet / 8 % 8))?;
+    f.write_char(char::from(b'0' + octet % 8))
 }
 
 fn is_plain(first: bool, octet: u8) -> bool

@@ -3,7 +3,7 @@
 //!
 //! A contract sees a `Label` as its octets, and `IsLabel` says that they are 1 to 63. `label_eq` is its equality
 //! and `label_cmp` its order, that of RFC 4034 6.1. `label_at` reads the label that a text begins with, and
-//! `push_label` writes one's text, each exactly by its definition.
+//! `fmt_label` writes its text, each exactly by its definition.
 #![tactic(auto)]
 
 mod label;
@@ -11,5 +11,5 @@ mod label_print;
 mod label_text;
 
 pub use label::{CaseInsensitive, CaseSensitive, IntoLabel, Label, LabelCmp};
-pub use label_print::push_label;
+pub use label_print::fmt_label;
 pub use label_text::label_at;
