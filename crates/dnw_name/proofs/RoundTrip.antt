@@ -36,6 +36,6 @@ name-read_back name is all = by_parts name.fqdn name.labels is all
     by_parts false [] is all = empty
     by_parts fqdn (label ∷ ls) is all = labels_text (labels_print (label ∷ ls) ++ cond fqdn (46 ∷ []) []) fqdn (label ∷ ls) (labels-read fqdn label ls all) is
 
-pub printed-read_back : {T E : Type 0} (bytes : T → List ℕ) (r : Result T E) (name : DomainName) → IfOk r (λ text. bytes text ≡ name_print name) → IfOk r (λ _. IsDomainName name) → IfOk r (λ text. All IsTextLabel name.labels → NameText (bytes text) name)
+pub printed-read_back : {T E : Type 0} (bytes : T → List ℕ) (r : Result T E) (name : DomainName) → IfOk r (λ text. bytes text ≡ name_print name) → IsDomainName name → IfOk r (λ text. All IsTextLabel name.labels → NameText (bytes text) name)
 printed-read_back bytes (Ok text) name same is = λ all. rw same (name-read_back name is all)
 printed-read_back bytes (Err e) name same is = tt

@@ -1,14 +1,17 @@
 //! Printed names.
-ghost use Rattle.std.specs.Prelude.{◌≡◌, ◌∷◌, [], IfOk, All};
+ghost use Rattle.std.specs.Prelude.{◌≡◌, ◌∷◌, ◌++◌, [], IfOk, All, Some};
+ghost use Rattle.std.specs.Fmt.{WritesOnOk};
 ghost use Rattle.std.specs.String.{string_bytes};
+ghost use Rattle.dnw_label.specs.LabelPrint.{label_print};
 ghost use Rattle.dnw_label.specs.LabelText.{IsTextLabel};
-ghost use Rattle.dnw_name.specs.DomainName.{IsDomainName};
 ghost use Rattle.dnw_name.specs.NameText.{NameText};
-ghost use Rattle.dnw_name.specs.NamePrint.{name_print};
+ghost use Rattle.dnw_name.specs.NamePrint.{labels_print, name_print};
 
+use crate::lower_name::LowerName;
 use crate::name::Name;
-use dnw_label::push_label;
+use dnw_label::fmt_label;
 use std::alloc::{AllocError, Global};
+use std::fmt;
 
 impl Name {
     /// The name's text (RFC 1035 5.1). Where each label is one that `Label::from_ascii` accepts, `from_ascii`
@@ -17,25 +20,77 @@ impl Name {
         ensures text { IfOk result (λ text. string_bytes text ≡ name_print self.now) }
         ensures read_back { IfOk result (λ text. All IsTextLabel self.now.labels → NameText (string_bytes text) self.now) }
     {
-        printed(alloc, self)
+        // Asked for its length, the name shows that it is one.
+        let _octets = self.len();
+        self.to_string(alloc)
+    }
+
+    /// The name's text, which is that of its ASCII form.
+    pub fn to_utf8(&self, alloc: Global) -> Result<String, AllocError>
+        ensures text { IfOk result (λ text. string_bytes text ≡ name_print self.now) }
+        ensures read_back { IfOk result (λ text. All IsTextLabel self.now.labels → NameText (string_bytes text) self.now) }
+    {
+        self.to_ascii(alloc)
     }
 }
 
-fn printed(alloc: Global, name: &Name) -> Result<String, AllocError>
-    ensures text { IfOk result (λ text. string_bytes text ≡ name_print name.now) }
-    ensures name { IfOk result (λ _. IsDomainName name.now) }
+impl fmt::Display for Name {
+    ghost output = { λ name. Some (name_print name) };
+
+    fn fmt<W: fmt::Write>(&self, f: &mut fmt::Formatter<W>) -> fmt::Result {
+        fmt_labels(f, self)?;
+        if self.is_fqdn() {
+            f.write_char('.')?;
+        }
+        Ok(())
+    }
+}
+
+impl fmt::Debug for Name {
+    ghost debug_output = { λ name. Some (name_print name) };
+
+    fn fmt<W: fmt::Write>(&self, f: &mut fmt::Formatter<W>) -> fmt::Result {
+        fmt::Display::fmt(self, f)
+    }
+}
+
+impl fmt::Display for LowerName {
+    ghost output = { λ name. Some (name_print name) };
+
+    fn fmt<W: fmt::Write>(&self, f: &mut fmt::Formatter<W>) -> fmt::Result {
+        let name: &Name = self;
+        fmt::Display::fmt(name, f)
+    }
+}
+
+impl fmt::Debug for LowerName {
+    ghost debug_output = { λ name. Some (name_print name) };
+
+    fn fmt<W: fmt::Write>(&self, f: &mut fmt::Formatter<W>) -> fmt::Result {
+        let name: &Name = self;
+        fmt::Display::fmt(name, f)
+    }
+}
+
+// Writes the labels, with a dot before each but the first.
+fn fmt_labels<W: fmt::Write>(f: &mut fmt::Formatter<W>, name: &Name) -> fmt::Result
+    ensures { WritesOnOk W.write_str_gives f.old result (labels_print name.now.labels) f.new }
 {
-    let mut text = String::new(alloc);
     let mut labels = name.iter();
-    if let Some(first) = labels.next() {
-        push_label(&mut text, first)?;
-    }
+    let Some(first) = labels.next() else {
+        return Ok(());
+    };
+    fmt_label(f, first)?;
     'labels: while let Some(label) = labels.next() {
-        text.push('.')?;
-        push_label(&mut text, label)?;
+        fmt_later_label(f, label)?;
     }
-    if name.is_fqdn() {
-        text.push('.')?;
-    }
-    Ok(text)
+    Ok(())
+}
+
+// Writes a dot and a label.
+fn fmt_later_label<W: fmt::Write>(f: &mut fmt::Formatter<W>, label: &[u8]) -> fmt::Result
+    ensures { WritesOnOk W.write_str_gives f.old result (46 ∷ label_print label.now) f.new }
+{
+    f.write_char('.')?;
+    fmt_label(f, label)
 }

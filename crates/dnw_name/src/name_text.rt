@@ -5,6 +5,7 @@ ghost use Rattle.dnw_codes.specs.ProtoError.{IsMemory};
 ghost use Rattle.dnw_name.specs.DomainName.{DomainName, domain_name, IsDomainName};
 ghost use Rattle.dnw_name.specs.NameText.{completed, LabelsText, NameText};
 
+use crate::lower_name::LowerName;
 use crate::name::Name;
 use dnw_codes::ProtoError;
 use dnw_label::label_at;
@@ -53,6 +54,14 @@ impl Name {
         Name::from_ascii(alloc, text)
     }
 
+    /// The name of a text by `from_ascii`.
+    pub fn from_str(alloc: Global, text: &str) -> Result<Name, ProtoError>
+        ensures ok { IfOk result (λ name. NameText text.now name) }
+        ensures refused { IfErr result (λ e. IsMemory e ⊎ ((name : DomainName) → NameText text.now name → ⊥)) }
+    {
+        Name::from_ascii(alloc, text)
+    }
+
     /// The name of a text, which is that of its ASCII form.
     pub fn from_str_relaxed(alloc: Global, text: &str) -> Result<Name, ProtoError>
         ensures ok { IfOk result (λ name. NameText text.now name) }
@@ -77,6 +86,25 @@ impl IntoName for Name {
 
     fn into_name(self, _alloc: Global) -> Result<Name, ProtoError> {
         Ok(self)
+    }
+}
+
+impl IntoName for &Name {
+    ghost reads = { λ other name. name ≡ other.now };
+
+    fn into_name(self, _alloc: Global) -> Result<Name, ProtoError> {
+        match self.clone() {
+            Ok(name) => Ok(name),
+            Err(refused) => Err(ProtoError::Memory(refused)),
+        }
+    }
+}
+
+impl IntoName for LowerName {
+    ghost reads = { λ lower name. name ≡ lower };
+
+    fn into_name(self, _alloc: Global) -> Result<Name, ProtoError> {
+        Ok(Name::from(self))
     }
 }
 
