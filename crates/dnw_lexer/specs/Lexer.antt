@@ -6,7 +6,7 @@
 use Rattle.std.specs.Prelude.{ℕ, ◌≡◌, ◌≢◌, ◌+◌, ◌-◌, ◌*◌, ◌==◌, ◌&&◌, ◌||◌, ◌++◌, nat_le, nat_lt, nat_eq, not, Bool, true, false, List, [], ◌∷◌, Option, Some, None, Result, Ok, Err, if◌then◌else◌, MatchBool}
 use Rattle.std.specs.List.{starts_with}
 use lib.Chars.{codes}
-use Rattle.std.specs.Str.{bytes_eq}
+use Rattle.std.specs.Str.{bytes_eq, encode_utf8_all}
 use Rattle.dnw_codes.specs.declared.error.LexerError.{LexerError}
 use Rattle.dnw_codes.specs.declared.error.LexerError.TheVariants.{EOF, UnrecognizedChar, UnrecognizedOctet, UnrecognizedDollar, UnclosedQuotedString, UnclosedList}
 
@@ -113,14 +113,16 @@ abbrev pub words_before : List (List ℕ) → Words → Words
 words_before front (Ok found) = Ok (front ++ found.0, found.1)
 words_before front (Err e) = Err e
 
+-- A word of a list: a string in quotes, or a plain word. A list has no list in it.
+abbrev pub ListWord : ℕ → List ℕ → Reading → Type 0
+ListWord c rest r =
+    MatchBool (c == 34) (StringText rest r) (MatchBool (c == 40) (r ≡ Err (UnrecognizedChar c)) (PlainText true (c ∷ rest) r))
+
 -- A list, from behind `(` on. Its words stand between blanks, comments and line ends.
 pub data ListText : List ℕ → Words → Type 0 where
   closes : (text : List ℕ) (c : ℕ) (rest : List ℕ) → gap false text ≡ c ∷ rest → c ≡ 41 → ListText text (Ok ([], rest))
-  string : (text : List ℕ) (c : ℕ) (rest word behind : List ℕ) (r : Words) → gap false text ≡ c ∷ rest → c ≡ 34 → StringText rest (Ok (word, behind)) → ListText behind r → ListText text (words_before (word ∷ []) r)
-  word : (text : List ℕ) (c : ℕ) (rest word behind : List ℕ) (r : Words) → gap false text ≡ c ∷ rest → c ≢ 34 → c ≢ 40 → c ≢ 41 → PlainText true (c ∷ rest) (Ok (word, behind)) → ListText behind r → ListText text (words_before (word ∷ []) r)
-  no_string : (text : List ℕ) (c : ℕ) (rest : List ℕ) (e : LexerError) → gap false text ≡ c ∷ rest → c ≡ 34 → StringText rest (Err e) → ListText text (Err e)
-  no_word : (text : List ℕ) (c : ℕ) (rest : List ℕ) (e : LexerError) → gap false text ≡ c ∷ rest → c ≢ 34 → c ≢ 40 → c ≢ 41 → PlainText true (c ∷ rest) (Err e) → ListText text (Err e)
-  nested : (text : List ℕ) (c : ℕ) (rest : List ℕ) → gap false text ≡ c ∷ rest → c ≡ 40 → ListText text (Err (UnrecognizedChar c))
+  word : (text : List ℕ) (c : ℕ) (rest word behind : List ℕ) (r : Words) → gap false text ≡ c ∷ rest → c ≢ 41 → ListWord c rest (Ok (word, behind)) → ListText behind r → ListText text (words_before (word ∷ []) r)
+  refused : (text : List ℕ) (c : ℕ) (rest : List ℕ) (e : LexerError) → gap false text ≡ c ∷ rest → c ≢ 41 → ListWord c rest (Err e) → ListText text (Err e)
   unclosed : (text : List ℕ) → gap false text ≡ [] → ListText text (Err UnclosedList)
 
 -- What a token means.
@@ -149,12 +151,14 @@ Given = Result (Option Lexeme × Unread) LexerError
 -- A plain word: `@` alone, a directive behind `$`, or itself.
 abbrev pub bare_lexeme : List ℕ → Result Lexeme LexerError
 bare_lexeme w =
-    if bytes_eq w (codes "@") then Ok at_sign
-    else (if bytes_eq w (codes "$INCLUDE") then Ok include
-    else (if bytes_eq w (codes "$ORIGIN") then Ok origin
-    else (if bytes_eq w (codes "$TTL") then Ok ttl
-    else (if starts_with nat_eq w (codes "$") then Err UnrecognizedDollar else Ok (word w)))))
+    let octets = encode_utf8_all w in
+    if bytes_eq octets (codes "@") then Ok at_sign
+    else (if bytes_eq octets (codes "$INCLUDE") then Ok include
+    else (if bytes_eq octets (codes "$ORIGIN") then Ok origin
+    else (if bytes_eq octets (codes "$TTL") then Ok ttl
+    else (if starts_with nat_eq octets (codes "$") then Err UnrecognizedDollar else Ok (word w)))))
 
+-- What a word in its line gives.
 abbrev pub lexeme_given : Result Lexeme LexerError → List ℕ → Given
 lexeme_given (Ok lexeme) behind = Ok (Some lexeme, unread false behind)
 lexeme_given (Err e) behind = Err e
@@ -171,14 +175,26 @@ abbrev pub list_given : Words → Given
 list_given (Ok found) = Ok (Some (list found.0), unread false found.1)
 list_given (Err e) = Err e
 
--- What stands in a line that has no blank, or none that counts, at its front.
+abbrev pub ListToken : List ℕ → Given → Type 0
+ListToken text given = (r : Words) × ListText text r × (given ≡ list_given r)
+
+abbrev pub StringToken : List ℕ → Given → Type 0
+StringToken text given = (r : Reading) × StringText text r × (given ≡ string_given r)
+
+abbrev pub BareToken : List ℕ → Given → Type 0
+BareToken text given = (r : Reading) × PlainText false text r × (given ≡ bare_given r)
+
+-- A list, a string in quotes or a plain word, by its first character.
+abbrev pub WordToken : ℕ → List ℕ → Given → Type 0
+WordToken c rest given =
+    MatchBool (c == 40) (ListToken rest given) (MatchBool (c == 34) (StringToken rest given) (BareToken (c ∷ rest) given))
+
+-- What stands in a line behind its blanks and its comment.
 abbrev pub LineToken : Bool → List ℕ → Given → Type 0
 LineToken front [] given = given ≡ Ok (None, unread front [])
 LineToken front (c ∷ rest) given =
     MatchBool (at_line_end (c ∷ rest)) (given ≡ Ok (Some end_of_line, unread true (behind_line_end (c ∷ rest))))
-    (MatchBool (c == 40) ((r : Words) × ListText rest r × (given ≡ list_given r))
-    (MatchBool (c == 34) ((r : Reading) × StringText rest r × (given ≡ string_given r))
-    ((r : Reading) × PlainText false (c ∷ rest) r × (given ≡ bare_given r))))
+    (WordToken c rest given)
 
 abbrev pub begins_blank : List ℕ → Bool
 begins_blank [] = false

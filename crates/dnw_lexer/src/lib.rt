@@ -6,8 +6,10 @@
 
 mod character;
 mod gap;
+mod lexer;
+mod list;
+mod token;
 mod word;
 
-pub use character::{push, split_char};
-pub use gap::{begins_blank, behind_gap, behind_line_end, without_comment};
-pub use word::{plain_word, quoted_string};
+pub use lexer::Lexer;
+pub use token::Token;
