@@ -9,7 +9,9 @@ mod gap;
 mod lexer;
 mod list;
 mod token;
+mod ttl;
 mod word;
 
 pub use lexer::Lexer;
 pub use token::Token;
+pub use ttl::parse_ttl;
