@@ -1,5 +1,6 @@
 -- Domain names (RFC 1035 3.1) and their canonical order (RFC 4034 6.1).
 use Rattle.std.specs.Prelude.{ℕ, ◌≡◌, ◌+◌, ◌≤◌, Bool, true, false, List, [], ◌∷◌, ◌++◌, All, length, reverse, map, drop, sum_by, cond, ◌==◌, ◌-◌, slice_get}
+use lib.Chars.{codes}
 use Rattle.std.specs.Option.{option_map_or}
 use Rattle.std.specs.Bool.{beq}
 use Rattle.std.specs.Cmp.Lexicographic.{slice_cmp, pointwise}
@@ -10,7 +11,7 @@ use Rattle.std.specs.Str.{str_to_ascii_lowercase}
 use Rattle.dnw_codes.specs.declared.error.ProtoError.{ProtoError}
 use Rattle.dnw_codes.specs.declared.error.ProtoError.TheVariants.{Decode}
 use Rattle.dnw_codes.specs.declared.error.DecodeError.TheVariants.{DomainNameTooLong}
-use Rattle.dnw_name.specs.Label.{IsLabel, label_eq, label_cmp, is_wildcard_label, wildcard_label}
+use Rattle.dnw_label.specs.Label.{IsLabel, label_eq, label_cmp, is_wildcard_label, wildcard_label}
 
 -- A name: whether it ends at the root, and its labels from the left.
 pub record DomainName : Type 0 where
@@ -54,6 +55,10 @@ IsAtOrBelow name ancestor = is_at_or_below name ancestor ≡ true
 -- A name is in a zone where it is the origin or lies below it.
 abbrev pub IsInZone : DomainName → DomainName → Type 0
 IsInZone name origin = IsAtOrBelow name origin
+
+-- `localhost.`, whose names are the host's own (RFC 6761 6.3).
+abbrev pub localhost : DomainName
+localhost = domain_name true (codes "localhost" ∷ [])
 
 -- The first label is an asterisk (RFC 4592 2.1.1).
 abbrev pub is_wildcard : DomainName → Bool

@@ -1,6 +1,5 @@
 pub mod DomainName
-pub mod Label
-pub mod LabelHash
+pub mod NameHash
 pub mod NameKey
 pub mod NameOrder
 pub mod NamePrint

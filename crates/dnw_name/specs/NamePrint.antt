@@ -1,22 +1,8 @@
--- Printed names (RFC 1035 5.1, with octal digits in escapes).
-use Rattle.std.specs.Prelude.{ℕ, ◌+◌, ◌/◌, ◌%◌, ◌==◌, ◌&&◌, ◌||◌, ◌++◌, nat_le, Bool, true, false, List, [], ◌∷◌, if◌then◌else◌}
-use Rattle.std.specs.Char.{is_ascii_alphanumeric}
+-- Printed names (RFC 1035 5.1).
+use Rattle.std.specs.Prelude.{ℕ, ◌++◌, List, [], ◌∷◌, if◌then◌else◌}
 use Rattle.std.specs.List.{flat_map}
+use Rattle.dnw_label.specs.LabelPrint.{label_print}
 use Rattle.dnw_name.specs.DomainName.{DomainName}
-
--- Characters that stand for themselves: letters, digits, `_`, at the first place `*`, at the others `-`.
-abbrev pub is_plain : Bool → ℕ → Bool
-is_plain first c = is_ascii_alphanumeric c || c == 95 || (if first then c == 42 else c == 45)
-
--- Other printed characters stand behind a backslash, all else as a backslash and three octal digits.
-abbrev pub octet_print : Bool → ℕ → List ℕ
-octet_print first c =
-    if is_plain first c then c ∷ []
-    else (if nat_le 33 c && nat_le c 126 then 92 ∷ c ∷ [] else 92 ∷ (48 + c / 64) ∷ (48 + c / 8 % 8) ∷ (48 + c % 8) ∷ [])
-
-abbrev pub label_print : List ℕ → List ℕ
-label_print [] = []
-label_print (c ∷ cs) = octet_print true c ++ flat_map (octet_print false) cs
 
 -- Labels with a dot before each but the first.
 abbrev pub labels_print : List (List ℕ) → List ℕ

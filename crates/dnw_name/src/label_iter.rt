@@ -2,7 +2,7 @@
 ghost use Rattle.std.specs.Prelude.{◌≡◌, length};
 ghost use Rattle.std.specs.Iterator.{YieldsFirstRef, YieldsLastRef, item_count};
 
-use crate::label::Label;
+use dnw_label::Label;
 use std::marker::Model;
 
 /// The labels of a name from the left, or from the right by `rev`. A contract sees it as those that are left.

@@ -8,7 +8,6 @@
 #![tactic(auto)]
 
 mod key;
-mod label;
 mod label_iter;
 mod lower_name;
 mod name;
@@ -16,8 +15,8 @@ mod name_print;
 mod name_text;
 mod rr_key;
 
+pub use dnw_label::{CaseInsensitive, CaseSensitive, IntoLabel, Label, LabelCmp};
 pub use key::{base_key, key_of};
-pub use label::{CaseInsensitive, CaseSensitive, IntoLabel, Label, LabelCmp};
 pub use label_iter::LabelIter;
 pub use lower_name::LowerName;
 pub use name::Name;

@@ -1,14 +1,17 @@
 //! Names in lower case.
-ghost use Rattle.std.specs.Prelude.{◌≡◌, ◌&&◌, ◌==◌, ◌+◌, ◌-◌, length, drop, IfOk, false};
+ghost use Rattle.std.specs.Prelude.{◌≡◌, ◌&&◌, ◌==◌, ◌+◌, ◌-◌, ◌⊎◌, length, drop, IfOk, IfErr, false};
 ghost use Rattle.std.specs.Cmp.{partial_order_from_own_ties};
 ghost use Rattle.std.specs.Cmp.Rules.{comparing};
 ghost use Rattle.std.specs.Ordering.{as_partial_cmp};
 ghost use Rattle.std.proofs.Common.{rules};
 ghost use Rattle.dnw_name.specs.DomainName.{DomainName, domain_name, IsDomainName, lowercased, name_eq, name_cmp, name_len, num_labels, is_wildcard, is_at_or_below, wildcard_of};
+ghost use Rattle.dnw_codes.specs.ProtoError.{IsMemory};
+ghost use Rattle.dnw_name.specs.NameText.{NameText};
 ghost use Rattle.dnw_name.specs.NameOrder.{name_eq-by_cmp};
 
 use crate::name::Name;
-use std::alloc::AllocError;
+use dnw_codes::ProtoError;
+use std::alloc::{AllocError, Global};
 use std::cmp::Ordering;
 use std::hash::{Hash, Hasher};
 use std::marker::Model;
@@ -35,6 +38,17 @@ impl LowerName {
         ensures { IfOk result (λ lower. lower ≡ lowercased name.now) }
     {
         Ok(LowerName(name.to_lowercase()?))
+    }
+
+    /// The name of a text by `Name::from_ascii`, in lower case.
+    pub fn from_str(alloc: Global, text: &str) -> Result<LowerName, ProtoError>
+        ensures ok { IfOk result (λ lower. (name : DomainName) × NameText text.now name × (lower ≡ lowercased name)) }
+        ensures refused { IfErr result (λ e. IsMemory e ⊎ ((name : DomainName) → NameText text.now name → ⊥)) }
+    {
+        match Name::from_ascii(alloc, text) {
+            Ok(name) => Ok(LowerName::from(name)),
+            Err(refused) => Err(refused),
+        }
     }
 
     /// Whether this is the root.
@@ -187,7 +201,7 @@ impl PartialOrd for LowerName {
 }
 
 impl Hash for LowerName {
-    ghost use Rattle.dnw_name.specs.LabelHash.{name_writes, name_writes-alike};
+    ghost use Rattle.dnw_name.specs.NameHash.{name_writes, name_writes-alike};
 
     ghost hash_input = { name_writes };
 

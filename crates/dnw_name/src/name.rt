@@ -9,13 +9,13 @@ ghost use Rattle.std.specs.Hash as fed;
 ghost use Rattle.std.specs.Ordering.{nat_cmp, on, as_partial_cmp, is_le};
 ghost use Rattle.std.specs.Str.{str_to_ascii_lowercase};
 ghost use Rattle.std.proofs.Common.{rules};
-ghost use Rattle.dnw_name.specs.DomainName.{DomainName, domain_name, IsDomainName, labels_len, name_eq, name_cmp, name_cmp_by, num_labels, name_len, too_long, lowercased, wildcard_of, is_at_or_below, is_wildcard};
+ghost use Rattle.dnw_name.specs.DomainName.{DomainName, domain_name, IsDomainName, labels_len, name_eq, name_cmp, name_cmp_by, num_labels, name_len, too_long, lowercased, wildcard_of, is_at_or_below, is_wildcard, localhost};
 ghost use Rattle.dnw_name.specs.NameOrder.{name_eq-by_cmp};
-ghost use Rattle.dnw_name.specs.Label.{IsLabel, label_eq, label_cmp};
+ghost use Rattle.dnw_label.specs.Label.{IsLabel, label_eq, label_cmp};
 
-use crate::label::{CaseInsensitive, CaseSensitive, IntoLabel, Label, LabelCmp};
 use crate::label_iter::LabelIter;
 use dnw_codes::{DecodeError, ProtoError};
+use dnw_label::{CaseInsensitive, CaseSensitive, IntoLabel, Label, LabelCmp};
 use std::alloc::{AllocError, Global};
 use std::cmp::Ordering;
 use std::hash::{Hash, Hasher};
@@ -125,6 +125,16 @@ impl Name {
     {
         match self.labels.first() {
             Some(label) => label.is_wildcard(),
+            None => false,
+        }
+    }
+
+    /// Whether this is `localhost.` or a name below it (RFC 6761 6.3), flags aside.
+    pub fn is_localhost(&self) -> bool
+        ensures { result ≡ is_at_or_below self.now localhost }
+    {
+        match self.labels.last() {
+            Some(label) => label.as_bytes().eq_ignore_ascii_case(b"localhost"),
             None => false,
         }
     }
@@ -497,7 +507,7 @@ impl Clone for Name {
 }
 
 impl Hash for Name {
-    ghost use Rattle.dnw_name.specs.LabelHash.{name_writes, name_writes-alike};
+    ghost use Rattle.dnw_name.specs.NameHash.{name_writes, name_writes-alike};
 
     ghost hash_input = { name_writes };
 

@@ -1,14 +1,17 @@
 //! Printed names.
-ghost use Rattle.std.specs.Prelude.{◌≡◌, ◌++◌, ◌∷◌, [], true, false, List, ℕ, IfOk, OnOk, All};
-ghost use Rattle.dnw_name.specs.DomainName.{IsDomainName};
-ghost use Rattle.dnw_name.specs.NameText.{IsTextLabel, NameText};
-ghost use Rattle.std.specs.List.{flat_map};
+ghost use Rattle.std.specs.Prelude.{◌≡◌, ◌∷◌, ◌++◌, [], IfOk, All, Some};
+ghost use Rattle.std.specs.Fmt.{WritesOnOk};
 ghost use Rattle.std.specs.String.{string_bytes};
-ghost use Rattle.dnw_name.specs.NamePrint.{is_plain, octet_print, label_print, labels_print, name_print};
+ghost use Rattle.dnw_label.specs.LabelPrint.{label_print};
+ghost use Rattle.dnw_label.specs.LabelText.{IsTextLabel};
+ghost use Rattle.dnw_name.specs.NameText.{NameText};
+ghost use Rattle.dnw_name.specs.NamePrint.{labels_print, name_print};
 
-use crate::label::Label;
+use crate::lower_name::LowerName;
 use crate::name::Name;
+use dnw_label::fmt_label;
 use std::alloc::{AllocError, Global};
+use std::fmt;
 
 impl Name {
     /// The name's text (RFC 1035 5.1). Where each label is one that `Label::from_ascii` accepts, `from_ascii`
@@ -17,71 +20,77 @@ impl Name {
         ensures text { IfOk result (λ text. string_bytes text ≡ name_print self.now) }
         ensures read_back { IfOk result (λ text. All IsTextLabel self.now.labels → NameText (string_bytes text) self.now) }
     {
-        printed(alloc, self)
+        // Asked for its length, the name shows that it is one.
+        let _octets = self.len();
+        self.to_string(alloc)
     }
-}
 
-fn printed(alloc: Global, name: &Name) -> Result<String, AllocError>
-    ensures text { IfOk result (λ text. string_bytes text ≡ name_print name.now) }
-    ensures name { IfOk result (λ _. IsDomainName name.now) }
-{
-    let mut text = String::new(alloc);
-    let mut labels = name.iter();
-    if let Some(first) = labels.next() {
-        push_label(&mut text, first)?;
-    }
-    'labels: while let Some(label) = labels.next() {
-        text.push('.')?;
-        push_label(&mut text, label)?;
-    }
-    if name.is_fqdn() {
-        text.push('.')?;
-    }
-    Ok(text)
-}
-
-impl Label {
-    /// The label's text, as it stands in that of a name.
-    pub fn to_ascii(&self, alloc: Global) -> Result<String, AllocError>
-        ensures { IfOk result (λ text. string_bytes text ≡ label_print self.now) }
+    /// The name's text, which is that of its ASCII form.
+    pub fn to_utf8(&self, alloc: Global) -> Result<String, AllocError>
+        ensures text { IfOk result (λ text. string_bytes text ≡ name_print self.now) }
+        ensures read_back { IfOk result (λ text. All IsTextLabel self.now.labels → NameText (string_bytes text) self.now) }
     {
-        let mut text = String::new(alloc);
-        push_label(&mut text, self.as_bytes())?;
-        Ok(text)
+        self.to_ascii(alloc)
     }
 }
 
-fn push_label(text: &mut String, label: &[u8]) -> Result<(), AllocError>
-    ensures { OnOk result (string_bytes text.new ≡ string_bytes text.old ++ label_print label.now) }
+impl fmt::Display for Name {
+    ghost output = { λ name. Some (name_print name) };
+
+    fn fmt<W: fmt::Write>(&self, f: &mut fmt::Formatter<W>) -> fmt::Result {
+        fmt_labels(f, self)?;
+        if self.is_fqdn() {
+            f.write_char('.')?;
+        }
+        Ok(())
+    }
+}
+
+impl fmt::Debug for Name {
+    ghost debug_output = { λ name. Some (name_print name) };
+
+    fn fmt<W: fmt::Write>(&self, f: &mut fmt::Formatter<W>) -> fmt::Result {
+        fmt::Display::fmt(self, f)
+    }
+}
+
+impl fmt::Display for LowerName {
+    ghost output = { λ name. Some (name_print name) };
+
+    fn fmt<W: fmt::Write>(&self, f: &mut fmt::Formatter<W>) -> fmt::Result {
+        let name: &Name = self;
+        fmt::Display::fmt(name, f)
+    }
+}
+
+impl fmt::Debug for LowerName {
+    ghost debug_output = { λ name. Some (name_print name) };
+
+    fn fmt<W: fmt::Write>(&self, f: &mut fmt::Formatter<W>) -> fmt::Result {
+        let name: &Name = self;
+        fmt::Display::fmt(name, f)
+    }
+}
+
+// Writes the labels, with a dot before each but the first.
+fn fmt_labels<W: fmt::Write>(f: &mut fmt::Formatter<W>, name: &Name) -> fmt::Result
+    ensures { WritesOnOk W.write_str_gives f.old result (labels_print name.now.labels) f.new }
 {
-    let Some((first, rest)) = label.split_first() else {
+    let mut labels = name.iter();
+    let Some(first) = labels.next() else {
         return Ok(());
     };
-    push_octet(text, true, *first)?;
-    'octets: for octet in rest {
-        push_octet(text, false, *octet)?;
+    fmt_label(f, first)?;
+    'labels: while let Some(label) = labels.next() {
+        fmt_later_label(f, label)?;
     }
     Ok(())
 }
 
-fn push_octet(text: &mut String, first: bool, octet: u8) -> Result<(), AllocError>
-    ensures { OnOk result (string_bytes text.new ≡ string_bytes text.old ++ octet_print first octet) }
+// Writes a dot and a label.
+fn fmt_later_label<W: fmt::Write>(f: &mut fmt::Formatter<W>, label: &[u8]) -> fmt::Result
+    ensures { WritesOnOk W.write_str_gives f.old result (46 ∷ label_print label.now) f.new }
 {
-    if is_plain(first, octet) {
-        return text.push(char::from(octet));
-    }
-    text.push('\\')?;
-    if b'!' <= octet && octet <= b'~' {
-        return text.push(char::from(octet));
-    }
-    text.push(char::from(b'0' + octet / 64))?;
-    text.push(char::from(b'0' + octet / 8 % 8))?;
-    text.push(char::from(b'0' + octet % 8))
-}
-
-fn is_plain(first: bool, octet: u8) -> bool
-    ensures { result ≡ is_plain first octet }
-{
-    let special = if first { b'*' } else { b'-' };
-    octet.is_ascii_alphanumeric() || octet == b'_' || octet == special
+    f.write_char('.')?;
+    fmt_label(f, label)
 }

@@ -1,7 +1,8 @@
 use Rattle.std.proofs.Common.{◌∙◌, ap, sym, true, length, arith}
 use Rattle.dnw_codes.specs.ProtoError.{IsMemory}
 use Rattle.dnw_name.proofs.Lengths.{IsDomainName-flag}
-use Rattle.dnw_name.proofs.TextLemmas.{labels-no_next, labels-refused, name-last, name-closed, name-more, label-shorter}
+use Rattle.dnw_label.proofs.LabelTextLemmas.{label-shorter}
+use Rattle.dnw_name.proofs.TextLemmas.{labels-no_next, labels-refused, name-last, name-closed, name-more}
 use Rattle.dnw_name.proofs.name_text.name_of_labels.Goals as goal
 
 pub returns-in-Err-clause-refused : goal.returns-in-Err-clause-refused

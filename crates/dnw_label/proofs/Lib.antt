@@ -1,0 +1,3 @@
+pub mod LabelRoundTrip
+pub mod LabelTextLemmas
+pub mod Orders

@@ -1,0 +1,4 @@
+pub mod Label
+pub mod LabelHash
+pub mod LabelPrint
+pub mod LabelText

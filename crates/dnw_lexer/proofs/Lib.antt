@@ -1,0 +1,6 @@
+pub mod Characters
+pub mod Lists
+pub mod Numbers
+pub mod TokenLemmas
+pub mod Unique
+pub mod Words

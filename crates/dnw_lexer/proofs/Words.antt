@@ -1,0 +1,76 @@
+-- What was read of a word, and what is left of its text.
+use Rattle.std.proofs.Common.{◌≡◌, ◌≢◌, ◌∙◌, ℕ, ◌++◌, Bool, true, false, List, [], ◌∷◌, refl, sym, ap, subst, ◌⊎◌, inl, inr, arith}
+use Rattle.std.proofs.lemmas.Bool.Decides.{nat_tests}
+use Rattle.std.specs.Prelude.{Result, Ok, Err, Option, Some, None, MatchOption, MatchBool, ◌==◌}
+use Rattle.std.specs.Str.{encode_utf8_all}
+use Rattle.std.proofs.lemmas.List.{append_assoc, append-nil}
+use Rattle.std.proofs.lemmas.Str.{encodes-append}
+use Rattle.dnw_codes.specs.declared.error.LexerError.{LexerError}
+use Rattle.dnw_codes.specs.declared.error.LexerError.TheVariants.{EOF, UnrecognizedChar}
+use Rattle.dnw_lexer.specs.Lexer.{Reading, before, unit, ends_word, escape, PlainText, plain, escaped, bracket, cut, StringText, plain as string-plain, escaped as string-escaped, no_escape}
+
+before-nothing : (r : Reading) → before [] r ≡ r
+before-nothing (Ok found) = refl
+before-nothing (Err e) = refl
+
+before-before : (v w : List ℕ) (r : Reading) → before v (before w r) ≡ before (v ++ w) r
+before-before v w (Ok found) = ap (λ (x : List ℕ). Ok (x, found.1)) (sym (append_assoc v w found.0))
+before-before v w (Err e) = refl
+
+-- The octets of the word so far, and what stands for the text from here on stands for the whole behind the word.
+pub record SoFar (P : List ℕ → Reading → Type 0) (text octets rest : List ℕ) : Type 0 where
+  pub word : List ℕ
+  pub is : octets ≡ encode_utf8_all word
+  pub sound : (r : Reading) → P rest r → P text (before word r)
+
+module _ (P : List ℕ → Reading → Type 0) (text : List ℕ) where
+  pub start : SoFar P text [] text
+  start = record { word = []; is = refl; sound = λ r p. subst (P text) (sym (before-nothing r)) p }
+
+  pub more : (octets rest : List ℕ) (u longer behind : List ℕ) → SoFar P text octets rest → longer ≡ octets ++ encode_utf8_all u → ((r : Reading) → P behind r → P rest (before u r)) → SoFar P text longer behind
+  more octets rest u longer behind h e step =
+      record {
+        word = h.word ++ u;
+        is = e ∙ ap (λ o. o ++ encode_utf8_all u) h.is ∙ sym (encodes-append h.word u);
+        sound = λ r p. subst (P text) (before-before h.word u r) (h.sound (before u r) (step r p));
+      }
+
+  pub done : (octets rest behind : List ℕ) → SoFar P text octets rest → P rest (Ok ([], behind)) → (w : List ℕ) × (octets ≡ encode_utf8_all w) × P text (Ok (w, behind))
+  done octets rest behind h p =
+      (h.word, h.is, subst (λ (w : List ℕ). P text (Ok (w, behind))) (append-nil h.word) (h.sound (Ok ([], behind)) p))
+
+  pub failed : (octets rest : List ℕ) (e : LexerError) → SoFar P text octets rest → P rest (Err e) → P text (Err e)
+  failed octets rest e h p = h.sound (Err e) p
+
+-- A character of a plain word, and the one that stays with it.
+pub plain-step : (inside : Bool) (c : ℕ) (rest behind later : List ℕ) (next : Option ℕ) → rest ≡ c ∷ behind → ends_word inside (c ∷ behind) ≡ false → (c ≢ 41) × MatchOption next ((c ≢ 92) × (later ≡ behind)) (λ d. (c ≡ 92) × (behind ≡ d ∷ later)) → (r : Reading) → PlainText inside later r → PlainText inside rest (before (unit c next) r)
+plain-step inside c rest behind later None e no_end h r p =
+    subst (λ (t : List ℕ). PlainText inside t (before (c ∷ []) r)) (sym e)
+    (plain c behind r no_end h.0 (h.1).0 (subst (λ (t : List ℕ). PlainText inside t r) (h.1).1 p))
+plain-step inside c rest behind later (Some d) e no_end h r p =
+    subst (λ (t : List ℕ). PlainText inside t (before (c ∷ d ∷ []) r)) (sym (e ∙ ap (λ t. c ∷ t) (h.1).1)) (escaped c d later r (h.1).0 p)
+
+-- A character that has no place in a plain word.
+pub plain-refused : (inside : Bool) (c : ℕ) (rest behind : List ℕ) (e : LexerError) → rest ≡ c ∷ behind → ends_word inside (c ∷ behind) ≡ false → ((c ≡ 41) × (e ≡ UnrecognizedChar c)) ⊎ ((c ≡ 92) × (behind ≡ []) × (e ≡ EOF)) → PlainText inside rest (Err e)
+plain-refused inside c rest behind e is no_end (inl h) =
+    rw (is, h.1) (bracket c behind no_end h.0)
+plain-refused inside c rest behind e is no_end (inr h) =
+    let alone : rest ≡ c ∷ [] = is ∙ ap (λ t. c ∷ t) h.1 in
+    rw (alone, h.2) (cut c h.0)
+
+is_slash : (c : ℕ) → (c == 92) ≡ true → c ≡ 92
+is_slash c e = grind (arith, nat_tests)
+
+not_slash : (c : ℕ) → (c == 92) ≡ false → c ≢ 92
+not_slash c e h = absurd (grind (arith, nat_tests))
+
+-- A character of a string in quotes.
+pub string-step : (c d : ℕ) (rest behind later : List ℕ) → rest ≡ c ∷ behind → c ≢ 34 → MatchBool (c == 92) (escape behind ≡ Ok (d, later)) ((d ≡ c) × (later ≡ behind)) → (r : Reading) → StringText later r → StringText rest (before (d ∷ []) r)
+string-step c d rest behind later is no_quote h r p = by_test (c == 92) refl h
+  where
+    by_test : (b : Bool) → (c == 92) ≡ b → MatchBool b (escape behind ≡ Ok (d, later)) ((d ≡ c) × (later ≡ behind)) → StringText rest (before (d ∷ []) r)
+    by_test true e h = rw is (string-escaped c d behind later r (is_slash c e) h p)
+    by_test false e h = rw (is, h.0) (string-plain c behind r no_quote (not_slash c e) (subst (λ (t : List ℕ). StringText t r) h.1 p))
+
+pub string-refused : (c : ℕ) (rest behind : List ℕ) (e : LexerError) → rest ≡ c ∷ behind → (c ≡ 92) × (escape behind ≡ Err e) → StringText rest (Err e)
+string-refused c rest behind e is h = rw is (no_escape c behind e h.0 h.1)

@@ -1,0 +1,12 @@
+use Rattle.std.proofs.Common.{length}
+use Rattle.std.specs.Prelude.{chars, IsUtf8}
+use Rattle.std.specs.String.{string_bytes}
+use Rattle.dnw_lexer.specs.Lexer.{StringText}
+use Rattle.dnw_lexer.proofs.Words.{SoFar}
+use Rattle.dnw_lexer.proofs.word.quoted_string.Given as goal
+
+abbrev pub invariant-characters : goal.invariant-characters
+invariant-characters l = IsUtf8 l.rest × SoFar StringText (chars l.text) (string_bytes l.word) (chars l.rest)
+
+abbrev pub decreases-characters : goal.decreases-characters
+decreases-characters l = length (chars l.rest)

@@ -1,0 +1,3 @@
+pub mod Lexer
+pub mod Tokens
+pub mod Ttl
