@@ -1,0 +1,4 @@
+pub mod Standing
+pub mod Reached
+pub mod Progress
+pub mod Refused

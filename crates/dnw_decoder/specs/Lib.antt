@@ -1,0 +1,6 @@
+pub mod Codes
+pub mod Elements
+pub mod Octets
+pub mod Reading
+pub mod Refusals
+pub mod Spelling
