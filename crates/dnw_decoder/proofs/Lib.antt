@@ -1,4 +1,3 @@
-pub mod Standing
-pub mod Reached
 pub mod Progress
+pub mod Reached
 pub mod Refused

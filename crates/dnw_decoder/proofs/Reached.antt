@@ -4,7 +4,8 @@ use Rattle.dnw_name.specs.Label.{IsLabel}
 use Rattle.dnw_decoder.specs.Octets.{Stands}
 use Rattle.dnw_decoder.specs.Spelling.{pointer_octets, Spelled, Spells, at_end, at_label, at_pointer, pointers}
 use Rattle.dnw_decoder.specs.Refusals.{Reaches, at_start, behind_label, at_target}
-use Rattle.dnw_decoder.proofs.Standing.{stands_head, stands_same, pointer_once}
+use Rattle.dnw_decoder.specs.Standing.{stands_head, stands_same, pointer_once}
+use Rattle.dnw_decoder.specs.SpellingLaws.{label_first, pointer_first}
 
 -- Whatever is spelled from here on completes the whole.
 pub reached_whole : (message : List ℕ) (start : ℕ) (found : List (List ℕ)) (segment bound place : ℕ) (resume : Option ℕ) → Reaches message start found segment bound place resume → (rest : List (List ℕ)) (end : ℕ) → Spelled message segment bound place rest end → Spells message start (found ++ rest) (unwrap_or resume end)
@@ -14,28 +15,6 @@ reached_whole message start _ _ _ _ _ (behind_label {found = found} {resume = re
     (reached_whole message start _ _ _ _ _ before (next ∷ rest) end (at_label inside is_label there s))
 reached_whole message start _ _ _ _ _ (at_target {behind = behind} before inside backward small there) rest end s =
     reached_whole message start _ _ _ _ _ before rest behind (at_pointer inside backward small there s)
-
--- Where a label stands, what is spelled begins with it.
-pub label_first : (message : List ℕ) (segment bound place behind : ℕ) (one : List ℕ) (all : List (List ℕ)) (end : ℕ) → IsLabel one → Stands message place (length one ∷ one) behind → Spelled message segment bound place all end → (rest : List (List ℕ)) × (all ≡ one ∷ rest) × Spelled message segment bound behind rest end
-label_first message segment bound place behind one _ end is there (at_end inside s) =
-    absurd (omega (arith, stands_head message place _ _ _ there, stands_head message place _ _ _ s, is.some))
-label_first message segment bound place behind one _ end is there (at_label {behind = other} {first = first} {rest = rest} inside is_label s later) =
-    let head : length first ≡ length one = sym (stands_head message place _ _ _ s) ∙ stands_head message place _ _ _ there in
-    let same = stands_same message place (length first ∷ first) (length one ∷ one) other behind (omega arith) s there in
-    let label : first ≡ one = ap (λ (octets : List ℕ). drop 1 octets) same.0 in
-    (rest, ap (λ (l : List ℕ). l ∷ rest) label, subst (λ (p : ℕ). Spelled message segment bound p rest end) same.1 later)
-label_first message segment bound place behind one all end is there (at_pointer {target = target} inside backward small s later) =
-    absurd (omega (arith, stands_head message place _ _ _ there, stands_head message place _ _ _ s, is.few))
-
--- Where a pointer stands, what is spelled is at its target.
-pub pointer_first : (message : List ℕ) (segment bound place target behind : ℕ) (all : List (List ℕ)) (end : ℕ) → target < 16384 → Stands message place (pointer_octets target) behind → Spelled message segment bound place all end → (later : ℕ) × (end ≡ behind) × Spelled message target segment target all later
-pointer_first message segment bound place target behind _ end small there (at_end inside s) =
-    absurd (omega (arith, stands_head message place _ _ _ there, stands_head message place _ _ _ s))
-pointer_first message segment bound place target behind _ end small there (at_label {first = first} inside is_label s later) =
-    absurd (omega (arith, stands_head message place _ _ _ there, stands_head message place _ _ _ s, is_label.few))
-pointer_first message segment bound place target behind all end small there (at_pointer {target = other} {end = last} inside backward few s later) =
-    let same = pointer_once message place other target end behind s there in
-    (last, same.1, subst (λ (t : ℕ). Spelled message t segment t all last) same.0 later)
 
 -- Every whole begins with what was read.
 pub reached_only : (message : List ℕ) (start : ℕ) (found : List (List ℕ)) (segment bound place : ℕ) (resume : Option ℕ) → Reaches message start found segment bound place resume → (all : List (List ℕ)) (end : ℕ) → Spells message start all end → (rest : List (List ℕ)) × (later : ℕ) × (all ≡ found ++ rest) × (end ≡ unwrap_or resume later) × Spelled message segment bound place rest later
@@ -48,10 +27,3 @@ reached_only message start _ _ _ _ _ (at_target {segment = segment} {bound = bou
     let earlier = reached_only message start _ _ _ _ _ before all end s in
     let first = pointer_first message segment bound place target behind earlier.0 earlier.1 small there earlier.4 in
     (earlier.0, first.0, earlier.2, earlier.3 ∙ ap (λ (e : ℕ). unwrap_or resume e) first.1, first.2)
-
--- Each pointer goes strictly backward, and below 16,384.
-pub pointers_few : (message : List ℕ) (segment bound place : ℕ) (found : List (List ℕ)) (end : ℕ) (s : Spelled message segment bound place found end) → pointers s ≤ min segment 16384
-pointers_few message segment bound place _ end (at_end inside there) = omega arith
-pointers_few message segment bound place _ end (at_label inside is_label there rest) = pointers_few message segment bound _ _ end rest
-pointers_few message segment bound place found end (at_pointer {target = target} inside backward small there rest) =
-    omega (arith, pointers_few message target segment target found _ rest)

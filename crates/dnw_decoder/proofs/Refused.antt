@@ -8,7 +8,7 @@ use Rattle.dnw_name.specs.DomainName.{DomainName, labels_len}
 use Rattle.dnw_decoder.specs.Reading.{IsWantOfMemory}
 use Rattle.dnw_decoder.specs.Spelling.{pointer_octets, Spelled, at_end, at_label, at_pointer, NameAt}
 use Rattle.dnw_decoder.specs.Refusals.{Refuses, IsCause, element_len, pointed}
-use Rattle.dnw_decoder.proofs.Standing.{stands_head, stands_second, stands_within}
+use Rattle.dnw_decoder.specs.Standing.{stands_head, stands_second, stands_within}
 use Rattle.dnw_decoder.proofs.Reached.{reached_only}
 
 pub element_short : (first : ℕ) → first < 64 → element_len first ≡ first + 1

@@ -4,3 +4,5 @@ pub mod Octets
 pub mod Reading
 pub mod Refusals
 pub mod Spelling
+pub mod SpellingLaws
+pub mod Standing
