@@ -1,0 +1,5 @@
+pub mod Effects
+pub mod Encoders
+pub mod Laws
+pub mod Members
+pub mod State
