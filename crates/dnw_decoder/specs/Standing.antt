@@ -1,6 +1,6 @@
 -- What stands in a message: fronts and heads.
-use Rattle.std.proofs.Common.{◌≡◌, ℕ, ◌+◌, ◌/◌, ◌%◌, ◌<◌, ◌≤◌, List, [], ◌∷◌, ◌++◌, length, get_or, take, drop, refl, sym, ap, ◌∙◌, arith, add-zero}
-use Rattle.std.proofs.lemmas.List.{length-take, length-drop, length-append, get_or-drop, drop-drop, take-append-drop, take_at}
+use Rattle.std.proofs.Common.{◌≡◌, ℕ, ◌+◌, ◌/◌, ◌%◌, ◌<◌, ◌≤◌, List, [], ◌∷◌, ◌++◌, length, get_or, take, drop, refl, sym, ap, ◌∙◌, arith, add-zero, append_assoc}
+use Rattle.std.proofs.lemmas.List.{length-take, length-drop, length-append, get_or-drop, drop-drop, take-append-drop, take_at, drop_at}
 use Rattle.dnw_decoder.specs.Octets.{Stands, octets_32}
 use Rattle.dnw_decoder.specs.Spelling.{pointer_octets}
 
@@ -54,3 +54,21 @@ cut_none message place wanted octets end long some cut there =
 pub length-octets_32 : (n : ℕ) → length (octets_32 n) ≡ 4
 unfolding octets_32
 length-octets_32 n = refl
+
+-- A front stands there, and the rest behind it.
+pub stands_split : (message : List ℕ) (place : ℕ) (front rest : List ℕ) (end : ℕ) → Stands message place (front ++ rest) end → Stands message place front (place + length front) × Stands message (place + length front) rest end
+stands_split message place front rest end s =
+    let whole : drop place message ≡ front ++ (rest ++ drop end message) = s.there ∙ append_assoc front rest (drop end message) in
+    let behind : drop (place + length front) message ≡ rest ++ drop end message =
+      sym (drop-drop (length front) place message) ∙ ap (λ (t : List ℕ). drop (length front) t) whole ∙ drop_at front (rest ++ drop end message) (length front) refl in
+    (
+      record { there = whole ∙ ap (λ (t : List ℕ). front ++ t) (sym behind); behind = refl },
+      record { there = behind; behind = omega (arith, s.behind, length-append front rest) }
+    )
+
+-- One behind the other.
+pub stands_joined : (message : List ℕ) (place : ℕ) (front : List ℕ) (middle : ℕ) (rest : List ℕ) (end : ℕ) → Stands message place front middle → Stands message middle rest end → Stands message place (front ++ rest) end
+stands_joined message place front middle rest end s t = record {
+  there = s.there ∙ ap (λ (o : List ℕ). front ++ o) t.there ∙ sym (append_assoc front rest (drop end message));
+  behind = omega (arith, s.behind, t.behind, length-append front rest);
+}

@@ -1,6 +1,10 @@
 -- What the calls of an encoder do to it.
-use Rattle.std.specs.Prelude.{◌≡◌, ℕ, ◌+◌, ◌<◌, ◌≤◌, true, List, [], ◌∷◌, ◌++◌, length, take, drop, get_or, replicate}
-use Rattle.std.specs.List.{AllByRecursion}
+use Rattle.std.specs.Prelude.{◌≡◌, ℕ, ◌+◌, ◌<◌, ◌≤◌, true, List, [], ◌∷◌, ◌++◌, length, take, drop, get_or, replicate, slice_range}
+use Rattle.std.specs.List.{All}
+use Rattle.std.proofs.Common.{◌⊎◌}
+use Rattle.dnw_codes.specs.ProtoError.{IsMemory}
+use Rattle.dnw_codes.specs.declared.error.ProtoError.{ProtoError}
+use Rattle.dnw_codes.specs.declared.error.ProtoError.TheVariants.{MaxBufferSizeExceeded}
 use Rattle.dnw_name.specs.DomainName.{name_octets, domain_name}
 use Rattle.dnw_name.specs.Label.{IsLabel}
 use Rattle.dnw_decoder.specs.Octets.{Stands}
@@ -42,7 +46,7 @@ pub record Same (cut : ℕ) (old new : State) : Type 0 where
 pub record IsStanding (s : State) (c : Candidate) : Type 0 where
   pub within : c.end ≤ length s.octets
   pub small : c.place < 16383
-  pub spelled : (labels : List (List ℕ)) → AllByRecursion IsLabel labels → c.octets ≡ name_octets (domain_name true labels) → Holds s c.end (λ octets. Spells octets c.place labels c.end)
+  pub spelled : (labels : List (List ℕ)) → All IsLabel labels → c.octets ≡ name_octets (domain_name true labels) → Holds s c.end (λ octets. Spells octets c.place labels c.end)
 
 pub record AllStand (s : State) : Type 0 where
   pub each : (c : Candidate) → In c s.candidates → IsStanding s c
@@ -106,4 +110,23 @@ pub record Trims (old new : State) : Type 0 where
   pub only : (c : Candidate) → In c new.candidates → In c old.candidates × (c.end ≤ old.offset)
   pub places : (r : OpenPlace) → In r new.places → r.to ≤ old.offset
   pub sound : AllStand old → Sound new
+  pub modes : SameModes old new
+
+-- A write of so many octets is refused: it would pass the maximum, or a growth was refused.
+abbrev pub IsRefusal : State → ℕ → ProtoError → Type 0
+IsRefusal s size e = IsMemory e ⊎ ((e ≡ MaxBufferSizeExceeded s.maximum) × (s.maximum < s.offset + size))
+
+-- Some candidate has these octets.
+abbrev pub Has : List Candidate → List ℕ → Type 0
+Has cs octets = (c : Candidate) × In c cs × (c.octets ≡ octets)
+
+-- A range of the octets may become a candidate, and does where pointers are written and there is room.
+pub record Stores (start end : ℕ) (old new : State) : Type 0 where
+  pub octets : new.octets ≡ old.octets
+  pub offset : new.offset ≡ old.offset
+  pub places : new.places ≡ old.places
+  pub keeps : (c : Candidate) → In c old.candidates → In c new.candidates
+  pub only : (c : Candidate) → In c new.candidates → In c old.candidates ⊎ (c ≡ record { place = start; octets = slice_range old.octets start end; end = end })
+  pub becomes : old.points ≡ true → length old.candidates < 64 → start < 16383 → Has new.candidates (slice_range old.octets start end)
+  pub sound : Sound old → Sound new
   pub modes : SameModes old new

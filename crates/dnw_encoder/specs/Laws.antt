@@ -1,7 +1,6 @@
 -- Laws of what the calls of an encoder do: how they join, and that what stands goes on standing.
 use Rattle.std.proofs.Common.{◌≡◌, ℕ, ◌+◌, ◌-◌, ◌<◌, ◌≤◌, ◌⊎◌, inl, inr, List, [], ◌∷◌, ◌++◌, length, get_or, take, drop, refl, sym, ap, subst, ◌∙◌, arith, append_assoc, append-nil}
 use Rattle.std.proofs.lemmas.List.{length-take, length-drop, length-append, take-take, take_at, take_all, drop_all, get_or-take, get_or-drop, get_or-append_right, ext_get_or}
-use Rattle.std.specs.List.{AllByRecursion}
 use Rattle.dnw_name.specs.Label.{IsLabel}
 use Rattle.dnw_decoder.specs.Octets.{Stands}
 use Rattle.dnw_decoder.specs.Standing.{stands_front}

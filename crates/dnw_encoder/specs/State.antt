@@ -1,5 +1,7 @@
 -- An encoder: the octets of a message that is being written, and what its writer keeps beside them.
 use Rattle.std.specs.Prelude.{◌≡◌, ℕ, Bool, true, false, List, []}
+use Rattle.dnw_codes.specs.declared.error.ProtoError.{ProtoError}
+use Rattle.dnw_codes.specs.declared.error.ProtoError.TheVariants.{CharacterDataTooLong}
 use Rattle.dnw_encoder.specs.declared.modes.NameEncoding.{NameEncoding}
 use Rattle.dnw_encoder.specs.declared.modes.NameEncoding.TheVariants.{Compressed, Uncompressed, UncompressedLowercase}
 use Rattle.dnw_encoder.specs.declared.place.OpenPlace.{OpenPlace}
@@ -42,3 +44,11 @@ started octets offset encoding = record {
   candidates = [];
   places = [];
 }
+
+-- The same encoder in another mode.
+abbrev pub with_encoding : State → NameEncoding → State
+with_encoding s encoding = record s { encoding = encoding; points = writes_pointers encoding }
+
+-- The error for a string of so many octets, which are more than 255.
+abbrev pub string_too_long : ℕ → ProtoError
+string_too_long octets = CharacterDataTooLong 255 octets

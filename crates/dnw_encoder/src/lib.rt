@@ -2,10 +2,13 @@
 #![tactic(auto)]
 
 mod buffer;
+mod encodable;
 mod encoder;
 mod modes;
+mod name;
 mod place;
 
+pub use encodable::{BinEncodable, EncodedSize};
 pub use encoder::BinEncoder;
 pub use modes::{NameEncoding, RDataEncoding};
 pub use place::Place;
