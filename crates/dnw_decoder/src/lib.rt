@@ -1,0 +1,12 @@
+//! Octets of a DNS message read in order: numbers, strings and names (RFC 1035 2.3.2, 3.3 and 4.1.4).
+//!
+//! A contract sees a `BinDecoder` as the octets of its message and the index that is read next. What is read
+//! stands there, and the index moves behind it; a refused read leaves it.
+#![tactic(auto)]
+
+mod decodable;
+mod decoder;
+mod name;
+
+pub use decodable::BinDecodable;
+pub use decoder::BinDecoder;

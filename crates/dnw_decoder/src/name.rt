@@ -1,0 +1,151 @@
+//! Names as they are spelled in a message (RFC 1035 4.1.4).
+ghost use Rattle.std.specs.Prelude.{◌≡◌, ◌+◌, ◌-◌, ◌<◌, ◌≤◌, ◌∷◌, [], ◌++◌, ◌⊎◌, ℕ, List, length, get_or, IfOk, IfErr};
+ghost use Rattle.dnw_codes.specs.declared.error.DecodeError.TheVariants.{DomainNameTooLong};
+ghost use Rattle.dnw_name.specs.DomainName.{domain_name, labels_len, IsDomainName};
+ghost use Rattle.dnw_label.specs.Label.{IsLabel};
+ghost use Rattle.dnw_decoder.specs.Elements.{ElementAt};
+ghost use Rattle.dnw_decoder.specs.Octets.{Stands};
+ghost use Rattle.dnw_decoder.specs.Reading.{IsWantOfMemory};
+ghost use Rattle.dnw_decoder.specs.Refusals.{IsCause, Refuses};
+ghost use Rattle.dnw_decoder.specs.Spelling.{NameAt};
+
+use dnw_codes::{DecodeError, ProtoError};
+use dnw_name::Name;
+use std::alloc::Global;
+
+// One element of a name: its end, a label, or a pointer to where the rest is.
+enum Element<'a> {
+    End,
+    Label(&'a [u8]),
+    Pointer(usize),
+}
+
+// The element at a place of a segment whose elements begin before the bound.
+fn element_at<'a>(
+    octets: &'a [u8],
+    segment: usize,
+    bound: usize,
+    place: usize,
+) -> Result<Element<'a>, DecodeError>
+    requires { bound ≤ length octets.now }
+    ensures ok { IfOk result (ElementAt octets.now segment bound place) }
+    ensures cause { IfErr result (λ e. (found : List (List ℕ)) → IsCause octets.now found segment bound place e) }
+    ensures memory { IfErr result (λ e. IsWantOfMemory e → ⊥) }
+{
+    if bound <= place {
+        if bound < octets.len() {
+            return Err(DecodeError::LabelOverlapsWithOther {
+                label: segment,
+                other: bound,
+            });
+        }
+        return Err(DecodeError::InsufficientBytes);
+    }
+    let first = octets[place];
+    if first < 64 {
+        label_at(octets, segment, bound, place)
+    } else if first < 192 {
+        Err(DecodeError::UnrecognizedLabelCode(first))
+    } else {
+        pointer_at(octets, segment, bound, place)
+    }
+}
+
+// The label at a place, or the end.
+fn label_at<'a>(
+    octets: &'a [u8],
+    segment: usize,
+    bound: usize,
+    place: usize,
+) -> Result<Element<'a>, DecodeError>
+    requires within { place < length octets.now }
+    requires before { place < bound }
+    requires first { get_or octets.now place 0 < 64 }
+    ensures ok { IfOk result (ElementAt octets.now segment bound place) }
+    ensures cause { IfErr result (λ e. (found : List (List ℕ)) → IsCause octets.now found segment bound place e) }
+    ensures memory { IfErr result (λ e. IsWantOfMemory e → ⊥) }
+{
+    let length = usize::from(octets[place]);
+    let behind = place + 1 + length;
+    if octets.len() < behind {
+        Err(DecodeError::InsufficientBytes)
+    } else if length == 0 {
+        Ok(Element::End)
+    } else {
+        Ok(Element::Label(&octets[place + 1..behind]))
+    }
+}
+
+// The pointer at a place.
+fn pointer_at<'a>(
+    octets: &'a [u8],
+    segment: usize,
+    bound: usize,
+    place: usize,
+) -> Result<Element<'a>, DecodeError>
+    requires within { place < length octets.now }
+    requires before { place < bound }
+    requires first { 192 ≤ get_or octets.now place 0 }
+    ensures ok { IfOk result (ElementAt octets.now segment bound place) }
+    ensures cause { IfErr result (λ e. (found : List (List ℕ)) → IsCause octets.now found segment bound place e) }
+    ensures memory { IfErr result (λ e. IsWantOfMemory e → ⊥) }
+{
+    if octets.len() < place + 2 {
+        return Err(DecodeError::InsufficientBytes);
+    }
+    let target = u16::from_be_bytes([octets[place] - 192, octets[place + 1]]);
+    if segment <= usize::from(target) {
+        return Err(DecodeError::PointerNotPriorToLabel {
+            index: place,
+            target,
+        });
+    }
+    Ok(Element::Pointer(usize::from(target)))
+}
+
+// The name with a label more at its end.
+fn with_label(name: Name, label: &[u8]) -> Result<Name, DecodeError>
+    requires { IsLabel label.now }
+    ensures ok { IfOk result (λ longer. (longer ≡ domain_name name.fqdn (name.labels ++ label.now ∷ [])) × IsDomainName longer) }
+    ensures cause { IfErr result (λ e. IsWantOfMemory e ⊎ ((e ≡ DomainNameTooLong (labels_len name.labels + length label.now + 2))
+        × (255 < labels_len name.labels + length label.now + 2))) }
+{
+    match name.append_label(label) {
+        Ok(longer) => Ok(longer),
+        Err(ProtoError::Decode(refused)) => Err(refused),
+        Err(_) => Err(DecodeError::Memory),
+    }
+}
+
+/// The name that is spelled from a start on, and the index behind it.
+pub(crate) fn read_name(
+    alloc: Global,
+    octets: &[u8],
+    start: usize,
+) -> Result<(Name, usize), DecodeError>
+    requires { start ≤ length octets.now }
+    ensures ok { IfOk result (λ found. NameAt octets.now start found.0 found.1) }
+    ensures within { IfOk result (λ found. (start ≤ found.1) × (found.1 ≤ length octets.now)) }
+    ensures refused { IfErr result (Refuses octets.now start) }
+{
+    let mut name = Name::root(alloc);
+    let mut segment = start;
+    let mut bound = octets.len();
+    let mut place = start;
+    let mut resume = None;
+    'elements: loop {
+        match element_at(octets, segment, bound, place)? {
+            Element::End => return Ok((name, resume.unwrap_or(place + 1))),
+            Element::Label(label) => {
+                name = with_label(name, label)?;
+                place += 1 + label.len();
+            }
+            Element::Pointer(target) => {
+                resume = Some(resume.unwrap_or(place + 2));
+                bound = segment;
+                segment = target;
+                place = target;
+            }
+        }
+    }
+}

@@ -1,0 +1,47 @@
+//! Octets written over and behind others.
+ghost use Rattle.std.specs.Prelude.{◌≡◌, ◌+◌, ◌≤◌, ◌++◌, length, take, replicate, OnOk, OnErr};
+ghost use Rattle.dnw_encoder.specs.Effects.{written_at};
+
+use std::alloc::AllocError;
+
+// Puts octets over others.
+fn put(octets: &mut [u8], place: usize, more: &[u8])
+    requires { place + length more.now ≤ length octets.old }
+    ensures { octets.new ≡ written_at octets.old place more.now }
+{
+    'octets: for i in 0..more.len() {
+        octets[place + i] = more[i];
+    }
+}
+
+// Puts octets over others of a buffer.
+fn overwrite(buffer: &mut Vec<u8>, place: usize, more: &[u8])
+    requires { place + length more.now ≤ length buffer.old.items }
+    ensures { buffer.new.items ≡ written_at buffer.old.items place more.now }
+{
+    put(buffer, place, more);
+}
+
+// Puts a front and a rest at a place, over what is there and behind it.
+pub(crate) fn write_at(
+    buffer: &mut Vec<u8>,
+    place: usize,
+    front: &[u8],
+    rest: &[u8],
+) -> Result<(), AllocError>
+    requires { place ≤ length buffer.old.items }
+    ensures ok { OnOk result (buffer.new.items ≡ written_at buffer.old.items place (front.now ++ rest.now)) }
+    ensures err { OnErr result (buffer.new.items ≡ buffer.old.items) }
+{
+    let size = front.len() + rest.len();
+    if size <= buffer.len() - place {
+        overwrite(buffer, place, front);
+        overwrite(buffer, place + front.len(), rest);
+        return Ok(());
+    }
+    buffer.reserve(size)?;
+    buffer.truncate(place);
+    buffer.extend_from_slice(front)?;
+    buffer.extend_from_slice(rest)?;
+    Ok(())
+}

@@ -1,0 +1,14 @@
+//! Octets of a DNS message written in order: numbers, strings and names (RFC 1035 2.3.2, 3.3 and 4.1.4).
+#![tactic(auto)]
+
+mod buffer;
+mod encodable;
+mod encoder;
+mod modes;
+mod name;
+mod place;
+
+pub use encodable::{BinEncodable, EncodedSize};
+pub use encoder::BinEncoder;
+pub use modes::{NameEncoding, RDataEncoding};
+pub use place::Place;

@@ -1,0 +1,23 @@
+//! How names are written.
+
+/// How an encoder writes names.
+#[derive(Clone, Copy, Debug, PartialEq, Eq)]
+pub enum NameEncoding {
+    /// With pointers to names that were written before (RFC 1035 4.1.4).
+    Compressed,
+    /// In full.
+    Uncompressed,
+    /// In full and in lower case (RFC 4034 6.2).
+    UncompressedLowercase,
+}
+
+/// What kind of record data is written.
+#[derive(Clone, Copy, Debug, PartialEq, Eq)]
+pub enum RDataEncoding {
+    /// Data whose names may be compressed (RFC 3597 4), and are in lower case in canonical form.
+    StandardRecord,
+    /// Data whose names stand in full, and are in lower case in canonical form (RFC 4034 6.2).
+    Canonical,
+    /// Data whose names stand in full and as they are.
+    Other,
+}
