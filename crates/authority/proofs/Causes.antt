@@ -1,15 +1,15 @@
 -- The causes of a refused line, in their order.
 use Rattle.std.proofs.Common.{◌≡◌, refl, sym, ap, ◌∙◌, subst, ℕ, ◌+◌, ◌<◌, ◌≤◌, Bool, true, false, ◌&&◌, eqb, if◌then◌else◌, List, [], ◌∷◌, length, drop, get_or, Option, Some, IsSome, is_some, Result, Ok, Err, arith}
 use Rattle.std.proofs.lemmas.Bool.{eqb-true, eqb-false, both_ways}
-use Rattle.zst_record.specs.declared.codes.RecordType.{RecordType}
-use Rattle.zst_record.specs.declared.codes.RecordType.TheVariants as types
+use Rattle.dnw_codes.specs.declared.record_type.RecordType.{RecordType}
+use Rattle.dnw_codes.specs.declared.record_type.RecordType.TheVariants as types
 use Rattle.authority.specs.declared.loader.LoadCause.{LoadCause}
 use Rattle.authority.specs.declared.loader.LoadCause.TheVariants as causes
 use Rattle.zst_record.specs.declared.names.text.TextError.{TextError}
 use Rattle.zst_record.specs.declared.names.text.TextError.TheVariants as errors
 use Rattle.zst_record.specs.declared.record_data.RData.{RData}
 use Rattle.zst_record.specs.declared.record_data.RData.TheVariants as rdata
-use Rattle.zst_record.specs.Names.{DomainName, is_at_or_below}
+use Rattle.dnw_name.specs.DomainName.{DomainName, is_at_or_below}
 use Rattle.zst_record.specs.NameText.{IsNameText, ReadsText}
 use Rattle.zst_record.specs.RecordData.{rdata_type, has_full_names}
 use Rattle.zst_zone.specs.Zones.{View, stored}

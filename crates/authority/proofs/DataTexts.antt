@@ -4,8 +4,8 @@ use mir.Val.{to_z, of_z}
 use mir.Syntax.{w32}
 use Rattle.std.specs.Prelude.{ℤ, pos}
 use Rattle.std.proofs.lemmas.Int.{ints}
-use Rattle.zst_record.specs.declared.codes.RecordType.{RecordType}
-use Rattle.zst_record.specs.declared.codes.RecordType.TheVariants as types
+use Rattle.dnw_codes.specs.declared.record_type.RecordType.{RecordType}
+use Rattle.dnw_codes.specs.declared.record_type.RecordType.TheVariants as types
 use Rattle.zst_record.specs.declared.names.text.TextError.{TextError}
 use Rattle.zst_record.specs.declared.names.text.TextError.TheVariants as errors
 use Rattle.zst_record.specs.declared.record_data.RData.{RData}

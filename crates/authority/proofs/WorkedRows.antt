@@ -1,8 +1,8 @@
 -- The definitions computed on worked rows: a zone with a start of authority and one address, and what it is asked.
 use Rattle.std.proofs.Common.{◌≡◌, ℕ, Bool, true, false, List, [], ◌∷◌, ◌++◌, length, refl, arith}
 use Rattle.std.specs.Prelude.{codes, pos, None}
-use Rattle.zst_record.specs.declared.codes.RecordType.TheVariants as types
-use Rattle.zst_record.specs.declared.codes.DNSClass.TheVariants as classes
+use Rattle.dnw_codes.specs.declared.record_type.RecordType.TheVariants as types
+use Rattle.dnw_codes.specs.declared.dns_class.DNSClass.TheVariants as classes
 use Rattle.zst_record.specs.declared.record_data.RData.TheVariants as rdata
 use Rattle.zst_record.specs.declared.records.Record.{Record}
 use Rattle.zst_zone.specs.declared.settings.ZoneType.TheVariants as kinds
@@ -13,12 +13,12 @@ use Rattle.zsv_message.specs.declared.header.ResponseCode.{ResponseCode}
 use Rattle.zsv_message.specs.declared.header.ResponseCode.TheVariants as responses
 use Rattle.zsv_message.specs.declared.header.Metadata.{Metadata}
 use Rattle.zsv_message.specs.declared.request.Query.{Query}
-use Rattle.zst_record.specs.Names.{DomainName, name_octets, name_eq, is_at_or_below}
+use Rattle.dnw_name.specs.DomainName.{DomainName, name_octets, name_eq, is_at_or_below}
 use Rattle.std.specs.Cmp.Lexicographic.{slice_cmp}
 use Rattle.std.specs.Ordering.{nat_cmp}
 use Rattle.std.specs.declared.cmp.Ordering.TheVariants.{Less}
-use Rattle.zst_zone.specs.Keys.{rank, name_key}
-use Rattle.zst_record.specs.Octets.{octets_32}
+use Rattle.dnw_name.specs.NameKey.{rank, name_key}
+use Rattle.dnw_decoder.specs.Octets.{octets_32}
 use Rattle.zsv_message.specs.Headers.{header_of}
 use Rattle.zst_record.specs.Records.{record_octets}
 use Rattle.zsv_message.specs.Wire.{NameAt, ends, label}

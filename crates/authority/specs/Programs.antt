@@ -11,7 +11,7 @@ use Rattle.authority.specs.declared.stream.StreamError.{StreamError}
 use Rattle.authority.specs.declared.stream.StreamError.TheVariants as streams
 use Rattle.zst_zone.specs.declared.settings.ZoneType.TheVariants as kinds
 use Rattle.zst_zone.specs.declared.settings.AxfrPolicy.TheVariants as policies
-use Rattle.zst_record.specs.Names.{DomainName}
+use Rattle.dnw_name.specs.DomainName.{DomainName}
 use Rattle.zst_zone.specs.Zones.{View}
 use Rattle.authority.specs.ZoneText.{IsOwnerText, IsNumberText, IsZoneText, IsRefusedAt}
 use Rattle.authority.specs.Frames.{ServesFrames, ServesUntil}

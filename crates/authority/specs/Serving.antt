@@ -1,8 +1,8 @@
 -- What a server answers: RFC 1034, section 4.3.2; RFC 2308, section 3. One message, and a list of them.
 use Rattle.std.specs.Prelude.{◌≡◌, ℕ, Bool, true, false, List, [], ◌∷◌, Option, Some, None, if◌then◌else◌}
 use Rattle.std.specs.declared.net.SocketAddr.{SocketAddr}
-use Rattle.zst_record.specs.declared.codes.RecordType.{RecordType}
-use Rattle.zst_record.specs.declared.codes.RecordType.TheVariants as types
+use Rattle.dnw_codes.specs.declared.record_type.RecordType.{RecordType}
+use Rattle.dnw_codes.specs.declared.record_type.RecordType.TheVariants as types
 use Rattle.zst_record.specs.declared.records.Record.{Record}
 use Rattle.zsv_message.specs.declared.header.Metadata.{Metadata}
 use Rattle.zsv_message.specs.declared.header.MessageType.{MessageType}
@@ -14,8 +14,8 @@ use Rattle.zsv_message.specs.declared.header.ResponseCode.TheVariants as respons
 use Rattle.zsv_message.specs.declared.request.Query.{Query}
 use Rattle.authority.specs.declared.server.Protocol.{Protocol}
 use Rattle.authority.specs.declared.server.Protocol.TheVariants as protocols
-use Rattle.zst_record.specs.Names.{is_at_or_below}
-use Rattle.zst_record.specs.Codes.{same_type}
+use Rattle.dnw_name.specs.DomainName.{is_at_or_below}
+use Rattle.dnw_codes.specs.RecordType.{same_record_type}
 use Rattle.zst_record.specs.Records.{RRset}
 use Rattle.zst_zone.specs.Zones.{View, Outcome, answered, name_exists, name_error, out_of_zone, stored, lookup_result}
 use Rattle.zsv_message.specs.Requests.{Request, IsRequest}
@@ -51,7 +51,7 @@ apex view record_type = records_of (stored view.sets view.origin record_type)
 
 -- With an answer to a question for the zone's start come its name servers.
 abbrev pub beside_answer : View → RecordType → List Record
-beside_answer view record_type = if same_type record_type types.SOA then apex view types.NS else []
+beside_answer view record_type = if same_record_type record_type types.SOA then apex view types.NS else []
 
 -- The zone's own answer: the records; or the zone's start, with or without a name error.
 abbrev pub outcome_parts : View → Metadata → RecordType → Outcome → ReplyParts
@@ -64,7 +64,7 @@ outcome_parts view m record_type out_of_zone = record { metadata = reply_metadat
 abbrev pub question_parts : View → Metadata → Query → ReplyParts
 question_parts view m q =
     if is_at_or_below q.name view.origin
-    then if same_type q.query_type types.AXFR then error_parts m responses.ServFail
+    then if same_record_type q.query_type types.AXFR then error_parts m responses.ServFail
     else outcome_parts view m q.query_type (lookup_result view q.name q.query_type)
     else error_parts m responses.Refused
 

@@ -5,9 +5,9 @@ use Rattle.std.specs.Str.{str_eq_ignore_ascii_case}
 use Rattle.std.specs.Str.Lines.{lines}
 use Rattle.std.specs.Bool.{MatchBool}
 use Rattle.std.specs.Net.Grammar.{IsIpv4Text, IsNumber}
-use Rattle.zst_record.specs.declared.codes.RecordType.{RecordType}
-use Rattle.zst_record.specs.declared.codes.RecordType.TheVariants as types
-use Rattle.zst_record.specs.declared.codes.DNSClass.TheVariants as classes
+use Rattle.dnw_codes.specs.declared.record_type.RecordType.{RecordType}
+use Rattle.dnw_codes.specs.declared.record_type.RecordType.TheVariants as types
+use Rattle.dnw_codes.specs.declared.dns_class.DNSClass.TheVariants as classes
 use Rattle.authority.specs.declared.loader.LoadCause.{LoadCause}
 use Rattle.authority.specs.declared.loader.LoadCause.TheVariants as causes
 use Rattle.authority.specs.declared.loader.LoadError.{LoadError}
@@ -19,7 +19,7 @@ use Rattle.zst_record.specs.declared.record_data.SOA.{SOA}
 use Rattle.zst_record.specs.declared.record_data.RData.{RData}
 use Rattle.zst_record.specs.declared.record_data.RData.TheVariants as rdata
 use Rattle.zst_record.specs.declared.records.Record.{Record}
-use Rattle.zst_record.specs.Names.{DomainName, is_at_or_below}
+use Rattle.dnw_name.specs.DomainName.{DomainName, is_at_or_below}
 use Rattle.zst_record.specs.NameText.{IsNameText}
 use Rattle.zst_record.specs.RecordData.{rdata_type, has_full_names}
 use Rattle.zst_record.specs.Records.{has_only_full_names}

@@ -1,3 +1,2 @@
-pub mod NameTexts
-pub mod NamesSize
+pub mod NameLaws
 pub mod PutRecords

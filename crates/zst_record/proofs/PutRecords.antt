@@ -5,12 +5,12 @@ use Rattle.std.specs.List.{AllByRecursion, position_or_len}
 use Rattle.std.specs.Prelude.{Result, Ok, Err, OnOk, OnErr}
 use Rattle.std.specs.declared.alloc.AllocError.{AllocError}
 use Rattle.std.proofs.lemmas.Bool.{ltb-true, ltb-false, eq-eqb}
-use Rattle.zst_record.specs.declared.codes.RecordType.{RecordType}
+use Rattle.dnw_codes.specs.declared.record_type.RecordType.{RecordType}
 use Rattle.zst_record.specs.declared.records.Record.{Record}
 use Rattle.zst_record.specs.declared.record_data.RData.{RData}
-use Rattle.zst_record.specs.Names.{DomainName}
-use Rattle.zst_record.specs.NameLaws.{name_eq_equiv}
-use Rattle.zst_record.specs.Codes.{type_code}
+use Rattle.dnw_name.specs.DomainName.{DomainName}
+use Rattle.zst_record.proofs.NameLaws.{name_eq_equiv}
+use Rattle.dnw_codes.specs.RecordType.{record_type_number}
 use Rattle.zst_record.specs.RecordData.{rdata_type, rdata_eq}
 use Rattle.zst_record.specs.Records.{RRset, IsRecordOf, IsRRset, has_only_full_names}
 use Rattle.zst_record.specs.Records.{put_record}
@@ -88,7 +88,7 @@ IsRRset-single r full =
     let h : IsRecordOf r.name (rdata_type r.rdata) r
     = record {
       at_owner = name_eq_equiv.refl r.name;
-      of_type = eq-eqb (type_code (rdata_type r.rdata)) (type_code (rdata_type r.rdata)) refl;
+      of_type = eq-eqb (record_type_number (rdata_type r.rdata)) (record_type_number (rdata_type r.rdata)) refl;
       full_names = full;
     } in
     record { not_empty = omega arith; records = (h, tt) }

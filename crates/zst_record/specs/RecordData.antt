@@ -4,13 +4,13 @@ use Rattle.std.specs.Int.{w32, cast_unsigned}
 use Rattle.std.specs.Ordering.{int_eq}
 use Rattle.std.specs.Str.{bytes_eq}
 use Rattle.std.specs.Net.Addr.{ipv4_octets}
-use Rattle.zst_record.specs.declared.codes.RecordType.{RecordType}
-use Rattle.zst_record.specs.declared.codes.RecordType.TheVariants as types
+use Rattle.dnw_codes.specs.declared.record_type.RecordType.{RecordType}
+use Rattle.dnw_codes.specs.declared.record_type.RecordType.TheVariants as types
 use Rattle.zst_record.specs.declared.record_data.RData.{RData}
 use Rattle.zst_record.specs.declared.record_data.RData.TheVariants as rdata
 use Rattle.zst_record.specs.declared.record_data.SOA.{SOA}
-use Rattle.zst_record.specs.Names.{IsDomainName, name_octets, name_eq}
-use Rattle.zst_record.specs.Octets.{octets_32}
+use Rattle.dnw_name.specs.DomainName.{IsDomainName, name_octets, name_eq}
+use Rattle.dnw_decoder.specs.Octets.{octets_32}
 
 -- The type of the data.
 abbrev pub rdata_type : RData → RecordType
@@ -26,12 +26,12 @@ soa_numbers soa =
 
 -- RFC 1035, 3.3.13: two names, then five numbers.
 abbrev pub soa_octets : SOA → List ℕ
-soa_octets soa = name_octets soa.mname.labels ++ (name_octets soa.rname.labels ++ soa_numbers soa)
+soa_octets soa = name_octets soa.mname ++ (name_octets soa.rname ++ soa_numbers soa)
 
 -- The octets of the data, names uncompressed.
 abbrev pub rdata_octets : RData → List ℕ
 rdata_octets (rdata.A a) = ipv4_octets a.0
-rdata_octets (rdata.NS ns) = name_octets ns.0.labels
+rdata_octets (rdata.NS ns) = name_octets ns.0
 rdata_octets (rdata.SOA soa) = soa_octets soa
 
 -- Each name in the data ends at the root, as each name read from a message does.

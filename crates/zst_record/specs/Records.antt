@@ -1,22 +1,23 @@
 -- Resource records and their sets: RFC 1035, section 4.1.3; RFC 2181, section 5.
 use Rattle.std.specs.Prelude.{◌≡◌, ℕ, ◌<◌, Bool, true, List, [], ◌∷◌, ◌++◌, length, ◌&&◌, Option, Some, None, if◌then◌else◌}
 use Rattle.std.specs.List.{AllByRecursion}
-use Rattle.zst_record.specs.declared.codes.RecordType.{RecordType}
+use Rattle.dnw_codes.specs.declared.record_type.RecordType.{RecordType}
 use Rattle.zst_record.specs.declared.records.Record.{Record}
-use Rattle.zst_record.specs.Names.{DomainName, IsDomainName, name_octets, name_eq}
-use Rattle.zst_record.specs.Codes.{type_code, class_code, same_type}
-use Rattle.zst_record.specs.Octets.{octets_16, octets_32}
+use Rattle.dnw_name.specs.DomainName.{DomainName, IsDomainName, name_octets, name_eq}
+use Rattle.dnw_codes.specs.RecordType.{record_type_number, same_record_type}
+use Rattle.dnw_codes.specs.DNSClass.{class_number}
+use Rattle.dnw_decoder.specs.Octets.{octets_16, octets_32}
 use Rattle.zst_record.specs.RecordData.{rdata_type, rdata_octets, rdata_eq, has_full_names, SoundData}
 
 -- Between owner and data: type, class, time to live, and the length of the data.
 abbrev pub fixed_octets : Record → List ℕ
 fixed_octets r =
-    octets_16 (type_code (rdata_type r.rdata)) ++ octets_16 (class_code r.dns_class) ++ octets_32 r.ttl
+    octets_16 (record_type_number (rdata_type r.rdata)) ++ octets_16 (class_number r.dns_class) ++ octets_32 r.ttl
     ++ octets_16 (length (rdata_octets r.rdata))
 
 -- The octets of a record: owner, the fixed part, data.
 abbrev pub record_octets : Record → List ℕ
-record_octets r = name_octets r.name.labels ++ (fixed_octets r ++ rdata_octets r.rdata)
+record_octets r = name_octets r.name ++ (fixed_octets r ++ rdata_octets r.rdata)
 
 -- Every name of the record ends at the root.
 abbrev pub has_only_full_names : Record → Bool
@@ -36,7 +37,7 @@ pub record RRset : Type 0 where
 -- A record of the set: the set's owner and type; its names end at the root.
 pub record IsRecordOf (owner : DomainName) (record_type : RecordType) (r : Record) : Type 0 where
   pub at_owner : name_eq r.name owner ≡ true
-  pub of_type : same_type (rdata_type r.rdata) record_type ≡ true
+  pub of_type : same_record_type (rdata_type r.rdata) record_type ≡ true
   pub full_names : has_only_full_names r ≡ true
 
 -- A set has a record, and each of its records is of its owner and type.

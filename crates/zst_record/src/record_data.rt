@@ -3,8 +3,8 @@
 ghost use Rattle.std.specs.Prelude.{◌≡◌};
 ghost use Rattle.zst_record.specs.RecordData.{rdata_type, rdata_eq, soa_eq};
 
-use crate::codes::RecordType;
-use crate::names::Name;
+use dnw_codes::RecordType;
+use dnw_name::Name;
 use std::net::Ipv4Addr;
 
 /// A host's address (RFC 1035 section 3.4.1).

@@ -5,9 +5,9 @@ ghost use Rattle.zst_record.specs.RecordData.{rdata_type, rdata_eq};
 ghost use Rattle.zst_record.specs.Records.{RRset, IsRRset, IsRecordOf, has_only_full_names};
 ghost use Rattle.zst_record.specs.Records.{put_record as with_record, set_with};
 
-use crate::codes::{DNSClass, RecordType};
-use crate::names::Name;
 use crate::record_data::RData;
+use dnw_codes::{DNSClass, RecordType};
+use dnw_name::Name;
 use std::alloc::{AllocError, Global};
 use std::marker::Model;
 

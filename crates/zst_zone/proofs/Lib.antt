@@ -1,4 +1,3 @@
-pub mod KeyRanks
 pub mod Keys
 pub mod ZoneEntries
 pub mod ZoneMapsBy

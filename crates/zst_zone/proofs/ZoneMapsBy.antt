@@ -7,9 +7,10 @@ use Rattle.std.specs.BTreeMap.{is_at}
 use Rattle.std.specs.Ordering.{nat_cmp}
 use Rattle.std.specs.Cmp.Lexicographic.{slice_cmp}
 use Rattle.std.specs.Str.{bytes_eq}
-use Rattle.zst_record.specs.declared.codes.RecordType.{RecordType}
-use Rattle.zst_record.specs.Names.{DomainName}
-use Rattle.zst_zone.specs.Keys.{name_key, begins}
+use Rattle.dnw_codes.specs.declared.record_type.RecordType.{RecordType}
+use Rattle.dnw_name.specs.DomainName.{DomainName}
+use Rattle.dnw_name.specs.NameKey.{name_key}
+use Rattle.zst_zone.proofs.Keys.{begins}
 use Rattle.zst_record.specs.Records.{RRset}
 use Rattle.zst_zone.specs.Zones.{stored, exists_in}
 use Rattle.zst_zone.specs.ZoneMaps.{IsZone, sets_of}

@@ -14,10 +14,11 @@ use Rattle.std.proofs.lemmas.Map.Text.{is_eq-slice_cmp}
 use Rattle.std.proofs.lemmas.Cmp.{nat_list_cmp_total}
 use Rattle.std.proofs.lemmas.Slice.Eq.{bytes_eq-Decides}
 use Rattle.std.proofs.lemmas.Bool.{eqb-true, cases_order, and_parts, true≢false, le-ltb, ne_eqb, eq-eqb}
-use Rattle.zst_record.specs.declared.codes.RecordType.{RecordType}
-use Rattle.zst_record.specs.Names.{DomainName, name_eq, is_at_or_below}
-use Rattle.zst_record.specs.Codes.{same_type}
-use Rattle.zst_zone.specs.Keys.{name_key, begins}
+use Rattle.dnw_codes.specs.declared.record_type.RecordType.{RecordType}
+use Rattle.dnw_name.specs.DomainName.{DomainName, name_eq, is_at_or_below}
+use Rattle.dnw_codes.specs.RecordType.{same_record_type}
+use Rattle.dnw_name.specs.NameKey.{name_key}
+use Rattle.zst_zone.proofs.Keys.{begins}
 use Rattle.zst_record.specs.Records.{RRset}
 use Rattle.zst_zone.specs.Zones.{stored, exists_in}
 use Rattle.zst_zone.specs.ZoneMaps.{IsOwnedAt, IsNode, sets_of}
@@ -56,10 +57,10 @@ any_append p (x ∷ xs) ys = rw (any_append p xs ys) (or_assoc (p x) (list_any p
 
 -- ---- the sets under one key
 abbrev pub is_set_at : DomainName → RecordType → RRset → Bool
-is_set_at name t set = name_eq name set.owner && same_type set.record_type t
+is_set_at name t set = name_eq name set.owner && same_record_type set.record_type t
 
 abbrev pub is_of_type : RecordType → RRset → Bool
-is_of_type t set = same_type set.record_type t
+is_of_type t set = same_record_type set.record_type t
 
 pub owner_test : (name : DomainName) (key : List ℕ) (set : RRset) → IsOwnedAt key set → name_eq name set.owner ≡ bytes_eq (name_key name) key
 owner_test name key set is = sym (same_key name set.owner) ∙ ap (bytes_eq (name_key name)) is.owner

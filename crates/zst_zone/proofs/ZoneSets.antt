@@ -5,12 +5,12 @@ use Rattle.std.specs.declared.alloc.AllocError.{AllocError}
 use Rattle.std.specs.Str.{bytes_eq}
 use Rattle.std.specs.List.{AllByRecursion, insert}
 use Rattle.std.proofs.lemmas.Bool.{eqb-true, eqb-false, ltb-true, ltb-false, eq-eqb, ne_eqb, and_parts}
-use Rattle.zst_record.specs.declared.codes.RecordType.{RecordType}
+use Rattle.dnw_codes.specs.declared.record_type.RecordType.{RecordType}
 use Rattle.zst_record.specs.declared.records.Record.{Record}
-use Rattle.zst_record.specs.Names.{name_eq}
-use Rattle.zst_record.specs.Codes.{type_code, same_type}
-use Rattle.zst_zone.specs.Keys.{name_key}
-use Rattle.zst_record.specs.NameLaws.{name_eq_equiv}
+use Rattle.dnw_name.specs.DomainName.{name_eq}
+use Rattle.dnw_codes.specs.RecordType.{record_type_number, same_record_type}
+use Rattle.dnw_name.specs.NameKey.{name_key}
+use Rattle.zst_record.proofs.NameLaws.{name_eq_equiv}
 use Rattle.zst_record.specs.RecordData.{rdata_type, has_full_names}
 use Rattle.zst_record.specs.Records.{RRset, IsRecordOf, has_only_full_names}
 use Rattle.zst_record.specs.Records.{set_with}
@@ -19,7 +19,7 @@ use Rattle.zst_zone.proofs.Keys.{same_key}
 use Rattle.zst_zone.proofs.ZoneNodes.{is_of_type, owner_test}
 
 abbrev pub code_of : Record → ℕ
-code_of r = type_code (rdata_type r.rdata)
+code_of r = record_type_number (rdata_type r.rdata)
 
 -- ---- by place
 -- the set of the record's type stands at k, where the sets start at i
@@ -28,11 +28,11 @@ pub record FoundAt (i k : ℕ) (sets : List RRset) (r : Record) (d : RRset) (aft
   pub is : k ≡ i + j
   pub below : j < length sets
   pub owner : name_eq r.name (get_or sets j d).owner ≡ true
-  pub of_type : type_code (get_or sets j d).record_type ≡ code_of r
+  pub of_type : record_type_number (get_or sets j d).record_type ≡ code_of r
   pub after_is : after ≡ set sets j (set_with (Some (get_or sets j d)) r)
 
 found_step : (b c : Bool) (s : RRset) (sets after : List RRset) (r : Record) (d : RRset) (i k : ℕ)
-    → (c ≡ true → type_code s.record_type ≡ code_of r) → name_eq r.name s.owner ≡ true
+    → (c ≡ true → record_type_number s.record_type ≡ code_of r) → name_eq r.name s.owner ≡ true
     → (place_from (i + 1) sets (code_of r) ≡ Ok k → FoundAt (i + 1) k sets r d after)
     → cond b (place_from (i + 1) sets (code_of r)) (cond c (Ok i) (Err i)) ≡ Ok k
     → FoundAt i k (s ∷ sets) r d (cond b (s ∷ after) (cond c (set_with (Some s) r ∷ sets) (set_with None r ∷ s ∷ sets)))
@@ -55,8 +55,8 @@ pub found_at : (sets : List RRset) (r : Record) (d : RRset) (i k : ℕ) → AllB
     → place_from i sets (code_of r) ≡ Ok k → FoundAt i k sets r d (with_record sets r)
 found_at [] r d i k owned e = let h : ⊥ = cc in absurd h
 found_at (s ∷ sets) r d i k owned e =
-    found_step (nat_lt (type_code s.record_type) (code_of r)) (type_code s.record_type == code_of r) s sets (with_record sets r) r d i k
-    (eqb-true (type_code s.record_type) (code_of r)) owned.0 (found_at sets r d (i + 1) k owned.1) e
+    found_step (nat_lt (record_type_number s.record_type) (code_of r)) (record_type_number s.record_type == code_of r) s sets (with_record sets r) r d i k
+    (eqb-true (record_type_number s.record_type) (code_of r)) owned.0 (found_at sets r d (i + 1) k owned.1) e
 
 -- it would go to k
 pub record MissedAt (i k : ℕ) (sets : List RRset) (r : Record) (after : List RRset) : Type 0 where
@@ -85,47 +85,47 @@ pub missed_at : (sets : List RRset) (r : Record) (i k : ℕ) → place_from i se
 missed_at [] r i k e =
     let h : i ≡ k = cc in record { j = 0; is = omega arith; within = omega arith; after_is = refl }
 missed_at (s ∷ sets) r i k e =
-    missed_step (nat_lt (type_code s.record_type) (code_of r)) (type_code s.record_type == code_of r) s sets (with_record sets r) r i k
+    missed_step (nat_lt (record_type_number s.record_type) (code_of r)) (record_type_number s.record_type == code_of r) s sets (with_record sets r) r i k
     (missed_at sets r (i + 1) k) e
 
 -- ---- the node is one still
 types_above : ℕ → List RRset → Type 0
-types_above n sets = AllByRecursion (λ later. n < type_code later.record_type) sets
+types_above n sets = AllByRecursion (λ later. n < record_type_number later.record_type) sets
 
-above_step : (b c : Bool) (n : ℕ) (s : RRset) (sets : List RRset) (r : Record) → n < code_of r → n < type_code s.record_type
-    → AllByRecursion (λ later. n < type_code later.record_type) sets → AllByRecursion (λ later. n < type_code later.record_type) (with_record sets r)
-    → AllByRecursion (λ later. n < type_code later.record_type) (cond b (s ∷ with_record sets r) (cond c (set_with (Some s) r ∷ sets) (set_with None r ∷ s ∷ sets)))
+above_step : (b c : Bool) (n : ℕ) (s : RRset) (sets : List RRset) (r : Record) → n < code_of r → n < record_type_number s.record_type
+    → AllByRecursion (λ later. n < record_type_number later.record_type) sets → AllByRecursion (λ later. n < record_type_number later.record_type) (with_record sets r)
+    → AllByRecursion (λ later. n < record_type_number later.record_type) (cond b (s ∷ with_record sets r) (cond c (set_with (Some s) r ∷ sets) (set_with None r ∷ s ∷ sets)))
 above_step true c n s sets r h first old more = (first, more)
 above_step false true n s sets r h first old more = (first, old)
 above_step false false n s sets r h first old more = (h, (first, old))
 
-above : (n : ℕ) (sets : List RRset) (r : Record) → n < code_of r → AllByRecursion (λ later. n < type_code later.record_type) sets
-    → AllByRecursion (λ later. n < type_code later.record_type) (with_record sets r)
+above : (n : ℕ) (sets : List RRset) (r : Record) → n < code_of r → AllByRecursion (λ later. n < record_type_number later.record_type) sets
+    → AllByRecursion (λ later. n < record_type_number later.record_type) (with_record sets r)
 above n [] r h all = (h, tt)
 above n (s ∷ sets) r h all =
-    above_step (nat_lt (type_code s.record_type) (code_of r)) (type_code s.record_type == code_of r) n s sets r h all.0 all.1 (above n sets r h all.1)
+    above_step (nat_lt (record_type_number s.record_type) (code_of r)) (record_type_number s.record_type == code_of r) n s sets r h all.0 all.1 (above n sets r h all.1)
 
-raised : (m n : ℕ) (sets : List RRset) → m < n → AllByRecursion (λ later. n < type_code later.record_type) sets
-    → AllByRecursion (λ later. m < type_code later.record_type) sets
+raised : (m n : ℕ) (sets : List RRset) → m < n → AllByRecursion (λ later. n < record_type_number later.record_type) sets
+    → AllByRecursion (λ later. m < record_type_number later.record_type) sets
 raised m n [] h all = tt
-raised m n (s ∷ sets) h all = (let g : n < type_code s.record_type = all.0 in omega arith, raised m n sets h all.1)
+raised m n (s ∷ sets) h all = (let g : n < record_type_number s.record_type = all.0 in omega arith, raised m n sets h all.1)
 
-rise_step : (b c : Bool) (s : RRset) (sets : List RRset) (r : Record) → (b ≡ true → type_code s.record_type < code_of r)
-    → (b ≡ false → c ≡ false → code_of r < type_code s.record_type)
-    → AllByRecursion (λ later. type_code s.record_type < type_code later.record_type) sets → TypesRise sets → TypesRise (with_record sets r)
+rise_step : (b c : Bool) (s : RRset) (sets : List RRset) (r : Record) → (b ≡ true → record_type_number s.record_type < code_of r)
+    → (b ≡ false → c ≡ false → code_of r < record_type_number s.record_type)
+    → AllByRecursion (λ later. record_type_number s.record_type < record_type_number later.record_type) sets → TypesRise sets → TypesRise (with_record sets r)
     → TypesRise (cond b (s ∷ with_record sets r) (cond c (set_with (Some s) r ∷ sets) (set_with None r ∷ s ∷ sets)))
-rise_step true c s sets r before after first old more = (above (type_code s.record_type) sets r (before refl) first, more)
+rise_step true c s sets r before after first old more = (above (record_type_number s.record_type) sets r (before refl) first, more)
 rise_step false true s sets r before after first old more = (first, old)
 rise_step false false s sets r before after first old more =
-    ((after refl refl, raised (code_of r) (type_code s.record_type) sets (after refl refl) first), (first, old))
+    ((after refl refl, raised (code_of r) (record_type_number s.record_type) sets (after refl refl) first), (first, old))
 
 rise : (sets : List RRset) (r : Record) → TypesRise sets → TypesRise (with_record sets r)
 rise [] r old = (tt, tt)
 rise (s ∷ sets) r old =
-    rise_step (nat_lt (type_code s.record_type) (code_of r)) (type_code s.record_type == code_of r) s sets r
-    (ltb-true (type_code s.record_type) (code_of r))
-    (λ b c. let h : code_of r ≤ type_code s.record_type = ltb-false (type_code s.record_type) (code_of r) b in
-    let ne : type_code s.record_type ≡ code_of r → ⊥ = eqb-false (type_code s.record_type) (code_of r) c in omega arith)
+    rise_step (nat_lt (record_type_number s.record_type) (code_of r)) (record_type_number s.record_type == code_of r) s sets r
+    (ltb-true (record_type_number s.record_type) (code_of r))
+    (λ b c. let h : code_of r ≤ record_type_number s.record_type = ltb-false (record_type_number s.record_type) (code_of r) b in
+    let ne : record_type_number s.record_type ≡ code_of r → ⊥ = eqb-false (record_type_number s.record_type) (code_of r) c in omega arith)
     old.0 old.1 (rise sets r old.1)
 
 owned_step : (b c : Bool) (key : List ℕ) (s : RRset) (sets : List RRset) (r : Record) → r.name.fqdn ≡ true → name_key r.name ≡ key
@@ -139,11 +139,11 @@ owned : (key : List ℕ) (sets : List RRset) (r : Record) → r.name.fqdn ≡ tr
     → AllByRecursion (IsOwnedAt key) (with_record sets r)
 owned key [] r full at all = (record { full = full; owner = at }, tt)
 owned key (s ∷ sets) r full at all =
-    owned_step (nat_lt (type_code s.record_type) (code_of r)) (type_code s.record_type == code_of r) key s sets r full at all.0 all.1 (owned key sets r full at all.1)
+    owned_step (nat_lt (record_type_number s.record_type) (code_of r)) (record_type_number s.record_type == code_of r) key s sets r full at all.0 all.1 (owned key sets r full at all.1)
 
 filled : (sets : List RRset) (r : Record) → 0 < length (with_record sets r)
 filled [] r = omega arith
-filled (s ∷ sets) r = by (nat_lt (type_code s.record_type) (code_of r)) (type_code s.record_type == code_of r)
+filled (s ∷ sets) r = by (nat_lt (record_type_number s.record_type) (code_of r)) (record_type_number s.record_type == code_of r)
   where
     by : (b c : Bool) → 0 < length (cond b (s ∷ with_record sets r) (cond c (set_with (Some s) r ∷ sets) (set_with None r ∷ s ∷ sets)))
     by true c = omega arith
@@ -156,12 +156,12 @@ IsNode-with key sets r full at all risen = record { filled = filled sets r; owne
 
 -- ---- each type's set
 -- no set of a type stands among those of greater types
-none_above : (n : ℕ) (t : RecordType) (sets : List RRset) → type_code t ≤ n → AllByRecursion (λ later. n < type_code later.record_type) sets
+none_above : (n : ℕ) (t : RecordType) (sets : List RRset) → record_type_number t ≤ n → AllByRecursion (λ later. n < record_type_number later.record_type) sets
     → find (is_of_type t) sets ≡ None
 none_above n t [] h all = refl
 none_above n t (s ∷ sets) h all =
-    let g : n < type_code s.record_type = all.0 in
-    let first : is_of_type t s ≡ false = ne_eqb (type_code s.record_type) (type_code t) (λ (e : type_code s.record_type ≡ type_code t). omega arith) in
+    let g : n < record_type_number s.record_type = all.0 in
+    let first : is_of_type t s ≡ false = ne_eqb (record_type_number s.record_type) (record_type_number t) (λ (e : record_type_number s.record_type ≡ record_type_number t). omega arith) in
     let rest : find (is_of_type t) sets ≡ None = none_above n t sets h all.1 in
     rw (first, rest) refl
 
@@ -169,7 +169,7 @@ find_parts : (b e : Bool) (t : RecordType) (s : RRset) (sets after : List RRset)
     → find (is_of_type t) (cond b (s ∷ after) (cond e (set_with (Some s) r ∷ sets) (set_with None r ∷ s ∷ sets)))
     ≡ cond b (cond (is_of_type t s) (Some s) (find (is_of_type t) after))
     (cond e (cond (is_of_type t s) (Some (set_with (Some s) r)) (find (is_of_type t) sets))
-    (cond (same_type (rdata_type r.rdata) t) (Some (set_with None r)) (cond (is_of_type t s) (Some s) (find (is_of_type t) sets))))
+    (cond (same_record_type (rdata_type r.rdata) t) (Some (set_with None r)) (cond (is_of_type t s) (Some s) (find (is_of_type t) sets))))
 find_parts true e t s sets after r = refl
 find_parts false true t s sets after r = refl
 find_parts false false t s sets after r = refl
@@ -188,21 +188,21 @@ choose false false st false s r old new h1 h2 h3 h4 ih = refl
 
 pub find_with : (t : RecordType) (sets : List RRset) (r : Record) → TypesRise sets
     → find (is_of_type t) (with_record sets r)
-    ≡ cond (same_type (rdata_type r.rdata) t) (Some (set_with (find (is_of_type t) sets) r)) (find (is_of_type t) sets)
+    ≡ cond (same_record_type (rdata_type r.rdata) t) (Some (set_with (find (is_of_type t) sets) r)) (find (is_of_type t) sets)
 find_with t [] r old = refl
 find_with t (s ∷ sets) r old =
-    let n : ℕ = type_code s.record_type in
+    let n : ℕ = record_type_number s.record_type in
     let b : Bool = nat_lt n (code_of r) in
     let e : Bool = n == code_of r in
     find_parts b e t s sets (with_record sets r) r
-    ∙ choose b e (is_of_type t s) (same_type (rdata_type r.rdata) t) s r (find (is_of_type t) sets) (find (is_of_type t) (with_record sets r))
-    (λ before at. ne_eqb (code_of r) (type_code t)
-    (λ (h : code_of r ≡ type_code t). let g = ltb-true n (code_of r) before in let f = eqb-true n (type_code t) at in omega arith))
-    (λ same. ap (λ (m : ℕ). m == type_code t) (sym (eqb-true n (code_of r) same)))
-    (λ before same at. ne_eqb n (type_code t)
-    (λ (h : n ≡ type_code t). let g = eqb-true (code_of r) (type_code t) at in let f = eqb-false n (code_of r) same in omega arith))
+    ∙ choose b e (is_of_type t s) (same_record_type (rdata_type r.rdata) t) s r (find (is_of_type t) sets) (find (is_of_type t) (with_record sets r))
+    (λ before at. ne_eqb (code_of r) (record_type_number t)
+    (λ (h : code_of r ≡ record_type_number t). let g = ltb-true n (code_of r) before in let f = eqb-true n (record_type_number t) at in omega arith))
+    (λ same. ap (λ (m : ℕ). m == record_type_number t) (sym (eqb-true n (code_of r) same)))
+    (λ before same at. ne_eqb n (record_type_number t)
+    (λ (h : n ≡ record_type_number t). let g = eqb-true (code_of r) (record_type_number t) at in let f = eqb-false n (code_of r) same in omega arith))
     (λ before same at. none_above n t sets
-    (let g = eqb-true (code_of r) (type_code t) at in let f = ltb-false n (code_of r) before in omega arith) old.0)
+    (let g = eqb-true (code_of r) (record_type_number t) at in let f = ltb-false n (code_of r) before in omega arith) old.0)
     (find_with t sets r old.1)
 
 -- ---- as the code finds them
@@ -217,11 +217,11 @@ found_here sets r d k full owned e =
     let f : FoundAt 0 k sets r d (with_record sets r) = found_at sets r d 0 k owned (sym e) in
     let same : f.j ≡ k = let h : k ≡ 0 + f.j = f.is in omega arith in
     let P : ℕ → Type 0 = λ n. (n < length sets) × (name_eq r.name (get_or sets n d).owner ≡ true)
-    × (type_code (get_or sets n d).record_type ≡ code_of r) × (with_record sets r ≡ set sets n (set_with (Some (get_or sets n d)) r)) in
+    × (record_type_number (get_or sets n d).record_type ≡ code_of r) × (with_record sets r ≡ set sets n (set_with (Some (get_or sets n d)) r)) in
     let h : P k = subst P same (f.below, f.owner, f.of_type, f.after_is) in
     record {
       below = h.0;
-      is_record = record { at_owner = h.1; of_type = eq-eqb (code_of r) (type_code (get_or sets k d).record_type) (sym h.2); full_names = full };
+      is_record = record { at_owner = h.1; of_type = eq-eqb (code_of r) (record_type_number (get_or sets k d).record_type) (sym h.2); full_names = full };
       after_is = h.3;
     }
 

@@ -1,4 +1,3 @@
-pub mod Keys
 pub mod Lookups
 pub mod ZoneMaps
 pub mod Zones

@@ -5,9 +5,9 @@ use Rattle.std.specs.List.Sorted.{IsStrictlySortedBy}
 use Rattle.std.specs.Ordering.{nat_cmp}
 use Rattle.std.specs.Cmp.Lexicographic.{slice_cmp}
 use Rattle.std.specs.Map.{keys_of}
-use Rattle.zst_record.specs.Names.{DomainName}
-use Rattle.zst_record.specs.Codes.{type_code, same_type}
-use Rattle.zst_zone.specs.Keys.{name_key}
+use Rattle.dnw_name.specs.DomainName.{DomainName}
+use Rattle.dnw_codes.specs.RecordType.{record_type_number, same_record_type}
+use Rattle.dnw_name.specs.NameKey.{name_key}
 use Rattle.zst_record.specs.declared.records.Record.{Record}
 use Rattle.zst_record.specs.RecordData.{rdata_type}
 use Rattle.zst_record.specs.Records.{RRset}
@@ -21,7 +21,7 @@ pub record IsOwnedAt (key : List ℕ) (set : RRset) : Type 0 where
 -- Each type is above those before it.
 abbrev pub TypesRise : List RRset → Type 0
 TypesRise [] = Unit {0}
-TypesRise (set ∷ sets) = AllByRecursion (λ later. type_code set.record_type < type_code later.record_type) sets × TypesRise sets
+TypesRise (set ∷ sets) = AllByRecursion (λ later. record_type_number set.record_type < record_type_number later.record_type) sets × TypesRise sets
 
 -- What stands under a key: at least one set, the sets of the owner of that key, by rising type.
 pub record IsNode (key : List ℕ) (sets : List RRset) : Type 0 where
@@ -33,16 +33,16 @@ pub record IsNode (key : List ℕ) (sets : List RRset) : Type 0 where
 abbrev pub with_record : List RRset → Record → List RRset
 with_record [] r = set_with None r ∷ []
 with_record (set ∷ sets) r =
-    if nat_lt (type_code set.record_type) (type_code (rdata_type r.rdata)) then set ∷ with_record sets r
-    else if same_type set.record_type (rdata_type r.rdata) then set_with (Some set) r ∷ sets
+    if nat_lt (record_type_number set.record_type) (record_type_number (rdata_type r.rdata)) then set ∷ with_record sets r
+    else if same_record_type set.record_type (rdata_type r.rdata) then set_with (Some set) r ∷ sets
     else set_with None r ∷ set ∷ sets
 
 -- The place of the set of a type (Ok), or where it would go (Err), in sets that start at a place.
 abbrev pub place_from : ℕ → List RRset → ℕ → Result ℕ ℕ
 place_from i [] code = Err i
 place_from i (set ∷ sets) code =
-    if nat_lt (type_code set.record_type) code then place_from (i + 1) sets code
-    else if type_code set.record_type == code then Ok i else Err i
+    if nat_lt (record_type_number set.record_type) code then place_from (i + 1) sets code
+    else if record_type_number set.record_type == code then Ok i else Err i
 
 module _ {K V : Type 0} (octets : K → List ℕ) (sets : V → List RRset) where
   -- The zone's sets, by owner, then by type.

@@ -1,20 +1,20 @@
 -- A zone: a finite map from owner and type to the set of records stored there (RFC 1035, section 4.3.2).
 use Rattle.std.specs.Prelude.{◌≡◌, Bool, List, [], Option, Some, None, ◌&&◌, find, if◌then◌else◌}
 use Rattle.std.specs.List.{list_any}
-use Rattle.zst_record.specs.declared.codes.RecordType.{RecordType}
+use Rattle.dnw_codes.specs.declared.record_type.RecordType.{RecordType}
 use Rattle.zst_record.specs.declared.records.Record.{Record}
 use Rattle.zst_zone.specs.declared.settings.ZoneType.{ZoneType}
 use Rattle.zst_zone.specs.declared.settings.AxfrPolicy.{AxfrPolicy}
 use Rattle.zst_zone.specs.declared.settings.NxProofKind.{NxProofKind}
 use Rattle.zst_zone.specs.declared.settings.ZoneSettings.{ZoneSettings}
-use Rattle.zst_record.specs.Names.{DomainName, name_eq, is_at_or_below}
-use Rattle.zst_record.specs.Codes.{same_type}
+use Rattle.dnw_name.specs.DomainName.{DomainName, name_eq, is_at_or_below}
+use Rattle.dnw_codes.specs.RecordType.{same_record_type}
 use Rattle.zst_record.specs.RecordData.{rdata_type}
 use Rattle.zst_record.specs.Records.{RRset, set_with}
 
 -- The set of a type at a name.
 abbrev pub stored : List RRset → DomainName → RecordType → Option RRset
-stored sets name record_type = find (λ set. name_eq name set.owner && same_type set.record_type record_type) sets
+stored sets name record_type = find (λ set. name_eq name set.owner && same_record_type set.record_type record_type) sets
 
 -- A name exists where an owner equals it or lies below it (RFC 4592, section 2.2.2).
 abbrev pub exists_in : List RRset → DomainName → Bool
@@ -24,7 +24,7 @@ exists_in sets name = list_any (λ set. is_at_or_below set.owner name) sets
 abbrev pub Adds : List RRset → Record → List RRset → Type 0
 Adds old r new =
     (name : DomainName) (record_type : RecordType) → stored new name record_type
-    ≡ (if name_eq name r.name && same_type (rdata_type r.rdata) record_type then Some (set_with (stored old name record_type) r) else stored old name record_type)
+    ≡ (if name_eq name r.name && same_record_type (rdata_type r.rdata) record_type then Some (set_with (stored old name record_type) r) else stored old name record_type)
 
 -- What a zone means: where it begins, how it may be used, and its sets.
 pub record View : Type 0 where

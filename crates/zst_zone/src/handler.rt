@@ -1,43 +1,18 @@
 //! A zone kept in memory, and what it answers.
 
 ghost use Rattle.std.specs.Prelude.{◌≡◌, true, option_copied, IfOk, OnOk, OnErr};
-ghost use Rattle.zst_record.specs.Names.{DomainName, is_at_or_below};
-ghost use Rattle.zst_zone.specs.Keys.{name_key};
+ghost use Rattle.dnw_name.specs.DomainName.{DomainName, is_at_or_below};
+ghost use Rattle.dnw_name.specs.NameKey.{name_key};
 ghost use Rattle.zst_record.specs.Records.{has_only_full_names};
 ghost use Rattle.zst_zone.specs.Zones.{stored, lookup_result, empty_zone, AddsTo};
 ghost use Rattle.zst_zone.specs.Lookups.{outcome};
 
-use crate::key::key_of;
 use crate::map::{Found, ZoneMap};
 use crate::settings::{AxfrPolicy, NxProofKind, ZoneSettings, ZoneType};
+use dnw_name::{RrKey, key_of};
 use std::alloc::{AllocError, Global};
 use std::marker::{Model, PhantomData};
 use zst_record::{Name, Record, RecordSet, RecordType};
-
-/// The owner and the type of a set.
-#[derive(Drop)]
-pub struct RrKey {
-    /// The owner.
-    pub name: Name,
-    /// The type.
-    pub record_type: RecordType,
-}
-
-impl RrKey {
-    /// The key of an owner and a type.
-    pub fn new(name: Name, record_type: RecordType) -> RrKey
-        ensures { result ≡ record { name = name; record_type = record_type } }
-    {
-        RrKey { name, record_type }
-    }
-
-    /// The owner.
-    pub fn name(&self) -> &Name
-        ensures { result.now ≡ self.now.name }
-    {
-        &self.name
-    }
-}
 
 /// What a zone holds for a name and a type, or why there is nothing (RFC 2308 section 2).
 #[derive(Clone, Copy)]

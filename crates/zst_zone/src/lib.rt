@@ -5,10 +5,9 @@
 #![tactic(auto)]
 
 mod handler;
-mod key;
 mod map;
 mod settings;
 
-pub use handler::{InMemoryZoneHandler, Lookup, RrKey};
-pub use key::key_of;
+pub use dnw_name::{LowerName, RrKey, key_of};
+pub use handler::{InMemoryZoneHandler, Lookup};
 pub use settings::{AxfrPolicy, NxProofKind, Salt, ZoneSettings, ZoneType};

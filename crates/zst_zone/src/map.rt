@@ -2,16 +2,16 @@
 
 ghost use Rattle.std.specs.Prelude.{◌≡◌, true, [], ◌∷◌, find, option_copied, IfOk, OnOk, OnErr};
 ghost use Rattle.std.specs.List.{AllByRecursion};
-ghost use Rattle.zst_record.specs.Names.{DomainName, name_eq};
-ghost use Rattle.zst_zone.specs.Keys.{name_key};
-ghost use Rattle.zst_record.specs.Codes.{type_code, same_type};
+ghost use Rattle.dnw_name.specs.DomainName.{DomainName, name_eq};
+ghost use Rattle.dnw_name.specs.NameKey.{name_key};
+ghost use Rattle.dnw_codes.specs.RecordType.{record_type_number, same_record_type};
 ghost use Rattle.zst_record.specs.Records.{has_only_full_names};
 ghost use Rattle.zst_zone.specs.Zones.{stored, exists_in, Adds};
 ghost use Rattle.zst_record.specs.Records.{set_with};
 ghost use Rattle.zst_zone.specs.ZoneMaps.{with_record, place_from};
 ghost use Rattle.zst_zone.specs.Lookups.{set_found, name_found};
 
-use crate::key::key_of;
+use dnw_name::key_of;
 use std::alloc::{AllocError, Global};
 use std::collections::BTreeMap;
 use std::marker::Model;
@@ -137,11 +137,11 @@ fn add_to_node(alloc: Global, sets: &mut Vec<RecordSet>, next: Record) -> Result
 
 /// Where the set of a type stands, or where it would go.
 fn place_of(sets: &[RecordSet], record_type: RecordType) -> Result<usize, usize>
-    ensures { result ≡ place_from 0 sets.now (type_code record_type) }
+    ensures { result ≡ place_from 0 sets.now (record_type_number record_type) }
 {
-    let code = record_type.code();
+    let code = u16::from(record_type);
     for (place, set) in sets.iter().enumerate() {
-        let other = set.record_type().code();
+        let other = u16::from(set.record_type());
         if code <= other {
             return if other == code { Ok(place) } else { Err(place) };
         }
@@ -151,8 +151,7 @@ fn place_of(sets: &[RecordSet], record_type: RecordType) -> Result<usize, usize>
 
 /// The set of a type.
 fn find_set(sets: &[RecordSet], record_type: RecordType) -> Option<&RecordSet>
-    ensures { option_copied result ≡ find (λ set. same_type set.record_type record_type) sets.now }
+    ensures { option_copied result ≡ find (λ set. same_record_type set.record_type record_type) sets.now }
 {
-    sets.iter()
-        .find(|set| set.record_type().code() == record_type.code())
+    sets.iter().find(|set| set.record_type() == record_type)
 }

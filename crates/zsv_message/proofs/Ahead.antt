@@ -1,8 +1,9 @@
 -- Reading a name label by label: what was read, and what is still ahead.
 use Rattle.std.proofs.Common.{◌≡◌, ℕ, ◌+◌, ◌-◌, ◌<◌, ◌≤◌, true, List, [], ◌∷◌, ◌++◌, length, take, drop, refl, sym, ap, subst, ◌∙◌, arith, append_assoc, append-nil}
 use Rattle.std.specs.List.{AllByRecursion}
-use Rattle.zst_record.specs.Names.{DomainName, IsLabel, name_size}
-use Rattle.zst_record.specs.Octets.{Stands}
+use Rattle.dnw_name.specs.DomainName.{DomainName, labels_len}
+use Rattle.dnw_label.specs.Label.{IsLabel}
+use Rattle.dnw_decoder.specs.Octets.{Stands}
 use Rattle.zsv_message.specs.Wire.{Spells, NameAt, ends, label}
 use Rattle.zsv_message.proofs.Standing.{stands_head, spells_label, label_there}
 

@@ -2,8 +2,9 @@
 use Rattle.std.proofs.Common.{◌≡◌, ℕ, ◌+◌, ◌-◌, ◌*◌, ◌<◌, ◌≤◌, true, List, [], ◌∷◌, ◌++◌, length, get_or, drop, refl, sym, ap, ◌∙◌, arith, append_assoc, append-nil}
 use Rattle.std.specs.List.{AllByRecursion}
 use Rattle.std.proofs.lemmas.List.{length-append, drop-drop, drop_at, drop_all, drop-append-le, append_cancel_right, get_or-drop, get_or_append_left}
-use Rattle.zst_record.specs.Octets.{Stands, number_16}
-use Rattle.zst_record.specs.Names.{DomainName, IsLabel, IsDomainName, name_octets}
+use Rattle.dnw_decoder.specs.Octets.{Stands, number_16}
+use Rattle.dnw_name.specs.DomainName.{DomainName, IsDomainName, name_octets}
+use Rattle.dnw_label.specs.Label.{IsLabel}
 use Rattle.zsv_message.specs.Wire.{Spells, NameAt, ends, label}
 
 -- The whole of a message stands at its start.
@@ -37,7 +38,7 @@ spells_octets message place (l ∷ ls) end sound s =
     label sound.0 (stands_first message place (length l ∷ l) (name_octets ls) end s)
     (spells_octets message (place + length (length l ∷ l)) ls end sound.1 (stands_second message place (length l ∷ l) (name_octets ls) end s))
 
-pub name_stands : (message : List ℕ) (place : ℕ) (name : DomainName) (end : ℕ) → IsDomainName name → name.fqdn ≡ true → Stands message place (name_octets name.labels) end → NameAt message place name end
+pub name_stands : (message : List ℕ) (place : ℕ) (name : DomainName) (end : ℕ) → IsDomainName name → name.fqdn ≡ true → Stands message place (name_octets name) end → NameAt message place name end
 name_stands message place name end sound full s = record {
   full = full;
   spelled = spells_octets message place name.labels end sound.labels s;

@@ -1,11 +1,12 @@
 -- Questions, one behind the other: one place holds one of them, and what is read is what stands there.
 use Rattle.std.proofs.Common.{◌≡◌, ℕ, ◌+◌, ◌<◌, ◌≤◌, Bool, List, [], ◌∷◌, ◌++◌, length, refl, sym, ap, subst, ◌∙◌, arith, append_assoc, append-nil, length-append}
 use Rattle.zsv_message.specs.declared.request.Query.{Query}
-use Rattle.zst_record.specs.declared.codes.RecordType.{RecordType}
-use Rattle.zst_record.specs.declared.codes.DNSClass.{DNSClass}
-use Rattle.zst_record.specs.Codes.{type_of, class_of}
-use Rattle.zst_record.specs.Names.{DomainName}
-use Rattle.zst_record.specs.Octets.{number_16}
+use Rattle.dnw_codes.specs.declared.record_type.RecordType.{RecordType}
+use Rattle.dnw_codes.specs.declared.dns_class.DNSClass.{DNSClass}
+use Rattle.dnw_codes.specs.RecordType.{record_type_of}
+use Rattle.dnw_codes.specs.DNSClass.{class_of}
+use Rattle.dnw_name.specs.DomainName.{DomainName}
+use Rattle.dnw_decoder.specs.Octets.{number_16}
 use Rattle.std.specs.Prelude.{Err}
 use Rattle.std.proofs.Common.{Global, Vec}
 use Rattle.zsv_message.specs.declared.read.ReadError.{ReadError}
@@ -22,13 +23,13 @@ name_once message place a b e f p q =
     (ap (λ (fqdn : Bool). record { fqdn = fqdn; labels = a.labels }) (p.full ∙ sym q.full) ∙ ap (λ (ls : List (List ℕ)). record { fqdn = b.fqdn; labels = ls }) both.0, both.1)
 
 abbrev query_of : DomainName → ℕ → ℕ → Query
-query_of name t c = record { name = name; query_type = type_of t; query_class = class_of c }
+query_of name t c = record { name = name; query_type = record_type_of t; query_class = class_of c }
 
 -- A question is made of its parts.
 question_is : (message : List ℕ) (place : ℕ) (q : Query) (end : ℕ) (p : QuestionAt message place q end) → q ≡ query_of q.name (number_16 message p.middle) (number_16 message (p.middle + 2))
 question_is message place q end p =
     ap (λ (t : RecordType). record { name = q.name; query_type = t; query_class = q.query_class }) p.query_type
-    ∙ ap (λ (c : DNSClass). record { name = q.name; query_type = type_of (number_16 message p.middle); query_class = c }) p.query_class
+    ∙ ap (λ (c : DNSClass). record { name = q.name; query_type = record_type_of (number_16 message p.middle); query_class = c }) p.query_class
 
 -- One place holds one question.
 pub question_once : (message : List ℕ) (place : ℕ) (a b : Query) (e f : ℕ) → QuestionAt message place a e → QuestionAt message place b f → (a ≡ b) × (e ≡ f)

@@ -4,10 +4,10 @@ use Rattle.std.specs.Prelude.{List, [], ◌∷◌, ◌++◌}
 use Rattle.std.proofs.lemmas.List.{length-append}
 use Rattle.zst_record.specs.declared.record_data.SOA.{SOA}
 use Rattle.zst_record.specs.declared.records.Record.{Record}
-use Rattle.zst_record.specs.Octets.{octets_32}
+use Rattle.dnw_decoder.specs.Octets.{octets_32}
 use Rattle.zst_record.specs.RecordData.{soa_octets, soa_numbers, rdata_octets}
 use Rattle.zst_record.specs.Records.{record_octets, fixed_octets}
-use Rattle.zst_record.specs.Names.{name_size, name_octets}
+use Rattle.dnw_name.specs.DomainName.{labels_len, name_octets}
 
 -- A name takes as many octets as it has.
 pub size_of_octets : (xs : List (List ℕ)) → length (name_octets xs) ≡ name_size xs
@@ -24,8 +24,8 @@ length-soa_numbers soa = simp (length-append, length-octets_32) refl
 pub length-soa_octets : (soa : SOA) → length (soa_octets soa) ≡ name_size soa.mname.labels + name_size soa.rname.labels + 20
 length-soa_octets soa = omega (
   arith,
-  length-append (name_octets soa.mname.labels) (name_octets soa.rname.labels ++ soa_numbers soa),
-  length-append (name_octets soa.rname.labels) (soa_numbers soa),
+  length-append (name_octets soa.mname) (name_octets soa.rname ++ soa_numbers soa),
+  length-append (name_octets soa.rname) (soa_numbers soa),
   size_of_octets soa.mname.labels,
   size_of_octets soa.rname.labels,
   length-soa_numbers soa,
@@ -37,7 +37,7 @@ length-fixed_octets r = simp (length-append, length-octets_32) refl
 pub length-record_octets : (r : Record) → length (record_octets r) ≡ name_size r.name.labels + 10 + length (rdata_octets r.rdata)
 length-record_octets r = omega (
   arith,
-  length-append (name_octets r.name.labels) (fixed_octets r ++ rdata_octets r.rdata),
+  length-append (name_octets r.name) (fixed_octets r ++ rdata_octets r.rdata),
   length-append (fixed_octets r) (rdata_octets r.rdata),
   size_of_octets r.name.labels,
   length-fixed_octets r,

@@ -1,7 +1,7 @@
 -- What stands in a message: fronts, heads, and that one place spells one name.
 use Rattle.std.proofs.Common.{◌≡◌, ℕ, ◌+◌, ◌<◌, ◌≤◌, List, [], ◌∷◌, ◌++◌, length, get_or, take, drop, refl, sym, ap, subst, ◌∙◌, arith, add-zero}
 use Rattle.std.proofs.lemmas.List.{length-take, length-drop, length-append, get_or-drop, drop-drop, take-append-drop, drop_more, take_at}
-use Rattle.zst_record.specs.Octets.{Stands}
+use Rattle.dnw_decoder.specs.Octets.{Stands}
 use Rattle.zsv_message.specs.Wire.{Spells, ends, label}
 
 -- A front of what is left stands there.

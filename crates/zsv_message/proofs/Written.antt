@@ -8,10 +8,11 @@ use Rattle.zst_record.specs.declared.records.Record.{Record}
 use Rattle.zst_record.specs.declared.record_data.RData.{RData}
 use Rattle.zst_record.specs.declared.record_data.RData.TheVariants as rdata
 use Rattle.zsv_message.specs.declared.request.Query.{Query}
-use Rattle.zst_record.specs.Codes.{type_of, class_of}
+use Rattle.dnw_codes.specs.RecordType.{record_type_of}
+use Rattle.dnw_codes.specs.DNSClass.{class_of}
 use Rattle.zsv_message.specs.Headers.{header_of}
-use Rattle.zst_record.specs.Octets.{Stands}
-use Rattle.zst_record.specs.Names.{name_octets}
+use Rattle.dnw_decoder.specs.Octets.{Stands}
+use Rattle.dnw_name.specs.DomainName.{name_octets}
 use Rattle.zst_record.specs.RecordData.{rdata_octets, soa_numbers, has_full_names, SoundData}
 use Rattle.zst_record.specs.Records.{record_octets, fixed_octets, has_only_full_names, HasSoundNames}
 use Rattle.zsv_message.specs.Wire.{Entries}
@@ -29,24 +30,24 @@ data_stands message place (rdata.A a) end sound full s = s
 data_stands message place (rdata.NS ns) end sound full s = name_stands message place ns.0 end sound full s
 data_stands message place (rdata.SOA soa) end sound full s =
     let both = and_parts soa.mname.fqdn soa.rname.fqdn full in
-    let later = stands_second message place (name_octets soa.mname.labels) (name_octets soa.rname.labels ++ soa_numbers soa) end s in
+    let later = stands_second message place (name_octets soa.mname) (name_octets soa.rname ++ soa_numbers soa) end s in
     record {
-      middle = place + length (name_octets soa.mname.labels);
-      last = place + length (name_octets soa.mname.labels) + length (name_octets soa.rname.labels);
-      mname = name_stands message place soa.mname _ sound.0 both.0 (stands_first message place (name_octets soa.mname.labels) (name_octets soa.rname.labels ++ soa_numbers soa) end s);
-      rname = name_stands message _ soa.rname _ sound.1 both.1 (stands_first message _ (name_octets soa.rname.labels) (soa_numbers soa) end later);
-      numbers = stands_second message _ (name_octets soa.rname.labels) (soa_numbers soa) end later;
+      middle = place + length (name_octets soa.mname);
+      last = place + length (name_octets soa.mname) + length (name_octets soa.rname);
+      mname = name_stands message place soa.mname _ sound.0 both.0 (stands_first message place (name_octets soa.mname) (name_octets soa.rname ++ soa_numbers soa) end s);
+      rname = name_stands message _ soa.rname _ sound.1 both.1 (stands_first message _ (name_octets soa.rname) (soa_numbers soa) end later);
+      numbers = stands_second message _ (name_octets soa.rname) (soa_numbers soa) end later;
     }
 
 pub record_stands : (message : List ℕ) (place : ℕ) (r : Record) (end : ℕ) → HasSoundNames r → has_only_full_names r ≡ true → Stands message place (record_octets r) end → RecordAt message place r end
 record_stands message place r end sound full s =
     let both = and_parts r.name.fqdn (has_full_names r.rdata) full in
-    let later = stands_second message place (name_octets r.name.labels) (fixed_octets r ++ rdata_octets r.rdata) end s in
+    let later = stands_second message place (name_octets r.name) (fixed_octets r ++ rdata_octets r.rdata) end s in
     let data_there = stands_second message _ (fixed_octets r) (rdata_octets r.rdata) end later in
     record {
-      middle = place + length (name_octets r.name.labels);
-      first = place + length (name_octets r.name.labels) + length (fixed_octets r);
-      owner = name_stands message place r.name _ sound.owner both.0 (stands_first message place (name_octets r.name.labels) (fixed_octets r ++ rdata_octets r.rdata) end s);
+      middle = place + length (name_octets r.name);
+      first = place + length (name_octets r.name) + length (fixed_octets r);
+      owner = name_stands message place r.name _ sound.owner both.0 (stands_first message place (name_octets r.name) (fixed_octets r ++ rdata_octets r.rdata) end s);
       fixed = stands_first message _ (fixed_octets r) (rdata_octets r.rdata) end later;
       rdata = data_stands message _ r.rdata end sound.rdata both.1 data_there;
       filled = data_there.behind;
@@ -81,7 +82,7 @@ question_over m n from to same place q end low high long at =
     record {
       middle = at.middle;
       name = record { full = at.name.full; spelled = spells_over m n from to same place q.name.labels at.middle low (omega (arith, at.behind)) at.name.spelled; size = at.name.size };
-      query_type = at.query_type ∙ ap (λ (k : ℕ). type_of k) (number_over m n from to same at.middle (omega (arith, after)) (omega (arith, at.behind)));
+      query_type = at.query_type ∙ ap (λ (k : ℕ). record_type_of k) (number_over m n from to same at.middle (omega (arith, after)) (omega (arith, at.behind)));
       query_class = at.query_class ∙ ap (λ (k : ℕ). class_of k) (number_over m n from to same (at.middle + 2) (omega (arith, after)) (omega (arith, at.behind)));
       behind = at.behind;
       within = omega (arith, long);

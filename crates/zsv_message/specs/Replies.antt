@@ -12,7 +12,7 @@ use Rattle.zsv_message.specs.declared.header.MessageType.TheVariants as messages
 use Rattle.zsv_message.specs.declared.header.OpCode.TheVariants as operations
 use Rattle.zsv_message.specs.declared.header.ResponseCode.TheVariants as responses
 use Rattle.zsv_message.specs.Headers.{header_of}
-use Rattle.zst_record.specs.Octets.{Stands}
+use Rattle.dnw_decoder.specs.Octets.{Stands}
 use Rattle.zst_record.specs.RecordData.{rdata_octets, soa_numbers}
 use Rattle.zst_record.specs.Records.{record_octets, fixed_octets}
 use Rattle.zsv_message.specs.Requests.{Request, QuestionsAt}

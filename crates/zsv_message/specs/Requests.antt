@@ -4,16 +4,17 @@ use Rattle.zsv_message.specs.declared.header.Metadata.{Metadata}
 use Rattle.zsv_message.specs.declared.request.Query.{Query}
 use Rattle.zsv_message.specs.declared.read.ReadError.{ReadError}
 use Rattle.zsv_message.specs.declared.read.ReadError.TheVariants as errors
-use Rattle.zst_record.specs.Codes.{type_of, class_of}
+use Rattle.dnw_codes.specs.RecordType.{record_type_of}
+use Rattle.dnw_codes.specs.DNSClass.{class_of}
 use Rattle.zsv_message.specs.Headers.{header_of}
-use Rattle.zst_record.specs.Octets.{Stands, number_16}
+use Rattle.dnw_decoder.specs.Octets.{Stands, number_16}
 use Rattle.zsv_message.specs.Wire.{NameAt, Entries}
 
 -- A question at a place: a name, then two octets of type and two of class.
 pub record QuestionAt (message : List ℕ) (place : ℕ) (question : Query) (end : ℕ) : Type 0 where
   pub middle : ℕ
   pub name : NameAt message place question.name middle
-  pub query_type : question.query_type ≡ type_of (number_16 message middle)
+  pub query_type : question.query_type ≡ record_type_of (number_16 message middle)
   pub query_class : question.query_class ≡ class_of (number_16 message (middle + 2))
   pub behind : end ≡ middle + 4
   pub within : end ≤ length message

@@ -2,8 +2,9 @@
 use Rattle.std.specs.Prelude.{◌≡◌, ℕ, ◌+◌, ◌≤◌, true, List, [], ◌∷◌, length, Option, Some, None, Result, Ok, Err}
 use Rattle.zsv_message.specs.declared.read.ReadError.{ReadError}
 use Rattle.zsv_message.specs.declared.read.ReadError.TheVariants as errors
-use Rattle.zst_record.specs.Names.{DomainName, IsLabel, name_size}
-use Rattle.zst_record.specs.Octets.{Stands}
+use Rattle.dnw_name.specs.DomainName.{DomainName, labels_len}
+use Rattle.dnw_label.specs.Label.{IsLabel}
+use Rattle.dnw_decoder.specs.Octets.{Stands}
 
 -- The labels that are spelled from a place on, and where they end (RFC 1035, section 4.1.4, without
 -- pointers): a zero ends a name; else a label stands behind its length, and the rest behind it.

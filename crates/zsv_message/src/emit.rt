@@ -1,8 +1,8 @@
 //! Records in octets, their names uncompressed (RFC 1035 sections 3.3 and 4.1.3).
 
 ghost use Rattle.std.specs.Prelude.{◌≡◌, ◌++◌, ◌<◌, ◌≤◌, OnOk, length};
-ghost use Rattle.zst_record.specs.Names.{IsDomainName, name_octets};
-ghost use Rattle.zst_record.specs.Octets.{octets_16, octets_32};
+ghost use Rattle.dnw_name.specs.DomainName.{IsDomainName, name_octets};
+ghost use Rattle.dnw_decoder.specs.Octets.{octets_16, octets_32};
 ghost use Rattle.zst_record.specs.RecordData.{SoundData, rdata_octets, soa_octets, soa_numbers};
 ghost use Rattle.zst_record.specs.Records.{HasSoundNames, record_octets, fixed_octets};
 
@@ -11,7 +11,7 @@ use zst_record::{Name, RData, Record, SOA};
 
 // Writes a name at the end.
 fn emit_name(out: &mut Vec<u8>, name: &Name) -> Result<(), AllocError>
-    ensures octets { OnOk result (out.new.items ≡ out.old.items ++ name_octets name.now.labels) }
+    ensures octets { OnOk result (out.new.items ≡ out.old.items ++ name_octets name.now) }
     ensures name { IsDomainName name.now }
 {
     for label in name.labels() {
@@ -31,7 +31,7 @@ fn emit_u16(out: &mut Vec<u8>, number: u16) -> Result<(), AllocError>
 }
 
 // Writes a number of 32 bits at the end.
-#[tactic(auto, unfolding(zst_record::specs::Octets::octets_32))]
+#[tactic(auto, unfolding(dnw_decoder::specs::Octets::octets_32))]
 fn emit_u32(out: &mut Vec<u8>, number: u32) -> Result<(), AllocError>
     ensures { OnOk result (out.new.items ≡ out.old.items ++ octets_32 number) }
 {

@@ -1,7 +1,7 @@
 //! The header of a message (RFC 1035 section 4.1.1).
 
 ghost use Rattle.std.specs.Prelude.{◌≡◌, ◌+◌, ◌<◌, ◌≤◌, ◌%◌, ◌/◌, ◌++◌, ℕ, List, length, get_or};
-ghost use Rattle.zst_record.specs.Octets.{number_16};
+ghost use Rattle.dnw_decoder.specs.Octets.{number_16};
 ghost use Rattle.zsv_message.specs.Headers.{op_code_of, op_code_number, response_code_of, response_code_number, bit, metadata_of, counts_of, header_of, high_octet, low_octet, FitsHeader};
 
 /// Whether a message asks or answers.

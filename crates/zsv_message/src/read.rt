@@ -1,7 +1,7 @@
 //! Names as they stand in a message.
 
 ghost use Rattle.std.specs.Prelude.{◌≡◌, ◌+◌, ◌<◌, ◌≤◌, ℕ, List, ◌∷◌, [], Ok, Err, Some, None, length, IfOk};
-ghost use Rattle.zst_record.specs.Octets.{Stands};
+ghost use Rattle.dnw_decoder.specs.Octets.{Stands};
 ghost use Rattle.zsv_message.specs.Wire.{Spells, NameAt, Reads, LabelRead};
 
 use std::alloc::{AllocError, AllocFailed, Global};

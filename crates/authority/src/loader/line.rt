@@ -1,10 +1,10 @@
 //! The record of a line.
 
 ghost use Rattle.std.specs.Prelude.{◌≡◌, ◌<◌, ◌∷◌, length, MatchOption, true, is_some};
-ghost use Rattle.zst_record.specs.declared.codes.RecordType.TheVariants as types;
-ghost use Rattle.zst_record.specs.Names.{DomainName};
+ghost use Rattle.dnw_codes.specs.declared.record_type.RecordType.TheVariants as types;
+ghost use Rattle.dnw_name.specs.DomainName.{DomainName};
 ghost use Rattle.zst_record.specs.NameText.{ReadsText};
-ghost use Rattle.zst_zone.specs.Keys.{name_key};
+ghost use Rattle.dnw_name.specs.NameKey.{name_key};
 ghost use Rattle.zst_record.specs.RecordData.{has_full_names};
 ghost use Rattle.zst_zone.specs.Zones.{stored};
 ghost use Rattle.authority.specs.ZoneText.{words_of, IsOwnerText, type_of_text, is_internet, is_start, with_cause, HeaderGives, LineGives};

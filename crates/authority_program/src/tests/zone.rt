@@ -1,7 +1,7 @@
 //! A small zone, by its public calls.
 
 ghost use Rattle.std.specs.Prelude.{◌≡◌, true, IfOk};
-ghost use Rattle.zst_record.specs.Names.{IsLabel};
+ghost use Rattle.dnw_label.specs.Label.{IsLabel};
 ghost use Rattle.zst_record.specs.Records.{has_only_full_names};
 
 use authority::{

@@ -2,8 +2,8 @@ use Rattle.std.proofs.Common.{◌∙◌, sym, ap, arith, subst, length, set}
 use Rattle.std.specs.Prelude.{List, [], Some, Result, Ok, Err, OnOk}
 use Rattle.std.specs.List.{insert}
 use Rattle.zst_record.specs.Records.{set_with}
-use Rattle.zst_record.specs.declared.codes.RecordType.{RecordType}
-use Rattle.zst_record.specs.Codes.{type_code}
+use Rattle.dnw_codes.specs.declared.record_type.RecordType.{RecordType}
+use Rattle.dnw_codes.specs.RecordType.{record_type_number}
 use Rattle.zst_record.specs.Records.{RRset, IsRecordOf}
 use Rattle.zst_zone.specs.ZoneMaps.{place_from}
 use Rattle.zst_zone.proofs.ZoneSets.{FoundHere, found_here, MissedHere, missed_here}
@@ -13,24 +13,24 @@ pub index_mut-requires : goal.index_mut-requires
 index_mut-requires c =
     let f : FoundHere c.in-Ok.place c.args.sets.now.items c.args.next (record { owner = c.args.next.name; record_type = c.record_type.result; records = [] })
     = found_here c.args.sets.now.items c.args.next _ c.in-Ok.place c.requires.full c.requires.owned
-    (c.in-Ok.ensures ∙ ap (λ (t : List RRset). place_from 0 t (type_code c.record_type.result)) c.deref.ensures.value
-    ∙ ap (λ (t : RecordType). place_from 0 c.args.sets.now.items (type_code t)) c.record_type.ensures) in
+    (c.in-Ok.ensures ∙ ap (λ (t : List RRset). place_from 0 t (record_type_number c.record_type.result)) c.deref.ensures.value
+    ∙ ap (λ (t : RecordType). place_from 0 c.args.sets.now.items (record_type_number t)) c.record_type.ensures) in
     omega (arith, f.below, c.deref.ensures.len, ap length c.deref.ensures.value)
 
 pub put-requires : goal.put-requires
 put-requires c =
     let f : FoundHere c.in-Ok.place c.args.sets.now.items c.args.next c.index_mut.result.now
     = found_here c.args.sets.now.items c.args.next c.index_mut.result.now c.in-Ok.place c.requires.full c.requires.owned
-    (c.in-Ok.ensures ∙ ap (λ (t : List RRset). place_from 0 t (type_code c.record_type.result)) c.deref.ensures.value
-    ∙ ap (λ (t : RecordType). place_from 0 c.args.sets.now.items (type_code t)) c.record_type.ensures) in
+    (c.in-Ok.ensures ∙ ap (λ (t : List RRset). place_from 0 t (record_type_number c.record_type.result)) c.deref.ensures.value
+    ∙ ap (λ (t : RecordType). place_from 0 c.args.sets.now.items (record_type_number t)) c.record_type.ensures) in
     subst (λ (s : RRset). IsRecordOf s.owner s.record_type c.args.next) (sym c.index_mut.ensures.value) f.is_record
 
 pub insert-requires : goal.insert-requires
 insert-requires c =
     let f : MissedHere c.in-Err.place c.args.sets.now.items c.args.next
     = missed_here c.args.sets.now.items c.args.next c.in-Err.place
-    (c.in-Err.ensures ∙ ap (λ (t : List RRset). place_from 0 t (type_code c.record_type.result)) c.deref.ensures.value
-    ∙ ap (λ (t : RecordType). place_from 0 c.args.sets.now.items (type_code t)) c.record_type.ensures) in
+    (c.in-Err.ensures ∙ ap (λ (t : List RRset). place_from 0 t (record_type_number c.record_type.result)) c.deref.ensures.value
+    ∙ ap (λ (t : RecordType). place_from 0 c.args.sets.now.items (record_type_number t)) c.record_type.ensures) in
     omega (arith, f.within, c.deref.ensures.len, ap length c.deref.ensures.value)
 
 on_ok : {T E : Type 0} {P Q : Type 0} (r : Result T E) → (P → Q) → OnOk r P → OnOk r Q
@@ -41,8 +41,8 @@ pub returns-in-Ok-clause-ok : goal.returns-in-Ok-clause-ok
 returns-in-Ok-clause-ok c =
     let f : FoundHere c.in-Ok.place c.args.sets.now.items c.args.next c.index_mut.result.now
     = found_here c.args.sets.now.items c.args.next c.index_mut.result.now c.in-Ok.place c.requires.full c.requires.owned
-    (c.in-Ok.ensures ∙ ap (λ (t : List RRset). place_from 0 t (type_code c.record_type.result)) c.deref.ensures.value
-    ∙ ap (λ (t : RecordType). place_from 0 c.args.sets.now.items (type_code t)) c.record_type.ensures) in
+    (c.in-Ok.ensures ∙ ap (λ (t : List RRset). place_from 0 t (record_type_number c.record_type.result)) c.deref.ensures.value
+    ∙ ap (λ (t : RecordType). place_from 0 c.args.sets.now.items (record_type_number t)) c.record_type.ensures) in
     on_ok c.put.result
     (λ e. ap (set c.args.sets.now.items c.in-Ok.place) (e ∙ ap (λ (s : RRset). set_with (Some s) c.args.next) c.index_mut.ensures.value) ∙ sym f.after_is)
     c.put.ensures.ok
@@ -51,6 +51,6 @@ pub returns-in_ok-insert-in-Err-clause-ok : goal.returns-in_ok-insert-in-Err-cla
 returns-in_ok-insert-in-Err-clause-ok c =
     let f : MissedHere c.in-Err.place c.args.sets.now.items c.args.next
     = missed_here c.args.sets.now.items c.args.next c.in-Err.place
-    (c.in-Err.ensures ∙ ap (λ (t : List RRset). place_from 0 t (type_code c.record_type.result)) c.deref.ensures.value
-    ∙ ap (λ (t : RecordType). place_from 0 c.args.sets.now.items (type_code t)) c.record_type.ensures) in
+    (c.in-Err.ensures ∙ ap (λ (t : List RRset). place_from 0 t (record_type_number c.record_type.result)) c.deref.ensures.value
+    ∙ ap (λ (t : RecordType). place_from 0 c.args.sets.now.items (record_type_number t)) c.record_type.ensures) in
     c.in_ok-insert-in-Err.ensures.items ∙ ap (insert c.args.sets.now.items c.in-Err.place) c.in_ok-set-in-Err.ensures ∙ sym f.after_is

@@ -1,5 +1,5 @@
 use Rattle.std.proofs.Common.{◌≡◌, ◌++◌, drop}
-use Rattle.zst_record.specs.Names.{name_octets}
+use Rattle.dnw_name.specs.DomainName.{name_octets}
 use Rattle.zsv_message.proofs.emit.emit_name.Given as goal
 
 abbrev pub invariant-loop-label : goal.invariant-loop-label

@@ -2,10 +2,10 @@ use Rattle.std.proofs.Common.{◌≡◌, true, false, refl, sym, ◌∙◌, is_s
 use Rattle.std.specs.Cmp.Derive.{both_true}
 use Rattle.std.proofs.lemmas.Bool.{both_ways}
 use Rattle.std.proofs.lemmas.Result.{err_from_is_err_and}
-use Rattle.zst_record.specs.declared.codes.RecordType.TheVariants as types
+use Rattle.dnw_codes.specs.declared.record_type.RecordType.TheVariants as types
 use Rattle.zst_zone.specs.Zones.{stored}
 use Rattle.authority.specs.declared.loader.LoadCause.TheVariants as causes
-use Rattle.zst_record.specs.Names.{is_at_or_below}
+use Rattle.dnw_name.specs.DomainName.{is_at_or_below}
 use Rattle.authority.specs.ZoneText.{words_of, IsTextOf, is_start}
 use Rattle.authority.proofs.Causes.{field_read, field_refused, none_8, data_none, data_some, none_9, none_11, second_stands, none_12}
 use Rattle.authority.proofs.loader.line.record_of.Goals as goal

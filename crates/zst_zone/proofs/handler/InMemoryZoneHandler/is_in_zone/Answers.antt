@@ -1,8 +1,9 @@
 use Rattle.std.proofs.Common.{◌∙◌, sym, ap, ℕ, nat_eq}
 use Rattle.std.specs.Prelude.{List}
 use Rattle.std.specs.List.{starts_with}
-use Rattle.zst_record.specs.Names.{is_at_or_below}
-use Rattle.zst_zone.specs.Keys.{begins, name_key}
+use Rattle.dnw_name.specs.DomainName.{is_at_or_below}
+use Rattle.dnw_name.specs.NameKey.{name_key}
+use Rattle.zst_zone.proofs.Keys.{begins}
 use Rattle.zst_zone.specs.Zones.{View}
 use Rattle.zst_zone.proofs.Keys.{begins-starts_with, above_begins}
 use Rattle.zst_zone.proofs.handler.InMemoryZoneHandler.is_in_zone.Goals as goal

@@ -11,7 +11,7 @@ use Rattle.zst_zone.proofs.map.ZoneMap.add.Goals as goal
 
 pub add_to_node-requires-clause-owned : goal.add_to_node-requires-clause-owned
 add_to_node-requires-clause-owned c =
-    same_owner c.in_ok-key.key.items c.in-Some.sets.now.items c.args.next c.in_ok-key.ensures
+    same_owner c.in_ok-key.key.items c.in-Some.sets.now.items c.args.next c.in_ok-key.ensures.key
     (node_found octets sets c.in_ok-key.key.items c.self.inside.nodes.entries c.in-Some.sets.now c.self.invariant.nodes (sym c.in-Some.ensures.value)).owned
 
 pub invariant_of-self : goal.invariant_of-self
@@ -21,7 +21,7 @@ invariant_of-self c =
     (c.get_mut.follows.holds w).0 (c.get_mut.follows.holds w).4
     (node_tried c.in_ok-key.key.items c.in-Some.sets.now.items w.items c.args.next c.add_to_node.result
     (node_found octets sets c.in_ok-key.key.items c.self.inside.nodes.entries c.in-Some.sets.now c.self.invariant.nodes (sym c.in-Some.ensures.value))
-    c.in_ok-key.ensures c.requires c.add_to_node.ensures.ok c.add_to_node.ensures.err)
+    c.in_ok-key.ensures.key c.requires c.add_to_node.ensures.ok c.add_to_node.ensures.err)
 
 pub invariant_of-self-in-None : goal.invariant_of-self-in-None
 invariant_of-self-in-None c =
@@ -29,7 +29,7 @@ invariant_of-self-in-None c =
     (c.in_ok-insert-in-None.ensures.entries
     ∙ ap (λ (m : BTreeMap Key Node). insert_entry (key_cmp octets sets) m.entries c.in_ok-key.key c.in_ok-node-in-None.node) c.get_mut.follows.holds-at-none)
     c.insert.ensures.ordered
-    (node_alone c.in_ok-key.key.items c.in_ok-node-in-None.node.items c.args.next c.in_ok-key.ensures c.requires c.in_ok-node-in-None.ensures)
+    (node_alone c.in_ok-key.key.items c.in_ok-node-in-None.node.items c.args.next c.in_ok-key.ensures.key c.requires c.in_ok-node-in-None.ensures)
 
 on_ok : {T E : Type 0} {P Q : Type 0} (r : Result T E) → (P → Q) → OnOk r P → OnOk r Q
 on_ok (Ok x) f h = f h
@@ -45,7 +45,7 @@ returns-in-Some-clause-ok c =
     on_ok c.add_to_node.result
     (λ e. subst (λ (z : List RRset). Adds z c.args.next (sets_of octets sets (c.get_mut.follows.lender w).entries)) c.self.view_is
     (adds_replaced octets sets c.in_ok-key.key.items c.self.inside.nodes.entries (c.get_mut.follows.lender w).entries c.in-Some.sets.now w c.args.next
-    c.self.invariant (invariant_of-self c) c.in_ok-key.ensures c.in-Some.ensures.value (c.get_mut.follows.holds w).0 e))
+    c.self.invariant (invariant_of-self c) c.in_ok-key.ensures.key c.in-Some.ensures.value (c.get_mut.follows.holds w).0 e))
     c.add_to_node.ensures.ok
 
 pub returns-in-Some-clause-err : goal.returns-in-Some-clause-err
@@ -61,7 +61,7 @@ pub returns-in_ok-insert-in-None-clause-ok : goal.returns-in_ok-insert-in-None-c
 returns-in_ok-insert-in-None-clause-ok c =
     subst (λ (z : List RRset). Adds z c.args.next (sets_of octets sets c.insert.new.self.entries)) c.self.view_is
     (adds_inserted octets sets c.in_ok-key.key c.self.inside.nodes.entries c.insert.new.self.entries c.in_ok-node-in-None.node c.args.next c.self.invariant
-    (invariant_of-self-in-None c) c.in_ok-key.ensures c.in-None.ensures.value
+    (invariant_of-self-in-None c) c.in_ok-key.ensures.key c.in-None.ensures.value
     (c.in_ok-insert-in-None.ensures.entries
     ∙ ap (λ (m : BTreeMap Key Node). insert_entry (key_cmp octets sets) m.entries c.in_ok-key.key c.in_ok-node-in-None.node) c.get_mut.follows.holds-at-none)
     c.in_ok-node-in-None.ensures)
