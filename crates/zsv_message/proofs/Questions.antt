@@ -1,46 +1,79 @@
 -- Questions, one behind the other: one place holds one of them, and what is read is what stands there.
-use Rattle.std.proofs.Common.{◌≡◌, ℕ, ◌+◌, ◌<◌, ◌≤◌, Bool, List, [], ◌∷◌, ◌++◌, length, refl, sym, ap, subst, ◌∙◌, arith, append_assoc, append-nil, length-append}
-use Rattle.zsv_message.specs.declared.request.Query.{Query}
-use Rattle.dnw_codes.specs.declared.record_type.RecordType.{RecordType}
-use Rattle.dnw_codes.specs.declared.dns_class.DNSClass.{DNSClass}
-use Rattle.dnw_codes.specs.RecordType.{record_type_of}
+use Rattle.std.proofs.Common.{◌≡◌, ℕ, ◌+◌, ◌/◌, ◌%◌, ◌<◌, ◌≤◌, List, [], ◌∷◌, ◌++◌, length, get_or, refl, sym, ap, subst, inl, inr, ◌∙◌, arith, append_assoc, append-nil, length-append, Global, Vec}
+use Rattle.std.specs.Prelude.{◌⊎◌, Err}
 use Rattle.dnw_codes.specs.DNSClass.{class_of}
+use Rattle.dnw_codes.specs.RecordType.{record_type_of}
+use Rattle.dnw_codes.specs.declared.dns_class.DNSClass.{DNSClass}
+use Rattle.dnw_codes.specs.declared.error.DecodeError.{DecodeError}
+use Rattle.dnw_codes.specs.declared.record_type.RecordType.{RecordType}
 use Rattle.dnw_name.specs.DomainName.{DomainName}
-use Rattle.dnw_decoder.specs.Octets.{number_16}
-use Rattle.std.specs.Prelude.{Err}
-use Rattle.std.proofs.Common.{Global, Vec}
+use Rattle.dnw_decoder.specs.Codes.{RecordTypeAt, ClassAt}
+use Rattle.dnw_decoder.specs.Octets.{octets_16}
+use Rattle.dnw_decoder.specs.Reading.{IsWantOfMemory}
+use Rattle.dnw_decoder.specs.Spelling.{NameAt}
+use Rattle.dnw_decoder.specs.SpellingLaws.{name_once}
+use Rattle.dnw_decoder.specs.Standing.{stands_same}
 use Rattle.zsv_message.specs.declared.read.ReadError.{ReadError}
 use Rattle.zsv_message.specs.declared.read.ReadError.TheVariants as errors
-use Rattle.zsv_message.specs.Wire.{NameAt, Entries, Reads, ReadsAs}
+use Rattle.zsv_message.specs.declared.request.Query.{Query}
 use Rattle.zsv_message.specs.Headers.{header_of}
 use Rattle.zsv_message.specs.Requests.{QuestionAt, QuestionsAt, ReadsRequest}
-use Rattle.zsv_message.proofs.Standing.{spells_once}
+use Rattle.zsv_message.specs.Wire.{Entries, Reads, ReadsAs, TellsCause}
 
--- One place holds one name.
-pub name_once : (message : List ℕ) (place : ℕ) (a b : DomainName) (e f : ℕ) → NameAt message place a e → NameAt message place b f → (a ≡ b) × (e ≡ f)
-name_once message place a b e f p q =
-    let both = spells_once message place a.labels b.labels e f p.spelled q.spelled in
-    (ap (λ (fqdn : Bool). record { fqdn = fqdn; labels = a.labels }) (p.full ∙ sym q.full) ∙ ap (λ (ls : List (List ℕ)). record { fqdn = b.fqdn; labels = ls }) both.0, both.1)
+-- Two numbers of 16 bits in the same octets are the same.
+number_once : (a b : ℕ) → a < 65536 → b < 65536 → octets_16 a ≡ octets_16 b → a ≡ b
+number_once a b few less same =
+    let high : a / 256 % 256 ≡ b / 256 % 256 = ap (λ (octets : List ℕ). get_or octets 0 0) same in
+    let low : a % 256 ≡ b % 256 = ap (λ (octets : List ℕ). get_or octets 1 0) same in
+    omega arith
 
-abbrev query_of : DomainName → ℕ → ℕ → Query
-query_of name t c = record { name = name; query_type = record_type_of t; query_class = class_of c }
+-- One place holds one type, and one class.
+type_once : (message : List ℕ) (place : ℕ) (a b : RecordType) (e f : ℕ) → RecordTypeAt message place a e → RecordTypeAt message place b f → (a ≡ b) × (e ≡ f)
+type_once message place a b e f p q =
+    let same = stands_same message place (octets_16 p.number) (octets_16 q.number) e f refl p.there q.there in
+    (p.means ∙ ap record_type_of (number_once p.number q.number p.small q.small same.0) ∙ sym q.means, same.1)
 
--- A question is made of its parts.
-question_is : (message : List ℕ) (place : ℕ) (q : Query) (end : ℕ) (p : QuestionAt message place q end) → q ≡ query_of q.name (number_16 message p.middle) (number_16 message (p.middle + 2))
-question_is message place q end p =
-    ap (λ (t : RecordType). record { name = q.name; query_type = t; query_class = q.query_class }) p.query_type
-    ∙ ap (λ (c : DNSClass). record { name = q.name; query_type = record_type_of (number_16 message p.middle); query_class = c }) p.query_class
+class_once : (message : List ℕ) (place : ℕ) (a b : DNSClass) (e f : ℕ) → ClassAt message place a e → ClassAt message place b f → (a ≡ b) × (e ≡ f)
+class_once message place a b e f p q =
+    let same = stands_same message place (octets_16 p.number) (octets_16 q.number) e f refl p.there q.there in
+    (p.means ∙ ap class_of (number_once p.number q.number p.small q.small same.0) ∙ sym q.means, same.1)
+
+abbrev query_of : DomainName → RecordType → DNSClass → Query
+query_of name t c = record { name = name; query_type = t; query_class = c }
 
 -- One place holds one question.
 pub question_once : (message : List ℕ) (place : ℕ) (a b : Query) (e f : ℕ) → QuestionAt message place a e → QuestionAt message place b f → (a ≡ b) × (e ≡ f)
 question_once message place a b e f p q =
-    let names = name_once message place a.name b.name p.middle q.middle p.name q.name in (
-      question_is message place a e p
-          ∙ ap (λ (n : DomainName). query_of n (number_16 message p.middle) (number_16 message (p.middle + 2))) names.0
-          ∙ ap (λ (m : ℕ). query_of b.name (number_16 message m) (number_16 message (m + 2))) names.1
-          ∙ sym (question_is message place b f q),
-      p.behind ∙ ap (λ (m : ℕ). m + 4) names.1 ∙ sym q.behind,
+    let names = name_once message place a.name b.name p.middle q.middle p.name q.name in
+    let types = type_once message q.middle a.query_type b.query_type p.last q.last (subst (λ (m : ℕ). RecordTypeAt message m a.query_type p.last) names.1 p.query_type) q.query_type in
+    let classes = class_once message q.last a.query_class b.query_class e f (subst (λ (m : ℕ). ClassAt message m a.query_class e) types.1 p.query_class) q.query_class in
+    (
+      ap (λ (n : DomainName). query_of n a.query_type a.query_class) names.0
+          ∙ ap (λ (t : RecordType). query_of b.name t a.query_class) types.0
+          ∙ ap (λ (c : DNSClass). query_of b.name b.query_type c) classes.0,
+      classes.1,
     )
+
+-- A reader that is refused one part of a question says so of the question.
+pub name_err : (message : List ℕ) (place end : ℕ) (cause : DecodeError) (e : ReadError) → TellsCause cause e → IsWantOfMemory cause ⊎ ((name : DomainName) (behind : ℕ) → NameAt message place name behind → ⊥) → Reads (QuestionAt message place) (Err e) end
+name_err message place end cause errors.Malformed tells (inl memory) = absurd (tells memory)
+name_err message place end cause errors.Malformed tells (inr none) = λ q behind at. none q.name at.middle at.name
+name_err message place end cause errors.Memory tells why = tt
+
+pub type_err : (message : List ℕ) (place middle end : ℕ) (name : DomainName) (cause : DecodeError) (e : ReadError) → NameAt message place name middle → TellsCause cause e → IsWantOfMemory cause ⊎ ((t : RecordType) (behind : ℕ) → RecordTypeAt message middle t behind → ⊥) → Reads (QuestionAt message place) (Err e) end
+type_err message place middle end name cause errors.Malformed here tells (inl memory) = absurd (tells memory)
+type_err message place middle end name cause errors.Malformed here tells (inr none) = λ q behind at.
+    let same = name_once message place q.name name at.middle middle at.name here in
+    none q.query_type at.last (subst (λ (m : ℕ). RecordTypeAt message m q.query_type at.last) same.1 at.query_type)
+type_err message place middle end name cause errors.Memory here tells why = tt
+
+pub class_err : (message : List ℕ) (place middle last end : ℕ) (name : DomainName) (t : RecordType) (cause : DecodeError) (e : ReadError) → NameAt message place name middle → RecordTypeAt message middle t last → TellsCause cause e → IsWantOfMemory cause ⊎ ((c : DNSClass) (behind : ℕ) → ClassAt message last c behind → ⊥) → Reads (QuestionAt message place) (Err e) end
+class_err message place middle last end name t cause errors.Malformed here typed tells (inl memory) = absurd (tells memory)
+class_err message place middle last end name t cause errors.Malformed here typed tells (inr none) = λ q behind at.
+    let same = name_once message place q.name name at.middle middle at.name here in
+    let types = type_once message middle q.query_type t at.last last (subst (λ (m : ℕ). RecordTypeAt message m q.query_type at.last) same.1 at.query_type) typed in
+    none q.query_class behind (subst (λ (m : ℕ). ClassAt message m q.query_class behind) types.1 at.query_class)
+class_err message place middle last end name t cause errors.Memory here typed tells why = tt
 
 -- What was read, and what is still ahead.
 pub record EntriesAhead {X : Type 0} (At : ℕ → X → ℕ → Type 0) (place : ℕ) (before : List X) (at : ℕ) : Type 0 where
@@ -84,13 +117,13 @@ entries_none At place before at a none all end e long =
     none_first At at end none found.0 found.2 (longer before found.0 all found.1 long)
 
 -- A reader that finds no further question says so of all.
-pub questions_err : (message : List ℕ) (place count : ℕ) (before : List Query) (at : ℕ) → EntriesAhead (QuestionAt message) place before at → length before < count → (e : ReadError) → Reads (QuestionAt message at) (Err e) → ReadsAs {X = Vec Query Global} (λ qs. qs.items) (QuestionsAt message place count) (Err e)
-questions_err message place count before at a more errors.Malformed none = λ qs end there.
-    entries_none (QuestionAt message) place before at a none qs end there.0 (omega (arith, there.1))
-questions_err message place count before at a more errors.Memory none = tt
+pub questions_err : (message : List ℕ) (place count : ℕ) (before : List Query) (at : ℕ) (end last : ℕ) → EntriesAhead (QuestionAt message) place before at → length before < count → (e : ReadError) → Reads (QuestionAt message at) (Err e) end → ReadsAs {X = Vec Query Global} (λ qs. qs.items) (QuestionsAt message place count) (Err e) last
+questions_err message place count before at end last a more errors.Malformed none = λ qs behind there.
+    entries_none (QuestionAt message) place before at a none qs behind there.0 (omega (arith, there.1))
+questions_err message place count before at end last a more errors.Memory none = tt
 
 -- A message whose questions can't be read is no request.
-pub request_err : (message : List ℕ) (count : ℕ) → count ≡ (header_of message).counts.queries → (e : ReadError) → ReadsAs {X = Vec Query Global} (λ qs. qs.items) (QuestionsAt message 12 count) (Err e) → ReadsRequest message (Err e)
-request_err message count counted errors.Malformed none = λ request is.
+pub request_err : (message : List ℕ) (count end : ℕ) → count ≡ (header_of message).counts.queries → (e : ReadError) → ReadsAs {X = Vec Query Global} (λ qs. qs.items) (QuestionsAt message 12 count) (Err e) end → ReadsRequest message (Err e)
+request_err message count end counted errors.Malformed none = λ request is.
     none request.questions is.end (is.questions.0, is.questions.1 ∙ sym counted)
-request_err message count counted errors.Memory none = tt
+request_err message count end counted errors.Memory none = tt

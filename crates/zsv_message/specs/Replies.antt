@@ -15,8 +15,9 @@ use Rattle.zsv_message.specs.Headers.{header_of}
 use Rattle.dnw_decoder.specs.Octets.{Stands}
 use Rattle.zst_record.specs.RecordData.{rdata_octets, soa_numbers}
 use Rattle.zst_record.specs.Records.{record_octets, fixed_octets}
-use Rattle.zsv_message.specs.Requests.{Request, QuestionsAt}
-use Rattle.zsv_message.specs.Wire.{NameAt}
+use Rattle.dnw_decoder.specs.Spelling.{NameAt}
+use Rattle.zsv_message.specs.Requests.{Request, QuestionAt, QuestionsAt, AvoidsHeader}
+use Rattle.zsv_message.specs.Wire.{Entries}
 
 -- What a reply holds in full.
 pub record ReplyParts : Type 0 where
@@ -67,14 +68,15 @@ header_with m truncated questions answers authorities = record {
   counts = record { queries = questions; answers = answers; authorities = authorities; additionals = 0 };
 }
 
--- The reply in which the question section fits: its octets as sent, a front of each list, and nothing behind.
-pub record IsWholeReply (reply : List ℕ) (parts : ReplyParts) (request : Request) (limit : ℕ) : Type 0 where
+-- The reply in which the question section fits: its octets as sent, which are the same questions unless a pointer of
+-- theirs goes into the message's header; a front of each list; and nothing behind.
+pub record IsWholeReply (message reply : List ℕ) (parts : ReplyParts) (request : Request) (limit : ℕ) : Type 0 where
   pub questions_end : ℕ
   pub answers : List Record
   pub answers_end : ℕ
   pub authorities : List Record
   pub question_octets : Stands reply 12 request.question_octets questions_end
-  pub questions : QuestionsAt reply 12 (length request.questions) request.questions questions_end
+  pub questions : (there : Entries (QuestionAt message) 12 request.questions questions_end) → AvoidsHeader message 12 request.questions questions_end there → QuestionsAt reply 12 (length request.questions) request.questions questions_end
   pub answers_front : Front reply limit questions_end parts.answers answers answers_end
   pub authorities_front : Front reply limit answers_end parts.authorities authorities (length reply)
   pub header : header_of reply ≡ header_with parts.metadata (nat_lt (length answers) (length parts.answers) || nat_lt (length authorities) (length parts.authorities)) (length request.questions) (length answers) (length authorities)
@@ -94,8 +96,8 @@ bare_failure id = record {
   response_code = responses.ServFail;
 }
 
--- A reply of these parts to this request, within the limit.
-pub record IsReply (reply : List ℕ) (parts : ReplyParts) (request : Request) (limit : ℕ) : Type 0 where
+-- A reply of these parts to the request that a message is, within the limit.
+pub record IsReply (message reply : List ℕ) (parts : ReplyParts) (request : Request) (limit : ℕ) : Type 0 where
   pub within : length reply ≤ limit
-  pub whole : 12 + length request.question_octets ≤ limit → IsWholeReply reply parts request limit
+  pub whole : 12 + length request.question_octets ≤ limit → IsWholeReply message reply parts request limit
   pub bare : limit < 12 + length request.question_octets → (length reply ≡ 12) × (header_of reply ≡ header_with (bare_failure request.metadata.id) false 0 0 0)

@@ -1,23 +1,22 @@
 -- Questions, and the requests that are read: RFC 1035, section 4.1.2.
-use Rattle.std.specs.Prelude.{◌≡◌, ℕ, ◌+◌, ◌≤◌, List, length, Result, Ok, Err}
+use Rattle.std.specs.Prelude.{◌≡◌, ℕ, ◌≤◌, List, [], ◌∷◌, length, Result, Ok, Err}
 use Rattle.zsv_message.specs.declared.header.Metadata.{Metadata}
 use Rattle.zsv_message.specs.declared.request.Query.{Query}
 use Rattle.zsv_message.specs.declared.read.ReadError.{ReadError}
 use Rattle.zsv_message.specs.declared.read.ReadError.TheVariants as errors
-use Rattle.dnw_codes.specs.RecordType.{record_type_of}
-use Rattle.dnw_codes.specs.DNSClass.{class_of}
 use Rattle.zsv_message.specs.Headers.{header_of}
-use Rattle.dnw_decoder.specs.Octets.{Stands, number_16}
-use Rattle.zsv_message.specs.Wire.{NameAt, Entries}
+use Rattle.dnw_decoder.specs.Octets.{Stands}
+use Rattle.dnw_decoder.specs.Codes.{RecordTypeAt, ClassAt}
+use Rattle.dnw_decoder.specs.Spelling.{NameAt}
+use Rattle.zsv_message.specs.Wire.{Entries, PointsFrom}
 
--- A question at a place: a name, then two octets of type and two of class.
+-- A question at a place: a name, a type, a class.
 pub record QuestionAt (message : List ℕ) (place : ℕ) (question : Query) (end : ℕ) : Type 0 where
   pub middle : ℕ
+  pub last : ℕ
   pub name : NameAt message place question.name middle
-  pub query_type : question.query_type ≡ record_type_of (number_16 message middle)
-  pub query_class : question.query_class ≡ class_of (number_16 message (middle + 2))
-  pub behind : end ≡ middle + 4
-  pub within : end ≤ length message
+  pub query_type : RecordTypeAt message middle question.query_type last
+  pub query_class : ClassAt message last question.query_class end
 
 -- So many questions from a place on.
 abbrev pub QuestionsAt : List ℕ → ℕ → ℕ → List Query → ℕ → Type 0
@@ -46,3 +45,8 @@ abbrev pub ReadsRequest : List ℕ → Result Request ReadError → Type 0
 ReadsRequest message (Ok request) = IsRequest message request
 ReadsRequest message (Err errors.Malformed) = (request : Request) → IsRequest message request → ⊥
 ReadsRequest message (Err errors.Memory) = Unit {0}
+
+-- No pointer that the questions follow has its target in the header.
+abbrev pub AvoidsHeader : (message : List ℕ) (place : ℕ) (questions : List Query) (end : ℕ) → Entries (QuestionAt message) place questions end → Type 0
+AvoidsHeader message place [] end there = Unit {0}
+AvoidsHeader message place (q ∷ qs) end (behind, at, more) = PointsFrom 12 at.name.spelled × AvoidsHeader message behind qs end more

@@ -14,13 +14,26 @@ fn emit_name(out: &mut Vec<u8>, name: &Name) -> Result<(), AllocError>
     ensures octets { OnOk result (out.new.items ≡ out.old.items ++ name_octets name.now) }
     ensures name { IsDomainName name.now }
 {
-    for label in name.labels() {
-        let octets = label.as_bytes();
-        out.push(octets.len() as u8)?;
-        out.extend_from_slice(octets)?;
+    let mut labels = name.iter();
+    'labels: while let Some(label) = labels.next() {
+        out.push(label.len() as u8)?;
+        out.extend_from_slice(label)?;
     }
     out.push(0)?;
     Ok(())
+}
+
+// How many octets a name takes: those of its labels, each behind its length, and the end.
+#[tactic(auto, using(crate::proofs::Sizes::sizes))]
+fn name_size(name: &Name) -> usize
+    ensures value { result ≡ length (name_octets name.now) }
+    ensures small { result ≤ 255 }
+{
+    if name.iter().len() == 0 {
+        1
+    } else {
+        name.len() + 1
+    }
 }
 
 // Writes a number of 16 bits at the end.
@@ -75,8 +88,8 @@ fn rdata_len(rdata: &RData) -> usize
 {
     match rdata {
         RData::A(a) => a.0.octets().len(),
-        RData::NS(ns) => ns.0.len(),
-        RData::SOA(soa) => soa.mname.len() + soa.rname.len() + 20,
+        RData::NS(ns) => name_size(&ns.0),
+        RData::SOA(soa) => name_size(&soa.mname) + name_size(&soa.rname) + 20,
     }
 }
 
@@ -87,15 +100,15 @@ pub fn record_len(record: &Record) -> usize
     ensures some { 0 < result }
     ensures small { result ≤ 795 }
 {
-    record.name.len() + 10 + rdata_len(&record.rdata)
+    name_size(&record.name) + 10 + rdata_len(&record.rdata)
 }
 
 // Writes type, class, time to live and the length of the data at the end.
 fn emit_fixed(out: &mut Vec<u8>, record: &Record) -> Result<(), AllocError>
     ensures { OnOk result (out.new.items ≡ out.old.items ++ fixed_octets record.now) }
 {
-    emit_u16(out, record.record_type().code())?;
-    emit_u16(out, record.dns_class.code())?;
+    emit_u16(out, u16::from(record.record_type()))?;
+    emit_u16(out, u16::from(record.dns_class))?;
     emit_u32(out, record.ttl)?;
     emit_u16(out, rdata_len(&record.rdata) as u16)?;
     Ok(())

@@ -1,14 +1,16 @@
 //! Requests and their questions (RFC 1035 section 4.1.2).
 
-ghost use Rattle.std.specs.Prelude.{◌≡◌, ◌≤◌, length, IfOk};
+ghost use Rattle.std.specs.Prelude.{◌≡◌, ◌≤◌, length};
 ghost use Rattle.zsv_message.specs.Wire.{Reads, ReadsAs};
 ghost use Rattle.zsv_message.specs.Requests.{QuestionAt, QuestionsAt, Request, IsRequest, ReadsRequest};
 
-use crate::header::{Header, Metadata, u16_at};
-use crate::read::{ReadError, read_name};
+use crate::header::{Header, Metadata};
+use crate::read::ReadError;
+use dnw_codes::{DNSClass, RecordType};
+use dnw_decoder::{BinDecodable, BinDecoder};
+use dnw_name::Name;
 use std::alloc::Global;
 use std::marker::Model;
-use zst_record::{DNSClass, Name, RecordType};
 
 /// A question: a name, a type and a class.
 #[derive(Drop)]
@@ -22,43 +24,41 @@ pub struct Query {
 }
 
 impl Query {
-    /// The question at a place of a message, and the place behind it.
-    pub fn read(alloc: Global, message: &[u8], place: usize) -> Result<(Query, usize), ReadError>
-        ensures question { Reads (QuestionAt message.now place) result }
-        ensures within { IfOk result (λ found. (place ≤ found.1) × (found.1 ≤ length message.now)) }
+    /// The question at the decoder's index, which moves behind it.
+    pub fn read(alloc: Global, decoder: &mut BinDecoder<'_>) -> Result<Query, ReadError>
+        ensures question { Reads (QuestionAt decoder.old.octets decoder.old.index) result decoder.new.index }
+        ensures same { decoder.new.octets ≡ decoder.old.octets }
+        ensures forward { decoder.old.index ≤ decoder.new.index }
+        ensures within { decoder.new.index ≤ length decoder.new.octets }
     {
-        let (name, behind) = read_name(alloc, message, place)?;
-        if message.len() - behind < 4 {
-            return Err(ReadError::Malformed);
-        }
-        let query = Query {
+        let name = Name::read(alloc, decoder)?;
+        let query_type = RecordType::read(alloc, decoder)?;
+        let query_class = DNSClass::read(alloc, decoder)?;
+        Ok(Query {
             name,
-            query_type: RecordType::from_u16(u16_at(message, behind)),
-            query_class: DNSClass::from_u16(u16_at(message, behind + 2)),
-        };
-        Ok((query, behind + 4))
+            query_type,
+            query_class,
+        })
     }
 }
 
-// So many questions from a place on, and the place behind them.
+// So many questions from the decoder's index on, which moves behind them.
 fn read_questions(
     alloc: Global,
-    message: &[u8],
-    place: usize,
+    decoder: &mut BinDecoder<'_>,
     count: u16,
-) -> Result<(Vec<Query>, usize), ReadError>
-    requires { place ≤ length message.now }
-    ensures questions { ReadsAs (λ qs. qs.items) (QuestionsAt message.now place count) result }
-    ensures within { IfOk result (λ found. (place ≤ found.1) × (found.1 ≤ length message.now)) }
+) -> Result<Vec<Query>, ReadError>
+    ensures questions { ReadsAs (λ qs. qs.items) (QuestionsAt decoder.old.octets decoder.old.index count) result decoder.new.index }
+    ensures same { decoder.new.octets ≡ decoder.old.octets }
+    ensures forward { decoder.old.index ≤ decoder.new.index }
+    ensures within { decoder.old.index ≤ length decoder.old.octets → decoder.new.index ≤ length decoder.new.octets }
 {
     let mut questions = Vec::new(alloc);
-    let mut at = place;
     'questions: for _ in 0..count {
-        let (question, behind) = Query::read(alloc, message, at)?;
+        let question = Query::read(alloc, decoder)?;
         questions.push(question)?;
-        at = behind;
     }
-    Ok((questions, at))
+    Ok(questions)
 }
 
 /// A request: what its header says, its questions, and the octets in which they stand.
@@ -91,11 +91,12 @@ impl<'m> MessageRequest<'m> {
         if counts.answers > 0 || counts.authorities > 0 || counts.additionals > 0 {
             return Err(ReadError::Malformed);
         }
-        let (questions, end) = read_questions(alloc, message, 12, counts.queries)?;
+        let mut decoder = BinDecoder::new(message).clone(12);
+        let questions = read_questions(alloc, &mut decoder, counts.queries)?;
         Ok(MessageRequest {
             metadata: header.metadata,
             questions,
-            question_octets: &message[12..end],
+            question_octets: &message[12..decoder.index()],
         })
     }
 
