@@ -1,6 +1,6 @@
 -- Octets written over others, piece by piece.
-use Rattle.std.proofs.Common.{◌≡◌, ℕ, ◌+◌, ◌<◌, ◌≤◌, List, [], ◌∷◌, ◌++◌, length, get_or, set, take, drop, refl, sym, ap, ◌∙◌, arith, append_assoc, append-nil, add-zero}
-use Rattle.std.proofs.lemmas.List.{length-take, length-drop, length-append, drop-drop, drop_more, take_more, take_at, drop_at, set_at, take-append-drop, drop_all}
+use Rattle.std.proofs.Common.{◌≡◌, ℕ, ◌+◌, ◌<◌, ◌≤◌, List, [], ◌∷◌, ◌++◌, length, get_or, set, take, drop, sym, ap, ◌∙◌, arith, append_assoc, append-nil, add-zero}
+use Rattle.std.proofs.lemmas.List.{length-take, length-append, drop-drop, drop_more, take_more, take_at, drop_at, set_at, take-append-drop, drop_all}
 use Rattle.std.proofs.Math.Seq.{take-length}
 use Rattle.dnw_encoder.specs.Effects.{written_at}
 

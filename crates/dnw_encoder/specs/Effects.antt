@@ -1,17 +1,18 @@
 -- What the calls of an encoder do to it.
-use Rattle.std.specs.Prelude.{◌≡◌, ℕ, ◌+◌, ◌<◌, ◌≤◌, true, List, [], ◌∷◌, ◌++◌, length, take, drop, get_or, replicate, slice_range}
+use Rattle.std.specs.Prelude.{◌≡◌, ℕ, ◌+◌, ◌<◌, ◌≤◌, true, List, [], ◌∷◌, ◌++◌, length, take, drop, get_or, replicate, slice_range, Option, Some, None}
 use Rattle.std.specs.List.{All}
 use Rattle.std.proofs.Common.{◌⊎◌}
+use Rattle.std.specs.Iterator.{Yields}
 use Rattle.dnw_codes.specs.ProtoError.{IsMemory}
 use Rattle.dnw_codes.specs.declared.error.ProtoError.{ProtoError}
-use Rattle.dnw_codes.specs.declared.error.ProtoError.TheVariants.{MaxBufferSizeExceeded}
+use Rattle.dnw_codes.specs.declared.error.ProtoError.TheVariants.{MaxBufferSizeExceeded, NotAllRecordsWritten}
 use Rattle.dnw_name.specs.DomainName.{name_octets, domain_name}
 use Rattle.dnw_label.specs.Label.{IsLabel}
 use Rattle.dnw_decoder.specs.Octets.{Stands}
 use Rattle.dnw_decoder.specs.Spelling.{Spells}
 use Rattle.dnw_encoder.specs.Members.{In}
 use Rattle.dnw_encoder.specs.State.{Candidate, State}
-use Rattle.dnw_encoder.specs.declared.place.OpenPlace.{OpenPlace}
+use Rattle.dnw_encoder.specs.declared.open_places.OpenPlace.{OpenPlace}
 
 -- An octet outside the open places, which later calls leave as it is.
 pub record Fixed (s : State) (i : ℕ) : Type 0 where
@@ -51,6 +52,7 @@ pub record IsStanding (s : State) (c : Candidate) : Type 0 where
 pub record AllStand (s : State) : Type 0 where
   pub each : (c : Candidate) → In c s.candidates → IsStanding s c
   pub places : (r : OpenPlace) → In r s.places → r.to ≤ length s.octets
+  pub apart : (r q : OpenPlace) → In r s.places → In q s.places → (i : ℕ) → r.from ≤ i → i < r.to → q.from ≤ i → i < q.to → r ≡ q
 
 -- An encoder at its end, all of whose candidates stand.
 pub record Sound (s : State) : Type 0 where
@@ -83,13 +85,17 @@ pub record Puts (more : List ℕ) (old new : State) : Type 0 where
   pub places : new.places ≡ old.places
   pub modes : SameModes old new
 
+-- The open place of so many octets.
+abbrev pub place_of : ℕ → ℕ → OpenPlace
+place_of p size = record { from = p; to = p + size }
+
 -- So many octets are reserved at the offset, as an open place.
 pub record Opens (p size : ℕ) (old new : State) : Type 0 where
   pub at : p ≡ old.offset
   pub offset : new.offset ≡ old.offset + size
   pub octets : new.octets ≡ written_at old.octets old.offset (replicate size 0)
   pub candidates : new.candidates ≡ old.candidates
-  pub places : new.places ≡ old.places ++ record { from = p; to = p + size } ∷ []
+  pub places : new.places ≡ old.places ++ place_of p size ∷ []
   pub modes : SameModes old new
 
 -- An open place is filled with these octets, and is open no more.
@@ -97,10 +103,15 @@ pub record Fills (p : ℕ) (more : List ℕ) (old new : State) : Type 0 where
   pub octets : new.octets ≡ written_at old.octets p more
   pub offset : new.offset ≡ old.offset
   pub candidates : new.candidates ≡ old.candidates
-  pub shut : In (record { from = p; to = p + length more }) new.places → ⊥
+  pub shut : In (place_of p (length more)) new.places → ⊥
   pub no_more : (r : OpenPlace) → In r new.places → In r old.places
-  pub stay_open : (r : OpenPlace) → In r old.places → (r ≡ record { from = p; to = p + length more } → ⊥) → In r new.places
+  pub stay_open : (r : OpenPlace) → In r old.places → (r ≡ place_of p (length more) → ⊥) → In r new.places
   pub modes : SameModes old new
+  -- It stands there, and what is fixed elsewhere stays.
+  pub same : (cut : ℕ) → Same cut old new
+  pub keeps : Keeps p old new
+  pub sound : Sound old → Sound new
+  pub stays : Sound old → Holds new (p + length more) (λ octets. Stands octets p more (p + length more))
 
 -- Octets behind the offset are dropped, with the candidates and the open places that reach into them.
 pub record Trims (old new : State) : Type 0 where
@@ -130,3 +141,50 @@ pub record Stores (start end : ℕ) (old new : State) : Type 0 where
   pub becomes : old.points ≡ true → length old.candidates < 64 → start < 16383 → Has new.candidates (slice_range old.octets start end)
   pub sound : Sound old → Sound new
   pub modes : SameModes old new
+
+-- The place of a candidate with these octets, or that there is none.
+abbrev pub Answers : State → List ℕ → Option ℕ → Type 0
+Answers s octets (Some place) = (c : Candidate) × In c s.candidates × (c.octets ≡ octets) × (c.place ≡ place)
+Answers s octets None = Has s.candidates octets → ⊥
+
+-- What was written of a value is taken back.
+pub record RolledBack (mid new : State) : Type 0 where
+  pub keeps : Keeps mid.offset mid new
+  pub offset : new.offset ≡ mid.offset
+  pub octets : Sound mid → new.octets ≡ mid.octets
+  pub writes : Writes mid new
+  pub only : (c : Candidate) → In c new.candidates → In c mid.candidates
+
+-- Values one behind the other.
+abbrev pub Emitted : {X : Type 0} → (X → State → State → Type 0) → State → List X → State → Type 0
+Emitted emits old [] new = new ≡ old
+Emitted emits old (x ∷ xs) new = (mid : State) × emits x old mid × Writes old mid × Emitted emits mid xs new
+
+-- So many items of an iterator were written, one behind the other.
+pub record Wrote {S X : Type 0} (steps : S → Option X → S → Type 0) (emits : X → State → State → Type 0) (from to : S) (count : ℕ) (old new : State) : Type 0 where
+  pub items : List X
+  pub yielded : Yields steps from items to
+  pub counted : length items ≡ count
+  pub emitted : Emitted emits old items new
+
+-- The error of a write that would pass the maximum.
+abbrev pub IsSizeError : ProtoError → Type 0
+IsSizeError (MaxBufferSizeExceeded size) = Unit {0}
+IsSizeError other = ⊥
+
+-- An item is refused: for its size, and then what was written of it is taken back, and the error says how many were
+-- written before; or for another cause.
+abbrev pub Stops : {X : Type 0} → (X → State → ProtoError → State → Type 0) → X → ℕ → State → ProtoError → State → Type 0
+Stops refuses x count old e new =
+    ((mid : State) × (size : ℕ) × refuses x old (MaxBufferSizeExceeded size) mid × (e ≡ NotAllRecordsWritten count) × RolledBack old new)
+    ⊎ (refuses x old e new × (IsSizeError e → ⊥))
+
+-- All items were written, or the first 65,535.
+abbrev pub WroteAll : {S X : Type 0} → (S → Option X → S → Type 0) → (X → State → State → Type 0) → S → S → ℕ → State → State → Type 0
+WroteAll {S} steps emits from to count old new =
+    (last : S) × Wrote steps emits from last count old new × (((count ≡ 65535) × (to ≡ last)) ⊎ steps last None to)
+
+-- A front of the items was written, and the next was refused.
+abbrev pub WroteFront : {S X : Type 0} → (S → Option X → S → Type 0) → (X → State → State → Type 0) → (X → State → ProtoError → State → Type 0) → S → S → State → ProtoError → State → Type 0
+WroteFront {S} {X} steps emits refuses from to old e new =
+    (last : S) × (count : ℕ) × (mid : State) × (x : X) × Wrote steps emits from last count old mid × steps last (Some x) to × Stops refuses x count mid e new

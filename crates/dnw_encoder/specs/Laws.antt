@@ -1,13 +1,12 @@
 -- Laws of what the calls of an encoder do: how they join, and that what stands goes on standing.
-use Rattle.std.proofs.Common.{◌≡◌, ℕ, ◌+◌, ◌-◌, ◌<◌, ◌≤◌, ◌⊎◌, inl, inr, List, [], ◌∷◌, ◌++◌, length, get_or, take, drop, refl, sym, ap, subst, ◌∙◌, arith, append_assoc, append-nil}
-use Rattle.std.proofs.lemmas.List.{length-take, length-drop, length-append, take-take, take_at, take_all, drop_all, get_or-take, get_or-drop, get_or-append_right, ext_get_or}
-use Rattle.dnw_label.specs.Label.{IsLabel}
+use Rattle.std.proofs.Common.{◌≡◌, ℕ, ◌+◌, ◌<◌, ◌≤◌, List, [], ◌∷◌, ◌++◌, length, get_or, take, drop, refl, sym, ap, subst, ◌∙◌, arith, append_assoc}
+use Rattle.std.proofs.lemmas.List.{length-take, length-drop, length-append, take-take, take_at, get_or-take, get_or-drop, get_or-append_right, ext_get_or}
 use Rattle.dnw_decoder.specs.Octets.{Stands}
 use Rattle.dnw_decoder.specs.Standing.{stands_front}
 use Rattle.dnw_encoder.specs.Members.{In}
 use Rattle.dnw_encoder.specs.State.{Candidate, State}
-use Rattle.dnw_encoder.specs.Effects.{Fixed, Agrees, Holds, Keeps, Same, IsStanding, AllStand, Sound, SameModes, Writes, written_at, Puts, Opens, Fills, Trims}
-use Rattle.dnw_encoder.specs.declared.place.OpenPlace.{OpenPlace}
+use Rattle.dnw_encoder.specs.Effects.{Fixed, Agrees, Holds, Keeps, Same, IsStanding, Sound, SameModes, Writes, written_at, Puts}
+use Rattle.dnw_encoder.specs.declared.open_places.OpenPlace.{OpenPlace}
 
 -- Fronts of the same octets are as long and have the same octets.
 pub front_there : (cut i : ℕ) (xs ys : List ℕ) → take cut xs ≡ take cut ys → i < cut → i < length ys → i < length xs
@@ -81,7 +80,7 @@ keeps_same cut a = record {
   no_others = λ c member le. member;
 }
 
-keeps_then : (cut later : ℕ) (a b c : State) → cut ≤ later → Keeps cut a b → Keeps later b c → Keeps cut a c
+pub keeps_then : (cut later : ℕ) (a b c : State) → cut ≤ later → Keeps cut a b → Keeps later b c → Keeps cut a c
 keeps_then cut later a b c le k l = record {
   octets = sym (take-take cut later c.octets le) ∙ ap (λ (t : List ℕ). take cut t) l.octets ∙ take-take cut later b.octets le ∙ k.octets;
   no_more = λ r member lt. k.no_more r (l.no_more r member (omega arith)) lt;
@@ -170,6 +169,7 @@ puts_writes more old new within p =
               let before = s.stands.each c (subst (λ (cs : List Candidate). In c cs) p.candidates member) in
               standing_keeps old.offset old new c keeps (omega (arith, long, sizes.0)) (omega (arith, before.within, s.at_end)) before;
           places = λ r member. omega (arith, s.stands.places r (subst (λ (rs : List OpenPlace). In r rs) p.places member), long, sizes.0);
+          apart = λ r q one other. s.stands.apart r q (subst (λ (rs : List OpenPlace). In r rs) p.places one) (subst (λ (rs : List OpenPlace). In q rs) p.places other);
         };
       };
       modes = p.modes;

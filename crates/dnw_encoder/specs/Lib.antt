@@ -4,4 +4,6 @@ pub mod Laws
 pub mod Members
 pub mod NameLaws
 pub mod Names
+pub mod PlaceLaws
+pub mod RollbackLaws
 pub mod State

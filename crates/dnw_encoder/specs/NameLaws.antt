@@ -1,5 +1,5 @@
 -- Laws of names that are written in full.
-use Rattle.std.proofs.Common.{◌≡◌, ℕ, ◌+◌, ◌<◌, ◌≤◌, Bool, true, false, List, [], ◌∷◌, ◌++◌, length, map, refl, sym, ap, subst, ◌∙◌, arith, append_assoc, length-append}
+use Rattle.std.proofs.Common.{◌≡◌, ℕ, ◌+◌, ◌≤◌, true, false, List, [], ◌∷◌, ◌++◌, length, map, refl, sym, ap, subst, ◌∙◌, arith, append_assoc, length-append}
 use Rattle.std.specs.List.{All, flat_map}
 use Rattle.std.specs.Char.{to_ascii_lowercase}
 use Rattle.std.specs.Str.{str_to_ascii_lowercase}
@@ -15,7 +15,7 @@ use Rattle.dnw_decoder.specs.Standing.{stands_within, stands_split}
 use Rattle.dnw_encoder.specs.declared.modes.NameEncoding.{NameEncoding}
 use Rattle.dnw_encoder.specs.declared.modes.NameEncoding.TheVariants.{Compressed, Uncompressed, UncompressedLowercase}
 use Rattle.dnw_encoder.specs.State.{State}
-use Rattle.dnw_encoder.specs.Effects.{Sound, Holds, Puts}
+use Rattle.dnw_encoder.specs.Effects.{Puts}
 use Rattle.dnw_encoder.specs.Laws.{puts_stands, holds_map}
 use Rattle.dnw_encoder.specs.Names.{EmitsName, encoded_name, written_name}
 

@@ -1,10 +1,12 @@
 -- An encoder: the octets of a message that is being written, and what its writer keeps beside them.
-use Rattle.std.specs.Prelude.{◌≡◌, ℕ, Bool, true, false, List, []}
+use Rattle.std.specs.Prelude.{ℕ, Bool, true, false, List, []}
 use Rattle.dnw_codes.specs.declared.error.ProtoError.{ProtoError}
 use Rattle.dnw_codes.specs.declared.error.ProtoError.TheVariants.{CharacterDataTooLong}
 use Rattle.dnw_encoder.specs.declared.modes.NameEncoding.{NameEncoding}
-use Rattle.dnw_encoder.specs.declared.modes.NameEncoding.TheVariants.{Compressed, Uncompressed, UncompressedLowercase}
-use Rattle.dnw_encoder.specs.declared.place.OpenPlace.{OpenPlace}
+use Rattle.dnw_encoder.specs.declared.modes.NameEncoding.TheVariants.{Uncompressed, UncompressedLowercase}
+use Rattle.dnw_encoder.specs.declared.modes.RDataEncoding.{RDataEncoding}
+use Rattle.dnw_encoder.specs.declared.modes.RDataEncoding.TheVariants.{StandardRecord, Canonical, Other}
+use Rattle.dnw_encoder.specs.declared.open_places.OpenPlace.{OpenPlace}
 
 -- A name that later names may point to: its place, its octets uncompressed with the final 0, and where the
 -- octets that were written for it end.
@@ -52,3 +54,12 @@ with_encoding s encoding = record s { encoding = encoding; points = writes_point
 -- The error for a string of so many octets, which are more than 255.
 abbrev pub string_too_long : ℕ → ProtoError
 string_too_long octets = CharacterDataTooLong 255 octets
+
+-- How the names of record data of a kind are written, in canonical form or not: names of the types of RFC 3597 4
+-- as the encoder is set, those of RFC 4034 6.2 in full, both in lower case in canonical form; others in full.
+abbrev pub rdata_encoding : RDataEncoding → Bool → NameEncoding → NameEncoding
+rdata_encoding StandardRecord false encoding = encoding
+rdata_encoding StandardRecord true encoding = UncompressedLowercase
+rdata_encoding Canonical false encoding = Uncompressed
+rdata_encoding Canonical true encoding = UncompressedLowercase
+rdata_encoding Other canonical encoding = Uncompressed

@@ -1,5 +1,5 @@
 //! Octets written over and behind others.
-ghost use Rattle.std.specs.Prelude.{◌≡◌, ◌+◌, ◌≤◌, ◌++◌, length, take, replicate, OnOk, OnErr};
+ghost use Rattle.std.specs.Prelude.{◌≡◌, ◌+◌, ◌<◌, ◌≤◌, ◌^◌, ◌++◌, length, replicate, OnOk, OnErr};
 ghost use Rattle.dnw_encoder.specs.Effects.{written_at};
 
 use std::alloc::AllocError;
@@ -44,4 +44,38 @@ pub(crate) fn write_at(
     buffer.extend_from_slice(front)?;
     buffer.extend_from_slice(rest)?;
     Ok(())
+}
+
+// Puts zeros over octets.
+fn clear(octets: &mut [u8], place: usize, size: usize)
+    requires { place + size ≤ length octets.old }
+    ensures { octets.new ≡ written_at octets.old place (replicate size 0) }
+{
+    'octets: for i in 0..size {
+        octets[place + i] = 0;
+    }
+}
+
+// Puts zeros over octets of a buffer.
+fn clear_inside(buffer: &mut Vec<u8>, place: usize, size: usize)
+    requires { place + size ≤ length buffer.old.items }
+    ensures { buffer.new.items ≡ written_at buffer.old.items place (replicate size 0) }
+{
+    clear(buffer, place, size);
+}
+
+// Puts so many zeros at a place, over what is there and behind it.
+pub(crate) fn clear_at(buffer: &mut Vec<u8>, place: usize, size: usize) -> Result<(), AllocError>
+    requires within { place ≤ length buffer.old.items }
+    requires fits { place + size < 2 ^ 64 }
+    ensures ok { OnOk result (buffer.new.items ≡ written_at buffer.old.items place (replicate size 0)) }
+    ensures err { OnErr result (buffer.new.items ≡ buffer.old.items) }
+{
+    if size <= buffer.len() - place {
+        clear_inside(buffer, place, size);
+        return Ok(());
+    }
+    buffer.reserve(size)?;
+    buffer.truncate(place);
+    buffer.resize(place + size, 0)
 }

@@ -13,28 +13,53 @@ use std::alloc::Global;
 
 /// What can be written into a message.
 pub trait BinEncodable {
-    ghost use Rattle.std.specs.Prelude.{◌≡◌, IfOk, OnOk, OnErr};
+    ghost use Rattle.std.specs.Prelude.{◌≡◌, IfOk, IfErr, OnOk, []};
+    ghost use Rattle.dnw_encoder.specs.declared.modes.NameEncoding.TheVariants.{Compressed};
+    ghost use Rattle.dnw_codes.specs.declared.error.ProtoError.{ProtoError as Error};
     ghost use Rattle.dnw_encoder.specs.Encoders.{state};
     ghost use Rattle.dnw_encoder.specs.Effects.{Writes};
     ghost use Rattle.dnw_encoder.specs.State.{State, started};
-    ghost use Rattle.dnw_encoder.specs.declared.modes.NameEncoding.TheVariants.{Uncompressed};
 
     // What an accepted emission does to an encoder, and what a refused one leaves.
     ghost emits: { Self → State → State → Type 0 };
 
-    ghost refuses: { Self → State → State → Type 0 };
+    ghost refuses: { Self → State → Error → State → Type 0 };
 
     /// Writes the value at the encoder's offset, and moves behind it. What stands before the offset stays.
     fn emit(&self, encoder: &mut BinEncoder<'_>) -> Result<(), ProtoError>
         ensures same_reference { encoder.new.buffer.ghost_name ≡ encoder.old.buffer.ghost_name }
         ensures writes { Writes (state encoder.old) (state encoder.new) }
         ensures ok { OnOk result (emits self.now (state encoder.old) (state encoder.new)) }
-        ensures err { OnErr result (refuses self.now (state encoder.old) (state encoder.new)) };
+        ensures err { IfErr result (λ e. refuses self.now (state encoder.old) e (state encoder.new)) };
+
+    /// The octets of the value alone.
+    fn to_bytes(&self, alloc: Global) -> Result<Vec<u8>, ProtoError>
+        ensures ok { IfOk result (λ bytes. (new : State) × emits self.now (started [] 0 Compressed) new × (bytes.items ≡ new.octets)) }
+        ensures err { IfErr result (λ e. (new : State) × refuses self.now (started [] 0 Compressed) e new) }
+    {
+        let mut bytes = Vec::new(alloc);
+        let mut encoder = BinEncoder::new(&mut bytes);
+        self.emit(&mut encoder)?;
+        encoder.into_bytes();
+        Ok(bytes)
+    }
+}
+
+impl<E: BinEncodable> BinEncodable for &E {
+    ghost emits = { λ value old new. E.emits value.now old new };
+
+    ghost refuses = { λ value old e new. E.refuses value.now old e new };
+
+    /// Writes what the reference points to.
+    fn emit(&self, encoder: &mut BinEncoder<'_>) -> Result<(), ProtoError> {
+        (**self).emit(encoder)
+    }
 }
 
 /// What is written in the same number of octets, whatever its value.
 pub trait EncodedSize: BinEncodable {
     ghost use Rattle.std.specs.Prelude.{◌≡◌, ◌<◌, ℕ, List, length};
+    ghost use Rattle.dnw_codes.specs.declared.error.ProtoError.{ProtoError as Error};
     ghost use Rattle.dnw_encoder.specs.Effects.{Puts};
     ghost use Rattle.dnw_encoder.specs.State.{State};
 
@@ -48,13 +73,13 @@ pub trait EncodedSize: BinEncodable {
     // It is at least one octet; an accepted emission puts exactly these octets, a refused one changes nothing.
     ghost laws: { (value : Self) → (0 < LEN) × (length (octets value) ≡ LEN)
         × ((old new : State) → Self.emits value old new → Puts (octets value) old new)
-        × ((old new : State) → Self.refuses value old new → new ≡ old) };
+        × ((old new : State) (e : Error) → Self.refuses value old e new → new ≡ old) };
 }
 
 impl BinEncodable for u16 {
     ghost emits = { λ number old new. Puts (octets_16 number) old new };
 
-    ghost refuses = { λ number old new. new ≡ old };
+    ghost refuses = { λ number old e new. (new ≡ old) × IsRefusal old 2 e };
 
     /// Writes the number in two octets, the greatest first.
     fn emit(&self, encoder: &mut BinEncoder<'_>) -> Result<(), ProtoError>
@@ -79,13 +104,13 @@ impl EncodedSize for u16 {
 
     ghost octets = { λ number. octets_16 number };
 
-    ghost laws = { λ number. (Prim.omega arith, refl, λ old new puts. puts, λ old new same. same) };
+    ghost laws = { λ number. (Prim.omega arith, refl, λ old new puts. puts, λ old new e refused. refused.0) };
 }
 
 impl BinEncodable for u32 {
     ghost emits = { λ number old new. Puts (octets_32 number) old new };
 
-    ghost refuses = { λ number old new. new ≡ old };
+    ghost refuses = { λ number old e new. (new ≡ old) × IsRefusal old 4 e };
 
     /// Writes the number in four octets, the greatest first.
     fn emit(&self, encoder: &mut BinEncoder<'_>) -> Result<(), ProtoError>
@@ -110,13 +135,13 @@ impl EncodedSize for u32 {
 
     ghost octets = { λ number. octets_32 number };
 
-    ghost laws = { λ number. (Prim.omega arith, (length-octets_32 number), λ old new puts. puts, λ old new same. same) };
+    ghost laws = { λ number. (Prim.omega arith, (length-octets_32 number), λ old new puts. puts, λ old new e refused. refused.0) };
 }
 
 impl BinEncodable for i32 {
     ghost emits = { λ number old new. Puts (octets_32 (cast_unsigned w32 number)) old new };
 
-    ghost refuses = { λ number old new. new ≡ old };
+    ghost refuses = { λ number old e new. (new ≡ old) × IsRefusal old 4 e };
 
     /// Writes the number in four octets, the greatest first, in two's complement.
     fn emit(&self, encoder: &mut BinEncoder<'_>) -> Result<(), ProtoError>
@@ -141,5 +166,5 @@ impl EncodedSize for i32 {
 
     ghost octets = { λ number. octets_32 (cast_unsigned w32 number) };
 
-    ghost laws = { λ number. (Prim.omega arith, (length-octets_32 (cast_unsigned w32 number)), λ old new puts. puts, λ old new same. same) };
+    ghost laws = { λ number. (Prim.omega arith, (length-octets_32 (cast_unsigned w32 number)), λ old new puts. puts, λ old new e refused. refused.0) };
 }

@@ -5,7 +5,7 @@ ghost use Rattle.dnw_decoder.specs.Octets.{octets_16, octets_32};
 
 use crate::buffer::write_at;
 use crate::modes::NameEncoding;
-use crate::place::OpenPlace;
+use crate::open_places::OpenPlace;
 use dnw_codes::ProtoError;
 
 /// A writer of the octets of a message. It appends to a `Vec` that it borrows.

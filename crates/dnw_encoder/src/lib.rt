@@ -4,11 +4,16 @@
 mod buffer;
 mod encodable;
 mod encoder;
+mod modal;
 mod modes;
 mod name;
+mod open_places;
 mod place;
+mod pointers;
+mod sequence;
 
 pub use encodable::{BinEncodable, EncodedSize};
 pub use encoder::BinEncoder;
+pub use modal::ModalEncoder;
 pub use modes::{NameEncoding, RDataEncoding};
 pub use place::Place;

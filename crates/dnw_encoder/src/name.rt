@@ -63,7 +63,7 @@ fn written_octets(
 impl BinEncodable for Name {
     ghost emits = { EmitsName };
 
-    ghost refuses = { λ name old new. new ≡ old };
+    ghost refuses = { λ name old e new. (new ≡ old) × IsRefusal old (length (name_octets name)) e };
 
     /// Writes the name, by the encoder's mode. It is refused for its size only where its plain form doesn't fit.
     fn emit(&self, encoder: &mut BinEncoder<'_>) -> Result<(), ProtoError>
@@ -83,7 +83,7 @@ impl BinEncodable for Name {
 impl BinEncodable for LowerName {
     ghost emits = { EmitsName };
 
-    ghost refuses = { λ name old new. new ≡ old };
+    ghost refuses = { λ name old e new. (new ≡ old) × IsRefusal old (length (name_octets name)) e };
 
     /// Writes the name as `Name` does.
     fn emit(&self, encoder: &mut BinEncoder<'_>) -> Result<(), ProtoError>

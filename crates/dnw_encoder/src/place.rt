@@ -1,16 +1,124 @@
 //! Places that are reserved in a message and filled later.
+ghost use Rattle.std.specs.Prelude.{◌≡◌, ◌+◌, ◌<◌, ◌≤◌, filter, replicate, take, nat_le, length, IfOk, IfErr, OnOk, OnErr};
+ghost use Rattle.dnw_encoder.specs.Effects.{Writes, Opens, Fills, Trims, IsRefusal, place_of};
+ghost use Rattle.dnw_encoder.specs.Encoders.{state};
+ghost use Rattle.dnw_encoder.specs.Members.{In};
+
+use crate::buffer::clear_at;
+use crate::encodable::EncodedSize;
+use crate::encoder::BinEncoder;
+use crate::open_places::{OpenPlace, drop_behind, shut};
+use dnw_codes::ProtoError;
 use std::marker::PhantomData;
 
-// A range of octets that was handed out and is not yet filled.
-#[derive(Clone, Copy, Debug, PartialEq, Eq)]
-pub(crate) struct OpenPlace {
-    pub(crate) from: usize,
-    pub(crate) to: usize,
-}
-
-/// A place that was reserved for a value of this type, and is filled later. It is filled once.
+/// A place that was reserved for a value of this type. It is filled once.
 #[derive(Drop)]
 pub struct Place<T> {
-    pub(crate) start: usize,
-    pub(crate) of: PhantomData<T>,
+    start: usize,
+    of: PhantomData<T>,
+}
+
+impl<T: EncodedSize + Drop> Place<T> {
+    /// Fills the place with a value.
+    pub fn replace(self, encoder: &mut BinEncoder<'_>, value: T) -> Result<(), ProtoError>
+        requires is_open { In (place_of self.start T.LEN) (state encoder.old).places }
+        requires behind { self.start + T.LEN ≤ (state encoder.old).offset }
+        ensures same_reference { encoder.new.buffer.ghost_name ≡ encoder.old.buffer.ghost_name }
+        ensures ok { OnOk result (Fills self.start (T.EncodedSize.octets value) (state encoder.old) (state encoder.new)) }
+        ensures err { OnErr result (state encoder.new ≡ state encoder.old) }
+    {
+        encoder.emit_at(self, value)
+    }
+}
+
+impl BinEncoder<'_> {
+    // Reserves octets.
+    fn open(&mut self, size: usize) -> Result<usize, ProtoError>
+        ensures same_reference { self.new.buffer.ghost_name ≡ self.old.buffer.ghost_name }
+        ensures writes { Writes (state self.old) (state self.new) }
+        ensures ok { IfOk result (λ start. Opens start size (state self.old) (state self.new)) }
+        ensures fits { OnOk result ((state self.old).offset + size ≤ (state self.old).maximum) }
+        ensures err { OnErr result (state self.new ≡ state self.old) }
+        ensures cause { IfErr result (IsRefusal (state self.old) size) }
+    {
+        if self.maximum < self.offset {
+            return Err(ProtoError::MaxBufferSizeExceeded(self.maximum));
+        }
+        if self.maximum - self.offset < size {
+            return Err(ProtoError::MaxBufferSizeExceeded(self.maximum));
+        }
+        if let Err(refused) = self.places.reserve(1) {
+            return Err(ProtoError::Memory(refused));
+        }
+        match clear_at(self.buffer, self.offset, size) {
+            Ok(()) => {
+                let from = self.offset;
+                self.offset += size;
+                let to = self.offset;
+                self.places.push_reserved(OpenPlace { from, to });
+                Ok(from)
+            }
+            Err(refused) => Err(ProtoError::Memory(refused)),
+        }
+    }
+
+    /// Reserves octets for a value, which are zeros until it is filled, and moves behind them.
+    pub fn place<T: EncodedSize>(&mut self) -> Result<Place<T>, ProtoError>
+        ensures same_reference { self.new.buffer.ghost_name ≡ self.old.buffer.ghost_name }
+        ensures writes { Writes (state self.old) (state self.new) }
+        ensures ok { IfOk result (λ place. Opens place.start T.LEN (state self.old) (state self.new)) }
+        ensures fits { OnOk result ((state self.old).offset + T.LEN ≤ (state self.old).maximum) }
+        ensures err { OnErr result (state self.new ≡ state self.old) }
+        ensures cause { IfErr result (IsRefusal (state self.old) T.LEN) }
+    {
+        match self.open(T::LEN) {
+            Ok(start) => Ok(Place {
+                start,
+                of: PhantomData,
+            }),
+            Err(refused) => Err(refused),
+        }
+    }
+
+    /// The number of octets between a place's end and the offset, which isn't before it.
+    pub fn len_since_place<T: EncodedSize>(&self, place: &Place<T>) -> usize
+        requires { place.now.start + T.LEN ≤ (state self.now).offset }
+        ensures { place.now.start + T.LEN + result ≡ (state self.now).offset }
+    {
+        self.offset - place.start - T::LEN
+    }
+
+    /// Fills an open place, which ends at or before the offset, with a value. The offset stays.
+    pub fn emit_at<T: EncodedSize + Drop>(
+        &mut self,
+        place: Place<T>,
+        value: T,
+    ) -> Result<(), ProtoError>
+        requires is_open { In (place_of place.start T.LEN) (state self.old).places }
+        requires behind { place.start + T.LEN ≤ (state self.old).offset }
+        ensures same_reference { self.new.buffer.ghost_name ≡ self.old.buffer.ghost_name }
+        ensures ok { OnOk result (Fills place.start (T.EncodedSize.octets value) (state self.old) (state self.new)) }
+        ensures err { OnErr result (state self.new ≡ state self.old) }
+    {
+        let offset = self.offset;
+        self.set_offset(place.start);
+        let written = value.emit(self);
+        self.set_offset(offset);
+        match written {
+            Ok(()) => {
+                shut(&mut self.places, place.start, place.start + T::LEN);
+                Ok(())
+            }
+            Err(refused) => Err(refused),
+        }
+    }
+
+    /// Drops the octets behind the offset, with the candidates and the open places that reach into them.
+    pub fn trim(&mut self)
+        ensures same_reference { self.new.buffer.ghost_name ≡ self.old.buffer.ghost_name }
+        ensures trims { Trims (state self.old) (state self.new) }
+    {
+        self.buffer.truncate(self.offset);
+        drop_behind(&mut self.places, self.offset);
+    }
 }

@@ -1,11 +1,10 @@
 -- What stands in octets that are made of pieces, and what stands at the same places of two messages.
 use Rattle.std.proofs.Common.{◌≡◌, ℕ, ◌+◌, ◌-◌, ◌*◌, ◌<◌, ◌≤◌, true, List, [], ◌∷◌, ◌++◌, length, get_or, drop, refl, sym, ap, ◌∙◌, arith, append_assoc, append-nil}
-use Rattle.std.specs.List.{AllByRecursion}
 use Rattle.std.proofs.lemmas.List.{length-append, drop-drop, drop_at, drop_all, drop-append-le, append_cancel_right, get_or-drop, get_or_append_left}
-use Rattle.dnw_decoder.specs.Octets.{Stands, number_16}
-use Rattle.dnw_name.specs.DomainName.{DomainName, IsDomainName, name_octets}
-use Rattle.dnw_label.specs.Label.{IsLabel}
-use Rattle.zsv_message.specs.Wire.{Spells, NameAt, ends, label}
+use Rattle.dnw_decoder.specs.Octets.{Stands}
+use Rattle.dnw_decoder.specs.Spelling.{pointer_octets, Spelled, at_end, at_label, at_pointer}
+use Rattle.dnw_decoder.specs.SpellingLaws.{spelled_within}
+use Rattle.zsv_message.specs.Wire.{PointsFrom}
 
 -- The whole of a message stands at its start.
 pub stands_whole : (message octets : List ℕ) → message ≡ octets → Stands message 0 octets (length message)
@@ -30,20 +29,6 @@ stands_second message place a b end s =
       there = sym (drop-drop (length a) place message) ∙ later;
       behind = omega (arith, s.behind, length-append a b);
     }
-
--- A name's octets spell it.
-pub spells_octets : (message : List ℕ) (place : ℕ) (labels : List (List ℕ)) (end : ℕ) → AllByRecursion IsLabel labels → Stands message place (name_octets labels) end → Spells message place labels end
-spells_octets message place [] end sound s = ends s
-spells_octets message place (l ∷ ls) end sound s =
-    label sound.0 (stands_first message place (length l ∷ l) (name_octets ls) end s)
-    (spells_octets message (place + length (length l ∷ l)) ls end sound.1 (stands_second message place (length l ∷ l) (name_octets ls) end s))
-
-pub name_stands : (message : List ℕ) (place : ℕ) (name : DomainName) (end : ℕ) → IsDomainName name → name.fqdn ≡ true → Stands message place (name_octets name) end → NameAt message place name end
-name_stands message place name end sound full s = record {
-  full = full;
-  spelled = spells_octets message place name.labels end sound.labels s;
-  size = sound.size;
-}
 
 -- Between two places, two messages have the same octets.
 pub record SameThere (m n : List ℕ) (from to : ℕ) : Type 0 where
@@ -74,28 +59,33 @@ stands_over m n from to same place octets end low high s =
       behind = s.behind;
     }
 
--- A name ends behind its start.
-pub spells_after : (message : List ℕ) (place : ℕ) (labels : List (List ℕ)) (end : ℕ) → Spells message place labels end → place < end
-spells_after message place [] end (ends s) = omega (arith, s.behind)
-spells_after message place (l ∷ ls) end (label {behind = behind} is s others) = omega (arith, s.behind, spells_after message behind ls end others)
+-- What is spelled somewhere begins before its bound.
+begins_inside : (m : List ℕ) (segment bound place : ℕ) (labels : List (List ℕ)) (end : ℕ) → Spelled m segment bound place labels end → place < bound
+begins_inside m segment bound place labels end (at_end inside there) = inside
+begins_inside m segment bound place labels end (at_label inside is there rest) = inside
+begins_inside m segment bound place labels end (at_pointer inside backward small there rest) = inside
 
-pub spells_over : (m n : List ℕ) (from to : ℕ) → SameThere m n from to → (place : ℕ) (labels : List (List ℕ)) (end : ℕ) → from ≤ place → end ≤ to → Spells m place labels end → Spells n place labels end
-spells_over m n from to same place [] end low high (ends s) = ends (stands_over m n from to same place (0 ∷ []) end low high s)
-spells_over m n from to same place (l ∷ ls) end low high (label {behind = behind} is s others) =
-    let after = spells_after m behind ls end others in
-    label is (stands_over m n from to same place (length l ∷ l) behind low (omega (arith, after)) s)
-    (spells_over m n from to same behind ls end (omega (arith, s.behind)) high others)
+-- A segment that a pointer leads to is spelled alike where the octets are the same from its first pointer's target to
+-- the place behind its bound.
+segment_over : (m n : List ℕ) (from to : ℕ) → SameThere m n from to → (segment bound place : ℕ) (labels : List (List ℕ)) (end : ℕ) → from ≤ place → segment < to → bound < to → (s : Spelled m segment bound place labels end) → PointsFrom from s → Spelled n segment bound place labels end
+segment_over m n from to same segment bound place labels end low inner outer (at_end inside there) far =
+    at_end inside (stands_over m n from to same place (0 ∷ []) end low (omega (arith, inside, outer, there.behind)) there)
+segment_over m n from to same segment bound place labels end low inner outer (at_label {behind = behind} {first = first} {rest = rest} inside is there later) far =
+    let next = begins_inside m segment bound behind rest end later in
+    at_label inside is (stands_over m n from to same place (length first ∷ first) behind low (omega (arith, next, outer)) there)
+    (segment_over m n from to same segment bound behind rest end (omega (arith, low, there.behind)) inner outer later far)
+segment_over m n from to same segment bound place labels end low inner outer (at_pointer {target = target} {behind = behind} {end = last} inside backward small there later) far =
+    at_pointer inside backward small (stands_over m n from to same place (pointer_octets target) behind low (omega (arith, inside, outer, there.behind)) there)
+    (segment_over m n from to same target segment target labels last far.0 (omega (arith, backward, inner)) inner later far.1)
 
-get_over : (m n : List ℕ) (from to : ℕ) → SameThere m n from to → (place : ℕ) → from ≤ place → place < to → get_or m place 0 ≡ get_or n place 0
-get_over m n from to same place low high =
-    let at : from + (place - from) ≡ place = omega arith in
-    let some : place - from < length same.octets = omega (arith, same.in_m.behind) in
-    let in_m : get_or m place 0 ≡ get_or same.octets (place - from) 0 = ap (λ (p : ℕ). get_or m p 0) (sym at) ∙ sym (get_or-drop from m (place - from) 0) ∙ ap (λ (octets : List ℕ). get_or octets (place - from) 0) same.in_m.there ∙ get_or_append_left same.octets (drop to m) 0 (place - from) some in
-    let in_n : get_or n place 0 ≡ get_or same.octets (place - from) 0 = ap (λ (p : ℕ). get_or n p 0) (sym at) ∙ sym (get_or-drop from n (place - from) 0) ∙ ap (λ (octets : List ℕ). get_or octets (place - from) 0) same.in_n.there ∙ get_or_append_left same.octets (drop to n) 0 (place - from) some in
-    in_m ∙ sym in_n
-
-pub number_over : (m n : List ℕ) (from to : ℕ) → SameThere m n from to → (place : ℕ) → from ≤ place → place + 2 ≤ to → number_16 m place ≡ number_16 n place
-number_over m n from to same place low high =
-    let one = get_over m n from to same place low (omega arith) in
-    let two = get_over m n from to same (place + 1) (omega arith) (omega arith) in
-    λ i. 256 * one i + two i
+-- So is a name, whose first segment is bounded by the message alone.
+pub spelled_over : (m n : List ℕ) (from to : ℕ) → SameThere m n from to → to ≤ length n → (segment bound place : ℕ) (labels : List (List ℕ)) (end : ℕ) → from ≤ place → segment < to → end ≤ to → (s : Spelled m segment bound place labels end) → PointsFrom from s → Spelled n segment (length n) place labels end
+spelled_over m n from to same long segment bound place labels end low inner high (at_end inside there) far =
+    at_end (omega (arith, high, long, there.behind)) (stands_over m n from to same place (0 ∷ []) end low high there)
+spelled_over m n from to same long segment bound place labels end low inner high (at_label {behind = behind} {first = first} {rest = rest} inside is there later) far =
+    let next = spelled_within m segment bound behind rest end later in
+    at_label (omega (arith, next.0, high, long, there.behind)) is (stands_over m n from to same place (length first ∷ first) behind low (omega (arith, next.0, high)) there)
+    (spelled_over m n from to same long segment bound behind rest end (omega (arith, low, there.behind)) inner high later far)
+spelled_over m n from to same long segment bound place labels end low inner high (at_pointer {target = target} {behind = behind} {end = last} inside backward small there later) far =
+    at_pointer (omega (arith, high, long, there.behind)) backward small (stands_over m n from to same place (pointer_octets target) behind low high there)
+    (segment_over m n from to same target segment target labels last far.0 (omega (arith, backward, inner)) inner later far.1)

@@ -8,18 +8,18 @@ use Rattle.zst_record.specs.declared.records.Record.{Record}
 use Rattle.zst_record.specs.declared.record_data.RData.{RData}
 use Rattle.zst_record.specs.declared.record_data.RData.TheVariants as rdata
 use Rattle.zsv_message.specs.declared.request.Query.{Query}
-use Rattle.dnw_codes.specs.RecordType.{record_type_of}
-use Rattle.dnw_codes.specs.DNSClass.{class_of}
 use Rattle.zsv_message.specs.Headers.{header_of}
 use Rattle.dnw_decoder.specs.Octets.{Stands}
 use Rattle.dnw_name.specs.DomainName.{name_octets}
 use Rattle.zst_record.specs.RecordData.{rdata_octets, soa_numbers, has_full_names, SoundData}
 use Rattle.zst_record.specs.Records.{record_octets, fixed_octets, has_only_full_names, HasSoundNames}
-use Rattle.zsv_message.specs.Wire.{Entries}
-use Rattle.zsv_message.specs.Requests.{Request, IsRequest, QuestionAt}
+use Rattle.zsv_message.specs.Wire.{Entries, PointsFrom}
+use Rattle.zsv_message.specs.Requests.{Request, IsRequest, QuestionAt, AvoidsHeader}
 use Rattle.zsv_message.specs.Replies.{ReplyParts, RDataAt, RecordAt, plain, Front, header_with, IsWholeReply, IsReply}
 use Rattle.zsv_message.specs.Plans.{IsWritten}
-use Rattle.zsv_message.proofs.Pieces.{stands_whole, stands_first, stands_second, name_stands, SameThere, spells_over, spells_after, number_over}
+use Rattle.dnw_decoder.specs.SpellingLaws.{spelled_within}
+use Rattle.dnw_encoder.specs.NameLaws.{name_stands}
+use Rattle.zsv_message.proofs.Pieces.{stands_whole, stands_first, stands_second, SameThere, stands_over, spelled_over}
 
 pub and_parts : (a b : Bool) → (a && b) ≡ true → (a ≡ true) × (b ≡ true)
 and_parts true b e = (refl, e)
@@ -27,15 +27,15 @@ and_parts false b e = absurd cc
 
 data_stands : (message : List ℕ) (place : ℕ) (d : RData) (end : ℕ) → SoundData d → has_full_names d ≡ true → Stands message place (rdata_octets d) end → RDataAt message place d end
 data_stands message place (rdata.A a) end sound full s = s
-data_stands message place (rdata.NS ns) end sound full s = name_stands message place ns.0 end sound full s
+data_stands message place (rdata.NS ns) end sound full s = name_stands message place ns.0 end full sound s
 data_stands message place (rdata.SOA soa) end sound full s =
     let both = and_parts soa.mname.fqdn soa.rname.fqdn full in
     let later = stands_second message place (name_octets soa.mname) (name_octets soa.rname ++ soa_numbers soa) end s in
     record {
       middle = place + length (name_octets soa.mname);
       last = place + length (name_octets soa.mname) + length (name_octets soa.rname);
-      mname = name_stands message place soa.mname _ sound.0 both.0 (stands_first message place (name_octets soa.mname) (name_octets soa.rname ++ soa_numbers soa) end s);
-      rname = name_stands message _ soa.rname _ sound.1 both.1 (stands_first message _ (name_octets soa.rname) (soa_numbers soa) end later);
+      mname = name_stands message place soa.mname _ both.0 sound.0 (stands_first message place (name_octets soa.mname) (name_octets soa.rname ++ soa_numbers soa) end s);
+      rname = name_stands message _ soa.rname _ both.1 sound.1 (stands_first message _ (name_octets soa.rname) (soa_numbers soa) end later);
       numbers = stands_second message _ (name_octets soa.rname) (soa_numbers soa) end later;
     }
 
@@ -47,7 +47,7 @@ record_stands message place r end sound full s =
     record {
       middle = place + length (name_octets r.name);
       first = place + length (name_octets r.name) + length (fixed_octets r);
-      owner = name_stands message place r.name _ sound.owner both.0 (stands_first message place (name_octets r.name) (fixed_octets r ++ rdata_octets r.rdata) end s);
+      owner = name_stands message place r.name _ both.0 sound.owner (stands_first message place (name_octets r.name) (fixed_octets r ++ rdata_octets r.rdata) end s);
       fixed = stands_first message _ (fixed_octets r) (rdata_octets r.rdata) end later;
       rdata = data_stands message _ r.rdata end sound.rdata both.1 data_there;
       filled = data_there.behind;
@@ -75,32 +75,41 @@ pub length-flat_map : (rs : List Record) → length (flat_map record_octets rs) 
 length-flat_map [] = refl
 length-flat_map (r ∷ rs) = omega (arith, length-append (record_octets r) (flat_map record_octets rs), length-flat_map rs, sum_by-cons plain r rs)
 
--- Questions stand wherever their octets do.
-question_over : (m n : List ℕ) (from to : ℕ) → SameThere m n from to → (place : ℕ) (q : Query) (end : ℕ) → from ≤ place → end ≤ to → to ≤ length n → QuestionAt m place q end → QuestionAt n place q end
-question_over m n from to same place q end low high long at =
-    let after = spells_after m place q.name.labels at.middle at.name.spelled in
+-- Questions whose pointers don't go before some octets stand wherever these octets do.
+question_over : (m n : List ℕ) (to : ℕ) → SameThere m n 12 to → to ≤ length n → (place : ℕ) (q : Query) (end : ℕ) → 12 ≤ place → end ≤ to → (at : QuestionAt m place q end) → PointsFrom 12 at.name.spelled → QuestionAt n place q end
+question_over m n to same long place q end low high at far =
+    let name = spelled_within m place (length m) place q.name.labels at.middle at.name.spelled in
+    let typed : at.last ≡ at.middle + 2 = at.query_type.there.behind in
+    let classed : end ≡ at.last + 2 = at.query_class.there.behind in
     record {
       middle = at.middle;
-      name = record { full = at.name.full; spelled = spells_over m n from to same place q.name.labels at.middle low (omega (arith, at.behind)) at.name.spelled; size = at.name.size };
-      query_type = at.query_type ∙ ap (λ (k : ℕ). record_type_of k) (number_over m n from to same at.middle (omega (arith, after)) (omega (arith, at.behind)));
-      query_class = at.query_class ∙ ap (λ (k : ℕ). class_of k) (number_over m n from to same (at.middle + 2) (omega (arith, after)) (omega (arith, at.behind)));
-      behind = at.behind;
-      within = omega (arith, long);
+      last = at.last;
+      name = record {
+        full = at.name.full;
+        spelled = spelled_over m n 12 to same long place (length m) place q.name.labels at.middle low (omega (arith, name.0, typed, classed, high)) (omega (arith, typed, classed, high)) at.name.spelled far;
+        size = at.name.size;
+      };
+      query_type = record at.query_type { there = stands_over m n 12 to same at.middle _ at.last (omega (arith, low, name.0)) (omega (arith, classed, high)) at.query_type.there };
+      query_class = record at.query_class { there = stands_over m n 12 to same at.last _ end (omega (arith, low, name.0, typed)) high at.query_class.there };
     }
+
+question_after : (m : List ℕ) (place : ℕ) (q : Query) (end : ℕ) → QuestionAt m place q end → place < end
+question_after m place q end at =
+    omega (arith, (spelled_within m place (length m) place q.name.labels at.middle at.name.spelled).0, at.query_type.there.behind, at.query_class.there.behind)
 
 questions_after : (m : List ℕ) (place : ℕ) (qs : List Query) (end : ℕ) → Entries (QuestionAt m) place qs end → place ≤ end
 questions_after m place [] end e = omega (arith, e)
 questions_after m place (q ∷ qs) end (behind, at, more) =
-    omega (arith, spells_after m place q.name.labels at.middle at.name.spelled, at.behind, questions_after m behind qs end more)
+    omega (arith, question_after m place q behind at, questions_after m behind qs end more)
 
-questions_over : (m n : List ℕ) (from to : ℕ) → SameThere m n from to → (place : ℕ) (qs : List Query) (end : ℕ) → from ≤ place → end ≤ to → to ≤ length n → Entries (QuestionAt m) place qs end → Entries (QuestionAt n) place qs end
-questions_over m n from to same place [] end low high long e = e
-questions_over m n from to same place (q ∷ qs) end low high long (behind, at, more) =
+questions_over : (m n : List ℕ) (to : ℕ) → SameThere m n 12 to → to ≤ length n → (place : ℕ) (qs : List Query) (end : ℕ) → 12 ≤ place → end ≤ to → (there : Entries (QuestionAt m) place qs end) → AvoidsHeader m place qs end there → Entries (QuestionAt n) place qs end
+questions_over m n to same long place [] end low high e far = e
+questions_over m n to same long place (q ∷ qs) end low high (behind, at, more) far =
     let after = questions_after m behind qs end more in
-    let before = spells_after m place q.name.labels at.middle at.name.spelled in (
+    let before = question_after m place q behind at in (
       behind,
-      question_over m n from to same place q behind low (omega (arith, after)) long at,
-      questions_over m n from to same behind qs end (omega (arith, before, at.behind)) high long more,
+      question_over m n to same long place q behind low (omega (arith, after, high)) at far.0,
+      questions_over m n to same long behind qs end (omega (arith, low, before)) high more far.1,
     )
 
 -- The pieces of a reply, each where it stands.
@@ -129,7 +138,7 @@ pieces_stand reply header question answers authorities twelve e =
 whole_reply : (message reply : List ℕ) (request : Request) (parts : ReplyParts) (limit : ℕ) → IsRequest message request →
     AllByRecursion IsFull parts.answers → AllByRecursion IsFull parts.authorities →
     (w : IsWritten reply parts.metadata parts.answers parts.authorities (length request.questions) request.question_octets limit) →
-    IsWholeReply reply parts request limit × (length reply ≤ limit)
+    IsWholeReply message reply parts request limit × (length reply ≤ limit)
 whole_reply message reply request parts limit is full_answers full_authorities w =
     let answers = take w.kept parts.answers in
     let authorities = take w.kept_authorities parts.authorities in
@@ -145,15 +154,14 @@ whole_reply message reply request parts limit is full_answers full_authorities w
     let kept_authorities_is : length authorities ≡ w.kept_authorities = omega (arith, length-take w.kept_authorities parts.authorities, w.authorities_plan.some) in
     let asked_end : is.end ≡ first = omega (arith, is.octets.behind) in
     let same : SameThere message reply 12 first = record { octets = request.question_octets; in_m = subst (λ (k : ℕ). Stands message 12 request.question_octets k) asked_end is.octets; in_n = p.asked } in
-    let within : first ≤ length reply = omega (arith, p.whole) in
-    let in_message : Entries (QuestionAt message) 12 request.questions first = subst (λ (k : ℕ). Entries (QuestionAt message) 12 request.questions k) asked_end is.questions.0 in (
+    let within : first ≤ length reply = omega (arith, p.whole) in (
       record {
         questions_end = first;
         answers = answers;
         answers_end = w.middle;
         authorities = authorities;
         question_octets = p.asked;
-        questions = (questions_over message reply 12 first same 12 request.questions first (omega arith) (omega arith) within in_message, refl);
+        questions = λ there far. (questions_over message reply first same within 12 request.questions first (omega arith) (omega arith) there far, refl);
         answers_front = front_stands reply limit first parts.answers w.kept w.middle full_answers w.answers_names w.answers_plan.full answered;
         authorities_front = front_stands reply limit w.middle parts.authorities w.kept_authorities (length reply) full_authorities w.authorities_names (λ r rest e. omega (arith, reply_is, w.authorities_plan.full r rest e)) behind;
         header = ap header_of w.octets ∙ w.header_is _ ∙ (λ i. header_with parts.metadata (nat_lt (sym kept_is i) (length parts.answers) || nat_lt (sym kept_authorities_is i) (length parts.authorities)) (length request.questions) (sym kept_is i) (sym kept_authorities_is i));
@@ -165,7 +173,7 @@ whole_reply message reply request parts limit is full_answers full_authorities w
 pub reply_of_written : (message reply : List ℕ) (request : Request) (parts : ReplyParts) (limit : ℕ) → IsRequest message request →
     AllByRecursion IsFull parts.answers → AllByRecursion IsFull parts.authorities → 12 + length request.question_octets ≤ limit →
     IsWritten reply parts.metadata parts.answers parts.authorities (length request.questions) request.question_octets limit →
-    IsReply reply parts request limit
+    IsReply message reply parts request limit
 reply_of_written message reply request parts limit is full_answers full_authorities room w =
     let whole = whole_reply message reply request parts limit is full_answers full_authorities w in
     record {

@@ -1,4 +1,4 @@
-use Rattle.std.proofs.Common.{◌≡◌, ℕ, List, ◌∙◌, ap, arith, length, drop}
+use Rattle.std.proofs.Common.{ℕ, List, ◌∙◌, ap, arith, length, drop}
 use Rattle.std.proofs.lemmas.List.{take_at}
 use Rattle.dnw_encoder.specs.Effects.{written_at}
 use Rattle.dnw_encoder.proofs.buffer.overwrite.Goals as goal

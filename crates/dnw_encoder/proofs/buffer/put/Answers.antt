@@ -1,5 +1,5 @@
-use Rattle.std.proofs.Common.{refl, sym, ◌∙◌, take, ap, arith, set, List, get_or, length}
-use Rattle.std.specs.Prelude.{ℕ, ◌+◌, ◌<◌, ◌≡◌}
+use Rattle.std.proofs.Common.{sym, ◌∙◌, take, ap, arith, set, List, get_or, length}
+use Rattle.std.specs.Prelude.{ℕ, ◌+◌, ◌≡◌}
 use Rattle.dnw_encoder.specs.Effects.{written_at}
 use Rattle.dnw_encoder.proofs.Written.{written_none, written_more, written_all}
 use Rattle.dnw_encoder.proofs.buffer.put.Goals as goal

@@ -1,4 +1,4 @@
-use Rattle.std.proofs.Common.{◌≡◌, ℕ, ◌+◌, List, length, ◌∙◌, ap, arith}
+use Rattle.std.proofs.Common.{ℕ, ◌+◌, List, length, ◌∙◌, ap, arith}
 use Rattle.dnw_encoder.specs.Effects.{written_at}
 use Rattle.dnw_encoder.proofs.Written.{written_twice}
 use Rattle.dnw_encoder.proofs.buffer.write_at.Goals as goal

@@ -1,4 +1,4 @@
-use Rattle.std.proofs.Common.{◌≡◌, ℕ, List, ◌∙◌, ap, arith, length, drop, map}
+use Rattle.std.proofs.Common.{◌≡◌, ℕ, List, ◌∙◌, ap, length, drop, map}
 use Rattle.std.specs.Char.{to_ascii_lowercase}
 use Rattle.std.proofs.lemmas.List.{take_at, length-map}
 use Rattle.dnw_encoder.proofs.name.make_lowercase.Goals as goal

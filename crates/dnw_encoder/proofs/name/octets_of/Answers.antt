@@ -1,6 +1,5 @@
-use Rattle.std.proofs.Common.{◌≡◌, ◌∷◌, List, ◌++◌, length, subst, rules, ◌∙◌, ap}
-use Rattle.std.specs.Prelude.{ℕ}
-use Rattle.std.specs.List.{All, flat_map}
+use Rattle.std.proofs.Common.{◌≡◌, ◌∷◌}
+use Rattle.std.specs.List.{All}
 use Rattle.std.proofs.lemmas.List.Elements.{All-tail}
 use Rattle.dnw_label.specs.Label.{IsLabel}
 use Rattle.dnw_encoder.proofs.Pieces.{pieces_more}

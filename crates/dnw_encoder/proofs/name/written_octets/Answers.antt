@@ -1,4 +1,4 @@
-use Rattle.std.proofs.Common.{◌≡◌, ◌∙◌, ap, List}
+use Rattle.std.proofs.Common.{◌∙◌, ap, List}
 use Rattle.std.specs.Prelude.{ℕ}
 use Rattle.std.specs.Str.{str_to_ascii_lowercase}
 use Rattle.dnw_encoder.specs.NameLaws.{lower_octets, lower_name}

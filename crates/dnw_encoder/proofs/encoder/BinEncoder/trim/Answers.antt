@@ -1,0 +1,7 @@
+use Rattle.std.proofs.Common.{refl, arith}
+use Rattle.dnw_encoder.specs.PlaceLaws.{trims}
+use Rattle.dnw_encoder.proofs.encoder.BinEncoder.trim.Goals as goal
+
+pub returns-clause-trims : goal.returns-clause-trims
+returns-clause-trims c =
+    trims _ _ (omega arith) c.truncate.ensures.items refl refl c.drop_behind.ensures (record { maximum = refl; encoding = refl; canonical = refl; points = refl })

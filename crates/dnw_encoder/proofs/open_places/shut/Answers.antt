@@ -1,0 +1,7 @@
+use Rattle.std.proofs.Common.{rules}
+use Rattle.std.proofs.lemmas.Fn.{filter_same}
+use Rattle.dnw_encoder.specs.PlaceLaws.{is_other}
+use Rattle.dnw_encoder.proofs.open_places.shut.Goals as goal
+
+pub returns : goal.returns
+returns c = filter_same _ (is_other c.args.from c.args.to) _ (λ x b f h. (search rules, search rules)) _ _ c.retain.ensures.filtered
