@@ -89,8 +89,8 @@ question_over m n to same long place q end low high at far =
         spelled = spelled_over m n 12 to same long place (length m) place q.name.labels at.middle low (omega (arith, name.0, typed, classed, high)) (omega (arith, typed, classed, high)) at.name.spelled far;
         size = at.name.size;
       };
-      query_type = record at.query_type { there = stands_over m n 12 to same at.middle _ at.last (omega (arith, low, name.0)) (omega (arith, classed, high)) at.query_type.there };
-      query_class = record at.query_class { there = stands_over m n 12 to same at.last _ end (omega (arith, low, name.0, typed)) high at.query_class.there };
+      query_type = record { number = at.query_type.number; small = at.query_type.small; means = at.query_type.means; there = stands_over m n 12 to same at.middle _ at.last (omega (arith, low, name.0)) (omega (arith, classed, high)) at.query_type.there };
+      query_class = record { number = at.query_class.number; small = at.query_class.small; means = at.query_class.means; there = stands_over m n 12 to same at.last _ end (omega (arith, low, name.0, typed)) high at.query_class.there };
     }
 
 question_after : (m : List ℕ) (place : ℕ) (q : Query) (end : ℕ) → QuestionAt m place q end → place < end

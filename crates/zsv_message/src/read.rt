@@ -1,5 +1,7 @@
 //! Why nothing was read.
 
+ghost use Rattle.std.specs.Prelude.{◌≡◌};
+
 use dnw_codes::DecodeError;
 use std::alloc::{AllocError, AllocFailed};
 

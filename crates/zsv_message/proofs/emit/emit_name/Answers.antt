@@ -10,6 +10,6 @@ labels-preserved c =
     let steps : c.labels.labels ≡ c.in-Some.label.now ∷ c.next.new.self = c.in-Some.ensures.steps in
     let each : All IsLabel (c.in-Some.label.now ∷ c.next.new.self) = rw steps at c.labels.invariant.each in
     record {
-      rest = rw (c.in_ok-extend_from_slice.ensures.ok, c.in_ok-push.ensures.ok) (label_more c.labels.out.items c.in-Some.label.now c.labels.labels c.next.new.self _ steps c.labels.invariant.rest);
+      rest = rw (c.in_ok-extend_from_slice.ensures.items, c.in_ok-push.ensures.items) (label_more c.labels.out.items c.in-Some.label.now c.labels.labels c.next.new.self _ steps c.labels.invariant.rest);
       each = All-tail IsLabel c.in-Some.label.now c.next.new.self each;
     }

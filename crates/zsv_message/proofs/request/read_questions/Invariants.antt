@@ -5,8 +5,9 @@ use Rattle.zsv_message.proofs.request.read_questions.Given as goal
 
 abbrev pub invariant-questions : goal.invariant-questions
 invariant-questions l = record {
-  ahead : EntriesAhead (QuestionAt l.message) l.place l.questions.items l.at;
+  ahead : EntriesAhead (QuestionAt l.initial.decoder.octets) l.initial.decoder.index l.questions.items l.decoder.index;
   counted : length l.questions.items ≡ l.counter;
-  after : l.place ≤ l.at;
-  within : l.at ≤ length l.message;
+  same : l.decoder.octets ≡ l.initial.decoder.octets;
+  forward : l.initial.decoder.index ≤ l.decoder.index;
+  within : l.initial.decoder.index ≤ length l.initial.decoder.octets → l.decoder.index ≤ length l.decoder.octets;
 }
