@@ -1,20 +1,25 @@
 -- The causes of a refused line, in their order.
-use Rattle.std.proofs.Common.{◌≡◌, refl, sym, ap, ◌∙◌, subst, ℕ, ◌+◌, ◌<◌, ◌≤◌, Bool, true, false, ◌&&◌, eqb, if◌then◌else◌, List, [], ◌∷◌, length, drop, get_or, Option, Some, IsSome, is_some, Result, Ok, Err, arith}
+use Rattle.std.proofs.Common.{◌≡◌, refl, sym, ap, ◌∙◌, subst, ℕ, ◌+◌, ◌<◌, ◌≤◌, Bool, true, false, ◌&&◌, eqb, if◌then◌else◌, List, [], ◌∷◌, length, drop, get_or, Option, Some, None, IsSome, is_some, Result, Ok, Err, arith}
 use Rattle.std.proofs.lemmas.Bool.{eqb-true, eqb-false, both_ways}
 use Rattle.dnw_codes.specs.declared.record_type.RecordType.{RecordType}
 use Rattle.dnw_codes.specs.declared.record_type.RecordType.TheVariants as types
 use Rattle.authority.specs.declared.loader.LoadCause.{LoadCause}
 use Rattle.authority.specs.declared.loader.LoadCause.TheVariants as causes
-use Rattle.zst_record.specs.declared.names.text.TextError.{TextError}
-use Rattle.zst_record.specs.declared.names.text.TextError.TheVariants as errors
+use Rattle.authority.specs.declared.loader.text.TextError.{TextError}
+use Rattle.authority.specs.declared.loader.text.TextError.TheVariants as errors
 use Rattle.zst_record.specs.declared.record_data.RData.{RData}
 use Rattle.zst_record.specs.declared.record_data.RData.TheVariants as rdata
 use Rattle.dnw_name.specs.DomainName.{DomainName, is_at_or_below}
-use Rattle.zst_record.specs.NameText.{IsNameText, ReadsText}
+use Rattle.dnw_name.specs.NameText.{NameText}
+use Rattle.dnw_codes.specs.ProtoError.{IsMemory}
+use Rattle.dnw_codes.specs.declared.error.ProtoError.{ProtoError}
+use Rattle.std.specs.Prelude.{◌⊎◌}
+use Rattle.std.proofs.Common.{inl, inr}
+use Rattle.authority.specs.ZoneText.{ReadsText, TellsCause}
 use Rattle.zst_record.specs.RecordData.{rdata_type, has_full_names}
 use Rattle.zst_zone.specs.Zones.{View, stored}
-use Rattle.authority.specs.ZoneText.{field, IsOwnerText, IsNumberText, is_internet, AreData, IsDataText, IsTextOf, is_start, StandsAt, NoneBefore, turn, with_cause, IsHeading, Heading}
-use Rattle.zst_record.proofs.NameTexts.{same_name}
+use Rattle.authority.specs.ZoneText.{field, IsOwnerText, IsNumberText, is_internet, type_of_text, AreData, IsDataText, IsTextOf, is_start, StandsAt, NoneBefore, turn, with_cause, IsHeading, Heading}
+use Rattle.dnw_name.proofs.TextLemmas.{name-same}
 
 cause_at : ℕ → LoadCause
 cause_at n =
@@ -91,11 +96,38 @@ ttl_refused zone words owner ttl behind name r e spelled counted owned reads is 
     let n3 : NoneBefore zone words 3 = none_next zone words causes.Owner n2 (λ none. none name (subst (λ w. IsOwnerText w name) (sym first) owned)) in
     field_refused (IsNumberText 32 ttl) zone words causes.Ttl r e reads is (λ none. λ n known. none n (subst (λ w. IsNumberText 32 w n) second known)) n3
 
+-- The class of a line with an owner and a time to live is none that is known here, or its type is none.
+abbrev IsLine : List (List ℕ) → List ℕ → List ℕ → List ℕ → List ℕ → List (List ℕ) → Type 0
+IsLine words owner ttl class type_word behind = words ≡ owner ∷ ttl ∷ class ∷ type_word ∷ behind
+
+none_4 : (zone : View) (words : List (List ℕ)) (owner ttl class type_word : List ℕ) (behind : List (List ℕ)) (name : DomainName) (n : ℕ) → IsLine words owner ttl class type_word behind
+    → IsOwnerText owner name → IsNumberText 32 ttl n → NoneBefore zone words 4
+none_4 zone words owner ttl class type_word behind name n spelled owned timed =
+    let first : field words 0 ≡ owner = ap (λ ws. get_or ws 0 []) spelled in
+    let second : field words 1 ≡ ttl = ap (λ ws. get_or ws 1 []) spelled in
+    let counted : 4 ≤ length words = omega (arith, ap length spelled) in
+    let n2 : NoneBefore zone words 2 = none_next zone words causes.FieldCount (none_first zone words) (λ few. omega arith) in
+    let n3 : NoneBefore zone words 3 = none_next zone words causes.Owner n2 (λ none. none name (subst (λ w. IsOwnerText w name) (sym first) owned)) in
+    none_next zone words causes.Ttl n3 (λ none. none n (subst (λ w. IsNumberText 32 w n) (sym second) timed))
+
+pub class_refused : (zone : View) (words : List (List ℕ)) (owner ttl class type_word : List ℕ) (behind : List (List ℕ)) (name : DomainName) (n : ℕ) → IsLine words owner ttl class type_word behind
+    → IsOwnerText owner name → IsNumberText 32 ttl n → is_internet class ≡ false → Stands zone words causes.Class
+class_refused zone words owner ttl class type_word behind name n spelled owned timed other =
+    let third : field words 2 ≡ class = ap (λ ws. get_or ws 2 []) spelled in
+    (ap is_internet third ∙ other, none_4 zone words owner ttl class type_word behind name n spelled owned timed)
+
+pub type_refused : (zone : View) (words : List (List ℕ)) (owner ttl class type_word : List ℕ) (behind : List (List ℕ)) (name : DomainName) (n : ℕ) → IsLine words owner ttl class type_word behind
+    → IsOwnerText owner name → IsNumberText 32 ttl n → is_internet class ≡ true → type_of_text type_word ≡ None → Stands zone words causes.UnknownType
+type_refused zone words owner ttl class type_word behind name n spelled owned timed known unknown =
+    let third : field words 2 ≡ class = ap (λ ws. get_or ws 2 []) spelled in
+    let fourth : field words 3 ≡ type_word = ap (λ ws. get_or ws 3 []) spelled in
+    (ap type_of_text fourth ∙ unknown, none_next zone words causes.Class (none_4 zone words owner ttl class type_word behind name n spelled owned timed) (λ wrong. both_ways (is_internet (field words 2)) wrong (ap is_internet third ∙ known)))
+
 -- ---- the rest of a line
 pub none_8 : (zone : View) (words : List (List ℕ)) (h : Heading) → IsHeading words h → is_at_or_below h.name zone.origin ≡ true → NoneBefore zone words 8
 none_8 zone words h known inside =
     none_next zone words causes.OutsideZone (none_7 zone words h known) (λ outside.
-    let same : outside.0 ≡ h.name = same_name (field words 0) outside.0 h.name outside.1.name_text known.owner.name_text in
+    let same : outside.0 ≡ h.name = name-same (field words 0) outside.0 h.name outside.1.name_text known.owner.name_text in
     both_ways (is_at_or_below h.name zone.origin) (sym (ap (λ name. is_at_or_below name zone.origin) same) ∙ outside.2) inside)
 
 pub data_some : (words : List (List ℕ)) (h : Heading) (value : RData) → IsHeading words h → IsTextOf h.record_type h.rdata value → AreData words value
@@ -120,7 +152,7 @@ same_full words (rdata.NS a) (rdata.NS b) of-a of-b e =
     let one = of-a.1 in
     let other = of-b.1 in
     let word : of-b.0 ≡ of-a.0 = cc in
-    ap (λ (n : DomainName). n.fqdn) (same_name of-a.0 a.0 b.0 of-a.2 (subst (λ w. IsNameText w b.0) word of-b.2))
+    ap (λ (n : DomainName). n.fqdn) (name-same of-a.0 a.0 b.0 of-a.2 (subst (λ w. NameText w b.0) word of-b.2))
 same_full words (rdata.NS a) (rdata.SOA b) of-a of-b e = absurd (cc)
 same_full words (rdata.SOA a) (rdata.A b) of-a of-b e = absurd (cc)
 same_full words (rdata.SOA a) (rdata.NS b) of-a of-b e = absurd (cc)
@@ -129,8 +161,8 @@ same_full words (rdata.SOA a) (rdata.SOA b) of-a of-b e =
     let other = of-b.spelled in
     let m-word : of-b.mname ≡ of-a.mname = cc in
     let r-word : of-b.rname ≡ of-a.rname = cc in
-    let m : a.mname ≡ b.mname = same_name of-a.mname a.mname b.mname of-a.mname_text (subst (λ w. IsNameText w b.mname) m-word of-b.mname_text) in
-    let r : a.rname ≡ b.rname = same_name of-a.rname a.rname b.rname of-a.rname_text (subst (λ w. IsNameText w b.rname) r-word of-b.rname_text) in
+    let m : a.mname ≡ b.mname = name-same of-a.mname a.mname b.mname of-a.mname_text (subst (λ w. NameText w b.mname) m-word of-b.mname_text) in
+    let r : a.rname ≡ b.rname = name-same of-a.rname a.rname b.rname of-a.rname_text (subst (λ w. NameText w b.rname) r-word of-b.rname_text) in
     ap (λ (n : DomainName). n.fqdn && a.rname.fqdn) m ∙ ap (λ (n : DomainName). b.mname.fqdn && n.fqdn) r
 
 pub none_11 : (zone : View) (words : List (List ℕ)) (value : RData) → NoneBefore zone words 8 → AreData words value → has_full_names value ≡ true → NoneBefore zone words 11
@@ -147,11 +179,8 @@ second_stands zone words h known start there =
     (h.name, known.type_word ∙ ap (λ t. Some t) (start_is h.record_type start), known.owner, some_there (stored zone.sets h.name types.SOA) there)
   where
     start_is : (t : RecordType) → is_start t ≡ true → t ≡ types.SOA
-    start_is types.A e = cc
-    start_is types.NS e = cc
     start_is types.SOA e = refl
-    start_is types.AXFR e = cc
-    start_is (types.Unknown n) e = cc
+    start_is other e = cc
 
     some_there : {X : Type 0} (o : Option X) → is_some o ≡ true → IsSome o
     some_there o e = e
@@ -161,9 +190,15 @@ none_12 zone words h known before free =
     none_next zone words causes.SecondSoa before (λ second.
     let types-same : Some types.SOA ≡ Some h.record_type = sym second.1 ∙ known.type_word in
     let type-same : h.record_type ≡ types.SOA = cc in
-    let same : second.0 ≡ h.name = same_name (field words 0) second.0 h.name second.2.name_text known.owner.name_text in
+    let same : second.0 ≡ h.name = name-same (field words 0) second.0 h.name second.2.name_text known.owner.name_text in
     let there : IsSome (stored zone.sets h.name types.SOA) = subst (λ name. IsSome (stored zone.sets name types.SOA)) same second.3 in
     not_some (stored zone.sets h.name types.SOA) (free (ap is_start type-same)) there)
   where
     not_some : {X : Type 0} (o : Option X) → is_some o ≡ false → IsSome o → ⊥
     not_some o e h = both_ways (is_some o) e h
+
+-- A reader that is refused a text says so.
+pub text_err : {X : Type 0} (IsText : X → Type 0) (cause : ProtoError) (e : TextError) → TellsCause cause e → IsMemory cause ⊎ ((x : X) → IsText x → ⊥) → ReadsText {X = X} IsText (Err e)
+text_err IsText cause errors.Malformed tells (inl memory) = absurd (tells memory)
+text_err IsText cause errors.Malformed tells (inr none) = none
+text_err IsText cause errors.OutOfMemory tells why = tt

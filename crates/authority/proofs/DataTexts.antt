@@ -6,14 +6,14 @@ use Rattle.std.specs.Prelude.{ℤ, pos}
 use Rattle.std.proofs.lemmas.Int.{ints}
 use Rattle.dnw_codes.specs.declared.record_type.RecordType.{RecordType}
 use Rattle.dnw_codes.specs.declared.record_type.RecordType.TheVariants as types
-use Rattle.zst_record.specs.declared.names.text.TextError.{TextError}
-use Rattle.zst_record.specs.declared.names.text.TextError.TheVariants as errors
+use Rattle.authority.specs.declared.loader.text.TextError.{TextError}
+use Rattle.authority.specs.declared.loader.text.TextError.TheVariants as errors
 use Rattle.zst_record.specs.declared.record_data.RData.{RData}
 use Rattle.zst_record.specs.declared.record_data.RData.TheVariants as rdata
 use Rattle.zst_record.specs.declared.record_data.A.{A}
 use Rattle.zst_record.specs.declared.record_data.NS.{NS}
 use Rattle.zst_record.specs.declared.record_data.SOA.{SOA}
-use Rattle.zst_record.specs.NameText.{ReadsText}
+use Rattle.authority.specs.ZoneText.{ReadsText}
 use Rattle.authority.specs.ZoneText.{TakesWord, IsTextOf, IsAddressText, IsNsText, IsSoaText, IsSignedText}
 
 -- The first word is read.

@@ -21,7 +21,7 @@ use Rattle.dnw_name.specs.NameKey.{rank, name_key}
 use Rattle.dnw_decoder.specs.Octets.{octets_32}
 use Rattle.zsv_message.specs.Headers.{header_of}
 use Rattle.zst_record.specs.Records.{record_octets}
-use Rattle.zsv_message.specs.Wire.{NameAt, ends, label}
+use Rattle.dnw_decoder.specs.Spelling.{NameAt, at_end, at_label}
 use Rattle.zsv_message.specs.Requests.{Request, QuestionAt}
 use Rattle.zst_zone.specs.Zones.{View, lookup_result, answered, name_exists, name_error, out_of_zone}
 use Rattle.authority.specs.Serving.{reply_parts}
@@ -109,7 +109,7 @@ elsewhere_not_below = refl
 an_address : lookup_result zone (below (codes "wWw")) types.A ≡ answered (address ∷ [])
 an_address = refl
 
-a_missing_type : lookup_result zone (below (codes "www")) (types.Unknown 28) ≡ name_exists
+a_missing_type : lookup_result zone (below (codes "www")) types.AAAA ≡ name_exists
 a_missing_type = refl
 
 a_missing_name : lookup_result zone (below (codes "z")) types.A ≡ name_error
@@ -119,7 +119,7 @@ outside : lookup_result zone elsewhere types.A ≡ out_of_zone
 outside = refl
 
 -- The address record takes 31 octets.
-address_octets : record_octets address ≡ name_octets (codes "www" ∷ codes "example" ∷ codes "com" ∷ []) ++ (0 ∷ 1 ∷ 0 ∷ 1 ∷ 0 ∷ 0 ∷ 14 ∷ 16 ∷ 0 ∷ 4 ∷ 192 ∷ 0 ∷ 2 ∷ 1 ∷ [])
+address_octets : record_octets address ≡ name_octets (below (codes "www")) ++ (0 ∷ 1 ∷ 0 ∷ 1 ∷ 0 ∷ 0 ∷ 14 ∷ 16 ∷ 0 ∷ 4 ∷ 192 ∷ 0 ∷ 2 ∷ 1 ∷ [])
 unfolding octets_32
 address_octets = refl
 
@@ -136,15 +136,21 @@ start_size = refl
 name_asked : NameAt question 12 (below (codes "www")) 29
 name_asked = record {
   full = refl;
-  spelled = label (record { not_empty = omega arith; short = omega arith }) (record { there = refl; behind = refl })
-      (label (record { not_empty = omega arith; short = omega arith }) (record { there = refl; behind = refl })
-      (label (record { not_empty = omega arith; short = omega arith }) (record { there = refl; behind = refl })
-      (ends (record { there = refl; behind = refl }))));
+  spelled = at_label (omega arith) (record { some = omega arith; few = omega arith }) (record { there = refl; behind = refl })
+      (at_label (omega arith) (record { some = omega arith; few = omega arith }) (record { there = refl; behind = refl })
+      (at_label (omega arith) (record { some = omega arith; few = omega arith }) (record { there = refl; behind = refl })
+      (at_end (omega arith) (record { there = refl; behind = refl }))));
   size = omega arith;
 }
 
 question_asked : QuestionAt question 12 (record { name = below (codes "www"); query_type = types.A; query_class = classes.IN }) 33
-question_asked = record { middle = 29; name = name_asked; query_type = refl; query_class = refl; behind = refl; within = omega arith }
+question_asked = record {
+  middle = 29;
+  last = 31;
+  name = name_asked;
+  query_type = record { number = 1; small = omega arith; there = record { there = refl; behind = refl }; means = refl };
+  query_class = record { number = 1; small = omega arith; there = record { there = refl; behind = refl }; means = refl };
+}
 
 abbrev asks : Metadata → List Query → Request
 asks m qs = record { metadata = m; questions = qs; question_octets = [] }

@@ -3,8 +3,8 @@ use Rattle.std.specs.Prelude.{◌≡◌, ℕ, ◌⊎◌, false, List, [], ◌∷
 use Rattle.std.specs.Io.KnownBytes.{IsAtEnd}
 use Rattle.std.specs.declared.net.SocketAddr.{SocketAddr}
 use Rattle.authority.specs.declared.loader.LoadCause.TheVariants as causes
-use Rattle.zst_record.specs.declared.names.text.TextError.{TextError}
-use Rattle.zst_record.specs.declared.names.text.TextError.TheVariants as texts
+use Rattle.authority.specs.declared.loader.text.TextError.{TextError}
+use Rattle.authority.specs.declared.loader.text.TextError.TheVariants as texts
 use Rattle.authority.specs.declared.program.Fault.{Fault}
 use Rattle.authority.specs.declared.program.Fault.TheVariants as faults
 use Rattle.authority.specs.declared.stream.StreamError.{StreamError}

@@ -111,7 +111,7 @@ limit_of protocols.Tcp = 65535
 -- that the zone gives. Nothing changes the server.
 abbrev pub Serves : World → Received → Option (List ℕ) → World → Type 0
 Serves old received None new = ((request : Request) → IsRequest received.message request → ⊥) × (new ≡ old)
-Serves old received (Some reply) new = (request : Request) × IsRequest received.message request × IsReply reply (reply_parts old.zone request) request (limit_of received.transport) × (new ≡ old)
+Serves old received (Some reply) new = (request : Request) × IsRequest received.message request × IsReply received.message reply (reply_parts old.zone request) request (limit_of received.transport) × (new ≡ old)
 
 -- A list of messages served, one after the other.
 abbrev pub ServesAll : World → List Received → List (Option (List ℕ)) → World → Type 0

@@ -11,19 +11,32 @@ use Rattle.dnw_codes.specs.declared.dns_class.DNSClass.TheVariants as classes
 use Rattle.authority.specs.declared.loader.LoadCause.{LoadCause}
 use Rattle.authority.specs.declared.loader.LoadCause.TheVariants as causes
 use Rattle.authority.specs.declared.loader.LoadError.{LoadError}
-use Rattle.zst_record.specs.declared.names.text.TextError.{TextError}
-use Rattle.zst_record.specs.declared.names.text.TextError.TheVariants as errors
+use Rattle.authority.specs.declared.loader.text.TextError.{TextError}
+use Rattle.authority.specs.declared.loader.text.TextError.TheVariants as errors
 use Rattle.zst_record.specs.declared.record_data.A.{A}
 use Rattle.zst_record.specs.declared.record_data.NS.{NS}
 use Rattle.zst_record.specs.declared.record_data.SOA.{SOA}
 use Rattle.zst_record.specs.declared.record_data.RData.{RData}
 use Rattle.zst_record.specs.declared.record_data.RData.TheVariants as rdata
 use Rattle.zst_record.specs.declared.records.Record.{Record}
+use Rattle.dnw_codes.specs.ProtoError.{IsMemory}
+use Rattle.dnw_codes.specs.declared.error.ProtoError.{ProtoError}
 use Rattle.dnw_name.specs.DomainName.{DomainName, is_at_or_below}
-use Rattle.zst_record.specs.NameText.{IsNameText}
+use Rattle.dnw_name.specs.NameText.{NameText}
 use Rattle.zst_record.specs.RecordData.{rdata_type, has_full_names}
 use Rattle.zst_record.specs.Records.{has_only_full_names}
 use Rattle.zst_zone.specs.Zones.{View, AddsTo, stored}
+
+-- What a reader of texts answers: a value of the text, or that it has none.
+abbrev pub ReadsText : {X : Type 0} → (X → Type 0) → Result X TextError → Type 0
+ReadsText IsText (Ok x) = IsText x
+ReadsText {X} IsText (Err errors.Malformed) = (x : X) → IsText x → ⊥
+ReadsText IsText (Err errors.OutOfMemory) = Unit {0}
+
+-- A cause that is told further: malformed, unless it is want of memory.
+abbrev pub TellsCause : ProtoError → TextError → Type 0
+TellsCause cause errors.Malformed = IsMemory cause → ⊥
+TellsCause cause errors.OutOfMemory = Unit {0}
 
 -- A space or a tab.
 abbrev pub is_blank : ℕ → Bool
@@ -49,7 +62,7 @@ IsSignedText text n = (digits : ℕ) × IsNumberText 31 text digits × (n ≡ po
 
 -- An owner is a name that ends at the root.
 pub record IsOwnerText (text : List ℕ) (name : DomainName) : Type 0 where
-  pub name_text : IsNameText text name
+  pub name_text : NameText text name
   pub full : name.fqdn ≡ true
 
 -- The class of the Internet, in any case.
@@ -65,11 +78,8 @@ type_of_text word =
 
 -- The start of authority.
 abbrev pub is_start : RecordType → Bool
-is_start types.A = false
-is_start types.NS = false
 is_start types.SOA = true
-is_start types.AXFR = false
-is_start (types.Unknown n) = false
+is_start other = false
 
 -- An address is one word: four decimal numbers with dots between them.
 abbrev pub IsAddressText : List (List ℕ) → A → Type 0
@@ -77,7 +87,7 @@ IsAddressText words a = (word : List ℕ) × (words ≡ word ∷ []) × IsIpv4Te
 
 -- A name server is one word, its name.
 abbrev pub IsNsText : List (List ℕ) → NS → Type 0
-IsNsText words ns = (word : List ℕ) × (words ≡ word ∷ []) × IsNameText word ns.0
+IsNsText words ns = (word : List ℕ) × (words ≡ word ∷ []) × NameText word ns.0
 
 -- A start of authority is seven words: two names, then five numbers (RFC 1035, 3.3.13).
 pub record IsSoaText (words : List (List ℕ)) (soa : SOA) : Type 0 where
@@ -89,8 +99,8 @@ pub record IsSoaText (words : List (List ℕ)) (soa : SOA) : Type 0 where
   pub expire : List ℕ
   pub minimum : List ℕ
   pub spelled : words ≡ mname ∷ rname ∷ serial ∷ refresh ∷ retry ∷ expire ∷ minimum ∷ []
-  pub mname_text : IsNameText mname soa.mname
-  pub rname_text : IsNameText rname soa.rname
+  pub mname_text : NameText mname soa.mname
+  pub rname_text : NameText rname soa.rname
   pub serial_text : IsNumberText 32 serial soa.serial
   pub refresh_text : IsSignedText refresh soa.refresh
   pub retry_text : IsSignedText retry soa.retry

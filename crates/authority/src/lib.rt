@@ -9,9 +9,8 @@ mod stream;
 pub use loader::{LoadCause, LoadError, load_zone};
 pub use server::{Arrival, Authority, NoSuite, Protocol, ServeError};
 pub use stream::StreamError;
-pub use zst_record::{
-    A, DNSClass, Label, NS, Name, RData, Record, RecordSet, RecordType, SOA, TextError,
-};
+pub use zst_record::{A, DNSClass, Label, NS, Name, RData, Record, RecordSet, RecordType, SOA};
 pub use zst_zone::{
-    AxfrPolicy, InMemoryZoneHandler, Lookup, NxProofKind, RrKey, Salt, ZoneSettings, ZoneType,
+    AxfrPolicy, InMemoryZoneHandler, Lookup, LowerName, NxProofKind, RrKey, Salt, ZoneSettings,
+    ZoneType,
 };

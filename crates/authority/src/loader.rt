@@ -3,6 +3,7 @@
 mod data;
 pub mod line;
 mod number;
+pub mod text;
 mod words;
 
 ghost use Rattle.std.specs.Prelude.{◌≡◌, true, IfOk};

@@ -4,7 +4,7 @@ ghost use Rattle.std.specs.Prelude.{◌≡◌, true, map, option_copied};
 ghost use Rattle.std.specs.String.{string_bytes};
 ghost use Rattle.authority.specs.Programs.{Answers, StatusIs, TextGives, WordsGive, read_or_usage, status_of};
 
-use crate::loader::line::parse_owner;
+use crate::loader::text::{TextError, parse_owner};
 use crate::loader::{LoadError, load_zone, parse_u64};
 use crate::server::{Authority, NoSuite};
 use crate::stream::StreamError;
@@ -12,7 +12,7 @@ use std::alloc::Global;
 use std::io::{Read, Write};
 use std::net::{Ipv4Addr, SocketAddr, SocketAddrV4};
 use thiserror::Error;
-use zst_record::{Name, TextError};
+use zst_record::Name;
 use zst_zone::{AxfrPolicy, InMemoryZoneHandler, ZoneSettings, ZoneType};
 
 /// The program's zone is signed by nobody.

@@ -19,13 +19,21 @@ impl Name {
         ensures ok { IfOk result (λ name. NameText text.now name) }
         ensures refused { IfErr result (λ e. IsMemory e ⊎ ((name : DomainName) → NameText text.now name → ⊥)) }
     {
+        Name::from_ascii_bytes(alloc, text.as_bytes())
+    }
+
+    /// The name of a text in octets, by `from_ascii`.
+    pub fn from_ascii_bytes(alloc: Global, text: &[u8]) -> Result<Name, ProtoError>
+        ensures ok { IfOk result (λ name. NameText text.now name) }
+        ensures refused { IfErr result (λ e. IsMemory e ⊎ ((name : DomainName) → NameText text.now name → ⊥)) }
+    {
         if text.is_empty() {
             return Ok(Name::new(alloc));
         }
-        if text == "." {
+        if text == b".".as_slice() {
             return Ok(Name::root(alloc));
         }
-        name_of_labels(alloc, text.as_bytes())
+        name_of_labels(alloc, text)
     }
 
     /// The name of a text by `from_ascii`; one that is relative and has labels is completed by an origin

@@ -1,14 +1,15 @@
 //! Record data from their words.
 
 ghost use Rattle.std.specs.Prelude.{◌≡◌};
-ghost use Rattle.zst_record.specs.NameText.{IsNameText, ReadsText};
-ghost use Rattle.authority.specs.ZoneText.{IsNumberText, IsSignedText, IsAddressText, IsNsText, IsSoaText, IsTextOf, TakesWord, EndsWords, words_of};
+ghost use Rattle.dnw_name.specs.NameText.{NameText};
+ghost use Rattle.authority.specs.ZoneText.{IsNumberText, IsSignedText, IsAddressText, IsNsText, IsSoaText, IsTextOf, ReadsText, TakesWord, EndsWords, words_of};
 
 use crate::loader::number::{parse_i32, parse_u32};
+use crate::loader::text::{TextError, parse_name};
 use crate::loader::words::Words;
 use std::alloc::Global;
 use std::net::Ipv4Addr;
-use zst_record::{A, NS, Name, RData, RecordType, SOA, TextError, parse_name};
+use zst_record::{A, NS, Name, RData, RecordType, SOA};
 
 /// The data of a type from all words that are left.
 pub fn parse_rdata(
@@ -22,7 +23,7 @@ pub fn parse_rdata(
         RecordType::A => Ok(RData::A(parse_address(words)?)),
         RecordType::NS => Ok(RData::NS(parse_name_server(alloc, words)?)),
         RecordType::SOA => Ok(RData::SOA(parse_soa(alloc, words)?)),
-        RecordType::AXFR | RecordType::Unknown(_) => Err(TextError::Malformed),
+        _ => Err(TextError::Malformed),
     }
 }
 
@@ -72,7 +73,7 @@ fn parse_soa(alloc: Global, mut words: Words<'_>) -> Result<SOA, TextError>
 
 /// The name in the next word.
 fn next_name(alloc: Global, words: &mut Words<'_>) -> Result<Name, TextError>
-    ensures { TakesWord IsNameText (words_of words.old.rest.now) (words_of words.new.rest.now) result }
+    ensures { TakesWord NameText (words_of words.old.rest.now) (words_of words.new.rest.now) result }
 {
     let word = words.next().ok_or(TextError::Malformed)?;
     parse_name(alloc, word)

@@ -3,18 +3,18 @@
 ghost use Rattle.std.specs.Prelude.{◌≡◌, ◌<◌, ◌∷◌, length, MatchOption, true, is_some};
 ghost use Rattle.dnw_codes.specs.declared.record_type.RecordType.TheVariants as types;
 ghost use Rattle.dnw_name.specs.DomainName.{DomainName};
-ghost use Rattle.zst_record.specs.NameText.{ReadsText};
 ghost use Rattle.dnw_name.specs.NameKey.{name_key};
 ghost use Rattle.zst_record.specs.RecordData.{has_full_names};
 ghost use Rattle.zst_zone.specs.Zones.{stored};
-ghost use Rattle.authority.specs.ZoneText.{words_of, IsOwnerText, type_of_text, is_internet, is_start, with_cause, HeaderGives, LineGives};
+ghost use Rattle.authority.specs.ZoneText.{words_of, type_of_text, is_internet, is_start, with_cause, HeaderGives, LineGives};
 
 use crate::loader::LoadCause;
 use crate::loader::data::parse_rdata;
 use crate::loader::number::parse_u32;
+use crate::loader::text::{TextError, parse_owner};
 use crate::loader::words::Words;
 use std::alloc::Global;
-use zst_record::{DNSClass, Name, RData, Record, RecordType, TextError, parse_name};
+use zst_record::{DNSClass, Name, RData, Record, RecordType};
 use zst_zone::{InMemoryZoneHandler, Lookup, key_of};
 
 /// The first four words of a line, and the words of the data.
@@ -107,18 +107,6 @@ fn fields_of(line: &[u8]) -> Option<Fields<'_>>
     })
 }
 
-/// The name of a text, where it ends at the root.
-pub fn parse_owner(alloc: Global, word: &[u8]) -> Result<Name, TextError>
-    ensures { ReadsText (IsOwnerText word.now) result }
-{
-    let name = parse_name(alloc, word)?;
-    if name.is_fqdn() {
-        Ok(name)
-    } else {
-        Err(TextError::Malformed)
-    }
-}
-
 /// What was read, or the cause where the text is malformed.
 fn or_cause<X>(read: Result<X, TextError>, cause: LoadCause) -> Result<X, LoadCause>
     ensures { result ≡ with_cause cause read }
@@ -158,7 +146,7 @@ fn is_soa(record_type: RecordType) -> bool
 {
     match record_type {
         RecordType::SOA => true,
-        RecordType::A | RecordType::NS | RecordType::AXFR | RecordType::Unknown(_) => false,
+        _ => false,
     }
 }
 

@@ -2,10 +2,9 @@
 
 ghost use Rattle.std.specs.Prelude.{◌+◌, ◌*◌, ◌^◌, ◌<◌, SomeIff};
 ghost use Rattle.std.specs.Char.{digit_value};
-ghost use Rattle.zst_record.specs.NameText.{ReadsText};
-ghost use Rattle.authority.specs.ZoneText.{IsNumberText, IsSignedText};
+ghost use Rattle.authority.specs.ZoneText.{IsNumberText, IsSignedText, ReadsText};
 
-use zst_record::TextError;
+use crate::loader::text::TextError;
 
 /// The number of a text, of 64 bits.
 pub fn parse_u64(text: &[u8]) -> Result<u64, TextError>

@@ -201,7 +201,7 @@ pub fn reply_to<K>(
     requires message { IsRequest message.now request.now }
     requires lower { 12 ≤ limit }
     requires upper { limit < 2 ^ 16 }
-    ensures { IfOk result (λ reply. IsReply reply.items (reply_parts zone.now request.now) request.now limit) }
+    ensures { IfOk result (λ reply. IsReply message.now reply.items (reply_parts zone.now request.now) request.now limit) }
 {
     let question_octets = request.question_octets();
     if limit - 12 < question_octets.len() {

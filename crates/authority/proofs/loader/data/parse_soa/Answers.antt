@@ -1,6 +1,6 @@
 use Rattle.std.proofs.Common.{[], ◌∷◌}
 use Rattle.std.proofs.lemmas.Result.{err_from_is_err_and}
-use Rattle.zst_record.specs.NameText.{IsNameText}
+use Rattle.dnw_name.specs.NameText.{NameText}
 use Rattle.authority.specs.ZoneText.{IsSoaText, IsSignedText, words_of}
 use Rattle.authority.proofs.DataTexts.{fails, signed_back}
 use Rattle.authority.proofs.loader.data.parse_soa.Goals as goal
@@ -8,14 +8,14 @@ use Rattle.authority.proofs.loader.data.parse_soa.Goals as goal
 pub returns-in_err-mname : goal.returns-in_err-mname
 returns-in_err-mname c =
     let p = err_from_is_err_and c.from_residual.result c.from_residual.ensures.1 in
-    rw (p.1, p.2) (fails (IsSoaText (words_of c.args.words.rest.now)) IsNameText (words_of c.args.words.rest.now) (words_of c.next_name.new.words.rest.now) _ c.in_err-mname.ensures
+    rw (p.1, p.2) (fails (IsSoaText (words_of c.args.words.rest.now)) NameText (words_of c.args.words.rest.now) (words_of c.next_name.new.words.rest.now) _ c.in_err-mname.ensures
     (λ soa known. let spelled = known.spelled in (known.mname, known.rname ∷ known.serial ∷ known.refresh ∷ known.retry ∷ known.expire ∷ known.minimum ∷ [], soa.mname, (cc), known.mname_text)))
 
 pub returns-in_err-rname : goal.returns-in_err-rname
 returns-in_err-rname c =
     let p = err_from_is_err_and c.from_residual-in_err-rname.result c.from_residual-in_err-rname.ensures.1 in
     let step-mname = c.in_ok-mname.ensures.1 in
-    rw (p.1, p.2) (fails (IsSoaText (words_of c.args.words.rest.now)) IsNameText (words_of c.next_name.new.words.rest.now) (words_of c.next_name-2.new.words.rest.now) _ c.in_err-rname.ensures
+    rw (p.1, p.2) (fails (IsSoaText (words_of c.args.words.rest.now)) NameText (words_of c.next_name.new.words.rest.now) (words_of c.next_name-2.new.words.rest.now) _ c.in_err-rname.ensures
     (λ soa known. let spelled = known.spelled in (known.rname, known.serial ∷ known.refresh ∷ known.retry ∷ known.expire ∷ known.minimum ∷ [], soa.rname, (cc), known.rname_text)))
 
 pub returns-in_err-refresh : goal.returns-in_err-refresh

@@ -21,7 +21,7 @@ returns-in_err-rdata g c =
     let p = err_from_is_err_and c.from_residual-in_err-rdata.result c.from_residual-in_err-rdata.ensures.1 in
     let known = c.in_ok-header.ensures in
     let inside : is_at_or_below c.in_ok-header.header.name c.args.zone.now.origin ≡ true =
-    sym (c.is_in_zone.ensures c.in_ok-header.header.name known.owner.full (c.deref.ensures.value ∙ c.in-Ok.ensures)) ∙ c.if-not-is_in_zone.false in
+    sym (c.is_in_zone.ensures c.in_ok-header.header.name known.owner.full (c.deref.ensures.value ∙ c.in-Ok.ensures.key)) ∙ c.if-not-is_in_zone.false in
     rw (p.1, p.2) (field_refused (IsTextOf c.in_ok-header.header.record_type (words_of c.in_ok-header.header.rdata.rest.now)) c.args.zone.now (words_of c.args.line.now) causes.Data c.parse_rdata.result _ c.parse_rdata.ensures (sym c.in_err-rdata.ensures)
     (data_none (words_of c.args.line.now) _ known) (none_8 c.args.zone.now (words_of c.args.line.now) _ known inside))
 
@@ -29,7 +29,7 @@ pub returns-then-not-ends_at_root : goal.returns-then-not-ends_at_root
 returns-then-not-ends_at_root g c =
     let known = c.in_ok-header.ensures in
     let inside : is_at_or_below c.in_ok-header.header.name c.args.zone.now.origin ≡ true =
-    sym (c.is_in_zone.ensures c.in_ok-header.header.name known.owner.full (c.deref.ensures.value ∙ c.in-Ok.ensures)) ∙ c.if-not-is_in_zone.false in
+    sym (c.is_in_zone.ensures c.in_ok-header.header.name known.owner.full (c.deref.ensures.value ∙ c.in-Ok.ensures.key)) ∙ c.if-not-is_in_zone.false in
     let text = field_read (IsTextOf c.in_ok-header.header.record_type (words_of c.in_ok-header.header.rdata.rest.now)) causes.Data c.parse_rdata.result c.in_ok-rdata.rdata c.parse_rdata.ensures (sym c.in_ok-rdata.ensures) in
     let value = data_some (words_of c.args.line.now) _ c.in_ok-rdata.rdata known text in
     let n8 = none_8 c.args.zone.now (words_of c.args.line.now) _ known inside in (
@@ -41,13 +41,13 @@ pub returns-then-has_soa : goal.returns-then-has_soa
 returns-then-has_soa g c =
     let known = c.in_ok-header.ensures in
     let inside : is_at_or_below c.in_ok-header.header.name c.args.zone.now.origin ≡ true =
-    sym (c.is_in_zone.ensures c.in_ok-header.header.name known.owner.full (c.deref.ensures.value ∙ c.in-Ok.ensures)) ∙ c.if-not-is_in_zone.false in
+    sym (c.is_in_zone.ensures c.in_ok-header.header.name known.owner.full (c.deref.ensures.value ∙ c.in-Ok.ensures.key)) ∙ c.if-not-is_in_zone.false in
     let text = field_read (IsTextOf c.in_ok-header.header.record_type (words_of c.in_ok-header.header.rdata.rest.now)) causes.Data c.parse_rdata.result c.in_ok-rdata.rdata c.parse_rdata.ensures (sym c.in_ok-rdata.ensures) in
     let value = data_some (words_of c.args.line.now) _ c.in_ok-rdata.rdata known text in
     let n8 = none_8 c.args.zone.now (words_of c.args.line.now) _ known inside in
     let full = sym c.ends_at_root.ensures ∙ c.if-not-ends_at_root.false in (
       second_stands c.args.zone.now (words_of c.args.line.now) _ known (sym c.is_soa.ensures ∙ c.if-is_soa.true)
-          (sym (c.has_soa.ensures c.in_ok-header.header.name known.owner.full c.in-Ok.ensures) ∙ c.if-has_soa.true),
+          (sym (c.has_soa.ensures c.in_ok-header.header.name known.owner.full c.in-Ok.ensures.key) ∙ c.if-has_soa.true),
       none_11 c.args.zone.now (words_of c.args.line.now) c.in_ok-rdata.rdata n8 value full,
     )
 
@@ -55,7 +55,7 @@ pub returns : goal.returns
 returns g c =
     let known = c.in_ok-header.ensures in
     let inside : is_at_or_below c.in_ok-header.header.name c.args.zone.now.origin ≡ true =
-    sym (c.is_in_zone.ensures c.in_ok-header.header.name known.owner.full (c.deref.ensures.value ∙ c.in-Ok.ensures)) ∙ c.if-not-is_in_zone.false in
+    sym (c.is_in_zone.ensures c.in_ok-header.header.name known.owner.full (c.deref.ensures.value ∙ c.in-Ok.ensures.key)) ∙ c.if-not-is_in_zone.false in
     let text = field_read (IsTextOf c.in_ok-header.header.record_type (words_of c.in_ok-header.header.rdata.rest.now)) causes.Data c.parse_rdata.result c.in_ok-rdata.rdata c.parse_rdata.ensures (sym c.in_ok-rdata.ensures) in
     let value = data_some (words_of c.args.line.now) _ c.in_ok-rdata.rdata known text in
     let n8 = none_8 c.args.zone.now (words_of c.args.line.now) _ known inside in
@@ -63,7 +63,7 @@ returns g c =
     let n11 = none_11 c.args.zone.now (words_of c.args.line.now) c.in_ok-rdata.rdata n8 value full in
     let free : is_start c.in_ok-header.header.record_type ≡ true → is_some (stored c.args.zone.now.sets c.in_ok-header.header.name types.SOA) ≡ false =
     λ start. elim c.else-is_soa.branch [
-      | else-is_soa-via-then-is_soa+else-has_soa w ↦ sym (w.has_soa.ensures c.in_ok-header.header.name known.owner.full c.in-Ok.ensures) ∙ w.if-has_soa.false
+      | else-is_soa-via-then-is_soa+else-has_soa w ↦ sym (w.has_soa.ensures c.in_ok-header.header.name known.owner.full c.in-Ok.ensures.key) ∙ w.if-has_soa.false
       | else-is_soa-via-else-is_soa w ↦ absurd (both_ways (is_start c.in_ok-header.header.record_type) (sym c.is_soa.ensures ∙ w.if-is_soa.false) start)
     ] in
     record {

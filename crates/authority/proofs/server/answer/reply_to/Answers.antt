@@ -17,5 +17,5 @@ returns g c =
     let octets_is = c.question_octets-question_octets.ensures in
     let room : 12 + length c.args.request.now.question_octets ≤ c.args.limit = omega (arith, ap length octets_is, c.if-limit-question_octets.false, c.requires.lower) in
     let written = rw (c.questions.ensures, octets_is) at c.in_ok-reply.ensures in
-    subst (λ (p : ReplyParts). IsReply c.in_ok-reply.reply.items p c.args.request.now c.args.limit) c.in_ok-response.ensures.value
+    subst (λ (p : ReplyParts). IsReply c.args.message.now c.in_ok-reply.reply.items p c.args.request.now c.args.limit) c.in_ok-response.ensures.value
     (reply_of_written c.args.message.now c.in_ok-reply.reply.items c.args.request.now (parts_of c.in_ok-response.response) c.args.limit c.requires.message sound.answers sound.authorities room written)
