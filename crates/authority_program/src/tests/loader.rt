@@ -1,8 +1,8 @@
 //! Zones from their text, and why a text is refused.
 
 use authority::{
-    AxfrPolicy, InMemoryZoneHandler, LoadCause, LoadError, Name, RecordType, RrKey, ZoneSettings,
-    ZoneType, load_zone,
+    AxfrPolicy, InMemoryZoneHandler, LoadCause, LoadError, LowerName, Name, RecordType, RrKey,
+    ZoneSettings, ZoneType, load_zone,
 };
 use std::test::Fail;
 
@@ -92,7 +92,10 @@ fn lines_that_are_passed_over(rt: HostRuntime) -> Result<(), Fail> {
     let name = Name::from_ascii(rt.alloc(), "WWW.example.com.")
         .ok()
         .ok_or("name")?;
-    let found = zone.get(rt.alloc(), &RrKey::new(name, RecordType::A))?;
+    let found = zone.get(
+        rt.alloc(),
+        &RrKey::new(LowerName::from(name), RecordType::A),
+    )?;
     let set = found.ok_or("no set")?;
     assert_eq!(rt; set.records().len(), 1);
     assert_eq!(rt; set.records()[0].ttl, 61);

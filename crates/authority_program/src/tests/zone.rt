@@ -1,48 +1,33 @@
 //! A small zone, by its public calls.
 
 ghost use Rattle.std.specs.Prelude.{◌≡◌, true, IfOk};
-ghost use Rattle.dnw_label.specs.Label.{IsLabel};
 ghost use Rattle.zst_record.specs.Records.{has_only_full_names};
 
 use authority::{
-    A, AxfrPolicy, DNSClass, InMemoryZoneHandler, Label, Lookup, Name, RData, Record, RecordType,
-    RrKey, SOA, ZoneSettings, ZoneType,
+    A, AxfrPolicy, DNSClass, InMemoryZoneHandler, Lookup, LowerName, Name, RData, Record,
+    RecordType, RrKey, SOA, ZoneSettings, ZoneType,
 };
 use std::alloc::Global;
 use std::net::Ipv4Addr;
 use std::process::Abort;
 use std::test::Fail;
 
-fn label(alloc: Global, rt: &impl Abort, text: &[u8]) -> Result<Label, Fail>
-    ensures { IfOk result (λ label. IsLabel label) }
-{
-    assert!(rt; !text.is_empty() && text.len() <= 63);
-    Ok(Label::from_raw_bytes(alloc, text)?)
-}
-
-fn name1(alloc: Global, rt: &impl Abort, a: &[u8]) -> Result<Name, Fail>
+fn name1(alloc: Global, a: &[u8]) -> Result<Name, Fail>
     ensures { IfOk result (λ name. name.fqdn ≡ true) }
 {
-    let labels = vec![in alloc; label(alloc, rt, a)?]?;
-    Ok(Name::from_labels(labels, true))
+    Ok(Name::root(alloc).append_label(a)?)
 }
 
-fn name2(alloc: Global, rt: &impl Abort, a: &[u8], b: &[u8]) -> Result<Name, Fail>
+fn name2(alloc: Global, a: &[u8], b: &[u8]) -> Result<Name, Fail>
     ensures { IfOk result (λ name. name.fqdn ≡ true) }
 {
-    let labels = vec![in alloc; label(alloc, rt, a)?, label(alloc, rt, b)?]?;
-    Ok(Name::from_labels(labels, true))
+    Ok(name1(alloc, a)?.append_label(b)?)
 }
 
-fn name3(alloc: Global, rt: &impl Abort, a: &[u8], b: &[u8], c: &[u8]) -> Result<Name, Fail>
+fn name3(alloc: Global, a: &[u8], b: &[u8], c: &[u8]) -> Result<Name, Fail>
     ensures { IfOk result (λ name. name.fqdn ≡ true) }
 {
-    let labels = vec![in alloc;
-        label(alloc, rt, a)?,
-        label(alloc, rt, b)?,
-        label(alloc, rt, c)?,
-    ]?;
-    Ok(Name::from_labels(labels, true))
+    Ok(name2(alloc, a, b)?.append_label(c)?)
 }
 
 fn address(name: Name, ttl: u32, last: u8) -> Record
@@ -64,15 +49,15 @@ fn zone(alloc: Global, rt: &impl Abort) -> Result<InMemoryZoneHandler<()>, Fail>
         axfr_policy: AxfrPolicy::AllowAll,
         nx_proof_kind: None,
     };
-    let origin = name1(alloc, rt, b"example")?;
+    let origin = name1(alloc, b"example")?;
     let mut zone = InMemoryZoneHandler::empty(alloc, origin, settings)?;
     let soa = Record {
-        name: name1(alloc, rt, b"EXAMPLE")?,
+        name: name1(alloc, b"EXAMPLE")?,
         dns_class: DNSClass::IN,
         ttl: 3600,
         rdata: RData::SOA(SOA {
-            mname: name2(alloc, rt, b"ns", b"example")?,
-            rname: name2(alloc, rt, b"admin", b"example")?,
+            mname: name2(alloc, b"ns", b"example")?,
+            rname: name2(alloc, b"admin", b"example")?,
             serial: 1,
             refresh: 3600,
             retry: 1800,
@@ -81,9 +66,9 @@ fn zone(alloc: Global, rt: &impl Abort) -> Result<InMemoryZoneHandler<()>, Fail>
         }),
     };
     zone.insert(alloc, soa)?;
-    let www = name2(alloc, rt, b"WWW", b"example")?;
+    let www = name2(alloc, b"WWW", b"example")?;
     zone.insert(alloc, address(www, 3600, 1))?;
-    let deep = name3(alloc, rt, b"a", b"b", b"example")?;
+    let deep = name3(alloc, b"a", b"b", b"example")?;
     zone.insert(alloc, address(deep, 3600, 2))?;
     Ok(zone)
 }
@@ -101,11 +86,11 @@ fn word(found: &Lookup) -> &'static str {
 fn zone_answers(rt: HostRuntime) -> Result<(), Fail> {
     let alloc = rt.alloc();
     let zone = zone(alloc, &rt)?;
-    let www = name2(alloc, &rt, b"www", b"Example")?;
-    let between = name2(alloc, &rt, b"b", b"example")?;
-    let absent = name2(alloc, &rt, b"z", b"example")?;
-    let longer = name2(alloc, &rt, b"wwww", b"example")?;
-    let outside = name2(alloc, &rt, b"www", b"example2")?;
+    let www = name2(alloc, b"www", b"Example")?;
+    let between = name2(alloc, b"b", b"example")?;
+    let absent = name2(alloc, b"z", b"example")?;
+    let longer = name2(alloc, b"wwww", b"example")?;
+    let outside = name2(alloc, b"www", b"example2")?;
     let cases = [
         (&www, RecordType::A, "answer"),
         (&www, RecordType::Unknown(1), "answer"),
@@ -131,10 +116,13 @@ fn equal_data_are_replaced(rt: HostRuntime) -> Result<(), Fail> {
     let alloc = rt.alloc();
     let mut zone = zone(alloc, &rt)?;
     for (ttl, last) in [(60, 1), (60, 3), (90, 3)] {
-        let www = name2(alloc, &rt, b"www", b"example")?;
+        let www = name2(alloc, b"www", b"example")?;
         zone.insert(alloc, address(www, ttl, last))?;
     }
-    let at = RrKey::new(name2(alloc, &rt, b"www", b"example")?, RecordType::A);
+    let at = RrKey::new(
+        LowerName::from(name2(alloc, b"www", b"example")?),
+        RecordType::A,
+    );
     match zone.get(alloc, &at)? {
         Some(set) => {
             assert_eq!(rt; set.records().len(), 2);
