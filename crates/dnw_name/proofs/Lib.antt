@@ -4,3 +4,4 @@ pub mod Lengths
 pub mod Orders
 pub mod RoundTrip
 pub mod TextLemmas
+pub mod Taken

@@ -311,3 +311,78 @@ fn names_of_texts(rt: HostRuntime) -> Result<(), Fail> {
     prints(&rt, alloc, &(&text).into_name(alloc)?, "a.b")?;
     prints(&rt, alloc, &"a.b.".into_name(alloc)?, "a.b.")
 }
+
+#[test]
+fn names_of_labels(rt: HostRuntime) -> Result<(), Fail> {
+    let alloc = rt.alloc();
+    let www = Name::from_labels(alloc, ["www", "Example", "com"].iter().copied())?;
+    prints(&rt, alloc, &www, "www.Example.com.")?;
+    let no_labels: [&str; 0] = [];
+    prints(
+        &rt,
+        alloc,
+        &Name::from_labels(alloc, no_labels.iter().copied())?,
+        ".",
+    )?;
+    let label = www.iter();
+    prints(
+        &rt,
+        alloc,
+        &Name::from_labels(alloc, label.rev())?,
+        "com.Example.www.",
+    )?;
+    assert!(rt; Name::from_labels(alloc, ["a", "-b"].iter().copied()).is_err());
+    assert!(rt; Name::from_labels(alloc, std::iter::repeat("a")).is_err());
+    Ok(())
+}
+
+#[test]
+fn shown(rt: HostRuntime) -> Result<(), Fail> {
+    let alloc = rt.alloc();
+    let name = Name::from_str(alloc, "a\\.B.example.")?;
+    assert_eq!(rt;
+        format!(in alloc; "{name} {name:?}")?.as_str(),
+        "a\\.B.example. a\\.B.example."
+    );
+    assert_eq!(rt; name.to_utf8(alloc)?.as_str(), "a\\.B.example.");
+    let lower = LowerName::from_str(alloc, "a\\.B.example.")?;
+    assert_eq!(rt;
+        format!(in alloc; "{lower} {lower:?}")?.as_str(),
+        "a\\.b.example. a\\.b.example."
+    );
+    prints(&rt, alloc, &lower.into_name(alloc)?, "a\\.b.example.")?;
+    prints(&rt, alloc, &(&name).into_name(alloc)?, "a\\.B.example.")
+}
+
+#[test]
+fn shown_labels(rt: HostRuntime) -> Result<(), Fail> {
+    let alloc = rt.alloc();
+    let label = Label::from_raw_bytes(alloc, b"*-\"\x7f")?;
+    let mut text = String::new(alloc);
+    label.write_ascii(&mut text)?;
+    assert_eq!(rt; text.as_str(), "*-\\\"\\177");
+    assert_eq!(rt;
+        format!(in alloc; "{label} {label:?}")?.as_str(),
+        "*-\\\"\\177 *-\\\"\\177"
+    );
+    assert_eq!(rt; label.to_utf8(alloc)?.as_str(), "*-\\\"\\177");
+    assert!(rt; !label.is_empty());
+    Ok(())
+}
+
+// RFC 6761 6.3.
+#[test]
+fn names_of_the_host(rt: HostRuntime) -> Result<(), Fail> {
+    let alloc = rt.alloc();
+    for (text, own) in [
+        ("localhost.", true),
+        ("LocalHost", true),
+        ("a.localhost.", true),
+        ("localhost.example.", false),
+        ("alocalhost.", false),
+        (".", false),
+    ] {
+        assert_eq!(rt; Name::from_ascii(alloc, text)?.is_localhost(), own);
+    }
+    Ok(())
+}
