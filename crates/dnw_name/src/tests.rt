@@ -315,24 +315,26 @@ fn names_of_texts(rt: HostRuntime) -> Result<(), Fail> {
 #[test]
 fn names_of_labels(rt: HostRuntime) -> Result<(), Fail> {
     let alloc = rt.alloc();
-    let www = Name::from_labels(alloc, ["www", "Example", "com"].iter().copied())?;
-    prints(&rt, alloc, &www, "www.Example.com.")?;
-    let no_labels: [&str; 0] = [];
-    prints(
-        &rt,
-        alloc,
-        &Name::from_labels(alloc, no_labels.iter().copied())?,
-        ".",
-    )?;
-    let label = www.iter();
-    prints(
-        &rt,
-        alloc,
-        &Name::from_labels(alloc, label.rev())?,
-        "com.Example.www.",
-    )?;
-    assert!(rt; Name::from_labels(alloc, ["a", "-b"].iter().copied()).is_err());
-    assert!(rt; Name::from_labels(alloc, std::iter::repeat("a")).is_err());
+    let www = Name::from_ascii(alloc, "www.Example.com")?;
+    let forward = Name::from_labels(alloc, www.iter())?;
+    prints(&rt, alloc, &forward, "www.Example.com.")?;
+    let backward = Name::from_labels(alloc, www.iter().rev())?;
+    prints(&rt, alloc, &backward, "com.Example.www.")?;
+    let none = Name::new(alloc);
+    prints(&rt, alloc, &Name::from_labels(alloc, none.iter())?, ".")
+}
+
+#[test]
+fn names_of_owned_labels(rt: HostRuntime) -> Result<(), Fail> {
+    let alloc = rt.alloc();
+    for (count, first, made) in [(127, "a", true), (128, "a", false), (1, "-a", false)] {
+        let mut labels = Vec::new(alloc);
+        labels.push(String::from_str(alloc, first)?)?;
+        for _ in 1..count {
+            labels.push(String::from_str(alloc, "b")?)?;
+        }
+        assert_eq!(rt; Name::from_labels(alloc, labels.into_iter()).is_ok(), made);
+    }
     Ok(())
 }
 
