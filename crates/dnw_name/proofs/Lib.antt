@@ -1,3 +1,4 @@
+pub mod ArpaLemmas
 pub mod Fronts
 pub mod KeyOrder
 pub mod Lengths

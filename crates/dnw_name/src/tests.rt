@@ -4,6 +4,7 @@ use dnw_codes::{DecodeError, ProtoError, RecordType};
 use std::alloc::Global;
 use std::cmp::Ordering;
 use std::hash::{DefaultHasher, Hash, Hasher};
+use std::net::IpAddr;
 use std::process::Abort;
 use std::test::Fail;
 
@@ -385,6 +386,24 @@ fn names_of_the_host(rt: HostRuntime) -> Result<(), Fail> {
         (".", false),
     ] {
         assert_eq!(rt; Name::from_ascii(alloc, text)?.is_localhost(), own);
+    }
+    Ok(())
+}
+
+// RFC 1035 3.5, and the example of RFC 3596 2.5.
+#[test]
+fn names_of_addresses(rt: HostRuntime) -> Result<(), Fail> {
+    let alloc = rt.alloc();
+    for (text, name) in [
+        ("192.0.2.1", "1.2.0.192.in-addr.arpa."),
+        ("10.2.0.52", "52.0.2.10.in-addr.arpa."),
+        (
+            "4321:0:1:2:3:4:567:89ab",
+            "b.a.9.8.7.6.5.0.4.0.0.0.3.0.0.0.2.0.0.0.1.0.0.0.0.0.0.0.1.2.3.4.ip6.arpa.",
+        ),
+    ] {
+        let addr: IpAddr = text.parse()?;
+        prints(&rt, alloc, &Name::from_addr(alloc, addr)?, name)?;
     }
     Ok(())
 }
