@@ -196,6 +196,11 @@ fn labels(rt: HostRuntime) -> Result<(), Fail> {
     assert!(rt; labels.next_back() == Some(b"com".as_slice()));
     assert!(rt; labels.next() == Some(b"example".as_slice()));
     assert!(rt; labels.next_back() == None);
+    let mut octets = 0usize;
+    for label in &www {
+        octets = octets.wrapping_add(label.len());
+    }
+    assert_eq!(rt; octets, 13);
     Ok(())
 }
 
