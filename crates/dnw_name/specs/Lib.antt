@@ -1,3 +1,4 @@
+pub mod Arpa
 pub mod DomainName
 pub mod NameHash
 pub mod NameKey

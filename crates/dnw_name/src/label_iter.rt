@@ -2,6 +2,7 @@
 ghost use Rattle.std.specs.Prelude.{◌≡◌, length};
 ghost use Rattle.std.specs.Iterator.{YieldsFirstRef, YieldsLastRef, item_count};
 
+use crate::name::Name;
 use dnw_label::Label;
 use std::marker::Model;
 
@@ -58,5 +59,17 @@ impl<'a> DoubleEndedIterator for LabelIter<'a> {
 impl ExactSizeIterator for LabelIter<'_> {
     fn len(&self) -> usize {
         self.labels.len()
+    }
+}
+
+impl<'a> IntoIterator for &'a Name {
+    type Item = &'a [u8];
+
+    type IntoIter = LabelIter<'a>;
+
+    ghost into_iter_gives = { λ name labels. labels ≡ name.now.labels };
+
+    fn into_iter(self) -> LabelIter<'a> {
+        self.iter()
     }
 }

@@ -7,6 +7,8 @@
 //! print texts, each exactly by its definition.
 #![tactic(auto)]
 
+mod arpa;
+mod from_labels;
 mod key;
 mod label_iter;
 mod lower_name;

@@ -4,6 +4,7 @@ use dnw_codes::{DecodeError, ProtoError, RecordType};
 use std::alloc::Global;
 use std::cmp::Ordering;
 use std::hash::{DefaultHasher, Hash, Hasher};
+use std::net::IpAddr;
 use std::process::Abort;
 use std::test::Fail;
 
@@ -195,6 +196,11 @@ fn labels(rt: HostRuntime) -> Result<(), Fail> {
     assert!(rt; labels.next_back() == Some(b"com".as_slice()));
     assert!(rt; labels.next() == Some(b"example".as_slice()));
     assert!(rt; labels.next_back() == None);
+    let mut octets = 0usize;
+    for label in &www {
+        octets = octets.wrapping_add(label.len());
+    }
+    assert_eq!(rt; octets, 13);
     Ok(())
 }
 
@@ -310,4 +316,99 @@ fn names_of_texts(rt: HostRuntime) -> Result<(), Fail> {
     let text = String::from_str(alloc, "a.b")?;
     prints(&rt, alloc, &(&text).into_name(alloc)?, "a.b")?;
     prints(&rt, alloc, &"a.b.".into_name(alloc)?, "a.b.")
+}
+
+#[test]
+fn names_of_labels(rt: HostRuntime) -> Result<(), Fail> {
+    let alloc = rt.alloc();
+    let www = Name::from_ascii(alloc, "www.Example.com")?;
+    let forward = Name::from_labels(alloc, www.iter())?;
+    prints(&rt, alloc, &forward, "www.Example.com.")?;
+    let backward = Name::from_labels(alloc, www.iter().rev())?;
+    prints(&rt, alloc, &backward, "com.Example.www.")?;
+    let none = Name::new(alloc);
+    prints(&rt, alloc, &Name::from_labels(alloc, none.iter())?, ".")
+}
+
+#[test]
+fn names_of_owned_labels(rt: HostRuntime) -> Result<(), Fail> {
+    let alloc = rt.alloc();
+    for (count, first, made) in [(127, "a", true), (128, "a", false), (1, "-a", false)] {
+        let mut labels = Vec::new(alloc);
+        labels.push(String::from_str(alloc, first)?)?;
+        for _ in 1..count {
+            labels.push(String::from_str(alloc, "b")?)?;
+        }
+        assert_eq!(rt; Name::from_labels(alloc, labels.into_iter()).is_ok(), made);
+    }
+    Ok(())
+}
+
+#[test]
+fn shown(rt: HostRuntime) -> Result<(), Fail> {
+    let alloc = rt.alloc();
+    let name = Name::from_str(alloc, "a\\.B.example.")?;
+    assert_eq!(rt;
+        format!(in alloc; "{name} {name:?}")?.as_str(),
+        "a\\.B.example. a\\.B.example."
+    );
+    assert_eq!(rt; name.to_utf8(alloc)?.as_str(), "a\\.B.example.");
+    let lower = LowerName::from_str(alloc, "a\\.B.example.")?;
+    assert_eq!(rt;
+        format!(in alloc; "{lower} {lower:?}")?.as_str(),
+        "a\\.b.example. a\\.b.example."
+    );
+    prints(&rt, alloc, &lower.into_name(alloc)?, "a\\.b.example.")?;
+    prints(&rt, alloc, &(&name).into_name(alloc)?, "a\\.B.example.")
+}
+
+#[test]
+fn shown_labels(rt: HostRuntime) -> Result<(), Fail> {
+    let alloc = rt.alloc();
+    let label = Label::from_raw_bytes(alloc, b"*-\"\x7f")?;
+    let mut text = String::new(alloc);
+    label.write_ascii(&mut text)?;
+    assert_eq!(rt; text.as_str(), "*-\\\"\\177");
+    assert_eq!(rt;
+        format!(in alloc; "{label} {label:?}")?.as_str(),
+        "*-\\\"\\177 *-\\\"\\177"
+    );
+    assert_eq!(rt; label.to_utf8(alloc)?.as_str(), "*-\\\"\\177");
+    assert!(rt; !label.is_empty());
+    Ok(())
+}
+
+// RFC 6761 6.3.
+#[test]
+fn names_of_the_host(rt: HostRuntime) -> Result<(), Fail> {
+    let alloc = rt.alloc();
+    for (text, own) in [
+        ("localhost.", true),
+        ("LocalHost", true),
+        ("a.localhost.", true),
+        ("localhost.example.", false),
+        ("alocalhost.", false),
+        (".", false),
+    ] {
+        assert_eq!(rt; Name::from_ascii(alloc, text)?.is_localhost(), own);
+    }
+    Ok(())
+}
+
+// RFC 1035 3.5, and the example of RFC 3596 2.5.
+#[test]
+fn names_of_addresses(rt: HostRuntime) -> Result<(), Fail> {
+    let alloc = rt.alloc();
+    for (text, name) in [
+        ("192.0.2.1", "1.2.0.192.in-addr.arpa."),
+        ("10.2.0.52", "52.0.2.10.in-addr.arpa."),
+        (
+            "4321:0:1:2:3:4:567:89ab",
+            "b.a.9.8.7.6.5.0.4.0.0.0.3.0.0.0.2.0.0.0.1.0.0.0.0.0.0.0.1.2.3.4.ip6.arpa.",
+        ),
+    ] {
+        let addr: IpAddr = text.parse()?;
+        prints(&rt, alloc, &Name::from_addr(alloc, addr)?, name)?;
+    }
+    Ok(())
 }
