@@ -46,8 +46,7 @@ pub question_once : (message : List ℕ) (place : ℕ) (a b : Query) (e f : ℕ)
 question_once message place a b e f p q =
     let names = name_once message place a.name b.name p.middle q.middle p.name q.name in
     let types = type_once message q.middle a.query_type b.query_type p.last q.last (subst (λ (m : ℕ). RecordTypeAt message m a.query_type p.last) names.1 p.query_type) q.query_type in
-    let classes = class_once message q.last a.query_class b.query_class e f (subst (λ (m : ℕ). ClassAt message m a.query_class e) types.1 p.query_class) q.query_class in
-    (
+    let classes = class_once message q.last a.query_class b.query_class e f (subst (λ (m : ℕ). ClassAt message m a.query_class e) types.1 p.query_class) q.query_class in (
       ap (λ (n : DomainName). query_of n a.query_type a.query_class) names.0
           ∙ ap (λ (t : RecordType). query_of b.name t a.query_class) types.0
           ∙ ap (λ (c : DNSClass). query_of b.name b.query_type c) classes.0,

@@ -4,7 +4,6 @@ use Rattle.std.specs.Prelude.{List, [], ◌∷◌, ◌++◌}
 use Rattle.std.proofs.lemmas.List.{length-append}
 use Rattle.zst_record.specs.declared.record_data.SOA.{SOA}
 use Rattle.zst_record.specs.declared.records.Record.{Record}
-use Rattle.dnw_decoder.specs.Octets.{octets_32}
 use Rattle.zst_record.specs.RecordData.{soa_octets, soa_numbers, rdata_octets}
 use Rattle.zst_record.specs.Records.{record_octets, fixed_octets}
 use Rattle.std.specs.List.{flat_map}

@@ -1,4 +1,4 @@
-use Rattle.std.proofs.Common.{◌≤◌, ℕ, List, Err, arith, length, subst, ◌∙◌}
+use Rattle.std.proofs.Common.{ℕ, List, Err, arith, subst, ◌∙◌}
 use Rattle.zsv_message.specs.Wire.{Reads}
 use Rattle.std.proofs.lemmas.Result.{err_from_is_err_and}
 use Rattle.zsv_message.specs.Requests.{QuestionAt}

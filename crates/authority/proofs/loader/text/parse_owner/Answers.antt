@@ -1,4 +1,4 @@
-use Rattle.std.proofs.Common.{◌≡◌, Bool, sym, ap, ◌∙◌}
+use Rattle.std.proofs.Common.{sym, ap, ◌∙◌}
 use Rattle.dnw_name.specs.DomainName.{DomainName}
 use Rattle.dnw_name.proofs.TextLemmas.{name-same}
 use Rattle.authority.proofs.loader.text.parse_owner.Goals as goal
