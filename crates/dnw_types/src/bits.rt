@@ -25,7 +25,7 @@ fn push_octet(codes: &mut Vec<u16>, base: u16, octet: u8) -> Result<(), AllocErr
     Ok(())
 }
 
-// Adds the types of a window's octets.
+/// Adds the types of a window's octets.
 pub(crate) fn push_map(codes: &mut Vec<u16>, number: u8, map: &[u8]) -> Result<(), AllocError>
     requires { length map.now ≤ 32 }
     ensures { OnOk result (codes.new.items ≡ codes.old.items ++ map_types (256 * number) map.now) }
@@ -36,8 +36,8 @@ pub(crate) fn push_map(codes: &mut Vec<u16>, number: u8, map: &[u8]) -> Result<(
     Ok(())
 }
 
-// The octet at a base whose set bits are the types at the front, and the types behind.
-fn octet_of(base: u32, codes: &[u16]) -> (u8, &[u16])
+/// The octet at a base whose set bits are the types at the front, and the types behind.
+pub(crate) fn octet_of(base: u32, codes: &[u16]) -> (u8, &[u16])
     requires base { base + 8 ≤ 2 ^ 16 }
     requires rises { Rises base codes.now 65536 }
     ensures types { codes.now ≡ octet_types base result.0 ++ result.1.now }
