@@ -1,5 +1,8 @@
 //! Sets of types.
-ghost use Rattle.std.specs.Prelude.{◌≡◌, ◌==◌, ◌⊎◌, ◌<◌, ℕ, List, map, length, find, IfOk, IfErr, OnErr};
+ghost use Rattle.std.specs.Prelude.{◌≡◌, ◌==◌, ◌⊎◌, ◌<◌, ℕ, List, map, length, nat_eq, IfOk, IfErr, OnErr};
+ghost use Rattle.std.specs.Cmp.Lexicographic.{pointwise};
+ghost use Rattle.std.specs.Cmp.Rules.{comparing};
+ghost use Rattle.std.proofs.Common.{rules};
 ghost use Rattle.std.specs.Iterator.{Drains, IsFinite, YieldsFirst, item_count};
 ghost use Rattle.std.specs.List.{list_any};
 ghost use Rattle.std.specs.List.Sorted.{IsStrictlyIncreasing};
@@ -21,7 +24,7 @@ use std::alloc::{AllocError, Global};
 use std::marker::Model;
 
 /// A set of record types. A contract sees it as the numbers of its types, which rise.
-#[derive(Drop)]
+#[derive(Debug, Drop)]
 pub struct RecordTypeSet {
     codes: Vec<u16>,
 }
@@ -166,4 +169,18 @@ impl Clone for RecordTypeSet {
         let codes = Vec::from_slice(*self.codes.allocator(), &self.codes)?;
         Ok(RecordTypeSet { codes })
     }
+}
+
+impl PartialEq for RecordTypeSet {
+    ghost eq = { pointwise nat_eq };
+
+    ghost laws = { Prim.search (comparing, rules) };
+
+    fn eq(&self, other: &RecordTypeSet) -> bool {
+        self.codes.as_slice() == other.codes.as_slice()
+    }
+}
+
+impl Eq for RecordTypeSet {
+    ghost laws = { Prim.search (comparing, rules) };
 }
