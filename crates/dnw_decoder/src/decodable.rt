@@ -71,7 +71,7 @@ impl BinDecodable for Name {
             ⊎ ((name : DomainName) (end : ℕ) → NameAt decoder.old.octets decoder.old.index name end → ⊥)) }
     {
         let (name, end) = read_name(alloc, decoder.octets(), decoder.index())?;
-        decoder.move_to(end);
+        decoder.set_index(end);
         Ok(name)
     }
 }

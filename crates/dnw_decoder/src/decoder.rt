@@ -83,8 +83,8 @@ impl<'a> BinDecoder<'a> {
         self.octets
     }
 
-    /// Goes to another index.
-    pub(crate) fn move_to(&mut self, index: usize)
+    /// Goes to another index, which is at most the number of octets.
+    pub fn set_index(&mut self, index: usize)
         requires { index ≤ length self.old.octets }
         ensures { self.new ≡ reading self.old.octets index }
     {

@@ -1,0 +1,3 @@
+pub mod SetBits
+pub mod Windows
+pub mod SortedTypes

@@ -1,0 +1,2 @@
+pub mod BitMaps
+pub mod BitMapLaws
