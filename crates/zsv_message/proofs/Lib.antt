@@ -1,3 +1,4 @@
+pub mod Emitted
 pub mod Flags
 pub mod Pieces
 pub mod Questions

@@ -1,3 +1,4 @@
+pub mod Emissions
 pub mod Headers
 pub mod Plans
 pub mod Replies

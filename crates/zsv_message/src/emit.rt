@@ -1,27 +1,18 @@
 //! Records in octets, their names uncompressed (RFC 1035 sections 3.3 and 4.1.3).
 
-ghost use Rattle.std.specs.Prelude.{◌≡◌, ◌++◌, ◌<◌, ◌≤◌, OnOk, length};
+ghost use Rattle.std.specs.Prelude.{◌≡◌, ◌<◌, ◌≤◌, OnOk, length};
+ghost use Rattle.std.specs.Int.{w32, cast_unsigned};
+ghost use Rattle.dnw_encoder.specs.Encoders.{state};
+ghost use Rattle.zsv_message.specs.Emissions.{Extends, IsPlain};
 ghost use Rattle.dnw_name.specs.DomainName.{IsDomainName, name_octets};
 ghost use Rattle.dnw_decoder.specs.Octets.{octets_16, octets_32};
 ghost use Rattle.zst_record.specs.RecordData.{SoundData, rdata_octets, soa_octets, soa_numbers};
 ghost use Rattle.zst_record.specs.Records.{HasSoundNames, record_octets, fixed_octets};
 
-use std::alloc::AllocError;
-use zst_record::{Name, RData, Record, SOA};
-
-// Writes a name at the end.
-fn emit_name(out: &mut Vec<u8>, name: &Name) -> Result<(), AllocError>
-    ensures octets { OnOk result (out.new.items ≡ out.old.items ++ name_octets name.now) }
-    ensures name { IsDomainName name.now }
-{
-    let mut labels = name.iter();
-    'labels: while let Some(label) = labels.next() {
-        out.push(label.len() as u8)?;
-        out.extend_from_slice(label)?;
-    }
-    out.push(0)?;
-    Ok(())
-}
+use dnw_codes::ProtoError;
+use dnw_encoder::{BinEncodable, BinEncoder};
+use dnw_name::Name;
+use zst_record::{RData, Record, SOA};
 
 // How many octets a name takes: those of its labels, each behind its length, and the end.
 #[tactic(auto, using(crate::proofs::Sizes::sizes))]
@@ -36,48 +27,92 @@ fn name_size(name: &Name) -> usize
     }
 }
 
-// Writes a number of 16 bits at the end.
-fn emit_u16(out: &mut Vec<u8>, number: u16) -> Result<(), AllocError>
-    ensures { OnOk result (out.new.items ≡ out.old.items ++ octets_16 number) }
+// Writes a name.
+fn emit_name(encoder: &mut BinEncoder<'_>, name: &Name) -> Result<(), ProtoError>
+    requires { IsPlain (state encoder.old) }
+    ensures same_reference { encoder.new.buffer.ghost_name ≡ encoder.old.buffer.ghost_name }
+    ensures octets { OnOk result (Extends (name_octets name.now) (state encoder.old) (state encoder.new)) }
+    ensures name { IsDomainName name.now }
 {
-    out.extend_from_slice(&number.to_be_bytes())
+    // A contract sees by it that the labels are those of a name.
+    let _labels = name.iter();
+    name.emit(encoder)
 }
 
-// Writes a number of 32 bits at the end.
-#[tactic(auto, unfolding(dnw_decoder::specs::Octets::octets_32))]
-fn emit_u32(out: &mut Vec<u8>, number: u32) -> Result<(), AllocError>
-    ensures { OnOk result (out.new.items ≡ out.old.items ++ octets_32 number) }
+// Writes a number of 16 bits.
+fn emit_u16(encoder: &mut BinEncoder<'_>, number: u16) -> Result<(), ProtoError>
+    requires { IsPlain (state encoder.old) }
+    ensures same_reference { encoder.new.buffer.ghost_name ≡ encoder.old.buffer.ghost_name }
+    ensures octets { OnOk result (Extends (octets_16 number) (state encoder.old) (state encoder.new)) }
 {
-    out.extend_from_slice(&number.to_be_bytes())
+    encoder.emit_u16(number)
 }
 
-// Writes the five numbers of a start of authority at the end.
-fn emit_soa_numbers(out: &mut Vec<u8>, soa: &SOA) -> Result<(), AllocError>
-    ensures { OnOk result (out.new.items ≡ out.old.items ++ soa_numbers soa.now) }
+// Writes a number of 32 bits.
+fn emit_u32(encoder: &mut BinEncoder<'_>, number: u32) -> Result<(), ProtoError>
+    requires { IsPlain (state encoder.old) }
+    ensures same_reference { encoder.new.buffer.ghost_name ≡ encoder.old.buffer.ghost_name }
+    ensures octets { OnOk result (Extends (octets_32 number) (state encoder.old) (state encoder.new)) }
 {
-    emit_u32(out, soa.serial)?;
-    emit_u32(out, soa.refresh.cast_unsigned())?;
-    emit_u32(out, soa.retry.cast_unsigned())?;
-    emit_u32(out, soa.expire.cast_unsigned())?;
-    emit_u32(out, soa.minimum)?;
+    encoder.emit_u32(number)
+}
+
+// Writes a number of 32 bits with a sign, in two's complement.
+fn emit_i32(encoder: &mut BinEncoder<'_>, number: i32) -> Result<(), ProtoError>
+    requires { IsPlain (state encoder.old) }
+    ensures same_reference { encoder.new.buffer.ghost_name ≡ encoder.old.buffer.ghost_name }
+    ensures octets { OnOk result (Extends (octets_32 (cast_unsigned w32 number)) (state encoder.old) (state encoder.new)) }
+{
+    encoder.emit_i32(number)
+}
+
+/// Writes octets.
+pub fn emit_octets(encoder: &mut BinEncoder<'_>, octets: &[u8]) -> Result<(), ProtoError>
+    requires { IsPlain (state encoder.old) }
+    ensures same_reference { encoder.new.buffer.ghost_name ≡ encoder.old.buffer.ghost_name }
+    ensures octets { OnOk result (Extends octets.now (state encoder.old) (state encoder.new)) }
+{
+    encoder.emit_vec(octets)
+}
+
+// Writes the five numbers of a start of authority.
+fn emit_soa_numbers(encoder: &mut BinEncoder<'_>, soa: &SOA) -> Result<(), ProtoError>
+    requires { IsPlain (state encoder.old) }
+    ensures same_reference { encoder.new.buffer.ghost_name ≡ encoder.old.buffer.ghost_name }
+    ensures octets { OnOk result (Extends (soa_numbers soa.now) (state encoder.old) (state encoder.new)) }
+{
+    emit_u32(encoder, soa.serial)?;
+    emit_i32(encoder, soa.refresh)?;
+    emit_i32(encoder, soa.retry)?;
+    emit_i32(encoder, soa.expire)?;
+    emit_u32(encoder, soa.minimum)?;
     Ok(())
 }
 
-// Writes the data of a record at the end.
-fn emit_rdata(out: &mut Vec<u8>, rdata: &RData) -> Result<(), AllocError>
-    ensures octets { OnOk result (out.new.items ≡ out.old.items ++ rdata_octets rdata.now) }
+// Writes the data of a start of authority.
+fn emit_soa(encoder: &mut BinEncoder<'_>, soa: &SOA) -> Result<(), ProtoError>
+    requires { IsPlain (state encoder.old) }
+    ensures same_reference { encoder.new.buffer.ghost_name ≡ encoder.old.buffer.ghost_name }
+    ensures octets { OnOk result (Extends (soa_octets soa.now) (state encoder.old) (state encoder.new)) }
+    ensures names { OnOk result (IsDomainName soa.now.mname × IsDomainName soa.now.rname) }
+{
+    emit_name(encoder, &soa.mname)?;
+    emit_name(encoder, &soa.rname)?;
+    emit_soa_numbers(encoder, soa)
+}
+
+// Writes the data of a record.
+fn emit_rdata(encoder: &mut BinEncoder<'_>, rdata: &RData) -> Result<(), ProtoError>
+    requires { IsPlain (state encoder.old) }
+    ensures same_reference { encoder.new.buffer.ghost_name ≡ encoder.old.buffer.ghost_name }
+    ensures octets { OnOk result (Extends (rdata_octets rdata.now) (state encoder.old) (state encoder.new)) }
     ensures names { OnOk result (SoundData rdata.now) }
 {
     match rdata {
-        RData::A(a) => out.extend_from_slice(&a.0.octets())?,
-        RData::NS(ns) => emit_name(out, &ns.0)?,
-        RData::SOA(soa) => {
-            emit_name(out, &soa.mname)?;
-            emit_name(out, &soa.rname)?;
-            emit_soa_numbers(out, soa)?;
-        }
+        RData::A(a) => emit_octets(encoder, &a.0.octets()),
+        RData::NS(ns) => emit_name(encoder, &ns.0),
+        RData::SOA(soa) => emit_soa(encoder, soa),
     }
-    Ok(())
 }
 
 // How many octets the data of a record take.
@@ -103,23 +138,26 @@ pub fn record_len(record: &Record) -> usize
     name_size(&record.name) + 10 + rdata_len(&record.rdata)
 }
 
-// Writes type, class, time to live and the length of the data at the end.
-fn emit_fixed(out: &mut Vec<u8>, record: &Record) -> Result<(), AllocError>
-    ensures { OnOk result (out.new.items ≡ out.old.items ++ fixed_octets record.now) }
+// Writes type, class, time to live and the length of the data.
+fn emit_fixed(encoder: &mut BinEncoder<'_>, record: &Record) -> Result<(), ProtoError>
+    requires { IsPlain (state encoder.old) }
+    ensures same_reference { encoder.new.buffer.ghost_name ≡ encoder.old.buffer.ghost_name }
+    ensures octets { OnOk result (Extends (fixed_octets record.now) (state encoder.old) (state encoder.new)) }
 {
-    emit_u16(out, u16::from(record.record_type()))?;
-    emit_u16(out, u16::from(record.dns_class))?;
-    emit_u32(out, record.ttl)?;
-    emit_u16(out, rdata_len(&record.rdata) as u16)?;
-    Ok(())
+    emit_u16(encoder, u16::from(record.record_type()))?;
+    emit_u16(encoder, u16::from(record.dns_class))?;
+    emit_u32(encoder, record.ttl)?;
+    emit_u16(encoder, rdata_len(&record.rdata) as u16)
 }
 
-/// Writes a record at the end, its names uncompressed.
-pub fn emit_record(out: &mut Vec<u8>, record: &Record) -> Result<(), AllocError>
-    ensures octets { OnOk result (out.new.items ≡ out.old.items ++ record_octets record.now) }
+/// Writes a record, its names in full.
+pub fn emit_record(encoder: &mut BinEncoder<'_>, record: &Record) -> Result<(), ProtoError>
+    requires { IsPlain (state encoder.old) }
+    ensures same_reference { encoder.new.buffer.ghost_name ≡ encoder.old.buffer.ghost_name }
+    ensures octets { OnOk result (Extends (record_octets record.now) (state encoder.old) (state encoder.new)) }
     ensures names { OnOk result (HasSoundNames record.now) }
 {
-    emit_name(out, &record.name)?;
-    emit_fixed(out, record)?;
-    emit_rdata(out, &record.rdata)
+    emit_name(encoder, &record.name)?;
+    emit_fixed(encoder, record)?;
+    emit_rdata(encoder, &record.rdata)
 }

@@ -2,13 +2,17 @@
 
 ghost use Rattle.std.specs.Prelude.{◌≡◌, ◌+◌, ◌^◌, ◌<◌, ◌≤◌, ◌++◌, ◌||◌, nat_lt, length, IfOk, OnOk};
 ghost use Rattle.std.specs.List.{flat_map, AllByRecursion};
+ghost use Rattle.dnw_encoder.specs.Encoders.{state};
+ghost use Rattle.zsv_message.specs.Emissions.{Extends, IsPlain};
 ghost use Rattle.zsv_message.specs.Headers.{header_of, FitsHeader};
 ghost use Rattle.zst_record.specs.Records.{record_octets, HasSoundNames};
 ghost use Rattle.zsv_message.specs.Plans.{IsWritten};
 
-use crate::emit::emit_record;
+use crate::emit::{emit_octets, emit_record};
 use crate::header::{Header, HeaderCounts, Metadata};
 use crate::plan::{Plan, fitting};
+use dnw_codes::ProtoError;
+use dnw_encoder::{BinEncoder, NameEncoding};
 use std::alloc::{AllocError, Global};
 use zst_record::Record;
 
@@ -23,14 +27,38 @@ pub struct MessageResponse<'a> {
     pub authorities: &'a [Record],
 }
 
-// Writes records at the end, one behind the other.
-fn emit_records(out: &mut Vec<u8>, records: &[Record]) -> Result<(), AllocError>
-    ensures octets { OnOk result (out.new.items ≡ out.old.items ++ flat_map record_octets records.now) }
+// Writes records, one behind the other.
+fn emit_records(encoder: &mut BinEncoder<'_>, records: &[Record]) -> Result<(), ProtoError>
+    requires { IsPlain (state encoder.old) }
+    ensures same_reference { encoder.new.buffer.ghost_name ≡ encoder.old.buffer.ghost_name }
+    ensures octets { OnOk result (Extends (flat_map record_octets records.now) (state encoder.old) (state encoder.new)) }
     ensures names { OnOk result (AllByRecursion HasSoundNames records.now) }
 {
     for record in records {
-        emit_record(out, record)?;
+        emit_record(encoder, record)?;
     }
+    Ok(())
+}
+
+// Writes the parts of a reply into an empty buffer. They fit, since they were planned.
+fn emit_parts(
+    out: &mut Vec<u8>,
+    header: &[u8],
+    question_octets: &[u8],
+    answers: &[Record],
+    authorities: &[Record],
+) -> Result<(), ProtoError>
+    requires { length out.old.items ≡ 0 }
+    ensures octets { OnOk result (out.new.items ≡ header.now ++ (question_octets.now ++ (flat_map record_octets answers.now ++ flat_map record_octets authorities.now))) }
+    ensures answers { OnOk result (AllByRecursion HasSoundNames answers.now) }
+    ensures authorities { OnOk result (AllByRecursion HasSoundNames authorities.now) }
+{
+    let mut encoder = BinEncoder::with_offset(out, 0, NameEncoding::Uncompressed);
+    emit_octets(&mut encoder, header)?;
+    emit_octets(&mut encoder, question_octets)?;
+    emit_records(&mut encoder, answers)?;
+    emit_records(&mut encoder, authorities)?;
+    encoder.into_bytes();
     Ok(())
 }
 
@@ -65,12 +93,19 @@ impl MessageResponse<'_> {
             authorities: authorities.kept as u16,
             additionals: 0,
         };
+        let header = Header { metadata, counts }.octets();
         let mut out = Vec::with_capacity(alloc, authorities.end)?;
-        out.extend_from_slice(&Header { metadata, counts }.octets())?;
-        out.extend_from_slice(question_octets)?;
-        emit_records(&mut out, &self.answers[..answers.kept])?;
-        emit_records(&mut out, &self.authorities[..authorities.kept])?;
-        Ok(out)
+        let emitted = emit_parts(
+            &mut out,
+            &header,
+            question_octets,
+            &self.answers[..answers.kept],
+            &self.authorities[..authorities.kept],
+        );
+        match emitted {
+            Ok(()) => Ok(out),
+            Err(_) => Err(AllocError),
+        }
     }
 }
 
