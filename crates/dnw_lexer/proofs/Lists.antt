@@ -1,12 +1,12 @@
 -- What was read of a list, and what is left of its text.
-use Rattle.std.proofs.Common.{◌≡◌, ◌≢◌, ◌∙◌, ℕ, ◌+◌, ◌<◌, ◌≤◌, suc, ◌++◌, ◌&&◌, ◌||◌, ◌==◌, Bool, true, false, not, cond, List, [], ◌∷◌, length, map, refl, sym, ap, subst, arith, ◌⊎◌, inl, inr}
+use Rattle.std.proofs.Common.{◌≡◌, ◌≢◌, ◌∙◌, ℕ, ◌<◌, ◌≤◌, suc, ◌++◌, ◌&&◌, ◌||◌, ◌==◌, Bool, true, false, not, cond, List, [], ◌∷◌, length, map, refl, sym, ap, subst, arith, ◌⊎◌, inl, inr}
 use Rattle.std.specs.Prelude.{Result, Ok, Err, Option, Some, None, MatchBool, nat_lt}
 use Rattle.std.specs.Str.{encode_utf8_all}
 use Rattle.std.proofs.lemmas.Bool.Decides.{nat_tests}
 use Rattle.std.proofs.lemmas.List.{append_assoc, append-nil, map-append}
 use Rattle.dnw_codes.specs.declared.error.LexerError.{LexerError}
 use Rattle.dnw_codes.specs.declared.error.LexerError.TheVariants.{UnrecognizedOctet, UnrecognizedChar}
-use Rattle.dnw_lexer.specs.Lexer.{Reading, before, Words, words_before, gap, is_blank, at_line_end, ends_word, is_octal, octal_value, octal_at, octal_or, escape, PlainText, ends, plain, escaped, bracket, cut, StringText, closes as string-closes, plain as string-plain, escaped as string-escaped, no_escape, unclosed as string-unclosed, ListWord, ListText, closes, word, refused, unclosed}
+use Rattle.dnw_lexer.specs.Lexer.{Reading, before, Words, words_before, gap, is_blank, at_line_end, ends_word, is_octal, octal_value, octal_at, octal_or, escape, PlainText, ends, plain, escaped, bracket, cut, StringText, closes as string-closes, plain as string-plain, escaped as string-escaped, no_escape, unclosed as string-unclosed, ListWord, ListText, closes, word, refused}
 
 before-nothing : (r : Words) → words_before [] r ≡ r
 before-nothing (Ok found) = refl

@@ -1,11 +1,11 @@
 -- Which token stands where.
-use Rattle.std.proofs.Common.{◌≡◌, ◌∙◌, ℕ, ◌&&◌, ◌==◌, Bool, true, false, List, [], ◌∷◌, refl, sym, ap, subst, ◌⊎◌, inl, inr}
-use Rattle.std.specs.Prelude.{Result, Ok, Err, Option, Some, None, MatchBool, nat_eq}
+use Rattle.std.proofs.Common.{◌≡◌, ℕ, Bool, true, false, List, ◌∷◌, refl, sym, ap, subst, ◌⊎◌, inl, inr}
+use Rattle.std.specs.Prelude.{Ok, Err, Option, Some, MatchBool, nat_eq}
 use lib.Chars.{codes}
 use Rattle.std.specs.List.{starts_with}
 use Rattle.std.specs.Str.{bytes_eq, encode_utf8_all}
 use Rattle.dnw_codes.specs.declared.error.LexerError.{LexerError}
-use Rattle.dnw_lexer.specs.Lexer.{Reading, Words, at_line_end, behind_line_end, begins_blank, without_blanks, StringText, Lexeme, blank, end_of_line, word, list, bare_lexeme, Given, Unread, unread, ListToken, BareToken, WordToken, LineToken, IsToken}
+use Rattle.dnw_lexer.specs.Lexer.{at_line_end, behind_line_end, begins_blank, without_blanks, StringText, Lexeme, blank, end_of_line, word, bare_lexeme, Given, Unread, unread, ListToken, WordToken, LineToken, IsToken}
 use Rattle.dnw_lexer.proofs.Unique.{is_token-one}
 
 pub bare-word : (o w : List ℕ) → o ≡ encode_utf8_all w → bytes_eq o (codes "@") ≡ false → bytes_eq o (codes "$INCLUDE") ≡ false → bytes_eq o (codes "$ORIGIN") ≡ false → bytes_eq o (codes "$TTL") ≡ false → starts_with nat_eq o (codes "$") ≡ false → bare_lexeme w ≡ Ok (word w)

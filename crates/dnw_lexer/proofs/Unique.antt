@@ -1,10 +1,9 @@
 -- Each text has one reading.
-use Rattle.std.proofs.Common.{◌≡◌, ◌≢◌, ◌∙◌, ℕ, ◌&&◌, ◌||◌, ◌==◌, Bool, true, false, not, cond, List, [], ◌∷◌, refl, sym, ap, subst, arith}
-use Rattle.std.specs.Prelude.{Result, Ok, Err, Option, Some, None, MatchBool}
-use Rattle.std.proofs.lemmas.Bool.Decides.{nat_tests}
+use Rattle.std.proofs.Common.{◌≡◌, ◌∙◌, ℕ, ◌&&◌, ◌==◌, Bool, true, false, List, [], ◌∷◌, refl, sym, ap, subst, arith}
+use Rattle.std.specs.Prelude.{Result, Ok, Err, Some, MatchBool}
 use Rattle.dnw_codes.specs.declared.error.LexerError.{LexerError}
-use Rattle.dnw_codes.specs.declared.error.LexerError.TheVariants.{UnrecognizedChar, EOF}
-use Rattle.dnw_lexer.specs.Lexer.{Reading, before, Words, words_before, gap, is_blank, at_line_end, behind_line_end, begins_blank, without_blanks, without_comment, ends_word, escape, PlainText, ends, plain, escaped, bracket, cut, StringText, closes as string-closes, plain as string-plain, escaped as string-escaped, no_escape, unclosed as string-unclosed, ListWord, ListText, closes, word, refused, unclosed, Given, Unread, unread, BareToken, WordToken, LineToken, IsToken, bare_given, string_given, list_given, end_of_line, blank}
+use Rattle.dnw_codes.specs.declared.error.LexerError.TheVariants.{UnrecognizedChar}
+use Rattle.dnw_lexer.specs.Lexer.{Reading, before, Words, words_before, gap, at_line_end, behind_line_end, begins_blank, without_blanks, without_comment, ends_word, escape, PlainText, ends, plain, escaped, bracket, cut, StringText, closes as string-closes, plain as string-plain, escaped as string-escaped, no_escape, unclosed as string-unclosed, ListWord, ListText, closes, word, refused, unclosed, Given, Unread, unread, BareToken, WordToken, LineToken, IsToken, bare_given, string_given, list_given, end_of_line, blank}
 
 -- A backslash ends no word.
 slash-goes : (inside : Bool) (c : ℕ) (rest : List ℕ) → c ≡ 92 → ends_word inside (c ∷ rest) ≡ false

@@ -1,5 +1,5 @@
 -- What texts of names begin with.
-use Rattle.std.proofs.Common.{◌≡◌, ◌≢◌, ◌<◌, ◌&&◌, ◌++◌, ℕ, Bool, true, false, List, [], ◌∷◌, refl, ap, sym, ◌∙◌, subst, arith, length, ◌⊎◌, inl, inr, All, ◌+◌, ◌≤◌, ◌==◌}
+use Rattle.std.proofs.Common.{◌≡◌, ◌<◌, ◌++◌, ℕ, Bool, true, false, List, [], ◌∷◌, refl, ap, sym, ◌∙◌, subst, arith, length, ◌⊎◌, inl, inr, All, ◌+◌, ◌==◌}
 use Rattle.std.proofs.lemmas.List.Elements.{All-nil, All-cons, All-head, All-tail}
 use Rattle.std.proofs.lemmas.List.Sums.{sum_by-append, sum_by_push}
 use Rattle.dnw_label.specs.Label.{IsLabel}
@@ -7,8 +7,7 @@ use Rattle.dnw_name.specs.DomainName.{DomainName, IsDomainName, domain_name, lab
 use Rattle.std.specs.Prelude.{Result, Ok, Err, IfOk, IfErr, Some, cond, ◌||◌, nat_eq}
 use Rattle.std.specs.Cmp.Lexicographic.{pointwise, same_text}
 use Rattle.std.proofs.lemmas.Bool.Decides.{nat_tests}
-use Rattle.std.proofs.lemmas.List.{append_assoc, append-nil}
-use Rattle.std.specs.Char.{is_ascii_digit}
+use Rattle.std.proofs.lemmas.List.{append_assoc}
 use Rattle.dnw_label.specs.LabelText.{OctetText, LabelText, ends, dot, octet, IsTextLabel}
 use Rattle.dnw_label.proofs.LabelTextLemmas.{octet-no_dot, no_octet_in_nothing, label-same}
 use Rattle.dnw_name.specs.NameText.{LabelsText, last, closed, more, NameText, empty, root, labels as labels_text, completed}

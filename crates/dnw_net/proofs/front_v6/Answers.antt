@@ -1,4 +1,4 @@
-use Rattle.std.proofs.Common.{◌≡◌, ◌/◌, ◌^◌, ◌<◌, sym, ◌∙◌, ap, subst, ℕ}
+use Rattle.std.proofs.Common.{◌^◌, ◌<◌, sym}
 use Rattle.std.proofs.Math.Nat.{div-eq_of_lt}
 use Rattle.dnw_net.proofs.front_v6.Goals as goal
 

@@ -1,4 +1,4 @@
-use Rattle.std.proofs.Common.{◌++◌, take, drop, get_or, false, true}
+use Rattle.std.proofs.Common.{take, false}
 use Rattle.std.specs.List.{flat_map}
 use Rattle.std.specs.Fmt.{HasWritten, IsPlainFormatter}
 use Rattle.dnw_label.specs.LabelPrint.{octet_print}

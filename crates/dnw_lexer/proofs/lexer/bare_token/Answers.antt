@@ -1,4 +1,4 @@
-use Rattle.std.proofs.Common.{rules, refl, ◌∙◌, sym, ap}
+use Rattle.std.proofs.Common.{rules, refl}
 use Rattle.std.specs.String.{string_bytes}
 use Rattle.dnw_lexer.specs.Lexer.{word}
 use Rattle.dnw_lexer.proofs.TokenLemmas.{bare-word}

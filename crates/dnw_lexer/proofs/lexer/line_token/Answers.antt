@@ -1,6 +1,6 @@
-use Rattle.std.proofs.Common.{refl, sym, ◌∙◌}
-use Rattle.std.specs.Prelude.{chars, Ok, Some}
-use Rattle.dnw_lexer.specs.Lexer.{end_of_line, unread}
+use Rattle.std.proofs.Common.{refl}
+use Rattle.std.specs.Prelude.{chars, Some}
+use Rattle.dnw_lexer.specs.Lexer.{end_of_line}
 use Rattle.dnw_lexer.proofs.TokenLemmas.{line-ends, line-goes}
 use Rattle.dnw_lexer.proofs.lexer.line_token.Goals as goal
 

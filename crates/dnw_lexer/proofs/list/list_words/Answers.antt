@@ -1,5 +1,5 @@
-use Rattle.std.proofs.Common.{◌≡◌, ◌∷◌, [], ◌∙◌, ap, sym, inr, map}
-use Rattle.std.specs.Prelude.{chars, Ok, Err}
+use Rattle.std.proofs.Common.{◌∷◌, [], ◌∙◌, ap, sym, inr, map}
+use Rattle.std.specs.Prelude.{chars}
 use Rattle.std.specs.String.{string_bytes}
 use Rattle.std.proofs.lemmas.List.{map-append}
 use Rattle.dnw_codes.specs.declared.error.LexerError.TheVariants.{UnclosedList}

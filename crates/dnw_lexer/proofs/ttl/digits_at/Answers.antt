@@ -1,4 +1,4 @@
-use Rattle.std.proofs.Common.{sym, subst, List, ℕ}
+use Rattle.std.proofs.Common.{sym, subst}
 use Rattle.dnw_lexer.specs.Ttl.{NoDigit}
 use Rattle.dnw_lexer.proofs.Numbers.{digits-more, digits-done, digits-over, no_digit-empty}
 use Rattle.dnw_lexer.proofs.ttl.digits_at.Goals as goal

@@ -1,6 +1,5 @@
-use Rattle.std.proofs.Common.{◌≡◌, ◌∷◌, [], ◌∙◌, sym, ap, subst, List, ℕ}
-use Rattle.std.specs.Prelude.{Some, None}
-use Rattle.dnw_lexer.specs.Ttl.{TtlText, unit_seconds}
+use Rattle.std.proofs.Common.{◌≡◌, ◌∷◌, [], ◌∙◌, sym, ap, subst}
+use Rattle.dnw_lexer.specs.Ttl.{TtlText}
 use Rattle.dnw_lexer.proofs.Numbers.{ttl-none, ttl-ended, ttl-no_unit, ttl-over, ttl-unit, ttl-more, empty-is, zero-test, some-test}
 use Rattle.dnw_lexer.proofs.ttl.ttl_seconds.Goals as goal
 

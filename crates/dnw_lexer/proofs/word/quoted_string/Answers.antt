@@ -1,4 +1,4 @@
-use Rattle.std.proofs.Common.{◌≡◌, ◌≢◌, ◌∷◌, [], ◌∙◌, ap, sym, inr, subst, List, ℕ}
+use Rattle.std.proofs.Common.{◌∷◌, [], sym, inr, subst, List, ℕ}
 use Rattle.std.specs.Prelude.{chars, Ok, Err}
 use Rattle.std.specs.String.{string_bytes}
 use Rattle.dnw_codes.specs.declared.error.LexerError.TheVariants.{UnclosedQuotedString}
