@@ -16,3 +16,6 @@ pub use dnw_wire::{
     BinDecodable, BinDecoder, BinEncodable, BinEncoder, EncodedSize, ModalEncoder, NameEncoding,
     Place, RDataEncoding, RecordTypeIter, RecordTypeSet,
 };
+
+#[cfg(test)]
+mod tests;

@@ -1,0 +1,2 @@
+//! Calls across the crates, with values from RFCs.
+mod rows;
