@@ -10,7 +10,7 @@ ghost use Rattle.dnw_decoder.specs.Refusals.{IsCause, Refuses};
 ghost use Rattle.dnw_decoder.specs.Spelling.{NameAt};
 
 use dnw_codes::{DecodeError, ProtoError};
-use dnw_name::Name;
+use dnw_name::{Name, NameBuilder};
 use std::alloc::Global;
 
 // One element of a name: its end, a label, or a pointer to where the rest is.
@@ -104,7 +104,7 @@ fn pointer_at<'a>(
 }
 
 // The name with a label more at its end.
-fn with_label(name: Name, label: &[u8]) -> Result<Name, DecodeError>
+fn with_label(name: NameBuilder, label: &[u8]) -> Result<NameBuilder, DecodeError>
     requires { IsLabel label.now }
     ensures ok { IfOk result (λ longer. (longer ≡ domain_name name.fqdn (name.labels ++ label.now ∷ [])) × IsDomainName longer) }
     ensures cause { IfErr result (λ e. IsWantOfMemory e ⊎ ((e ≡ DomainNameTooLong (labels_len name.labels + length label.now + 2))
@@ -128,14 +128,14 @@ pub(crate) fn read_name(
     ensures within { IfOk result (λ found. (start ≤ found.1) × (found.1 ≤ length octets.now)) }
     ensures refused { IfErr result (Refuses octets.now start) }
 {
-    let mut name = Name::root(alloc);
+    let mut name = NameBuilder::new(alloc, true);
     let mut segment = start;
     let mut bound = octets.len();
     let mut place = start;
     let mut resume = None;
     'elements: loop {
         match element_at(octets, segment, bound, place)? {
-            Element::End => return Ok((name, resume.unwrap_or(place + 1))),
+            Element::End => return Ok((name.finish(), resume.unwrap_or(place + 1))),
             Element::Label(label) => {
                 name = with_label(name, label)?;
                 place += 1 + label.len();

@@ -8,6 +8,7 @@
 #![tactic(auto)]
 
 mod arpa;
+mod builder;
 mod from_labels;
 mod key;
 mod label_iter;
@@ -17,6 +18,7 @@ mod name_print;
 mod name_text;
 mod rr_key;
 
+pub use builder::NameBuilder;
 pub use dnw_label::{CaseInsensitive, CaseSensitive, IntoLabel, Label, LabelCmp};
 pub use key::{base_key, key_of};
 pub use label_iter::LabelIter;

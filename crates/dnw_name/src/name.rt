@@ -66,6 +66,14 @@ impl Name {
         }
     }
 
+    // The name of these labels.
+    pub(crate) fn of_labels(is_fqdn: bool, labels: Vec<Label>) -> Name
+        requires { IsDomainName (domain_name is_fqdn labels.items) }
+        ensures { result ≡ domain_name is_fqdn labels.items }
+    {
+        Name { is_fqdn, labels }
+    }
+
     /// Whether this is the root.
     pub fn is_root(&self) -> bool
         ensures { result ≡ (self.now.fqdn && (length self.now.labels == 0)) }

@@ -5,6 +5,7 @@ ghost use Rattle.dnw_codes.specs.ProtoError.{IsMemory};
 ghost use Rattle.dnw_name.specs.DomainName.{DomainName, domain_name, IsDomainName};
 ghost use Rattle.dnw_name.specs.NameText.{completed, LabelsText, NameText};
 
+use crate::builder::NameBuilder;
 use crate::lower_name::LowerName;
 use crate::name::Name;
 use dnw_codes::ProtoError;
@@ -150,7 +151,7 @@ fn name_of_labels(alloc: Global, text: &[u8]) -> Result<Name, ProtoError>
     ensures refused { IfErr result (λ e. IsMemory e
         ⊎ ((fqdn : Bool) (labels : List (List ℕ)) → LabelsText text.now fqdn labels → IsDomainName (domain_name fqdn labels) → ⊥)) }
 {
-    let mut name = Name::new(alloc);
+    let mut name = NameBuilder::new(alloc, false);
     let mut rest = text;
     'labels: loop {
         let (label, behind) = match label_at(alloc, rest) {
@@ -162,9 +163,10 @@ fn name_of_labels(alloc: Global, text: &[u8]) -> Result<Name, ProtoError>
             Err(refused) => return Err(refused),
         };
         let Some((_, later)) = behind.split_first() else {
-            return Ok(name);
+            return Ok(name.finish());
         };
         if later.is_empty() {
+            let mut name = name.finish();
             name.set_fqdn(true);
             return Ok(name);
         }

@@ -4,7 +4,7 @@ use Rattle.dnw_decoder.proofs.Progress.{reading_start, reading_label, reading_ta
 use Rattle.dnw_decoder.proofs.name.read_name.Goals as goal
 
 pub elements-init : goal.elements-init
-elements-init c = rw c.root-name.ensures (reading_start c.args.octets.now c.args.start c.requires)
+elements-init c = rw c.new-name.ensures (reading_start c.args.octets.now c.args.start c.requires)
 
 pub returns-in_err-element_at-clause-refused : goal.returns-in_err-element_at-clause-refused
 returns-in_err-element_at-clause-refused c =
@@ -23,7 +23,7 @@ pub returns-in-End-clause-ok : goal.returns-in-End-clause-ok
 returns-in-End-clause-ok c =
     let here = rw c.in-End.is at c.in_ok-element_at.ensures.ok in
     let all = reading_end c.args.octets.now c.args.start c.elements.name c.elements.segment c.elements.bound c.elements.place (c.elements.place + 1) c.elements.resume c.elements.invariant here.0 here.1 in
-    rw c.unwrap_or.ensures all.0
+    rw (c.unwrap_or.ensures, c.finish.ensures.value) all.0
 
 pub elements-preserved-in-Label : goal.elements-preserved-in-Label
 elements-preserved-in-Label c =

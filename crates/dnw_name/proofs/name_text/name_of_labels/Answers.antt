@@ -15,7 +15,7 @@ returns-in-Err-append-clause-refused c =
     c.labels.invariant.0 (c.in-Ok.ensures.ok).0 (c.in-Err-append.ensures.cause)
 
 pub returns-in_default-clause-ok : goal.returns-in_default-clause-ok
-returns-in_default-clause-ok c = (
+returns-in_default-clause-ok c = rw c.finish.ensures.value (
   name-last c.args.text.now c.labels.name c.in-Ok-append.longer c.labels.rest.now c.in-Ok.found.0 c.in-Ok.found.1.now
       c.labels.invariant (c.in-Ok.ensures.ok) (c.in-Ok-append.ensures.ok).0
       (c.in_default.ensures.cases),
@@ -27,7 +27,7 @@ returns-then-is_empty-clause-ok c =
     let read = name-closed c.args.text.now c.labels.name c.in-Ok-append.longer c.labels.rest.now c.in-Ok.found.0 c.in-Ok.found.1.now
     c.labels.invariant (c.in-Ok.ensures.ok) (c.in-Ok-append.ensures.ok).0
     c.in-Some.field-0-0.now c.in-Some.later.now (c.in-Some.ensures.cases).0 (c.if-is_empty.ensures) in
-    rw c.set_fqdn.ensures (read, IsDomainName-flag c.in-Ok-append.longer.fqdn true c.in-Ok-append.longer.labels (c.in-Ok-append.ensures.ok).1)
+    rw (c.set_fqdn.ensures, c.finish-name.ensures.value) (read, IsDomainName-flag c.in-Ok-append.longer.fqdn true c.in-Ok-append.longer.labels (c.in-Ok-append.ensures.ok).1)
 
 pub labels-smaller : goal.labels-smaller
 labels-smaller c =

@@ -1,0 +1,95 @@
+//! Names that are made label by label.
+ghost use Rattle.std.specs.Prelude.{◌≡◌, ◌+◌, ◌<◌, ◌∷◌, ◌++◌, ◌⊎◌, [], length, IfOk, IfErr, IsErrOf, OnOk};
+ghost use Rattle.dnw_codes.specs.ProtoError.{IsMemory};
+ghost use Rattle.dnw_name.specs.DomainName.{IsDomainName, domain_name, labels_len, too_long};
+
+use crate::name::Name;
+use dnw_codes::{DecodeError, ProtoError};
+use dnw_label::{IntoLabel, Label};
+use std::alloc::{AllocError, Global};
+use std::marker::Model;
+
+/// A name in the making. It counts its octets, so that a label more takes no look at those before.
+#[derive(Drop)]
+pub struct NameBuilder {
+    is_fqdn: bool,
+    labels: Vec<Label>,
+    octets: usize,
+}
+
+impl Model for NameBuilder {
+    ghost use Rattle.std.specs.Prelude.{◌≡◌};
+    ghost use Rattle.dnw_name.specs.DomainName.{DomainName, IsDomainName, domain_name, labels_len};
+
+    ghost Value = { DomainName };
+
+    ghost view = { λ builder. domain_name builder.is_fqdn builder.labels.items };
+
+    ghost invariant = { λ builder. IsDomainName (domain_name builder.is_fqdn builder.labels.items) × (builder.octets ≡ labels_len builder.labels.items) };
+}
+
+impl NameBuilder {
+    /// A name without labels.
+    pub fn new(alloc: Global, is_fqdn: bool) -> NameBuilder
+        ensures { result ≡ domain_name is_fqdn [] }
+    {
+        NameBuilder {
+            is_fqdn,
+            labels: Vec::new(alloc),
+            octets: 0,
+        }
+    }
+
+    /// The name with a label more at its end, refused as by `Name::append_label`.
+    pub fn append_label<L: IntoLabel>(self, label: L) -> Result<NameBuilder, ProtoError>
+        ensures ok { IfOk result (λ name. (name ≡ domain_name self.fqdn (self.labels ++ L.octets label ∷ [])) × IsDomainName name) }
+        ensures accepted { OnOk result (L.accepts label) }
+        ensures refused { L.accepts label → IsDomainName (domain_name self.fqdn (self.labels ++ L.octets label ∷ []))
+            → IfErr result IsMemory }
+        ensures too_long { L.accepts label → 255 < labels_len self.labels + length (L.octets label) + 2
+            → IfErr result (λ e. IsMemory e ⊎ (e ≡ too_long (labels_len self.labels + length (L.octets label) + 2))) }
+    {
+        let label = label.into_label(*self.labels.allocator())?;
+        self.append(label)
+    }
+
+    // The name with a label more at its end.
+    pub(crate) fn append(self, label: Label) -> Result<NameBuilder, ProtoError>
+        ensures ok { IfOk result (λ name. (name ≡ domain_name self.fqdn (self.labels ++ label ∷ [])) × IsDomainName name) }
+        ensures refused { IsDomainName (domain_name self.fqdn (self.labels ++ label ∷ [])) → IfErr result IsMemory }
+        ensures too_long { 255 < labels_len self.labels + length label + 2
+            → IsErrOf result (too_long (labels_len self.labels + length label + 2)) }
+        ensures cause { IfErr result (λ e. IsMemory e ⊎ (255 < labels_len self.labels + length label + 2)) }
+    {
+        let octets = self.octets + label.len() + 1;
+        if octets + 1 > Name::MAX_LENGTH {
+            return Err(ProtoError::Decode(DecodeError::DomainNameTooLong(octets + 1)));
+        }
+        let NameBuilder {
+            is_fqdn,
+            mut labels,
+            octets: _,
+        } = self;
+        match labels.push(label) {
+            Ok(()) => Ok(NameBuilder {
+                is_fqdn,
+                labels,
+                octets,
+            }),
+            Err(_) => Err(ProtoError::Memory(AllocError)),
+        }
+    }
+
+    /// The name.
+    pub fn finish(self) -> Name
+        ensures value { result ≡ self }
+        ensures name { IsDomainName result }
+    {
+        let NameBuilder {
+            is_fqdn,
+            labels,
+            octets: _,
+        } = self;
+        Name::of_labels(is_fqdn, labels)
+    }
+}
