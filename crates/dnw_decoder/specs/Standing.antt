@@ -60,10 +60,9 @@ pub stands_split : (message : List ℕ) (place : ℕ) (front rest : List ℕ) (e
 stands_split message place front rest end s =
     let whole : drop place message ≡ front ++ (rest ++ drop end message) = s.there ∙ append_assoc front rest (drop end message) in
     let behind : drop (place + length front) message ≡ rest ++ drop end message =
-      sym (drop-drop (length front) place message) ∙ ap (λ (t : List ℕ). drop (length front) t) whole ∙ drop_at front (rest ++ drop end message) (length front) refl in
-    (
+    sym (drop-drop (length front) place message) ∙ ap (λ (t : List ℕ). drop (length front) t) whole ∙ drop_at front (rest ++ drop end message) (length front) refl in (
       record { there = whole ∙ ap (λ (t : List ℕ). front ++ t) (sym behind); behind = refl },
-      record { there = behind; behind = omega (arith, s.behind, length-append front rest) }
+      record { there = behind; behind = omega (arith, s.behind, length-append front rest) },
     )
 
 -- One behind the other.
