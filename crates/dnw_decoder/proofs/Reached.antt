@@ -1,10 +1,7 @@
 -- From what was read to the whole name and back.
-use Rattle.std.proofs.Common.{◌≡◌, ℕ, ◌<◌, ◌≤◌, List, [], ◌∷◌, ◌++◌, length, drop, Option, unwrap_or, min, refl, sym, ap, subst, ◌∙◌, arith, append_assoc}
-use Rattle.dnw_label.specs.Label.{IsLabel}
-use Rattle.dnw_decoder.specs.Octets.{Stands}
-use Rattle.dnw_decoder.specs.Spelling.{pointer_octets, Spelled, Spells, at_end, at_label, at_pointer, pointers}
+use Rattle.std.proofs.Common.{◌≡◌, ℕ, List, [], ◌∷◌, ◌++◌, Option, unwrap_or, refl, sym, ap, subst, ◌∙◌, append_assoc}
+use Rattle.dnw_decoder.specs.Spelling.{Spelled, Spells, at_label, at_pointer}
 use Rattle.dnw_decoder.specs.Refusals.{Reaches, at_start, behind_label, at_target}
-use Rattle.dnw_decoder.specs.Standing.{stands_head, stands_same, pointer_once}
 use Rattle.dnw_decoder.specs.SpellingLaws.{label_first, pointer_first}
 
 -- Whatever is spelled from here on completes the whole.

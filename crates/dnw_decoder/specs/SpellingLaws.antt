@@ -1,5 +1,5 @@
 -- One place spells one name, within the message, by few pointers.
-use Rattle.std.proofs.Common.{◌≡◌, ℕ, ◌+◌, ◌*◌, ◌/◌, ◌%◌, ◌<◌, ◌≤◌, Bool, List, [], ◌∷◌, ◌++◌, length, get_or, drop, min, refl, sym, ap, subst, ◌∙◌, arith}
+use Rattle.std.proofs.Common.{◌≡◌, ℕ, ◌<◌, ◌≤◌, Bool, List, [], ◌∷◌, length, drop, min, refl, sym, ap, subst, ◌∙◌, arith}
 use Rattle.dnw_name.specs.DomainName.{DomainName, domain_name}
 use Rattle.dnw_label.specs.Label.{IsLabel}
 use Rattle.dnw_decoder.specs.Octets.{Stands}

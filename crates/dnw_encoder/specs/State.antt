@@ -63,3 +63,7 @@ rdata_encoding StandardRecord true encoding = UncompressedLowercase
 rdata_encoding Canonical false encoding = Uncompressed
 rdata_encoding Canonical true encoding = UncompressedLowercase
 rdata_encoding Other canonical encoding = Uncompressed
+
+-- The same encoder at another offset.
+abbrev pub at_offset : State → ℕ → State
+at_offset s offset = record s { offset = offset }

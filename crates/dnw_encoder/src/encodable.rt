@@ -2,13 +2,15 @@
 
 ghost use Rattle.std.specs.Prelude.{◌≡◌, ◌+◌, ◌≤◌, ◌∷◌, [], length, IfOk, IfErr, OnOk, OnErr};
 ghost use Rattle.std.specs.Int.{w32, cast_unsigned};
+ghost use Rattle.dnw_codes.specs.DNSClass.{class_number};
+ghost use Rattle.dnw_codes.specs.RecordType.{record_type_number};
 ghost use Rattle.dnw_decoder.specs.Octets.{octets_16, octets_32};
 ghost use Rattle.dnw_encoder.specs.Encoders.{state};
 ghost use Rattle.dnw_encoder.specs.Effects.{Writes, Puts, IsRefusal};
 ghost use Rattle.dnw_encoder.specs.State.{started};
 
 use crate::encoder::BinEncoder;
-use dnw_codes::ProtoError;
+use dnw_codes::{DNSClass, ProtoError, RecordType};
 use std::alloc::Global;
 
 /// What can be written into a message.
@@ -53,6 +55,60 @@ impl<E: BinEncodable> BinEncodable for &E {
     /// Writes what the reference points to.
     fn emit(&self, encoder: &mut BinEncoder<'_>) -> Result<(), ProtoError> {
         (**self).emit(encoder)
+    }
+}
+
+impl BinEncodable for RecordType {
+    ghost emits = { λ record_type old new. Puts (octets_16 (record_type_number record_type)) old new };
+
+    ghost refuses = { λ record_type old e new. (new ≡ old) × IsRefusal old 2 e };
+
+    /// Writes the number of the type in two octets.
+    fn emit(&self, encoder: &mut BinEncoder<'_>) -> Result<(), ProtoError>
+        ensures same_reference { encoder.new.buffer.ghost_name ≡ encoder.old.buffer.ghost_name }
+        ensures writes { Writes (state encoder.old) (state encoder.new) }
+        ensures ok { OnOk result (Puts (octets_16 (record_type_number self.now)) (state encoder.old) (state encoder.new)) }
+        ensures fits { OnOk result ((state encoder.old).offset + 2 ≤ (state encoder.old).maximum) }
+        ensures err { OnErr result (state encoder.new ≡ state encoder.old) }
+        ensures cause { IfErr result (IsRefusal (state encoder.old) 2) }
+    {
+        encoder.emit_u16(u16::from(*self))
+    }
+}
+
+impl BinEncodable for DNSClass {
+    ghost emits = { λ class old new. Puts (octets_16 (class_number class)) old new };
+
+    ghost refuses = { λ class old e new. (new ≡ old) × IsRefusal old 2 e };
+
+    /// Writes the number of the class in two octets.
+    fn emit(&self, encoder: &mut BinEncoder<'_>) -> Result<(), ProtoError>
+        ensures same_reference { encoder.new.buffer.ghost_name ≡ encoder.old.buffer.ghost_name }
+        ensures writes { Writes (state encoder.old) (state encoder.new) }
+        ensures ok { OnOk result (Puts (octets_16 (class_number self.now)) (state encoder.old) (state encoder.new)) }
+        ensures fits { OnOk result ((state encoder.old).offset + 2 ≤ (state encoder.old).maximum) }
+        ensures err { OnErr result (state encoder.new ≡ state encoder.old) }
+        ensures cause { IfErr result (IsRefusal (state encoder.old) 2) }
+    {
+        encoder.emit_u16(u16::from(*self))
+    }
+}
+
+impl BinEncodable for Vec<u8> {
+    ghost emits = { λ octets old new. Puts (octets.items) old new };
+
+    ghost refuses = { λ octets old e new. (new ≡ old) × IsRefusal old (length octets.items) e };
+
+    /// Writes the octets.
+    fn emit(&self, encoder: &mut BinEncoder<'_>) -> Result<(), ProtoError>
+        ensures same_reference { encoder.new.buffer.ghost_name ≡ encoder.old.buffer.ghost_name }
+        ensures writes { Writes (state encoder.old) (state encoder.new) }
+        ensures ok { OnOk result (Puts (self.now.items) (state encoder.old) (state encoder.new)) }
+        ensures fits { OnOk result ((state encoder.old).offset + (length self.now.items) ≤ (state encoder.old).maximum) }
+        ensures err { OnErr result (state encoder.new ≡ state encoder.old) }
+        ensures cause { IfErr result (IsRefusal (state encoder.old) (length self.now.items)) }
+    {
+        encoder.emit_vec(self)
     }
 }
 

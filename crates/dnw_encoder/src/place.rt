@@ -3,6 +3,7 @@ ghost use Rattle.std.specs.Prelude.{◌≡◌, ◌+◌, ◌<◌, ◌≤◌, filt
 ghost use Rattle.dnw_encoder.specs.Effects.{Writes, Opens, Fills, Trims, IsRefusal, place_of};
 ghost use Rattle.dnw_encoder.specs.Encoders.{state};
 ghost use Rattle.dnw_encoder.specs.Members.{In};
+ghost use Rattle.dnw_encoder.specs.State.{State, at_offset};
 
 use crate::buffer::clear_at;
 use crate::encodable::EncodedSize;
@@ -26,6 +27,7 @@ impl<T: EncodedSize + Drop> Place<T> {
         ensures same_reference { encoder.new.buffer.ghost_name ≡ encoder.old.buffer.ghost_name }
         ensures ok { OnOk result (Fills self.start (T.EncodedSize.octets value) (state encoder.old) (state encoder.new)) }
         ensures err { OnErr result (state encoder.new ≡ state encoder.old) }
+        ensures cause { IfErr result (λ e. (after : State) × T.BinEncodable.refuses value (at_offset (state encoder.old) self.start) e after) }
     {
         encoder.emit_at(self, value)
     }
@@ -99,6 +101,7 @@ impl BinEncoder<'_> {
         ensures same_reference { self.new.buffer.ghost_name ≡ self.old.buffer.ghost_name }
         ensures ok { OnOk result (Fills place.start (T.EncodedSize.octets value) (state self.old) (state self.new)) }
         ensures err { OnErr result (state self.new ≡ state self.old) }
+        ensures cause { IfErr result (λ e. (after : State) × T.BinEncodable.refuses value (at_offset (state self.old) place.start) e after) }
     {
         let offset = self.offset;
         self.set_offset(place.start);

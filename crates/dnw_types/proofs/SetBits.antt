@@ -1,6 +1,6 @@
 -- An octet's bits, one by one.
-use Rattle.std.proofs.Common.{◌≡◌, ℕ, zero, suc, ◌+◌, ◌-◌, ◌*◌, ◌/◌, ◌%◌, ◌^◌, ◌<◌, ◌≤◌, ◌==◌, Bool, true, false, List, [], ◌∷◌, ◌++◌, length, get_or, drop, cond, refl, sym, ap, subst, ◌∙◌, arith, append_assoc, add-one}
-use Rattle.std.proofs.lemmas.List.{drop_more, drop_all}
+use Rattle.std.proofs.Common.{◌≡◌, ℕ, zero, suc, ◌+◌, ◌-◌, ◌*◌, ◌/◌, ◌%◌, ◌^◌, ◌<◌, ◌==◌, List, [], ◌∷◌, ◌++◌, length, get_or, drop, cond, sym, ap, ◌∙◌, arith, append_assoc, add-one}
+use Rattle.std.proofs.lemmas.List.{drop_more}
 use Rattle.dnw_types.specs.BitMaps.{bits_types, octet_types, map_types}
 
 half : (octet k : ℕ) → k < 8 → octet / 2 ^ (7 - k) / 2 ≡ octet / 2 ^ (8 - k)

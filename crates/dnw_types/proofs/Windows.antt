@@ -1,8 +1,8 @@
 -- Windows that were read, and those that are ahead.
-use Rattle.std.proofs.Common.{◌≡◌, ℕ, ◌+◌, ◌-◌, ◌*◌, ◌/◌, ◌<◌, ◌≤◌, ◌⊎◌, inl, inr, List, [], ◌∷◌, ◌++◌, length, get_or, Option, Some, None, slice_get, refl, sym, ap, subst, ◌∙◌, arith, append_assoc, append-nil, length-append}
+use Rattle.std.proofs.Common.{◌≡◌, ℕ, ◌+◌, ◌-◌, ◌*◌, ◌/◌, ◌<◌, ◌≤◌, ◌⊎◌, inl, inr, List, [], ◌∷◌, ◌++◌, length, get_or, Some, None, slice_get, refl, sym, ap, subst, ◌∙◌, arith, append_assoc, append-nil, length-append}
 use Rattle.std.proofs.lemmas.List.{get_or_push, nil_from_length}
 use Rattle.dnw_types.specs.BitMaps.{BitMaps, no_window, window, IsMap, IsTightMap, Rises, map_types, octet_types}
-use Rattle.dnw_types.specs.BitMapLaws.{Begins, maps_begin, window_first, rises_low}
+use Rattle.dnw_types.specs.BitMapLaws.{Begins, maps_begin, window_first}
 
 pub not_begun : (above : ℕ) (octets : List ℕ) → 0 < length octets → (Begins above octets → ⊥) → (types : List ℕ) → BitMaps IsMap above octets types → ⊥
 not_begun above octets some none types maps =

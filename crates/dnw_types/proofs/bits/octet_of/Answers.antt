@@ -1,4 +1,4 @@
-use Rattle.std.proofs.Common.{◌≡◌, ℕ, ◌++◌, List, subst, arith}
+use Rattle.std.proofs.Common.{◌≡◌, ℕ, ◌++◌, subst, arith}
 use Rattle.dnw_types.specs.BitMaps.{bits_types, octet_types}
 use Rattle.dnw_types.proofs.bits.octet_of.Goals as goal
 

@@ -1,5 +1,5 @@
-use Rattle.std.proofs.Common.{◌≡◌, ℕ, ◌+◌, ◌++◌, ◌∷◌, [], ◌-◌, ◌/◌, ◌%◌, ◌^◌, ◌==◌, Bool, List, Vec, Global, cond, subst, arith, ap, sym, ◌∙◌, append_assoc, append-nil}
-use Rattle.dnw_types.specs.BitMaps.{bits_types, octet_types}
+use Rattle.std.proofs.Common.{◌≡◌, ℕ, ◌+◌, ◌++◌, ◌∷◌, [], ◌-◌, ◌/◌, ◌%◌, ◌^◌, ◌==◌, Bool, List, Vec, Global, cond, arith, ap, sym, ◌∙◌, append_assoc, append-nil}
+use Rattle.dnw_types.specs.BitMaps.{bits_types}
 use Rattle.dnw_types.proofs.SetBits.{bits_more, bits_whole}
 use Rattle.dnw_types.proofs.bits.push_octet.Goals as goal
 use Rattle.dnw_types.proofs.bits.push_octet.Goals.{then-is_set+in_ok-push, else-is_set}

@@ -1,5 +1,5 @@
-use Rattle.std.proofs.Common.{◌≡◌, ℕ, ◌+◌, ◌++◌, ◌*◌, List, ap, subst, sym, ◌∙◌, arith}
-use Rattle.dnw_types.specs.BitMaps.{WindowAt, map_types}
+use Rattle.std.proofs.Common.{◌≡◌, ℕ, ◌+◌, ◌++◌, ◌*◌, List, subst, sym, arith}
+use Rattle.dnw_types.specs.BitMaps.{map_types}
 use Rattle.dnw_types.proofs.Windows.{TypesAhead, ahead_more, ahead_end}
 use Rattle.dnw_types.proofs.read.read_types.Goals as goal
 

@@ -1,4 +1,4 @@
-use Rattle.std.proofs.Common.{◌≡◌, ℕ, ◌+◌, ◌*◌, ◌/◌, ◌<◌, ◌∷◌, [], ◌++◌, List, length, get_or, Some, None, slice_get, ap, subst, sym, ◌∙◌, arith}
+use Rattle.std.proofs.Common.{◌≡◌, ℕ, ◌+◌, ◌*◌, ◌/◌, ◌<◌, ◌∷◌, [], ◌++◌, List, length, get_or, Some, slice_get, ap, subst, sym, arith}
 use Rattle.dnw_types.specs.BitMaps.{IsTightMap, Rises, map_types}
 use Rattle.dnw_types.proofs.Windows.{Writing, writing_more, writing_end, first_some, first_none}
 use Rattle.dnw_types.proofs.write.map_octets.Goals as goal

@@ -1,4 +1,3 @@
-use Rattle.std.proofs.Common.{◌+◌}
 use Rattle.dnw_types.proofs.Windows.{filling_more}
 use Rattle.dnw_types.proofs.write.window_of.Goals as goal
 

@@ -69,3 +69,8 @@ returns-clause-err g c =
     let at : State → State = λ s. record s { offset = c.args.self.now.offset } in
     let same : after ≡ before = laws.3 before after c.in-Err.refused c.in-Err.ensures.err in
     c.set_offset-2.ensures.state ∙ ap at same ∙ ap at c.set_offset.ensures.state
+
+pub returns-clause-cause : goal.returns-clause-cause
+returns-clause-cause g c =
+    let after = state c.emit-written.new.encoder in
+    (after, subst (λ (s : State). g.T.BinEncodable.refuses c.args.value s c.in-Err.refused after) c.set_offset.ensures.state c.in-Err.ensures.err)

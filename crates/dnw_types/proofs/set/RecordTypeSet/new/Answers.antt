@@ -1,11 +1,9 @@
-use Rattle.std.proofs.Common.{◌≡◌, ℕ, ◌<◌, ◌==◌, Bool, List, length, get_or, map, eqb, sym, ap, subst, ◌∙◌, arith, rules}
+use Rattle.std.proofs.Common.{◌≡◌, ℕ, ◌==◌, Bool, List, eqb, sym, ap, ◌∙◌, rules}
 use Rattle.std.specs.List.{list_any, dedup}
 use Rattle.std.proofs.lemmas.List.Filters.{dedup_is}
 use Rattle.std.proofs.lemmas.List.Sorted.{list_any-IsPermutation}
 use Rattle.std.proofs.lemmas.Map.Keys.{IsStrictlyIncreasing-dedup}
-use Rattle.dnw_codes.specs.RecordType.{record_type_number}
-use Rattle.dnw_types.specs.BitMaps.{Rises}
-use Rattle.dnw_types.proofs.SortedTypes.{rises_increasing, any_dedup, any_map}
+use Rattle.dnw_types.proofs.SortedTypes.{any_dedup, any_map}
 use Rattle.dnw_types.proofs.set.RecordTypeSet.new.Goals as goal
 
 pub of_codes-requires : goal.of_codes-requires
