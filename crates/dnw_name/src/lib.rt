@@ -15,6 +15,7 @@ mod lower_name;
 mod name;
 mod name_print;
 mod name_text;
+mod network;
 mod rr_key;
 
 pub use dnw_label::{CaseInsensitive, CaseSensitive, IntoLabel, Label, LabelCmp};
