@@ -16,6 +16,7 @@ mod lower_name;
 mod name;
 mod name_print;
 mod name_text;
+mod network;
 mod rr_key;
 
 pub use builder::NameBuilder;
