@@ -33,10 +33,10 @@ ReadsText IsText (Ok x) = IsText x
 ReadsText {X} IsText (Err errors.Malformed) = (x : X) → IsText x → ⊥
 ReadsText IsText (Err errors.OutOfMemory) = Unit {0}
 
--- A cause that is told further: malformed, unless it is want of memory.
+-- A cause that is told further: want of memory as such, each other as malformed.
 abbrev pub TellsCause : ProtoError → TextError → Type 0
 TellsCause cause errors.Malformed = IsMemory cause → ⊥
-TellsCause cause errors.OutOfMemory = Unit {0}
+TellsCause cause errors.OutOfMemory = IsMemory cause
 
 -- A space or a tab.
 abbrev pub is_blank : ℕ → Bool

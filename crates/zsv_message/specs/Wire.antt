@@ -16,10 +16,10 @@ ReadsAs view At (Err errors.Memory) end = Unit {0}
 abbrev pub Reads : {X : Type 0} → (X → ℕ → Type 0) → Result X ReadError → ℕ → Type 0
 Reads At result end = ReadsAs (λ x. x) At result end
 
--- A cause that is told further: malformed, unless it is want of memory.
+-- A cause that is told further: want of memory as such, each other as malformed.
 abbrev pub TellsCause : DecodeError → ReadError → Type 0
 TellsCause cause errors.Malformed = IsWantOfMemory cause → ⊥
-TellsCause cause errors.Memory = Unit {0}
+TellsCause cause errors.Memory = IsWantOfMemory cause
 
 -- Entries of a section, one behind the other.
 abbrev pub Entries : {X : Type 0} → (ℕ → X → ℕ → Type 0) → ℕ → List X → ℕ → Type 0

@@ -1,6 +1,6 @@
 //! Numbers from their text: decimal digits alone.
 
-ghost use Rattle.std.specs.Prelude.{◌+◌, ◌*◌, ◌^◌, ◌<◌, SomeIff};
+ghost use Rattle.std.specs.Prelude.{◌≡◌, IfErr, ◌+◌, ◌*◌, ◌^◌, ◌<◌, SomeIff};
 ghost use Rattle.std.specs.Char.{digit_value};
 ghost use Rattle.authority.specs.ZoneText.{IsNumberText, IsSignedText, ReadsText};
 
@@ -8,7 +8,8 @@ use crate::loader::text::TextError;
 
 /// The number of a text, of 64 bits.
 pub fn parse_u64(text: &[u8]) -> Result<u64, TextError>
-    ensures { ReadsText (IsNumberText 64 text.now) result }
+    ensures number { ReadsText (IsNumberText 64 text.now) result }
+    ensures only { IfErr result (λ e. e ≡ TextError.Malformed) }
 {
     if text.is_empty() {
         return Err(TextError::Malformed);
@@ -35,14 +36,16 @@ fn with_digit(number: u64, octet: u8) -> Option<u64>
 
 /// The number of a text, of 32 bits.
 pub fn parse_u32(text: &[u8]) -> Result<u32, TextError>
-    ensures { ReadsText (IsNumberText 32 text.now) result }
+    ensures number { ReadsText (IsNumberText 32 text.now) result }
+    ensures only { IfErr result (λ e. e ≡ TextError.Malformed) }
 {
     u32::try_from(parse_u64(text)?).map_err(|_| TextError::Malformed)
 }
 
 /// The number of a text, of 31 bits.
 pub fn parse_i32(text: &[u8]) -> Result<i32, TextError>
-    ensures { ReadsText (IsSignedText text.now) result }
+    ensures number { ReadsText (IsSignedText text.now) result }
+    ensures only { IfErr result (λ e. e ≡ TextError.Malformed) }
 {
     i32::try_from(parse_u64(text)?).map_err(|_| TextError::Malformed)
 }

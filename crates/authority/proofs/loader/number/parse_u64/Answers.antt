@@ -3,8 +3,8 @@ use Rattle.std.specs.Char.{digit_value}
 use Rattle.authority.proofs.Numbers.{ReadSoFar, digit_at, read_more, too_large, read_all}
 use Rattle.authority.proofs.loader.number.parse_u64.Goals as goal
 
-pub returns-in-None : goal.returns-in-None
-returns-in-None c = λ n known.
+pub returns-in-None-clause-number : goal.returns-in-None-clause-number
+returns-in-None-clause-number c = λ n known.
     let digit : digit_value (get_or c.args.text.now c.loop-octet.octet-index 0) < 10 = digit_at c.args.text.now c.loop-octet.octet-index known.digits.0.1 c.loop-octet-test.true in
     let least = too_large c.args.text.now c.loop-octet.octet-index c.loop-octet.number c.loop-octet-test.true c.loop-octet.invariant in
     let same = known.digits.1 in
@@ -18,8 +18,8 @@ loop-octet-preserved c =
     subst (ReadSoFar c.args.text.now (c.loop-octet.octet-index + 1)) (sym given.1)
     (read_more c.args.text.now c.loop-octet.octet-index c.loop-octet.number c.loop-octet-test.true c.loop-octet.invariant given.0.0 given.0.1)
 
-pub returns : goal.returns
-returns c =
+pub returns-clause-number : goal.returns-clause-number
+returns-clause-number c =
     let end : c.loop-octet.octet-index ≡ length c.args.text.now = omega arith in
     let whole = read_all c.args.text.now c.loop-octet.number (subst (λ i. ReadSoFar c.args.text.now i c.loop-octet.number) end c.loop-octet.invariant) in
     let some : 0 < length c.args.text.now = grind arith in
