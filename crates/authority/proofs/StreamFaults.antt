@@ -1,5 +1,5 @@
 -- Faults of a stream: what a fault of a part says of the whole.
-use Rattle.std.proofs.Common.{◌≡◌, ℕ, ◌+◌, ◌≤◌, List, [], ◌++◌, length, take, Option, refl, sym, subst, append-nil, rules}
+use Rattle.std.proofs.Common.{◌≡◌, ℕ, ◌+◌, ◌^◌, ◌<◌, ◌≤◌, List, [], ◌++◌, length, take, Option, refl, sym, subst, append-nil, rules}
 use Rattle.std.specs.Int.{w16, to_be_bytes}
 use Rattle.std.specs.Io.KnownBytes.{Appends, Consumes, Keeps}
 use Rattle.std.proofs.KnownBytes.{Appends-kept, Appends-trans, Consumes-trans}
@@ -14,15 +14,15 @@ pub length_fault : (left rest : Option (List ℕ)) (fault : StreamError) → (fa
 length_fault left rest fault (is, (octets, few, read)) = subst (IsReadFault left rest) (sym is) (octets, in_length octets few, read)
 
 -- A fault behind the length of a frame.
-pub message_fault : (left middle rest : Option (List ℕ)) (size : ℕ) (fault : StreamError) → Consumes left middle (to_be_bytes w16 size) → IsMessageFault middle rest size fault → IsReadFault left rest fault
-message_fault left middle rest size errors.Read long (octets, few, read) =
-    (to_be_bytes w16 size ++ octets, in_message size octets (to_be_bytes w16 size ++ octets) few refl, Consumes-trans left middle rest (to_be_bytes w16 size) octets long read)
-message_fault left middle rest size errors.Write long none = absurd none
-message_fault left middle rest size errors.CutFrame long ((octets, few, read), ended) =
-    (to_be_bytes w16 size ++ octets, in_message size octets (to_be_bytes w16 size ++ octets) few refl, search rules, Consumes-trans left middle rest (to_be_bytes w16 size) octets long read, ended)
-message_fault left middle rest size (errors.OutOfMemory applied) long (is, none) =
+pub message_fault : (left middle rest : Option (List ℕ)) (size : ℕ) (fault : StreamError) → size < 2 ^ 16 → Consumes left middle (to_be_bytes w16 size) → IsMessageFault middle rest size fault → IsReadFault left rest fault
+message_fault left middle rest size errors.Read small long (octets, few, read) =
+    (to_be_bytes w16 size ++ octets, in_message size octets (to_be_bytes w16 size ++ octets) small few refl, Consumes-trans left middle rest (to_be_bytes w16 size) octets long read)
+message_fault left middle rest size errors.Write small long none = absurd none
+message_fault left middle rest size errors.CutFrame small long ((octets, few, read), ended) =
+    (to_be_bytes w16 size ++ octets, in_message size octets (to_be_bytes w16 size ++ octets) small few refl, search rules, Consumes-trans left middle rest (to_be_bytes w16 size) octets long read, ended)
+message_fault left middle rest size (errors.OutOfMemory applied) small long (is, none) =
     (is, size, subst (Consumes left rest) (append-nil (to_be_bytes w16 size)) (Consumes-trans left middle rest (to_be_bytes w16 size) [] long none))
-message_fault left middle rest size errors.TooLong long none = absurd none
+message_fault left middle rest size errors.TooLong small long none = absurd none
 
 -- A front of the first part is a front of the whole.
 pub front_first : (before after : Option (List ℕ)) (xs ys : List ℕ) (count : ℕ) → count ≤ length xs → Appends before after (take count xs) → WritesFront before after (xs ++ ys)

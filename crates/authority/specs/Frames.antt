@@ -21,7 +21,7 @@ framed_answer (Some reply) = framed reply
 -- A frame that is cut: not both octets of its length, or fewer octets than they tell.
 pub data IsCut : List ℕ → Type 0 where
   in_length : (octets : List ℕ) → length octets < 2 → IsCut octets
-  in_message : (size : ℕ) (part octets : List ℕ) → length part < size → octets ≡ to_be_bytes w16 size ++ part → IsCut octets
+  in_message : (size : ℕ) (part octets : List ℕ) → size < 2 ^ 16 → length part < size → octets ≡ to_be_bytes w16 size ++ part → IsCut octets
 
 -- Fewer octets than these were read.
 abbrev pub ReadsLess : Option (List ℕ) → Option (List ℕ) → ℕ → Type 0
