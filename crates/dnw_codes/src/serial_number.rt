@@ -57,7 +57,7 @@ impl From<u32> for SerialNumber {
     ghost from_gives = { λ number serial. serial ≡ number };
 
     fn from(number: u32) -> SerialNumber {
-        SerialNumber(number)
+        SerialNumber::new(number)
     }
 }
 

@@ -1,11 +1,10 @@
 //! One label of a name.
-ghost use Rattle.std.specs.Prelude.{◌≡◌, false, ◌==◌, ◌<◌, ◌≤◌, ◌↔◌, length, IsOk, IfOk, IfErr, IsErrOf, IsErrAnd, OnOk, OnErr, nat_eq};
-ghost use Rattle.std.specs.Cmp.{partial_equiv_from_equiv, partial_order_from_own_ties};
+ghost use Rattle.std.specs.Prelude.{◌≡◌, false, ◌==◌, ◌<◌, length, IfOk, IfErr, IsErrOf, IsErrAnd, OnOk};
+ghost use Rattle.std.specs.Cmp.{partial_order_from_own_ties};
 ghost use Rattle.std.specs.Cmp.Lexicographic.{slice_cmp};
-ghost use Rattle.std.specs.Cmp.Rules.{comparing, hashing};
-ghost use Rattle.std.specs.Hash as fed;
+ghost use Rattle.std.specs.Cmp.Rules.{comparing};
 ghost use Rattle.std.specs.Ordering.{nat_cmp, on, as_partial_cmp};
-ghost use Rattle.std.specs.Str.{str_to_ascii_lowercase, bytes_eq};
+ghost use Rattle.std.specs.Str.{str_to_ascii_lowercase};
 ghost use Rattle.std.proofs.Common.{rules};
 ghost use Rattle.dnw_codes.specs.ProtoError.{IsMemory, IsMessage};
 ghost use Rattle.dnw_codes.specs.declared.error.DecodeError.TheVariants.{LabelBytesTooLong};

@@ -1,7 +1,6 @@
 //! Printed labels.
-ghost use Rattle.std.specs.Prelude.{◌≡◌, ◌++◌, ◌∷◌, [], true, false, List, ℕ, IfOk, OnOk, Some};
+ghost use Rattle.std.specs.Prelude.{◌≡◌, true, false, IfOk, OnOk, Some};
 ghost use Rattle.std.specs.Fmt.{WritesInCalls, WritesOnOk};
-ghost use Rattle.std.specs.List.{flat_map};
 ghost use Rattle.std.specs.String.{string_bytes};
 ghost use Rattle.dnw_label.specs.LabelPrint.{is_plain, octal_print, octet_print, label_print};
 
@@ -45,7 +44,7 @@ impl fmt::Debug for Label {
     ghost debug_output = { λ label. Some (label_print label) };
 
     fn fmt<W: fmt::Write>(&self, f: &mut fmt::Formatter<W>) -> fmt::Result {
-        fmt_label(f, self.as_bytes())
+        fmt::Display::fmt(self, f)
     }
 }
 

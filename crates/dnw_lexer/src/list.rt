@@ -1,5 +1,5 @@
 //! Lists of words.
-ghost use Rattle.std.specs.Prelude.{◌≡◌, ◌≢◌, ◌∷◌, ◌⊎◌, ℕ, List, Ok, Err, map, IfOk, IfErr, chars, IsUtf8};
+ghost use Rattle.std.specs.Prelude.{◌≡◌, ◌∷◌, ◌⊎◌, ℕ, List, Ok, Err, map, IfOk, IfErr, chars, IsUtf8};
 ghost use Rattle.std.specs.Str.{encode_utf8_all};
 ghost use Rattle.std.specs.String.{string_bytes};
 ghost use Rattle.dnw_codes.specs.declared.error.LexerError.TheVariants.{Memory};

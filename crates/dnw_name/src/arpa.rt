@@ -1,10 +1,9 @@
 //! Names of addresses (RFC 1035 3.5, RFC 3596 2.5).
-ghost use Rattle.std.specs.Prelude.{◌≡◌, ◌+◌, ◌*◌, ◌≤◌, ◌<◌, ◌∷◌, ◌++◌, [], true, length, reverse, flat_map, decimal, codes, IfOk, IfErr};
+ghost use Rattle.std.specs.Prelude.{◌≡◌, ◌+◌, ◌*◌, ◌≤◌, ◌<◌, ◌∷◌, ◌++◌, [], true, length, reverse, flat_map, codes, IfOk, IfErr};
 ghost use Rattle.std.specs.Char.{digit_char};
-ghost use Rattle.std.specs.Net.Addr.{ipv4_octets, ipv6_octets};
 ghost use Rattle.std.specs.declared.net.ip_addr.IpAddr.TheVariants.{V4, V6};
 ghost use Rattle.dnw_codes.specs.ProtoError.{IsMemory};
-ghost use Rattle.dnw_name.specs.DomainName.{domain_name, labels_len, IsDomainName};
+ghost use Rattle.dnw_name.specs.DomainName.{domain_name, labels_len};
 ghost use Rattle.dnw_name.specs.Arpa.{v4_labels, v6_labels, arpa_name};
 
 use crate::name::Name;

@@ -1,17 +1,15 @@
 //! Names.
-ghost use Rattle.std.specs.Prelude.{◌≡◌, ◌+◌, ◌-◌, ◌<◌, ◌≤◌, ◌&&◌, ◌==◌, ◌∷◌, [], ◌++◌, ◌↔◌, IsTrue, reverse, map, flat_map, drop, Bool, true, false, length, IsOk, IfOk, IfErr, IsErrOf, OnOk, OnErr, ◌⊎◌};
-ghost use Rattle.dnw_codes.specs.ProtoError.{IsMemory, IsMessage};
-ghost use Rattle.std.specs.Bool.{beq};
-ghost use Rattle.std.specs.Cmp.{partial_equiv_from_equiv, partial_order_from_own_ties};
+ghost use Rattle.std.specs.Prelude.{◌≡◌, ◌+◌, ◌-◌, ◌<◌, ◌&&◌, ◌==◌, ◌∷◌, [], ◌++◌, ◌↔◌, IsTrue, reverse, map, drop, true, false, length, IfOk, IfErr, IsErrOf, OnOk, ◌⊎◌};
+ghost use Rattle.dnw_codes.specs.ProtoError.{IsMemory};
+ghost use Rattle.std.specs.Cmp.{partial_order_from_own_ties};
 ghost use Rattle.std.specs.Cmp.Lexicographic.{slice_cmp, pointwise};
-ghost use Rattle.std.specs.Cmp.Rules.{comparing, hashing};
-ghost use Rattle.std.specs.Hash as fed;
-ghost use Rattle.std.specs.Ordering.{nat_cmp, on, as_partial_cmp, is_le};
+ghost use Rattle.std.specs.Cmp.Rules.{comparing};
+ghost use Rattle.std.specs.Ordering.{nat_cmp, as_partial_cmp, is_le};
 ghost use Rattle.std.specs.Str.{str_to_ascii_lowercase};
 ghost use Rattle.std.proofs.Common.{rules};
 ghost use Rattle.dnw_name.specs.DomainName.{DomainName, domain_name, IsDomainName, labels_len, name_eq, name_cmp, name_cmp_by, num_labels, name_len, too_long, lowercased, wildcard_of, is_at_or_below, is_wildcard, localhost};
 ghost use Rattle.dnw_name.specs.NameOrder.{name_eq-by_cmp};
-ghost use Rattle.dnw_label.specs.Label.{IsLabel, label_eq, label_cmp};
+ghost use Rattle.dnw_label.specs.Label.{label_eq};
 
 use crate::label_iter::LabelIter;
 use dnw_codes::{DecodeError, ProtoError};

@@ -1,5 +1,5 @@
 //! Printed names.
-ghost use Rattle.std.specs.Prelude.{◌≡◌, ◌∷◌, ◌++◌, [], IfOk, All, Some};
+ghost use Rattle.std.specs.Prelude.{◌≡◌, ◌∷◌, IfOk, All, Some};
 ghost use Rattle.std.specs.Fmt.{WritesOnOk};
 ghost use Rattle.std.specs.String.{string_bytes};
 ghost use Rattle.dnw_label.specs.LabelPrint.{label_print};
@@ -68,7 +68,7 @@ impl fmt::Debug for LowerName {
 
     fn fmt<W: fmt::Write>(&self, f: &mut fmt::Formatter<W>) -> fmt::Result {
         let name: &Name = self;
-        fmt::Display::fmt(name, f)
+        fmt::Debug::fmt(name, f)
     }
 }
 

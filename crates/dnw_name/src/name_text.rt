@@ -1,5 +1,5 @@
 //! Names in texts.
-ghost use Rattle.std.specs.Prelude.{◌≡◌, ◌++◌, ◌⊎◌, ℕ, Bool, List, IfOk, IfErr};
+ghost use Rattle.std.specs.Prelude.{◌≡◌, ◌⊎◌, ℕ, Bool, List, IfOk, IfErr};
 ghost use Rattle.std.specs.Option.{option_copied};
 ghost use Rattle.dnw_codes.specs.ProtoError.{IsMemory};
 ghost use Rattle.dnw_name.specs.DomainName.{DomainName, domain_name, IsDomainName};
@@ -60,7 +60,7 @@ impl Name {
         ensures ok { IfOk result (λ name. NameText text.now name) }
         ensures refused { IfErr result (λ e. IsMemory e ⊎ ((name : DomainName) → NameText text.now name → ⊥)) }
     {
-        Name::from_ascii(alloc, text)
+        Name::from_str(alloc, text)
     }
 
     /// The name of a text by `from_ascii`.
@@ -76,7 +76,7 @@ impl Name {
         ensures ok { IfOk result (λ name. NameText text.now name) }
         ensures refused { IfErr result (λ e. IsMemory e ⊎ ((name : DomainName) → NameText text.now name → ⊥)) }
     {
-        Name::from_ascii(alloc, text)
+        Name::from_utf8(alloc, text)
     }
 }
 
@@ -141,7 +141,7 @@ impl IntoName for &String {
     ghost reads = { λ text name. NameText (string_bytes text.now) name };
 
     fn into_name(self, alloc: Global) -> Result<Name, ProtoError> {
-        Name::from_ascii(alloc, self.as_str())
+        self.as_str().into_name(alloc)
     }
 }
 

@@ -1,11 +1,7 @@
 //! Networks of names (RFC 1035 3.5, RFC 3596 2.5).
-ghost use Rattle.std.specs.Prelude.{ℕ, ◌≢◌, ◌↔◌, IsTrue, slice_index, ◌≡◌, ◌+◌, ◌-◌, ◌*◌, ◌<◌, ◌≤◌, ◌%◌, ◌/◌, ◌∷◌, ◌++◌, [], List, true, length, map, replicate, reverse, decimal, codes, All, IfOk, IfErr, OnErr, IfSome, IfNone, ◌^◌};
-ghost use Rattle.std.specs.Char.{digit_char};
+ghost use Rattle.std.specs.Prelude.{ℕ, ◌≢◌, ◌↔◌, IsTrue, slice_index, ◌≡◌, ◌+◌, ◌-◌, ◌*◌, ◌<◌, ◌≤◌, ◌∷◌, [], List, true, length, replicate, decimal, codes, All, IfOk, OnErr, IfSome, IfNone};
 ghost use Rattle.std.specs.Result.{IsOkAnd};
-ghost use Rattle.std.specs.Option.{IsSomeAnd};
-ghost use Rattle.std.specs.Net.Addr.{ipv4_octets, ipv6_octets};
 ghost use Rattle.std.specs.declared.net.ip_addr.IpAddr.{IpAddr as Address};
-ghost use Rattle.std.specs.declared.net.ip_addr.IpAddr.TheVariants.{V4, V6};
 ghost use Rattle.dnw_label.specs.Label.{label_eq};
 ghost use Rattle.dnw_net.specs.Networks.{address_bits};
 ghost use Rattle.dnw_name.specs.Arpa.{arpa_name, IsAddress, IsArpaName, IsBelowSuffix, EndsInArpa, suffix_label, Writes, digit_label, hex_digits};

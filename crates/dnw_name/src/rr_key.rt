@@ -3,6 +3,7 @@ ghost use Rattle.std.specs.Prelude.{◌≡◌};
 
 use crate::lower_name::LowerName;
 use dnw_codes::RecordType;
+use std::alloc::AllocError;
 
 /// The owner and the type of a record set, in the order of owners and then of types.
 #[derive(PartialEq, Eq, PartialOrd, Ord, Hash, Drop)]
@@ -24,5 +25,16 @@ impl RrKey {
         ensures { result.now ≡ self.now.name }
     {
         &self.name
+    }
+}
+
+impl Clone for RrKey {
+    ghost is_clone = { λ key copy. copy ≡ key };
+
+    fn clone(&self) -> Result<RrKey, AllocError> {
+        Ok(RrKey {
+            name: self.name.clone()?,
+            record_type: self.record_type,
+        })
     }
 }

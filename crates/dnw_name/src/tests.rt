@@ -98,6 +98,7 @@ fn lower_case(rt: HostRuntime) -> Result<(), Fail> {
     let higher = RrKey::new(converted, RecordType::NS);
     assert!(rt; key < higher);
     assert!(rt; *key.name() == *higher.name());
+    assert!(rt; higher.clone()? == higher);
     Ok(())
 }
 
