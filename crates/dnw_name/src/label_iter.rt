@@ -1,6 +1,7 @@
 //! The labels of a name, one after another.
-ghost use Rattle.std.specs.Prelude.{◌≡◌};
-ghost use Rattle.std.specs.Iterator.{YieldsFirstRef, YieldsLastRef, item_count};
+ghost use Rattle.std.specs.Prelude.{◌≡◌, length, Some, IfSome};
+ghost use Rattle.std.specs.Iterator.{YieldsFirstRef, YieldsLastRef, item_count, at_most, UpTo};
+ghost use Rattle.std.specs.Iterator.SizeHint.{IsWithinCount};
 
 use crate::name::Name;
 use dnw_label::Label;
@@ -41,7 +42,11 @@ impl<'a> Iterator for LabelIter<'a> {
         Some(first.as_bytes())
     }
 
-    fn size_hint(&self) -> (usize, Option<usize>) {
+    fn size_hint(&self) -> (usize, Option<usize>)
+        ensures lower { IsWithinCount result.0 (at_most (length self.now)) }
+        ensures upper { IfSome result.1 (UpTo (at_most (length self.now))) }
+        ensures exact { (result.0 ≡ length self.now) × (result.1 ≡ Some result.0) }
+    {
         (self.labels.len(), Some(self.labels.len()))
     }
 }
