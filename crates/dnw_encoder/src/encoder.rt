@@ -248,7 +248,8 @@ impl<'a> BinEncoder<'a> {
         ensures err { OnErr result (state self.new ≡ state self.old) }
         ensures cause { IfErr result (IsRefusal (state self.old) 4) }
     {
-        self.emit_vec(&number.to_be_bytes())
+        let octets = number.to_be_bytes();
+        self.emit_vec(&octets)
     }
 
     /// Writes a number in four octets, the greatest first, in two's complement.

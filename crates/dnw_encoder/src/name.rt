@@ -32,6 +32,7 @@ fn append(buffer: &mut Vec<u8>, octets: &[u8])
     ensures len { vec_len buffer.new ≡ vec_len buffer.old + length octets.now }
     ensures capacity { vec_capacity buffer.old ≤ vec_capacity buffer.new }
 {
+    // There is room, and so no growth is refused.
     let _ = buffer.extend_from_slice(octets);
 }
 
