@@ -76,7 +76,7 @@ label_lower label is =
     let same : length (str_to_ascii_lowercase label) ≡ length label = simp length-map in
     record { some = omega (arith, is.some); few = omega (arith, is.few) }
 
-lower_name : (name : DomainName) → IsDomainName name → IsDomainName (encoded_name UncompressedLowercase name)
+pub lower_name : (name : DomainName) → IsDomainName name → IsDomainName (encoded_name UncompressedLowercase name)
 lower_name name is = record {
   each = All-map IsLabel str_to_ascii_lowercase name.labels (All-weaker IsLabel (λ label. IsLabel (str_to_ascii_lowercase label)) label_lower name.labels is.each);
   short = omega (arith, len-lower name.labels, is.short);
