@@ -1,10 +1,8 @@
 -- Laws of names that are written in full.
-use Rattle.std.proofs.Common.{◌≡◌, ℕ, ◌+◌, ◌≤◌, true, false, List, [], ◌∷◌, ◌++◌, length, map, refl, sym, ap, subst, ◌∙◌, arith, append_assoc, length-append}
+use Rattle.std.proofs.Common.{◌≡◌, ℕ, ◌+◌, true, false, List, [], ◌∷◌, ◌++◌, length, map, refl, ap, subst, arith, append_assoc, length-append}
 use Rattle.std.specs.List.{All, flat_map}
-use Rattle.std.specs.Char.{to_ascii_lowercase}
 use Rattle.std.specs.Str.{str_to_ascii_lowercase}
-use Rattle.std.proofs.lemmas.Bool.Decides.{nat_tests}
-use Rattle.std.proofs.lemmas.List.{length-map, map-append}
+use Rattle.std.proofs.lemmas.List.{length-map}
 use Rattle.std.proofs.lemmas.List.Elements.{All-head, All-tail, All-map, All-weaker}
 use Rattle.std.proofs.lemmas.List.Sums.{sum_by-cons}
 use Rattle.dnw_name.specs.DomainName.{DomainName, domain_name, IsDomainName, labels_len, name_octets}
@@ -22,7 +20,7 @@ use Rattle.dnw_encoder.specs.Names.{EmitsName, encoded_name, written_name}
 abbrev pieces : List (List ℕ) → List ℕ
 pieces labels = flat_map (λ label. length label ∷ label) labels
 
-len-cons : (label : List ℕ) (labels : List (List ℕ)) → labels_len (label ∷ labels) ≡ length label + 1 + labels_len labels
+pub len-cons : (label : List ℕ) (labels : List (List ℕ)) → labels_len (label ∷ labels) ≡ length label + 1 + labels_len labels
 len-cons = sum_by-cons (λ label. length label + 1)
 
 length-pieces : (labels : List (List ℕ)) → length (pieces labels) ≡ labels_len labels
@@ -78,27 +76,14 @@ label_lower label is =
     let same : length (str_to_ascii_lowercase label) ≡ length label = simp length-map in
     record { some = omega (arith, is.some); few = omega (arith, is.few) }
 
-small_lower : (n : ℕ) → n ≤ 63 → to_ascii_lowercase n ≡ n
-small_lower n few = grind (arith, nat_tests)
-
-lower_pieces : (labels : List (List ℕ)) → All IsLabel labels → str_to_ascii_lowercase (pieces labels) ≡ pieces (map str_to_ascii_lowercase labels)
-lower_pieces [] are = refl
-lower_pieces (l ∷ ls) are =
-    let is : IsLabel l = All-head IsLabel l ls are in
-    let long : length (str_to_ascii_lowercase l) ≡ length l = simp length-map in
-    let same : to_ascii_lowercase (length l) ≡ length (str_to_ascii_lowercase l) = small_lower (length l) is.few ∙ sym long in
-    map-append to_ascii_lowercase (length l ∷ l) (pieces ls)
-    ∙ ap (λ (t : List ℕ). (to_ascii_lowercase (length l) ∷ str_to_ascii_lowercase l) ++ t) (lower_pieces ls (All-tail IsLabel l ls are))
-    ∙ ap (λ (n : ℕ). (n ∷ str_to_ascii_lowercase l) ++ pieces (map str_to_ascii_lowercase ls)) same
-
--- A name's octets in lower case are those of the name in lower case: no length is the code of a letter.
-pub lower_octets : (labels : List (List ℕ)) → All IsLabel labels → str_to_ascii_lowercase (name_octets (domain_name true labels)) ≡ name_octets (domain_name true (map str_to_ascii_lowercase labels))
-lower_octets labels are =
-    map-append to_ascii_lowercase (pieces labels) (0 ∷ [])
-    ∙ ap (λ (t : List ℕ). t ++ 0 ∷ []) (lower_pieces labels are)
-
 pub lower_name : (name : DomainName) → IsDomainName name → IsDomainName (encoded_name UncompressedLowercase name)
 lower_name name is = record {
   each = All-map IsLabel str_to_ascii_lowercase name.labels (All-weaker IsLabel (λ label. IsLabel (str_to_ascii_lowercase label)) label_lower name.labels is.each);
   short = omega (arith, len-lower name.labels, is.short);
 }
+
+-- A name as it is written is one.
+pub encoded_is : (encoding : NameEncoding) (name : DomainName) → IsDomainName name → IsDomainName (encoded_name encoding name)
+encoded_is Compressed name is = record { each = is.each; short = is.short }
+encoded_is Uncompressed name is = record { each = is.each; short = is.short }
+encoded_is UncompressedLowercase name is = lower_name name is

@@ -1,5 +1,5 @@
 -- Names as an encoder writes them.
-use Rattle.std.specs.Prelude.{◌≡◌, ◌+◌, ◌<◌, ◌≤◌, true, false, length, map, cond}
+use Rattle.std.specs.Prelude.{◌≡◌, ℕ, ◌+◌, ◌<◌, ◌≤◌, Bool, true, false, List, ◌∷◌, length, map, cond}
 use Rattle.std.specs.Str.{str_to_ascii_lowercase}
 use Rattle.dnw_name.specs.DomainName.{DomainName, domain_name, name_octets}
 use Rattle.dnw_decoder.specs.Spelling.{NameAt}
@@ -13,6 +13,10 @@ encoded_name encoding name = domain_name true (cond (is_lower encoding) (map str
 
 abbrev pub written_name : State → DomainName → DomainName
 written_name s name = encoded_name s.encoding name
+
+-- A label behind its length, in lower case or as it is.
+abbrev pub piece : Bool → List ℕ → List ℕ
+piece lower label = length label ∷ cond lower (str_to_ascii_lowercase label) label
 
 -- A name was written: it reads back at its place, in the finished message too, and takes at most its plain size;
 -- where no pointers are written it stands in full; where they are, one of labels takes two octets if a candidate

@@ -12,6 +12,7 @@ ghost use Rattle.dnw_encoder.specs.State.{started};
 use crate::encoder::BinEncoder;
 use dnw_codes::{DNSClass, ProtoError, RecordType};
 use std::alloc::Global;
+use std::mem::size_of;
 
 /// What can be written into a message.
 pub trait BinEncodable {
@@ -72,7 +73,8 @@ impl BinEncodable for RecordType {
         ensures err { OnErr result (state encoder.new ≡ state encoder.old) }
         ensures cause { IfErr result (IsRefusal (state encoder.old) 2) }
     {
-        encoder.emit_u16(u16::from(*self))
+        let number = u16::from(*self);
+        encoder.emit_u16(number)
     }
 }
 
@@ -156,7 +158,7 @@ impl EncodedSize for u16 {
 
     ghost LEN = { 2 };
 
-    const LEN: usize = 2;
+    const LEN: usize = size_of::<u16>();
 
     ghost octets = { λ number. octets_16 number };
 
@@ -187,7 +189,7 @@ impl EncodedSize for u32 {
 
     ghost LEN = { 4 };
 
-    const LEN: usize = 4;
+    const LEN: usize = size_of::<u32>();
 
     ghost octets = { λ number. octets_32 number };
 
@@ -218,7 +220,7 @@ impl EncodedSize for i32 {
 
     ghost LEN = { 4 };
 
-    const LEN: usize = 4;
+    const LEN: usize = size_of::<i32>();
 
     ghost octets = { λ number. octets_32 (cast_unsigned w32 number) };
 

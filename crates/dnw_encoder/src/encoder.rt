@@ -1,6 +1,7 @@
 //! The encoder.
 ghost use Rattle.std.specs.Prelude.{◌≡◌, ◌+◌, ◌-◌, ◌<◌, ◌≤◌, ◌==◌, ◌∷◌, ◌⊎◌, ◌++◌, [], length, slice_range, IfOk, IfErr, OnOk, OnErr};
 ghost use Rattle.std.specs.Int.{w32, cast_unsigned};
+ghost use Rattle.dnw_codes.specs.declared.error.ProtoError.TheVariants.{MaxBufferSizeExceeded};
 ghost use Rattle.dnw_decoder.specs.Octets.{octets_16, octets_32};
 
 use crate::buffer::write_at;
@@ -155,6 +156,21 @@ impl<'a> BinEncoder<'a> {
         &self.buffer[start..end]
     }
 
+    // Refuses a write of so many octets, which would pass the maximum.
+    pub(crate) fn check_size(&self, size: usize) -> Result<(), ProtoError>
+        ensures fits { OnOk result ((state self.now).offset + size ≤ (state self.now).maximum) }
+        ensures cause { IfErr result (λ e. (e ≡ MaxBufferSizeExceeded (state self.now).maximum)
+            × ((state self.now).maximum < (state self.now).offset + size)) }
+    {
+        if self.maximum < self.offset {
+            return Err(ProtoError::MaxBufferSizeExceeded(self.maximum));
+        }
+        if self.maximum - self.offset < size {
+            return Err(ProtoError::MaxBufferSizeExceeded(self.maximum));
+        }
+        Ok(())
+    }
+
     // Puts a front and a rest at the offset, and moves behind them.
     fn write(&mut self, front: &[u8], rest: &[u8]) -> Result<(), ProtoError>
         ensures same_reference { self.new.buffer.ghost_name ≡ self.old.buffer.ghost_name }
@@ -165,12 +181,7 @@ impl<'a> BinEncoder<'a> {
         ensures cause { IfErr result (IsRefusal (state self.old) (length front.now + length rest.now)) }
     {
         let size = front.len() + rest.len();
-        if self.maximum < self.offset {
-            return Err(ProtoError::MaxBufferSizeExceeded(self.maximum));
-        }
-        if self.maximum - self.offset < size {
-            return Err(ProtoError::MaxBufferSizeExceeded(self.maximum));
-        }
+        self.check_size(size)?;
         match write_at(self.buffer, self.offset, front, rest) {
             Ok(()) => {
                 self.offset += size;
@@ -237,7 +248,8 @@ impl<'a> BinEncoder<'a> {
         ensures err { OnErr result (state self.new ≡ state self.old) }
         ensures cause { IfErr result (IsRefusal (state self.old) 4) }
     {
-        self.emit_vec(&number.to_be_bytes())
+        let octets = number.to_be_bytes();
+        self.emit_vec(&octets)
     }
 
     /// Writes a number in four octets, the greatest first, in two's complement.

@@ -1,4 +1,6 @@
 //! How names are written.
+ghost use Rattle.std.specs.Prelude.{◌≡◌};
+ghost use Rattle.dnw_encoder.specs.State.{is_lower};
 
 /// How an encoder writes names.
 #[derive(Clone, Copy, Debug, PartialEq, Eq)]
@@ -9,6 +11,18 @@ pub enum NameEncoding {
     Uncompressed,
     /// In full and in lower case (RFC 4034 6.2).
     UncompressedLowercase,
+}
+
+impl NameEncoding {
+    // Whether names are written in lower case.
+    pub(crate) fn is_lower(self) -> bool
+        ensures { result ≡ is_lower self }
+    {
+        match self {
+            NameEncoding::Compressed | NameEncoding::Uncompressed => false,
+            NameEncoding::UncompressedLowercase => true,
+        }
+    }
 }
 
 /// What kind of record data is written.

@@ -1,63 +1,105 @@
 //! Names as an encoder writes them (RFC 1035 4.1.4; RFC 4034 6.2 for lower case).
-ghost use Rattle.std.specs.Prelude.{◌≡◌, ◌+◌, ◌<◌, ◌≤◌, ◌∷◌, [], ◌++◌, map, cond, true, length, IfOk, IfErr, OnOk, OnErr};
+ghost use Rattle.std.specs.Prelude.{◌≡◌, ◌+◌, ◌<◌, ◌≤◌, ◌++◌, length, vec_len, vec_capacity, IfErr, OnOk, OnErr};
 ghost use Rattle.std.specs.Str.{str_to_ascii_lowercase};
-ghost use Rattle.dnw_codes.specs.ProtoError.{IsMemory};
-ghost use Rattle.dnw_name.specs.DomainName.{DomainName, IsDomainName, domain_name, name_octets};
+ghost use Rattle.dnw_name.specs.DomainName.{DomainName, IsDomainName, name_octets};
 ghost use Rattle.dnw_encoder.specs.Encoders.{state};
-ghost use Rattle.dnw_encoder.specs.Effects.{Writes, IsRefusal};
-ghost use Rattle.dnw_encoder.specs.Names.{EmitsName, encoded_name};
+ghost use Rattle.dnw_encoder.specs.Effects.{Writes, IsRefusal, written_at};
+ghost use Rattle.dnw_encoder.specs.Names.{EmitsName, encoded_name, piece};
 
+use crate::buffer::write_at;
 use crate::encodable::BinEncodable;
 use crate::encoder::BinEncoder;
 use crate::modes::NameEncoding;
 use dnw_codes::ProtoError;
 use dnw_name::{LowerName, Name};
-use smallvec::SmallVec;
-use std::alloc::{AllocError, Global};
+use std::alloc::AllocError;
 
-// The octets of a name in full: each label behind its length, then the end.
-fn octets_of(alloc: Global, name: &Name) -> Result<SmallVec<u8, 255>, AllocError>
-    ensures octets { IfOk result (λ octets. octets.items ≡ name_octets name.now) }
-    ensures name { IsDomainName name.now }
+// How many octets a name takes in full.
+fn size_of(name: &Name) -> usize
+    ensures { result ≡ length (name_octets name.now) }
 {
-    let mut octets = SmallVec::new(alloc);
+    if name.iter().len() == 0 {
+        1
+    } else {
+        name.len() + 1
+    }
+}
+
+// Appends octets, for which there is room.
+fn append(buffer: &mut Vec<u8>, octets: &[u8])
+    requires { vec_len buffer.old + length octets.now ≤ vec_capacity buffer.old }
+    ensures items { buffer.new.items ≡ buffer.old.items ++ octets.now }
+    ensures len { vec_len buffer.new ≡ vec_len buffer.old + length octets.now }
+    ensures capacity { vec_capacity buffer.old ≤ vec_capacity buffer.new }
+{
+    // There is room, and so no growth is refused.
+    let _ = buffer.extend_from_slice(octets);
+}
+
+// Appends octets in lower case, for which there is room.
+fn append_lower(buffer: &mut Vec<u8>, octets: &[u8])
+    requires { vec_len buffer.old + length octets.now ≤ vec_capacity buffer.old }
+    ensures items { buffer.new.items ≡ buffer.old.items ++ str_to_ascii_lowercase octets.now }
+    ensures len { vec_len buffer.new ≡ vec_len buffer.old + length octets.now }
+    ensures capacity { vec_capacity buffer.old ≤ vec_capacity buffer.new }
+{
+    'octets: for i in 0..octets.len() {
+        buffer.push_reserved(octets[i].to_ascii_lowercase());
+    }
+}
+
+// Appends a label behind its length, for which there is room.
+fn append_label(buffer: &mut Vec<u8>, label: &[u8], lower: bool)
+    requires few { length label.now ≤ 63 }
+    requires room { vec_len buffer.old + (length label.now + 1) ≤ vec_capacity buffer.old }
+    ensures items { buffer.new.items ≡ buffer.old.items ++ piece lower label.now }
+    ensures len { vec_len buffer.new ≡ vec_len buffer.old + (length label.now + 1) }
+    ensures capacity { vec_capacity buffer.old ≤ vec_capacity buffer.new }
+{
+    buffer.push_reserved(label.len() as u8);
+    if lower {
+        append_lower(buffer, label);
+    } else {
+        append(buffer, label);
+    }
+}
+
+// Appends a name in full, for which there is room: each label, then the end.
+fn append_name(buffer: &mut Vec<u8>, name: &Name, encoding: NameEncoding)
+    requires { vec_len buffer.old + length (name_octets (encoded_name encoding name.now)) ≤ vec_capacity buffer.old }
+    ensures octets { buffer.new.items ≡ buffer.old.items ++ name_octets (encoded_name encoding name.now) }
+    ensures name { IsDomainName (encoded_name encoding name.now) }
+{
+    let lower = encoding.is_lower();
     let mut labels = name.iter();
     'labels: while let Some(label) = labels.next() {
-        octets.push(label.len() as u8)?;
-        octets.extend_from_slice(label)?;
+        append_label(buffer, label, lower);
     }
-    octets.push(0)?;
-    Ok(octets)
+    buffer.push_reserved(0);
 }
 
-// Puts octets into lower case.
-fn make_lowercase(octets: &mut SmallVec<u8, 255>)
-    ensures { octets.new.items ≡ str_to_ascii_lowercase octets.old.items }
-{
-    octets.as_mut_slice().make_ascii_lowercase();
-}
-
-// The octets that a name is written as in full.
-fn written_octets(
-    alloc: Global,
+// Puts a name in full at a place, over what is there and behind it.
+fn write_name(
+    buffer: &mut Vec<u8>,
+    place: usize,
     name: &Name,
+    size: usize,
     encoding: NameEncoding,
-) -> Result<SmallVec<u8, 255>, ProtoError>
-    ensures octets { IfOk result (λ octets. octets.items ≡ name_octets (encoded_name encoding name.now)) }
+) -> Result<(), AllocError>
+    requires within { place ≤ length buffer.old.items }
+    requires size { size ≡ length (name_octets (encoded_name encoding name.now)) }
+    ensures ok { OnOk result (buffer.new.items ≡ written_at buffer.old.items place (name_octets (encoded_name encoding name.now))) }
     ensures name { OnOk result (IsDomainName (encoded_name encoding name.now)) }
-    ensures memory { IfErr result IsMemory }
+    ensures err { OnErr result (buffer.new.items ≡ buffer.old.items) }
 {
-    let mut octets = match octets_of(alloc, name) {
-        Ok(octets) => octets,
-        Err(refused) => return Err(ProtoError::Memory(refused)),
-    };
-    match encoding {
-        NameEncoding::Compressed | NameEncoding::Uncompressed => Ok(octets),
-        NameEncoding::UncompressedLowercase => {
-            make_lowercase(&mut octets);
-            Ok(octets)
-        }
+    if place == buffer.len() {
+        buffer.reserve(size)?;
+        append_name(buffer, name, encoding);
+        return Ok(());
     }
+    let mut octets = Vec::with_capacity(*buffer.allocator(), size)?;
+    append_name(&mut octets, name, encoding);
+    write_at(buffer, place, &octets, &[])
 }
 
 impl BinEncodable for Name {
@@ -74,9 +116,21 @@ impl BinEncodable for Name {
         ensures err { OnErr result (state encoder.new ≡ state encoder.old) }
         ensures cause { IfErr result (IsRefusal (state encoder.old) (length (name_octets self.now))) }
     {
-        let alloc = *encoder.buffer.allocator();
-        let octets = written_octets(alloc, self, encoder.name_encoding)?;
-        encoder.emit_vec(octets.as_slice())
+        let size = size_of(self);
+        encoder.check_size(size)?;
+        match write_name(
+            encoder.buffer,
+            encoder.offset,
+            self,
+            size,
+            encoder.name_encoding,
+        ) {
+            Ok(()) => {
+                encoder.offset += size;
+                Ok(())
+            }
+            Err(refused) => Err(ProtoError::Memory(refused)),
+        }
     }
 }
 

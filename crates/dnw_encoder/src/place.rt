@@ -43,12 +43,7 @@ impl BinEncoder<'_> {
         ensures err { OnErr result (state self.new ≡ state self.old) }
         ensures cause { IfErr result (IsRefusal (state self.old) size) }
     {
-        if self.maximum < self.offset {
-            return Err(ProtoError::MaxBufferSizeExceeded(self.maximum));
-        }
-        if self.maximum - self.offset < size {
-            return Err(ProtoError::MaxBufferSizeExceeded(self.maximum));
-        }
+        self.check_size(size)?;
         if let Err(refused) = self.places.reserve(1) {
             return Err(ProtoError::Memory(refused));
         }

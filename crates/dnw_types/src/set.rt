@@ -1,7 +1,8 @@
 //! Sets of types.
 ghost use Rattle.std.specs.Prelude.{◌≡◌, ◌==◌, ◌⊎◌, ◌<◌, ℕ, List, map, length, nat_eq, IfOk, IfErr, OnErr};
 ghost use Rattle.std.specs.Cmp.Lexicographic.{pointwise};
-ghost use Rattle.std.specs.Cmp.Rules.{comparing};
+ghost use Rattle.std.specs.Cmp.Rules.{comparing, hashing};
+ghost use Rattle.std.specs.Hash as fed;
 ghost use Rattle.std.proofs.Common.{rules};
 ghost use Rattle.std.specs.Iterator.{Drains, IsFinite, YieldsFirst, item_count};
 ghost use Rattle.std.specs.List.{list_any};
@@ -21,6 +22,7 @@ use dnw_codes::{DecodeError, ProtoError, RecordType};
 use dnw_decoder::BinDecoder;
 use dnw_encoder::{BinEncodable, BinEncoder};
 use std::alloc::{AllocError, Global};
+use std::hash::{Hash, Hasher};
 use std::marker::Model;
 
 /// A set of record types. A contract sees it as the numbers of its types, which rise.
@@ -183,4 +185,14 @@ impl PartialEq for RecordTypeSet {
 
 impl Eq for RecordTypeSet {
     ghost laws = { Prim.search (comparing, rules) };
+}
+
+impl Hash for RecordTypeSet {
+    ghost hash_input = { fed.slice fed.u16 };
+
+    ghost respects_eq = { Prim.search (hashing, rules) };
+
+    fn hash<H: Hasher>(&self, state: &mut H) {
+        self.codes.hash(state);
+    }
 }

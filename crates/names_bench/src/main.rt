@@ -1,9 +1,12 @@
-//! What names cost: `names_bench OPERATION COUNT` does one operation so many times. `bench/names` counts its
-//! instructions.
+//! What names cost: `names_bench OPERATION COUNT` does one operation so many times; `chain` reads one name behind so
+//! many pointers. `bench/names` counts its instructions and allocations.
 //!
 //! Two names that share three labels are handed over in turn, and what each operation gives is printed at the end.
 #![tactic(auto)]
 
+mod wire;
+
+use crate::wire::{read_chain, read_names, write_names};
 use anyhow::{Context, Result};
 use dnw_name::{Name, key_of};
 use std::alloc::Global;
@@ -89,6 +92,9 @@ impl Names {
             "zone_of" => self.zone_of(count),
             "hash" => self.hashed(count),
             "key" => self.keyed(alloc, count)?,
+            "read" => read_names(alloc, count)?,
+            "write" => write_names(alloc, &self.asked, count)?,
+            "chain" => read_chain(alloc, count)?,
             _ => 0,
         })
     }

@@ -35,4 +35,4 @@ length-record_octets r = omega (
   length-fixed_octets r,
 )
 
-pub ruleset sizes = (length-name_octets, length-soa_octets, length-record_octets)
+pub ruleset sizes = (length-name_octets, length-soa_octets, length-record_octets, length-fixed_octets, length-soa_numbers, length-octets_32)

@@ -1,9 +1,10 @@
 //! A reply in octets, cut at its limit (RFC 1035 section 4.1, RFC 2181 section 9).
 
-ghost use Rattle.std.specs.Prelude.{◌≡◌, ◌+◌, ◌^◌, ◌<◌, ◌≤◌, ◌++◌, ◌||◌, nat_lt, length, IfOk, OnOk};
+ghost use Rattle.std.specs.Prelude.{◌≡◌, ◌+◌, ◌^◌, ◌<◌, ◌≤◌, ◌++◌, ◌||◌, nat_lt, length, IfOk, IfErr, OnOk};
 ghost use Rattle.std.specs.List.{flat_map, AllByRecursion};
+ghost use Rattle.dnw_codes.specs.ProtoError.{IsMemory};
 ghost use Rattle.dnw_encoder.specs.Encoders.{state};
-ghost use Rattle.zsv_message.specs.Emissions.{Extends, IsPlain};
+ghost use Rattle.zsv_message.specs.Emissions.{Extends, IsPlain, HasRoom};
 ghost use Rattle.zsv_message.specs.Headers.{header_of, FitsHeader};
 ghost use Rattle.zst_record.specs.Records.{record_octets, HasSoundNames};
 ghost use Rattle.zsv_message.specs.Plans.{IsWritten};
@@ -29,9 +30,11 @@ pub struct MessageResponse<'a> {
 
 // Writes records, one behind the other.
 fn emit_records(encoder: &mut BinEncoder<'_>, records: &[Record]) -> Result<(), ProtoError>
-    requires { IsPlain (state encoder.old) }
+    requires plain { IsPlain (state encoder.old) }
+    requires room { HasRoom (length (flat_map record_octets records.now)) (state encoder.old) }
     ensures same_reference { encoder.new.buffer.ghost_name ≡ encoder.old.buffer.ghost_name }
     ensures octets { OnOk result (Extends (flat_map record_octets records.now) (state encoder.old) (state encoder.new)) }
+    ensures cause { IfErr result IsMemory }
     ensures names { OnOk result (AllByRecursion HasSoundNames records.now) }
 {
     for record in records {
@@ -40,7 +43,7 @@ fn emit_records(encoder: &mut BinEncoder<'_>, records: &[Record]) -> Result<(), 
     Ok(())
 }
 
-// Writes the parts of a reply into an empty buffer. They fit, since they were planned.
+// Writes the parts of a reply into an empty buffer. They fit, since they were planned: only memory may be wanting.
 fn emit_parts(
     out: &mut Vec<u8>,
     header: &[u8],
@@ -48,8 +51,11 @@ fn emit_parts(
     answers: &[Record],
     authorities: &[Record],
 ) -> Result<(), ProtoError>
-    requires { length out.old.items ≡ 0 }
+    requires empty { length out.old.items ≡ 0 }
+    requires room { length header.now + (length question_octets.now
+        + (length (flat_map record_octets answers.now) + length (flat_map record_octets authorities.now))) ≤ 65535 }
     ensures octets { OnOk result (out.new.items ≡ header.now ++ (question_octets.now ++ (flat_map record_octets answers.now ++ flat_map record_octets authorities.now))) }
+    ensures cause { IfErr result IsMemory }
     ensures answers { OnOk result (AllByRecursion HasSoundNames answers.now) }
     ensures authorities { OnOk result (AllByRecursion HasSoundNames authorities.now) }
 {
@@ -104,7 +110,8 @@ impl MessageResponse<'_> {
         );
         match emitted {
             Ok(()) => Ok(out),
-            Err(_) => Err(AllocError),
+            Err(ProtoError::Memory(refused)) => Err(refused),
+            Err(_) => unreachable!(),
         }
     }
 }

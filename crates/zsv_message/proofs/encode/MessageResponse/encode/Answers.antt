@@ -1,6 +1,22 @@
-use Rattle.std.proofs.Common.{◌∙◌, Bool, ap}
+use Rattle.std.proofs.Common.{◌∙◌, Bool, ap, arith, take}
 use Rattle.zsv_message.specs.Replies.{header_with}
+use Rattle.zsv_message.proofs.Written.{length-flat_map}
 use Rattle.zsv_message.proofs.encode.MessageResponse.encode.Goals as goal
+
+pub emit_parts-emitted-requires-clause-room : goal.emit_parts-emitted-requires-clause-room
+emit_parts-emitted-requires-clause-room c =
+    let answers = c.fitting-answers.ensures.front in
+    let authorities = c.fitting-authorities.ensures.front in
+    omega (
+      arith,
+      c.octets-header.ensures.long,
+      answers.sum,
+      authorities.sum,
+      authorities.fits,
+      c.requires.limit,
+      length-flat_map (take c.fitting-answers.result.kept c.args.self.now.answers.now),
+      length-flat_map (take c.fitting-authorities.result.kept c.args.self.now.authorities.now),
+    )
 
 pub returns-in-Ok : goal.returns-in-Ok
 returns-in-Ok c = record {
