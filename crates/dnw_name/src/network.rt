@@ -1,7 +1,9 @@
 //! Networks of names (RFC 1035 3.5, RFC 3596 2.5).
-ghost use Rattle.std.specs.Prelude.{ℕ, ◌≢◌, ◌↔◌, IsTrue, slice_index, ◌≡◌, ◌+◌, ◌-◌, ◌*◌, ◌<◌, ◌≤◌, ◌∷◌, [], List, true, length, replicate, decimal, codes, All, IfOk, OnErr, IfSome, IfNone};
+ghost use Rattle.std.specs.Prelude.{ℕ, ◌≢◌, ◌↔◌, IsTrue, slice_index, ◌≡◌, ◌+◌, ◌-◌, ◌*◌, ◌<◌, ◌≤◌, ◌∷◌, ◌⊎◌, [], List, true, length, replicate, decimal, codes, All, IfOk, IfErr, OnErr, IfSome, IfNone};
 ghost use Rattle.std.specs.Result.{IsOkAnd};
 ghost use Rattle.std.specs.declared.net.ip_addr.IpAddr.{IpAddr as Address};
+ghost use Rattle.dnw_codes.specs.ProtoError.{IsMessage};
+ghost use Rattle.dnw_codes.specs.declared.error.ProtoError.TheVariants.{ParseInt};
 ghost use Rattle.dnw_label.specs.Label.{label_eq};
 ghost use Rattle.dnw_net.specs.Networks.{address_bits};
 ghost use Rattle.dnw_name.specs.Arpa.{arpa_name, IsAddress, IsArpaName, IsBelowSuffix, EndsInArpa, suffix_label, Writes, digit_label, hex_digits};
@@ -14,10 +16,12 @@ use std::net::{Ipv4Addr, Ipv6Addr};
 
 impl Name {
     /// The network of a name below `in-addr.arpa.` or `ip6.arpa.`: a label for each octet, or hexadecimal digit, of
-    /// the prefix, the last one first. It is refused where the name is relative, where its end is another, where a
-    /// label is no such number, without leading zeros, or where there are more than those of an address.
+    /// the prefix, the last one first. It is refused by a message where the name is relative or where its end is
+    /// another, and by `ParseInt` where a label is no such number, without leading zeros, or where there are more
+    /// than those of an address.
     pub fn parse_arpa_name(&self) -> Result<IpNet, ProtoError>
         ensures ok { IfOk result (λ net. IsArpaName self.now net.addr net.prefix_len) }
+        ensures cause { IfErr result (λ e. IsMessage e ⊎ (e ≡ ParseInt)) }
 
         // There is no other network of the name, and where there is one it is the answer.
         ensures only { (addr : Address) (prefix : ℕ) → IsArpaName self.now addr prefix
@@ -61,6 +65,7 @@ fn net_of_v4(labels: LabelIter<'_>) -> Result<IpNet, ProtoError>
     ensures ok { IfOk result (λ net. IsBelowSuffix labels.entry net.addr net.prefix_len × (suffix_label net.addr ≡ codes "in-addr")) }
     ensures refused { OnErr result ((addr : Address) (prefix : ℕ) → suffix_label addr ≡ codes "in-addr"
         → IsBelowSuffix labels.entry addr prefix → ⊥) }
+    ensures cause { IfErr result (λ e. e ≡ ParseInt) }
 {
     let mut octets = [0u8; 4];
     let Some(count) = read_numbers::<Octets>(labels, &mut octets) else {
@@ -76,6 +81,7 @@ fn net_of_v6(labels: LabelIter<'_>) -> Result<IpNet, ProtoError>
     ensures ok { IfOk result (λ net. IsBelowSuffix labels.entry net.addr net.prefix_len × (suffix_label net.addr ≡ codes "ip6")) }
     ensures refused { OnErr result ((addr : Address) (prefix : ℕ) → suffix_label addr ≡ codes "ip6"
         → IsBelowSuffix labels.entry addr prefix → ⊥) }
+    ensures cause { IfErr result (λ e. e ≡ ParseInt) }
 {
     let mut digits = [0u8; 32];
     let Some(count) = read_numbers::<HexDigits>(labels, &mut digits) else {
