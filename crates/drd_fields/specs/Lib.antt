@@ -1,0 +1,5 @@
+pub mod Fields
+pub mod Reading
+pub mod FieldLaws
+pub mod Writing
+pub mod WritingLaws
