@@ -5,11 +5,13 @@
 //! calls carry it: `read_data`, exactly where the fields stand, and `emit_data`, which writes what reads back.
 #![tactic(auto)]
 
+mod decodable;
 mod emit;
 mod fields;
 mod read;
 mod strings;
 
+pub use decodable::RecordDataDecodable;
 pub use emit::{EmitField, EmitFields, RestField, StringField, StringFields, emit_data};
 pub use fields::{CharacterString, CharacterStrings, Rest};
 pub use read::{ReadField, ReadFields, read_data, read_data_within};

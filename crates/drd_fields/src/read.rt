@@ -263,15 +263,17 @@ pub fn read_data<D: ReadFields + Drop>(
     }
 }
 
-/// The data of so many octets at the decoder's index. On an error the decoder is at the field that can't be read.
+/// The data of so many octets at the decoder's index, the last field of which goes to their end. On an error the decoder
+/// is at the field that can't be read.
 #[tactic(auto, using(crate::specs::FieldLaws::fields_forward, crate::specs::FieldLaws::stops_forward))]
 pub fn read_data_within<D: ReadFields + Drop>(
     alloc: Global,
     decoder: &mut BinDecoder<'_>,
     len: u16,
 ) -> Result<D, DecodeError>
-    ensures ok { IfOk result (λ found. FieldsAt decoder.old.octets decoder.old.index (D.fields found) decoder.new.index) }
-    ensures open { OnOk result (are_open D.kinds ≡ true → decoder.new.index ≡ decoder.old.index + len) }
+    requires { are_open D.kinds ≡ true }
+    ensures ok { IfOk result (λ found. FieldsAt decoder.old.octets decoder.old.index (D.fields found) (decoder.old.index + len)) }
+    ensures end { OnOk result (decoder.new.index ≡ decoder.old.index + len) }
     ensures same { decoder.new.octets ≡ decoder.old.octets }
     ensures forward { decoder.old.index ≤ decoder.new.index }
     ensures within { decoder.new.index ≤ length decoder.new.octets }
