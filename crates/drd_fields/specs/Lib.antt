@@ -3,3 +3,5 @@ pub mod Reading
 pub mod FieldLaws
 pub mod Writing
 pub mod WritingLaws
+pub mod Equality
+pub mod EqualityLaws

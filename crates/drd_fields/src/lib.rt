@@ -12,6 +12,6 @@ mod read;
 mod strings;
 
 pub use decodable::RecordDataDecodable;
-pub use emit::{EmitField, EmitFields, RestField, StringField, StringFields, emit_data};
+pub use emit::{DataField, DataFields, RestField, StringField, StringFields, emit_data};
 pub use fields::{CharacterString, CharacterStrings, Rest};
 pub use read::{ReadField, ReadFields, read_data, read_data_within};

@@ -17,7 +17,7 @@ pub returns-clause-ok : goal.returns-clause-ok
 returns-clause-ok g c =
     let old = state c.args.encoder.now in
     let mid = state c.emit_fields-written.new.encoder in
-    let fields = g.D.EmitFields.fields c.args.fields.now in
+    let fields = g.D.DataFields.fields c.args.fields.now in
     let names : c.names_of-names.result ≡ rdata_encoding c.args.kind old.canonical old.encoding =
     c.names_of-names.ensures ∙ ap (λ (b : Bool). rdata_encoding c.args.kind b c.name_encoding-former.result) c.is_canonical_form.ensures ∙ ap (rdata_encoding c.args.kind old.canonical) c.name_encoding-former.ensures in
     let began : state c.set_name_encoding.new.self ≡ with_encoding old (rdata_encoding c.args.kind old.canonical old.encoding) =

@@ -1,7 +1,7 @@
 use Rattle.dnw_encoder.specs.Encoders.{state}
 use Rattle.drd_fields.specs.Fields.{rest}
 use Rattle.drd_fields.specs.WritingLaws.{puts_rest, emits_one, on_ok}
-use Rattle.drd_fields.proofs.emit.RestFieldEmitFields.emit_fields.Goals as goal
+use Rattle.drd_fields.proofs.emit.RestFieldDataFields.emit_fields.Goals as goal
 
 pub returns-clause-ok : goal.returns-clause-ok
 returns-clause-ok c =
