@@ -1,5 +1,5 @@
 -- When record data are equal, and that this is so exactly where their canonical octets are the same (RFC 4034 6.3).
-use Rattle.std.specs.Prelude.{◌≡◌, ℕ, ◌==◌, ◌&&◌, nat_eq, Bool, true, false, List, [], ◌∷◌, ◌++◌}
+use Rattle.std.specs.Prelude.{◌≡◌, ℕ, ◌==◌, nat_eq, Bool, true, false, List, [], ◌∷◌, ◌++◌}
 use Rattle.std.specs.Cmp.Lexicographic.{pointwise}
 use Rattle.dnw_name.specs.DomainName.{DomainName, name_eq}
 use Rattle.dnw_encoder.specs.declared.modes.NameEncoding.TheVariants.{UncompressedLowercase}
@@ -18,9 +18,7 @@ field_eq (rest s) (rest t) = pointwise nat_eq s t
 field_eq f g = false
 
 abbrev pub fields_eq : List Field → List Field → Bool
-fields_eq [] [] = true
-fields_eq (f ∷ fs) (g ∷ gs) = field_eq f g && fields_eq fs gs
-fields_eq fs gs = false
+fields_eq = pointwise field_eq
 
 -- A name that is read is fully qualified; a relative one has the octets of another.
 abbrev pub IsFull : Field → Type 0

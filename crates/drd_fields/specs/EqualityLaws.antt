@@ -5,7 +5,9 @@ use Rattle.std.proofs.lemmas.List.{take_at, append_cancel_left}
 use Rattle.std.proofs.lemmas.List.Elements.{All-head, All-tail}
 use Rattle.std.specs.Bool.{beq}
 use Rattle.std.specs.Cmp.Lexicographic.{pointwise, same_text}
-use Rattle.std.proofs.lemmas.Cmp.{nat_list_eq_equiv}
+use Rattle.std.proofs.lemmas.Cmp.{nat_list_eq_equiv, nat_eq_equiv, lists_equiv}
+use Rattle.std.specs.Cmp.{IsEquivalence}
+use Rattle.std.specs.Cmp.Rules.{comparing}
 use Rattle.std.specs.List.{flat_map}
 use Rattle.std.specs.Str.{str_to_ascii_lowercase}
 use Rattle.dnw_label.specs.Label.{IsLabel, label_eq}
@@ -14,7 +16,7 @@ use Rattle.dnw_decoder.specs.Octets.{octets_16, octets_32}
 use Rattle.dnw_encoder.specs.NameLaws.{lower_name}
 use Rattle.drd_fields.specs.Fields.{Field, octet, short, long, name, string, strings, rest}
 use Rattle.drd_fields.specs.Writing.{string_octets}
-use Rattle.drd_fields.specs.Equality.{Tells, TellsApart, canonical_field}
+use Rattle.drd_fields.specs.Equality.{Tells, TellsApart, canonical_field, field_eq, fields_eq}
 
 from_test : (n m : ℕ) → (n == m) ≡ true → n ≡ m
 from_test n m e = grind (arith, nat_tests)
@@ -170,4 +172,57 @@ front_tells true b xs ys later_xs later_ys front later = record {
 front_tells false b xs ys later_xs later_ys front later = record {
   equal = λ e. absurd (cc e);
   other = λ e same. front.other refl later_xs later_ys same;
+}
+
+name_equiv : IsEquivalence name_eq
+name_equiv = search comparing depth 12
+
+field_refl : (f : Field) → field_eq f f ≡ true
+field_refl (octet x) = nat_eq_equiv.refl x
+field_refl (short x) = nat_eq_equiv.refl x
+field_refl (long x) = nat_eq_equiv.refl x
+field_refl (name x) = name_equiv.refl x
+field_refl (string x) = nat_list_eq_equiv.refl x
+field_refl (strings x) = (lists_equiv nat_list_eq_equiv).refl x
+field_refl (rest x) = nat_list_eq_equiv.refl x
+
+field_symm : (f g : Field) → field_eq f g ≡ field_eq g f
+field_symm (octet x) (octet y) = nat_eq_equiv.symm x y
+field_symm (short x) (short y) = nat_eq_equiv.symm x y
+field_symm (long x) (long y) = nat_eq_equiv.symm x y
+field_symm (name x) (name y) = name_equiv.symm x y
+field_symm (string x) (string y) = nat_list_eq_equiv.symm x y
+field_symm (strings x) (strings y) = (lists_equiv nat_list_eq_equiv).symm x y
+field_symm (rest x) (rest y) = nat_list_eq_equiv.symm x y
+field_symm f g = refl
+
+field_congr : (f g h : Field) → field_eq f g ≡ true → field_eq f h ≡ field_eq g h
+field_congr (octet x) (octet y) (octet z) e = nat_eq_equiv.congr x y z e
+field_congr (octet x) (octet y) h e = refl
+field_congr (short x) (short y) (short z) e = nat_eq_equiv.congr x y z e
+field_congr (short x) (short y) h e = refl
+field_congr (long x) (long y) (long z) e = nat_eq_equiv.congr x y z e
+field_congr (long x) (long y) h e = refl
+field_congr (name x) (name y) (name z) e = name_equiv.congr x y z e
+field_congr (name x) (name y) h e = refl
+field_congr (string x) (string y) (string z) e = nat_list_eq_equiv.congr x y z e
+field_congr (string x) (string y) h e = refl
+field_congr (strings x) (strings y) (strings z) e = (lists_equiv nat_list_eq_equiv).congr x y z e
+field_congr (strings x) (strings y) h e = refl
+field_congr (rest x) (rest y) (rest z) e = nat_list_eq_equiv.congr x y z e
+field_congr (rest x) (rest y) h e = refl
+field_congr f g h e = absurd (cc e)
+
+pub field_equiv : IsEquivalence field_eq
+field_equiv = record { refl = field_refl; symm = field_symm; congr = field_congr }
+
+pub fields_equiv : IsEquivalence fields_eq
+fields_equiv = lists_equiv field_equiv
+
+-- The equality of values by their fields is one.
+pub data_equiv : {X : Type 0} (fields : X → List Field) → IsEquivalence (λ (a b : X). fields_eq (fields a) (fields b))
+data_equiv fields = record {
+  refl = λ x. fields_equiv.refl (fields x);
+  symm = λ x y. fields_equiv.symm (fields x) (fields y);
+  congr = λ x y z e. fields_equiv.congr (fields x) (fields y) (fields z) e;
 }

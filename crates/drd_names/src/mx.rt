@@ -3,14 +3,17 @@ ghost use Rattle.std.specs.Prelude.{◌≡◌, ◌∷◌, [], ℕ};
 ghost use Rattle.dnw_encoder.specs.declared.modes.RDataEncoding.TheVariants.{StandardRecord};
 ghost use Rattle.drd_fields.specs.Fields.{short, name, FieldsAt};
 ghost use Rattle.drd_fields.specs.Reading.{Stops};
-ghost use Rattle.drd_fields.specs.Writing.{EmitsData, RefusesFields};
+ghost use Rattle.drd_fields.specs.Equality.{AreFull, Tells, fields_eq};
+ghost use Rattle.drd_fields.specs.Writing.{EmitsData, RefusesFields, canonical_octets};
+ghost use Rattle.std.specs.Cmp.{partial_equiv_from_equiv};
+ghost use Rattle.drd_fields.specs.EqualityLaws.{data_equiv};
 ghost use Rattle.drd_names.specs.Fields.{mx_fields, mx_kinds};
 
 use dnw_codes::{DecodeError, ProtoError};
 use dnw_decoder::{BinDecodable, BinDecoder};
 use dnw_encoder::{BinEncodable, BinEncoder, RDataEncoding};
 use dnw_name::Name;
-use drd_fields::{emit_data, read_data};
+use drd_fields::{DataFields, emit_data, read_data};
 use std::alloc::Global;
 
 /// A mail exchange: a host that takes the owner's mail, the one of the lowest preference first.
@@ -58,4 +61,24 @@ impl BinEncodable for MX {
     fn emit(&self, encoder: &mut BinEncoder<'_>) -> Result<(), ProtoError> {
         emit_data(encoder, RDataEncoding::StandardRecord, &self.fields())
     }
+}
+
+impl PartialEq for MX {
+    ghost eq = { λ a b. fields_eq (mx_fields a) (mx_fields b) };
+
+    ghost laws = { partial_equiv_from_equiv (data_equiv mx_fields) };
+
+    /// Whether the numbers are the same, and the names up to the case of ASCII letters. Of data that were read this is so
+    /// exactly where the canonical octets are the same (RFC 4034 6.3).
+    fn eq(&self, other: &MX) -> bool
+        ensures value { result ≡ fields_eq (mx_fields self.now) (mx_fields other.now) }
+        ensures canonical { AreFull (mx_fields self.now) → AreFull (mx_fields other.now)
+            → Tells result (canonical_octets (mx_fields self.now)) (canonical_octets (mx_fields other.now)) }
+    {
+        self.fields().are_same(&other.fields())
+    }
+}
+
+impl Eq for MX {
+    ghost laws = { data_equiv mx_fields };
 }
