@@ -1,5 +1,5 @@
 -- Laws of equality: numbers, strings and names have octets of their own.
-use Rattle.std.proofs.Common.{◌≡◌, ℕ, ◌+◌, ◌^◌, ◌/◌, ◌%◌, ◌<◌, ◌≤◌, ◌==◌, ◌&&◌, nat_eq, Bool, true, false, List, [], ◌∷◌, ◌++◌, All, length, map, take, refl, sym, ap, subst, ◌∙◌, arith, append_assoc}
+use Rattle.std.proofs.Common.{◌≡◌, ℕ, ◌^◌, ◌/◌, ◌%◌, ◌<◌, ◌==◌, ◌&&◌, nat_eq, Bool, true, false, List, [], ◌∷◌, ◌++◌, All, length, map, take, refl, sym, ap, subst, ◌∙◌, arith, append_assoc, Vec, Global}
 use Rattle.std.proofs.lemmas.Bool.Decides.{nat_tests}
 use Rattle.std.proofs.lemmas.List.{take_at, append_cancel_left}
 use Rattle.std.proofs.lemmas.List.Elements.{All-head, All-tail}
@@ -226,3 +226,14 @@ data_equiv fields = record {
   symm = λ x y. fields_equiv.symm (fields x) (fields y);
   congr = λ x y z e. fields_equiv.congr (fields x) (fields y) (fields z) e;
 }
+
+-- Strings in vectors are equal where the strings are.
+pub items_same : (xs ys : List (Vec ℕ Global)) → pointwise (λ (a b : Vec ℕ Global). pointwise nat_eq a.items b.items) xs ys ≡ pointwise (pointwise nat_eq) (map (λ (v : Vec ℕ Global). v.items) xs) (map (λ (v : Vec ℕ Global). v.items) ys)
+items_same [] [] = refl
+items_same [] (y ∷ ys) = refl
+items_same (x ∷ xs) [] = refl
+items_same (x ∷ xs) (y ∷ ys) = ap (λ (b : Bool). pointwise nat_eq x.items y.items && b) (items_same xs ys)
+
+pub and_true : (b : Bool) → (b && true) ≡ b
+and_true true = refl
+and_true false = refl

@@ -155,7 +155,7 @@ ordered_more k ks closed later = (λ to_end. absurd (cc (sym to_end ∙ closed))
 pub kinds_more : (f : Field) (fs : List Field) (k : Kind) (ks : List Kind) → kind_of f ≡ k → kinds_of fs ≡ ks → kinds_of (f ∷ fs) ≡ k ∷ ks
 kinds_more f fs k ks e d = ap (λ (x : Kind). x ∷ kinds_of fs) e ∙ ap (λ (xs : List Kind). k ∷ xs) d
 
-strings_joined : (message : List ℕ) (place : ℕ) (ss : List (List ℕ)) (at : ℕ) (s : List ℕ) (end : ℕ) → StringsAt message place ss at → StringAt message at s end → StringsAt message place (ss ++ s ∷ []) end
+pub strings_joined : (message : List ℕ) (place : ℕ) (ss : List (List ℕ)) (at : ℕ) (s : List ℕ) (end : ℕ) → StringsAt message place ss at → StringAt message at s end → StringsAt message place (ss ++ s ∷ []) end
 strings_joined message place [] at s end there last = (end, subst (λ (p : ℕ). StringAt message p s end) there last, refl)
 strings_joined message place (t ∷ ts) at s end there last = (there.0, there.1, strings_joined message there.0 ts at s end there.2 last)
 

@@ -1,5 +1,5 @@
 -- Laws of writing: what puts octets emits their field, fields go one behind the other, and a mode may change between.
-use Rattle.std.proofs.Common.{◌≡◌, ℕ, ◌+◌, ◌≤◌, inl, inr, List, [], ◌∷◌, ◌++◌, length, take, drop, refl, sym, ap, subst, ◌∙◌, arith, append_assoc, append-nil}
+use Rattle.std.proofs.Common.{◌≡◌, ℕ, ◌+◌, ◌≤◌, inl, inr, List, [], ◌∷◌, ◌++◌, length, take, drop, refl, sym, ap, subst, ◌∙◌, arith, append_assoc, append-nil, ◌⊎◌}
 use Rattle.std.proofs.lemmas.List.{length-take, length-append, drop-drop, take_at, drop_at, take-append-drop}
 use Rattle.std.specs.Prelude.{Result, Ok, Err, OnOk, IfErr}
 use Rattle.dnw_codes.specs.declared.error.ProtoError.{ProtoError}
@@ -13,8 +13,11 @@ use Rattle.dnw_encoder.specs.Names.{EmitsName}
 use Rattle.dnw_encoder.specs.State.{State, with_encoding, writes_pointers, rdata_encoding}
 use Rattle.dnw_encoder.specs.declared.modes.NameEncoding.{NameEncoding}
 use Rattle.dnw_encoder.specs.declared.modes.RDataEncoding.{RDataEncoding}
-use Rattle.drd_fields.specs.Fields.{Field, octet, short, long, name, string, rest, StringAt, FieldAt, FieldsAt}
-use Rattle.drd_fields.specs.Writing.{encoded_field, encoded_fields, string_octets, field_octets, fields_octets, EmitsField, EmitsFields, EmitsData}
+use Rattle.drd_fields.specs.Fields.{Field, octet, short, long, name, string, strings, rest, StringAt, StringsAt, FieldAt, FieldsAt}
+use Rattle.drd_fields.specs.FieldLaws.{strings_joined}
+use Rattle.std.specs.List.{flat_map}
+use Rattle.std.proofs.lemmas.Grind.{flat_map-append}
+use Rattle.drd_fields.specs.Writing.{encoded_field, encoded_fields, string_octets, field_octets, fields_octets, EmitsField, EmitsFields, EmitsData, IsTooLong, SomeTooLong}
 
 -- Octets written behind others that were written.
 written_then : (o : List ℕ) (place : ℕ) (a b : List ℕ) → place ≤ length o → written_at (written_at o place a) (place + length a) b ≡ written_at o place (a ++ b)
@@ -172,3 +175,37 @@ on_ok (Err e) f p = tt
 pub if_err : {T E : Type 0} {P Q : E → Type 0} (r : Result T E) → ((e : E) → P e → Q e) → IfErr r P → IfErr r Q
 if_err (Ok v) f p = tt
 if_err (Err e) f p = f e p
+
+-- No string, and one string more at the end.
+pub emits_no_strings : (s : State) → s.offset ≤ length s.octets → EmitsField (strings []) s s
+emits_no_strings s le = record { stays = λ sound. record { of = λ later a. refl }; size = omega arith; exact = λ plain. puts_none s le }
+
+flat_one : (front : List (List ℕ)) (s : List ℕ) → flat_map string_octets (front ++ s ∷ []) ≡ flat_map string_octets front ++ string_octets s
+flat_one front s = flat_map-append string_octets front (s ∷ []) ∙ ap (λ (o : List ℕ). flat_map string_octets front ++ o) (append-nil (string_octets s))
+
+pub emits_string_more : (front : List (List ℕ)) (s : List ℕ) (old mid new : State) → old.offset ≤ length old.octets → EmitsField (strings front) old mid → Writes old mid → EmitsField (string s) mid new → Writes mid new → EmitsField (strings (front ++ s ∷ [])) old new
+emits_string_more front s old mid new le e v d w = record {
+  stays = λ sound.
+      let first : Holds new new.offset (λ message. StringsAt message old.offset front mid.offset) =
+      holds_more mid.offset new.offset new (λ message. StringsAt message old.offset front mid.offset) w.forward
+      (holds_written mid.offset mid new (λ message. StringsAt message old.offset front mid.offset) w (omega arith) (e.stays sound)) in
+      let last = d.stays (v.sound sound) in
+      record { of = λ octets a. strings_joined octets old.offset front mid.offset s new.offset (first.of octets a) (last.of octets a) };
+  size = omega (arith, e.size, d.size, ap length (flat_one front s), length-append (flat_map string_octets front) (string_octets s));
+  exact = λ plain.
+      subst (λ (o : List ℕ). Puts o old new) (sym (flat_one front s))
+      (puts_then (flat_map string_octets front) (string_octets s) old mid new le (e.exact plain) (d.exact (v.modes.points ∙ plain)));
+}
+
+long_later : (front : List (List ℕ)) (s : List ℕ) (after : List (List ℕ)) (e : ProtoError) → IsTooLong s e → SomeTooLong (front ++ s ∷ after) e
+long_later [] s after e is = inl is
+long_later (f ∷ fs) s after e is = inr (long_later fs s after e is)
+
+-- A string behind others is refused: so are all of them.
+pub strings_refused : (front : List (List ℕ)) (s : List ℕ) (after : List (List ℕ)) (old mid : State) (e : ProtoError) → SameModes old mid → mid.offset ≤ old.offset + length (flat_map string_octets front) → IsTooLong s e ⊎ IsRefusal mid (length s + 1) e → IsRefusal old (length (flat_map string_octets (front ++ s ∷ after))) e ⊎ SomeTooLong (front ++ s ∷ after) e
+strings_refused front s after old mid e modes far (inl is) = inr (long_later front s after e is)
+strings_refused front s after old mid e modes far (inr refused) =
+    let n = length (flat_map string_octets front) in
+    let size : (n + (length s + 1)) + length (flat_map string_octets after) ≡ length (flat_map string_octets (front ++ s ∷ after)) =
+    omega (arith, ap length (flat_map-append string_octets front (s ∷ after)), length-append (flat_map string_octets front) (string_octets s ++ flat_map string_octets after), length-append (string_octets s) (flat_map string_octets after)) in
+    inl (subst (λ (k : ℕ). IsRefusal old k e) size (refused_front (n + (length s + 1)) (length (flat_map string_octets after)) old e (refused_later (length s + 1) n old mid e modes far refused)))

@@ -1,11 +1,11 @@
 //! Fields that are written.
-ghost use Rattle.std.specs.Prelude.{◌≡◌, ◌+◌, ◌≤◌, ◌⊎◌, ◌∷◌, [], List, ℕ, length, map, IfErr, OnOk};
+ghost use Rattle.std.specs.Prelude.{◌≡◌, ◌+◌, ◌≤◌, ◌⊎◌, ◌∷◌, [], List, ℕ, length, map, flat_map, IfErr, OnOk};
 ghost use Rattle.std.specs.Int.{w32, cast_unsigned};
 ghost use Rattle.dnw_encoder.specs.Encoders.{state};
 ghost use Rattle.dnw_encoder.specs.Effects.{Writes, IsRefusal};
 ghost use Rattle.dnw_encoder.specs.State.{rdata_encoding};
 ghost use Rattle.drd_fields.specs.Fields.{octet, short, long, name, string, strings, rest};
-ghost use Rattle.drd_fields.specs.Writing.{EmitsData, RefusesFields, SomeTooLong, string_octets};
+ghost use Rattle.drd_fields.specs.Writing.{EmitsData, EmitsField, RefusesFields, SomeTooLong, string_octets};
 
 use dnw_codes::ProtoError;
 use dnw_encoder::{BinEncodable, BinEncoder, NameEncoding, RDataEncoding};
@@ -200,6 +200,38 @@ impl DataFields for RestField<'_> {
     }
 
     #[tactic(auto, using(crate::specs::EqualityLaws::rest_tells))]
+    fn are_same(&self, other: &Self) -> bool {
+        self.0 == other.0
+    }
+}
+
+// Writes strings, each behind its length.
+fn emit_strings(encoder: &mut BinEncoder<'_>, texts: &[Vec<u8>]) -> Result<(), ProtoError>
+    ensures same_reference { encoder.new.buffer.ghost_name ≡ encoder.old.buffer.ghost_name }
+    ensures writes { Writes (state encoder.old) (state encoder.new) }
+    ensures ok { OnOk result (EmitsField (strings (map (λ s. s.items) texts.now)) (state encoder.old) (state encoder.new)) }
+    ensures cause { IfErr result (λ e. IsRefusal (state encoder.old) (length (flat_map string_octets (map (λ s. s.items) texts.now))) e
+        ⊎ SomeTooLong (map (λ s. s.items) texts.now) e) }
+{
+    let _start = encoder.offset();
+    let mut left = texts;
+    'strings: while let Some((first, later)) = left.split_first() {
+        match encoder.emit_character_data(first) {
+            Ok(()) => left = later,
+            Err(refused) => return Err(refused),
+        }
+    }
+    Ok(())
+}
+
+impl DataFields for StringFields<'_> {
+    ghost fields = { λ value. strings (map (λ s. s.items) value.0.now) ∷ [] };
+
+    fn emit_fields(&self, encoder: &mut BinEncoder<'_>) -> Result<(), ProtoError> {
+        emit_strings(encoder, self.0)
+    }
+
+    #[tactic(auto, using(crate::specs::EqualityLaws::strings_tell))]
     fn are_same(&self, other: &Self) -> bool {
         self.0 == other.0
     }

@@ -1,4 +1,4 @@
-use Rattle.std.proofs.Common.{Bool, true, List, subst}
+use Rattle.std.proofs.Common.{Bool, true, subst}
 use Rattle.drd_fields.specs.Writing.{canonical_octets}
 use Rattle.drd_fields.specs.Equality.{TellsApart, canonical_field}
 use Rattle.drd_fields.specs.EqualityLaws.{front_tells}
