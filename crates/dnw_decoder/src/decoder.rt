@@ -1,5 +1,5 @@
 //! The decoder.
-ghost use Rattle.std.specs.Prelude.{◌≡◌, ◌+◌, ◌-◌, ◌<◌, ◌≤◌, ◌==◌, ◌∷◌, [], length, get_or, IfOk, IfErr, ◌⊎◌, slice_get, slice_range};
+ghost use Rattle.std.specs.Prelude.{◌≡◌, ◌+◌, ◌-◌, ◌<◌, ◌≤◌, ◌^◌, ◌==◌, ◌∷◌, [], length, get_or, IfOk, IfErr, ◌⊎◌, slice_get, slice_range};
 ghost use Rattle.std.specs.Option.{option_copied};
 ghost use Rattle.std.specs.Int.{w32, cast_unsigned};
 ghost use Rattle.dnw_codes.specs.declared.error.DecodeError.TheVariants.{InvalidPreviousIndex};
@@ -56,6 +56,7 @@ impl<'a> BinDecoder<'a> {
     pub fn index(&self) -> usize
         ensures value { result ≡ self.now.index }
         ensures within { result ≤ length self.now.octets }
+        ensures small { result < 2 ^ 63 }
     {
         self.index
     }
@@ -163,6 +164,7 @@ impl<'a> BinDecoder<'a> {
     /// A string: its octets stand behind one that holds their number (RFC 1035 3.3).
     pub fn read_character_data(&mut self) -> Result<Restrict<&'a [u8]>, DecodeError>
         ensures ok { IfOk result (λ string. Takes self.old (length string.now ∷ string.now) self.new) }
+        ensures short { IfOk result (λ string. length string.now ≤ 255) }
         ensures err { IfErr result (Lacks self.old (get_or self.old.octets self.old.index 0 + 1) self.new) }
     {
         let Some(length) = self.octets.get(self.index) else {

@@ -1,0 +1,7 @@
+pub mod Fields
+pub mod Reading
+pub mod FieldLaws
+pub mod Writing
+pub mod WritingLaws
+pub mod Equality
+pub mod EqualityLaws

@@ -1,0 +1,46 @@
+-- Why fields are not read.
+use Rattle.std.specs.Prelude.{◌≡◌, ℕ, ◌+◌, ◌<◌, List, [], ◌∷◌, length, get_or}
+use Rattle.std.proofs.Common.{◌⊎◌}
+use Rattle.dnw_codes.specs.declared.error.DecodeError.{DecodeError}
+use Rattle.dnw_codes.specs.declared.error.DecodeError.TheVariants.{InsufficientBytes}
+use Rattle.dnw_decoder.specs.Reading.{IsCut, IsWantOfMemory}
+use Rattle.dnw_decoder.specs.Refusals.{Refuses}
+use Rattle.dnw_decoder.specs.Spelling.{NameAt}
+use Rattle.dnw_name.specs.DomainName.{DomainName}
+use Rattle.drd_fields.specs.Fields.{Field, Kind, an_octet, a_short, a_long, a_name, a_string, all_strings, the_rest, kind_of, StringsAt, FieldAt}
+
+-- The octets from a place to the end of the data are not there: the place is behind it, or the message ends before.
+pub record LacksRest (message : List ℕ) (end place : ℕ) (e : DecodeError) : Type 0 where
+  pub cause : e ≡ InsufficientBytes
+  pub short : (end < place) ⊎ (length message < end)
+
+-- Strings stand up to a place before the end of the data, and the one there goes past that end, or past the message's;
+-- or the first one would begin behind the end.
+pub record LacksStrings (message : List ℕ) (end place : ℕ) (e : DecodeError) : Type 0 where
+  pub cause : e ≡ InsufficientBytes
+  pub front : List (List ℕ)
+  pub at : ℕ
+  pub there : StringsAt message place front at
+  pub short : ((front ≡ []) × (end < at)) ⊎ ((at < end) × ((end < at + (1 + get_or message at 0)) ⊎ (length message < at + (1 + get_or message at 0))))
+
+-- Reading a name reaches an element that can't be read, and none is spelled there.
+pub record LacksName (message : List ℕ) (place : ℕ) (e : DecodeError) : Type 0 where
+  pub cause : Refuses message place e
+  pub none : (name : DomainName) (end : ℕ) → NameAt message place name end → ⊥
+
+-- A field of a kind can't be read at a place, in data that go to an end.
+abbrev pub RefusesKind : List ℕ → ℕ → Kind → ℕ → DecodeError → Type 0
+RefusesKind message end an_octet place e = IsCut 1 message place e
+RefusesKind message end a_short place e = IsCut 2 message place e
+RefusesKind message end a_long place e = IsCut 4 message place e
+RefusesKind message end a_name place e = LacksName message place e
+RefusesKind message end a_string place e = IsCut (1 + get_or message place 0) message place e
+RefusesKind message end all_strings place e = LacksStrings message end place e
+RefusesKind message end the_rest place e = LacksRest message end place e
+
+-- The first of these fields can't be read, or it stands and one behind it can't; reading stopped at a place.
+abbrev pub Stops : List ℕ → ℕ → List Kind → ℕ → DecodeError → ℕ → Type 0
+Stops message end [] place e at = ⊥
+Stops message end (k ∷ ks) place e at =
+    ((IsWantOfMemory e ⊎ RefusesKind message end k place e) × (at ≡ place))
+    ⊎ ((f : Field) × (behind : ℕ) × (kind_of f ≡ k) × FieldAt message place f behind × Stops message end ks behind e at)

@@ -1,0 +1,271 @@
+//! Fields that are written.
+ghost use Rattle.std.specs.Prelude.{◌≡◌, ◌+◌, ◌≤◌, ◌⊎◌, ◌∷◌, [], List, ℕ, length, map, flat_map, IfErr, OnOk};
+ghost use Rattle.std.specs.Int.{w32, cast_unsigned};
+ghost use Rattle.dnw_encoder.specs.Encoders.{state};
+ghost use Rattle.dnw_encoder.specs.Effects.{Writes, IsRefusal};
+ghost use Rattle.dnw_encoder.specs.State.{rdata_encoding};
+ghost use Rattle.drd_fields.specs.Fields.{octet, short, long, name, string, strings, rest};
+ghost use Rattle.drd_fields.specs.Writing.{EmitsData, EmitsField, RefusesFields, SomeTooLong, string_octets};
+
+use dnw_codes::ProtoError;
+use dnw_encoder::{BinEncodable, BinEncoder, NameEncoding, RDataEncoding};
+use dnw_name::Name;
+
+/// A value that is written as one field.
+pub trait DataField {
+    ghost use Rattle.std.specs.Prelude.{◌≡◌, ◌⊎◌, length, IfErr, OnOk};
+    ghost use Rattle.dnw_encoder.specs.Encoders.{state};
+    ghost use Rattle.dnw_encoder.specs.Effects.{Writes, IsRefusal};
+    ghost use Rattle.drd_fields.specs.Fields.{Field};
+    ghost use Rattle.drd_fields.specs.Writing.{EmitsField, HasLongString, field_octets};
+    ghost use Rattle.drd_fields.specs.Equality.{IsFull, TellsApart, canonical_field, field_eq};
+
+    ghost field: { Self → Field };
+
+    /// Writes the field at the encoder's offset.
+    fn emit_field(&self, encoder: &mut BinEncoder<'_>) -> Result<(), ProtoError>
+        ensures same_reference { encoder.new.buffer.ghost_name ≡ encoder.old.buffer.ghost_name }
+        ensures writes { Writes (state encoder.old) (state encoder.new) }
+        ensures ok { OnOk result (EmitsField (field self.now) (state encoder.old) (state encoder.new)) }
+        ensures cause { IfErr result (λ e. IsRefusal (state encoder.old) (length (field_octets (field self.now))) e
+            ⊎ HasLongString (field self.now) e) };
+
+    /// Whether two fields are equal, names up to the case of ASCII letters. Of names that are fully qualified it tells
+    /// exactly whether the canonical octets of the fields are the same.
+    fn is_same(&self, other: &Self) -> bool
+        ensures value { result ≡ field_eq (field self.now) (field other.now) }
+        ensures canonical { IsFull (field self.now) → IsFull (field other.now)
+            → TellsApart result (canonical_field (field self.now)) (canonical_field (field other.now)) };
+}
+
+/// Values that are written as fields, one behind the other.
+pub trait DataFields {
+    ghost use Rattle.std.specs.Prelude.{◌≡◌, List, IfErr, OnOk};
+    ghost use Rattle.dnw_encoder.specs.Encoders.{state};
+    ghost use Rattle.dnw_encoder.specs.Effects.{Writes};
+    ghost use Rattle.drd_fields.specs.Fields.{Field};
+    ghost use Rattle.drd_fields.specs.Writing.{EmitsFields, RefusesFields, canonical_octets};
+    ghost use Rattle.drd_fields.specs.Equality.{AreFull, Tells, fields_eq};
+
+    ghost fields: { Self → List Field };
+
+    /// Writes the fields from the encoder's offset on.
+    fn emit_fields(&self, encoder: &mut BinEncoder<'_>) -> Result<(), ProtoError>
+        ensures same_reference { encoder.new.buffer.ghost_name ≡ encoder.old.buffer.ghost_name }
+        ensures writes { Writes (state encoder.old) (state encoder.new) }
+        ensures ok { OnOk result (EmitsFields (fields self.now) (state encoder.old) (state encoder.new)) }
+        ensures cause { IfErr result (RefusesFields (fields self.now) (state encoder.old)) };
+
+    /// Whether all fields are equal; of names that are fully qualified it tells exactly whether the canonical octets of
+    /// the data are the same.
+    fn are_same(&self, other: &Self) -> bool
+        ensures value { result ≡ fields_eq (fields self.now) (fields other.now) }
+        ensures canonical { AreFull (fields self.now) → AreFull (fields other.now)
+            → Tells result (canonical_octets (fields self.now)) (canonical_octets (fields other.now)) };
+}
+
+/// A string of at most 255 octets, to be written behind its length.
+#[derive(Clone, Copy)]
+pub struct StringField<'a>(pub &'a [u8]);
+
+/// Strings, to be written one behind the other.
+#[derive(Clone, Copy)]
+pub struct StringFields<'a>(pub &'a [Vec<u8>]);
+
+/// Octets, to be written as they are.
+#[derive(Clone, Copy)]
+pub struct RestField<'a>(pub &'a [u8]);
+
+impl DataField for u8 {
+    ghost field = { octet };
+
+    #[tactic(auto, using(crate::specs::WritingLaws::puts_octet))]
+    fn emit_field(&self, encoder: &mut BinEncoder<'_>) -> Result<(), ProtoError> {
+        encoder.emit_u8(*self)
+    }
+
+    #[tactic(auto, using(crate::specs::EqualityLaws::octet_apart))]
+    fn is_same(&self, other: &Self) -> bool {
+        *self == *other
+    }
+}
+
+impl DataField for u16 {
+    ghost field = { short };
+
+    #[tactic(auto, using(crate::specs::WritingLaws::puts_short))]
+    fn emit_field(&self, encoder: &mut BinEncoder<'_>) -> Result<(), ProtoError> {
+        encoder.emit_u16(*self)
+    }
+
+    #[tactic(auto, using(crate::specs::EqualityLaws::short_apart))]
+    fn is_same(&self, other: &Self) -> bool {
+        *self == *other
+    }
+}
+
+impl DataField for u32 {
+    ghost field = { long };
+
+    #[tactic(auto, using(crate::specs::WritingLaws::puts_long, crate::specs::WritingLaws::refused_long))]
+    fn emit_field(&self, encoder: &mut BinEncoder<'_>) -> Result<(), ProtoError> {
+        encoder.emit_u32(*self)
+    }
+
+    #[tactic(auto, using(crate::specs::EqualityLaws::long_apart))]
+    fn is_same(&self, other: &Self) -> bool {
+        *self == *other
+    }
+}
+
+impl DataField for i32 {
+    ghost field = { λ number. long (cast_unsigned w32 number) };
+
+    #[tactic(auto, using(crate::specs::WritingLaws::puts_long, crate::specs::WritingLaws::refused_long))]
+    fn emit_field(&self, encoder: &mut BinEncoder<'_>) -> Result<(), ProtoError> {
+        encoder.emit_i32(*self)
+    }
+
+    #[tactic(auto, using(crate::specs::EqualityLaws::long_apart))]
+    fn is_same(&self, other: &Self) -> bool {
+        self.cast_unsigned() == other.cast_unsigned()
+    }
+}
+
+impl DataField for &Name {
+    ghost field = { λ value. name value.now };
+
+    fn emit_field(&self, encoder: &mut BinEncoder<'_>) -> Result<(), ProtoError> {
+        (**self).emit(encoder)
+    }
+
+    #[tactic(auto, using(crate::specs::EqualityLaws::name_apart))]
+    fn is_same(&self, other: &Self) -> bool {
+        // Asked for their labels, both show that they are names.
+        let _labels = self.iter();
+        let _others = other.iter();
+        **self == **other
+    }
+}
+
+impl DataField for StringField<'_> {
+    ghost field = { λ value. string value.0.now };
+
+    #[tactic(auto, using(crate::specs::WritingLaws::puts_string))]
+    fn emit_field(&self, encoder: &mut BinEncoder<'_>) -> Result<(), ProtoError> {
+        encoder.emit_character_data(self.0)
+    }
+
+    #[tactic(auto, using(crate::specs::EqualityLaws::string_apart))]
+    fn is_same(&self, other: &Self) -> bool {
+        self.0 == other.0
+    }
+}
+
+impl DataFields for () {
+    ghost fields = { λ value. [] };
+
+    fn emit_fields(&self, encoder: &mut BinEncoder<'_>) -> Result<(), ProtoError> {
+        let _start = encoder.offset();
+        Ok(())
+    }
+
+    #[tactic(auto, using(crate::specs::EqualityLaws::nothing_tells))]
+    fn are_same(&self, _other: &Self) -> bool {
+        true
+    }
+}
+
+impl<A: DataField, B: DataFields> DataFields for (A, B) {
+    ghost fields = { λ value. A.field value.0 ∷ B.fields value.1 };
+
+    fn emit_fields(&self, encoder: &mut BinEncoder<'_>) -> Result<(), ProtoError> {
+        let _start = encoder.offset();
+        self.0.emit_field(encoder)?;
+        self.1.emit_fields(encoder)
+    }
+
+    #[tactic(auto, using(crate::specs::EqualityLaws::front_tells))]
+    fn are_same(&self, other: &Self) -> bool {
+        self.0.is_same(&other.0) && self.1.are_same(&other.1)
+    }
+}
+
+impl DataFields for RestField<'_> {
+    ghost fields = { λ value. rest value.0.now ∷ [] };
+
+    #[tactic(auto, using(crate::specs::WritingLaws::puts_rest, crate::specs::WritingLaws::emits_one))]
+    fn emit_fields(&self, encoder: &mut BinEncoder<'_>) -> Result<(), ProtoError> {
+        encoder.emit_vec(self.0)
+    }
+
+    #[tactic(auto, using(crate::specs::EqualityLaws::rest_tells))]
+    fn are_same(&self, other: &Self) -> bool {
+        self.0 == other.0
+    }
+}
+
+// Writes strings, each behind its length.
+fn emit_strings(encoder: &mut BinEncoder<'_>, texts: &[Vec<u8>]) -> Result<(), ProtoError>
+    ensures same_reference { encoder.new.buffer.ghost_name ≡ encoder.old.buffer.ghost_name }
+    ensures writes { Writes (state encoder.old) (state encoder.new) }
+    ensures ok { OnOk result (EmitsField (strings (map (λ s. s.items) texts.now)) (state encoder.old) (state encoder.new)) }
+    ensures cause { IfErr result (λ e. IsRefusal (state encoder.old) (length (flat_map string_octets (map (λ s. s.items) texts.now))) e
+        ⊎ SomeTooLong (map (λ s. s.items) texts.now) e) }
+{
+    let _start = encoder.offset();
+    let mut left = texts;
+    'strings: while let Some((first, later)) = left.split_first() {
+        match encoder.emit_character_data(first) {
+            Ok(()) => left = later,
+            Err(refused) => return Err(refused),
+        }
+    }
+    Ok(())
+}
+
+impl DataFields for StringFields<'_> {
+    ghost fields = { λ value. strings (map (λ s. s.items) value.0.now) ∷ [] };
+
+    fn emit_fields(&self, encoder: &mut BinEncoder<'_>) -> Result<(), ProtoError> {
+        emit_strings(encoder, self.0)
+    }
+
+    #[tactic(auto, using(crate::specs::EqualityLaws::strings_tell))]
+    fn are_same(&self, other: &Self) -> bool {
+        self.0 == other.0
+    }
+}
+
+// How names are written in data of a kind, where the encoder is in canonical form or not, and in this mode.
+fn names_of(kind: RDataEncoding, is_canonical: bool, former: NameEncoding) -> NameEncoding
+    ensures { result ≡ rdata_encoding kind is_canonical former }
+{
+    match (kind, is_canonical) {
+        (RDataEncoding::StandardRecord, false) => former,
+        (RDataEncoding::StandardRecord | RDataEncoding::Canonical, true) => {
+            NameEncoding::UncompressedLowercase
+        }
+        (RDataEncoding::Canonical, false) | (RDataEncoding::Other, _) => NameEncoding::Uncompressed,
+    }
+}
+
+/// Writes the data of a record at the encoder's offset, their names as data of this kind have them (RFC 3597 4, RFC 4034
+/// 6.2). Refused are data that would pass the maximum, and strings of more than 255 octets.
+pub fn emit_data<D: DataFields>(
+    encoder: &mut BinEncoder<'_>,
+    kind: RDataEncoding,
+    fields: &D,
+) -> Result<(), ProtoError>
+    ensures same_reference { encoder.new.buffer.ghost_name ≡ encoder.old.buffer.ghost_name }
+    ensures writes { Writes (state encoder.old) (state encoder.new) }
+    ensures ok { OnOk result (EmitsData kind (D.fields fields.now) (state encoder.old) (state encoder.new)) }
+    ensures cause { IfErr result (RefusesFields (D.fields fields.now) (state encoder.old)) }
+{
+    let former = encoder.name_encoding();
+    let names = names_of(kind, encoder.is_canonical_form(), former);
+    encoder.set_name_encoding(names);
+    let written = fields.emit_fields(encoder);
+    encoder.set_name_encoding(former);
+    written
+}

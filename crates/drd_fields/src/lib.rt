@@ -1,0 +1,17 @@
+//! Record data field by field (RFC 1035 3.3): each type's data are numbers, names, strings and octets, one behind the
+//! other. What is common to all types is read and written here, once.
+//!
+//! A type says which fields its data have, as a list that begins with the first one: `(u16, (Name, ()))` for MX. Two
+//! calls carry it: `read_data`, exactly where the fields stand, and `emit_data`, which writes what reads back.
+#![tactic(auto)]
+
+mod decodable;
+mod emit;
+mod fields;
+mod read;
+mod strings;
+
+pub use decodable::RecordDataDecodable;
+pub use emit::{DataField, DataFields, RestField, StringField, StringFields, emit_data};
+pub use fields::{CharacterString, CharacterStrings, Rest};
+pub use read::{ReadField, ReadFields, read_data, read_data_within};

@@ -1,0 +1,6 @@
+//! Record data that hold names.
+#![tactic(auto)]
+
+mod mx;
+
+pub use mx::MX;

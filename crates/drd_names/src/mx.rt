@@ -1,0 +1,84 @@
+//! MX (RFC 1035 3.3.9).
+ghost use Rattle.std.specs.Prelude.{◌≡◌, ◌∷◌, [], ℕ};
+ghost use Rattle.dnw_encoder.specs.declared.modes.RDataEncoding.TheVariants.{StandardRecord};
+ghost use Rattle.drd_fields.specs.Fields.{short, name, FieldsAt};
+ghost use Rattle.drd_fields.specs.Reading.{Stops};
+ghost use Rattle.drd_fields.specs.Equality.{AreFull, Tells, fields_eq};
+ghost use Rattle.drd_fields.specs.Writing.{EmitsData, RefusesFields, canonical_octets};
+ghost use Rattle.std.specs.Cmp.{partial_equiv_from_equiv};
+ghost use Rattle.drd_fields.specs.EqualityLaws.{data_equiv};
+ghost use Rattle.drd_names.specs.Fields.{mx_fields, mx_kinds};
+
+use dnw_codes::{DecodeError, ProtoError};
+use dnw_decoder::{BinDecodable, BinDecoder};
+use dnw_encoder::{BinEncodable, BinEncoder, RDataEncoding};
+use dnw_name::Name;
+use drd_fields::{DataFields, emit_data, read_data};
+use std::alloc::Global;
+
+/// A mail exchange: a host that takes the owner's mail, the one of the lowest preference first.
+#[derive(Debug, Drop)]
+pub struct MX {
+    pub preference: u16,
+    pub exchange: Name,
+}
+
+impl MX {
+    pub fn new(preference: u16, exchange: Name) -> MX
+        ensures preference { result.preference ≡ preference }
+        ensures exchange { result.exchange ≡ exchange }
+    {
+        MX {
+            preference,
+            exchange,
+        }
+    }
+
+    // The fields of the data.
+    fn fields(&self) -> (u16, (&Name, ()))
+        ensures { short result.0 ∷ name result.1.0.now ∷ [] ≡ mx_fields self.now }
+    {
+        (self.preference, (&self.exchange, ()))
+    }
+}
+
+impl BinDecodable for MX {
+    ghost reads = { λ message place mx end. FieldsAt message place (mx_fields mx) end };
+
+    ghost refuses = { λ message place e. (end at : ℕ) × Stops message end mx_kinds place e at };
+
+    fn read(alloc: Global, decoder: &mut BinDecoder<'_>) -> Result<MX, DecodeError> {
+        let (preference, (exchange, ())) = read_data(alloc, decoder)?;
+        Ok(MX::new(preference, exchange))
+    }
+}
+
+impl BinEncodable for MX {
+    ghost emits = { λ mx. EmitsData StandardRecord (mx_fields mx) };
+
+    ghost refuses = { λ mx old e new. RefusesFields (mx_fields mx) old e };
+
+    fn emit(&self, encoder: &mut BinEncoder<'_>) -> Result<(), ProtoError> {
+        emit_data(encoder, RDataEncoding::StandardRecord, &self.fields())
+    }
+}
+
+impl PartialEq for MX {
+    ghost eq = { λ a b. fields_eq (mx_fields a) (mx_fields b) };
+
+    ghost laws = { partial_equiv_from_equiv (data_equiv mx_fields) };
+
+    /// Whether the numbers are the same, and the names up to the case of ASCII letters. Of data that were read this is so
+    /// exactly where the canonical octets are the same (RFC 4034 6.3).
+    fn eq(&self, other: &MX) -> bool
+        ensures value { result ≡ fields_eq (mx_fields self.now) (mx_fields other.now) }
+        ensures canonical { AreFull (mx_fields self.now) → AreFull (mx_fields other.now)
+            → Tells result (canonical_octets (mx_fields self.now)) (canonical_octets (mx_fields other.now)) }
+    {
+        self.fields().are_same(&other.fields())
+    }
+}
+
+impl Eq for MX {
+    ghost laws = { data_equiv mx_fields };
+}

@@ -1,0 +1,5 @@
+pub mod EachWord
+pub mod JoinedLemmas
+pub mod Numbers
+pub mod Shorter
+pub mod TextLemmas

@@ -1,0 +1,5 @@
+pub mod Data
+pub mod Print
+pub mod Text
+pub mod Word
+pub mod Words

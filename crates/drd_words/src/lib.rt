@@ -1,0 +1,23 @@
+//! Record data in words (RFC 1035 5.1): what one word stands for, several words one behind the other, the words of
+//! a text, and what is printed in their place.
+//!
+//! `Word` reads one word and `Words` all that are left. `(A, B)` reads a word as `A` and the rest as `B`, and `()`
+//! that no word is left, so `(u16, (Name, ()))` reads the words of an MX record.
+#![tactic(auto)]
+
+mod data;
+mod print;
+mod text;
+mod tokens;
+mod word;
+mod words;
+
+pub use data::{Base64Data, HEX, HexData};
+pub use print::{fmt_base64, fmt_escaped};
+pub use text::read_text;
+pub use tokens::read_tokens;
+pub use word::{CharacterString, TimeInterval, TimeToLive, Word};
+pub use words::Words;
+
+#[cfg(test)]
+mod tests;
