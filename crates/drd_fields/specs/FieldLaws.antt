@@ -9,7 +9,7 @@ use Rattle.dnw_decoder.specs.Standing.{stands_head, stands_within, stands_same, 
 use Rattle.drd_fields.specs.Fields.{AreOrdered, Field, octet, short, long, name, string, strings, rest, Kind, kind_of, kinds_of, is_open, are_open, StringAt, StringsAt, FieldAt, FieldsAt}
 use Rattle.drd_fields.specs.Reading.{RefusesKind, Stops}
 
-strings_forward : (message : List ℕ) (place : ℕ) (ss : List (List ℕ)) (end : ℕ) → StringsAt message place ss end → place ≤ end
+pub strings_forward : (message : List ℕ) (place : ℕ) (ss : List (List ℕ)) (end : ℕ) → StringsAt message place ss end → place ≤ end
 strings_forward message place [] end there = omega (arith, there)
 strings_forward message place (s ∷ ss) end there = omega (arith, there.1.there.behind, strings_forward message there.0 ss end there.2)
 

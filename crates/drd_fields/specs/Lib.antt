@@ -5,3 +5,4 @@ pub mod Writing
 pub mod WritingLaws
 pub mod Equality
 pub mod EqualityLaws
+pub mod BackLaws

@@ -5,12 +5,14 @@
 //! calls carry it: `read_data`, exactly where the fields stand, and `emit_data`, which writes what reads back.
 #![tactic(auto)]
 
+mod back;
 mod decodable;
 mod emit;
 mod fields;
 mod read;
 mod strings;
 
+pub use back::is_read_back;
 pub use decodable::RecordDataDecodable;
 pub use emit::{DataField, DataFields, RestField, StringField, StringFields, emit_data};
 pub use fields::{CharacterString, CharacterStrings, Rest};
