@@ -1,13 +1,14 @@
 //! MX (RFC 1035 3.3.9).
-ghost use Rattle.std.specs.Prelude.{◌≡◌, ◌∷◌, [], ℕ};
+ghost use Rattle.std.specs.Prelude.{◌≡◌, ◌∷◌, [], ℕ, Some};
+ghost use Rattle.std.specs.Cmp.{partial_equiv_from_equiv};
 ghost use Rattle.dnw_encoder.specs.declared.modes.RDataEncoding.TheVariants.{StandardRecord};
 ghost use Rattle.drd_fields.specs.Fields.{short, name, FieldsAt};
 ghost use Rattle.drd_fields.specs.Reading.{Stops};
 ghost use Rattle.drd_fields.specs.Equality.{AreFull, Tells, fields_eq};
-ghost use Rattle.drd_fields.specs.Writing.{EmitsData, RefusesFields, canonical_octets};
-ghost use Rattle.std.specs.Cmp.{partial_equiv_from_equiv};
 ghost use Rattle.drd_fields.specs.EqualityLaws.{data_equiv};
+ghost use Rattle.drd_fields.specs.Writing.{EmitsData, RefusesFields, canonical_octets};
 ghost use Rattle.drd_names.specs.Fields.{mx_fields, mx_kinds};
+ghost use Rattle.drd_names.specs.Texts.{mx_print};
 
 use dnw_codes::{DecodeError, ProtoError};
 use dnw_decoder::{BinDecodable, BinDecoder};
@@ -15,9 +16,10 @@ use dnw_encoder::{BinEncodable, BinEncoder, RDataEncoding};
 use dnw_name::Name;
 use drd_fields::{DataFields, emit_data, read_data};
 use std::alloc::Global;
+use std::fmt;
 
 /// A mail exchange: a host that takes the owner's mail, the one of the lowest preference first.
-#[derive(Debug, Drop)]
+#[derive(Clone, Debug, Drop)]
 pub struct MX {
     pub preference: u16,
     pub exchange: Name,
@@ -81,4 +83,14 @@ impl PartialEq for MX {
 
 impl Eq for MX {
     ghost laws = { data_equiv mx_fields };
+}
+
+impl fmt::Display for MX {
+    ghost output = { λ mx. Some (mx_print mx) };
+
+    fn fmt<W: fmt::Write>(&self, f: &mut fmt::Formatter<W>) -> fmt::Result {
+        let preference = self.preference;
+        let exchange = &self.exchange;
+        write!(f, "{preference} {exchange}")
+    }
 }
