@@ -1,5 +1,7 @@
 //! ANAME (draft-ietf-dnsop-aname-04).
-ghost use Rattle.std.specs.Prelude.{◌≡◌, ◌∷◌, [], ℕ, Some};
+ghost use Rattle.std.specs.Prelude.{◌≡◌, ◌∷◌, ◌⊎◌, [], ℕ, List, Some, IfOk, IfErr, map};
+ghost use Rattle.std.specs.Iterator.{Drains, IsFinite};
+ghost use Rattle.std.specs.Option.{option_copied};
 ghost use Rattle.std.specs.Cmp.{partial_equiv_from_equiv};
 ghost use Rattle.dnw_encoder.specs.declared.modes.RDataEncoding.TheVariants.{Other};
 ghost use Rattle.dnw_name.specs.NamePrint.{name_print};
@@ -9,13 +11,17 @@ ghost use Rattle.drd_fields.specs.Equality.{AreFull, Tells, fields_eq};
 ghost use Rattle.drd_fields.specs.EqualityLaws.{data_equiv};
 ghost use Rattle.drd_fields.specs.Writing.{EmitsData, RefusesFields, canonical_octets};
 ghost use Rattle.drd_names.specs.Fields.{aname_fields, one_name};
+ghost use Rattle.drd_names.specs.Texts.{IsAnameText};
+ghost use Rattle.drd_words.specs.Word.{IsOutOfMemory};
 
-use dnw_codes::{DecodeError, ProtoError};
+use dnw_codes::{DecodeError, ParseError, ProtoError};
 use dnw_decoder::{BinDecodable, BinDecoder};
 use dnw_encoder::{BinEncodable, BinEncoder, RDataEncoding};
 use dnw_name::Name;
 use drd_fields::{DataFields, emit_data, read_data};
+use drd_words::read_tokens;
 use std::alloc::Global;
+use std::convert::AsStr;
 use std::fmt;
 
 /// A name whose addresses stand at the owner (draft-ietf-dnsop-aname-04).
@@ -23,6 +29,28 @@ use std::fmt;
 pub struct ANAME(pub Name);
 
 impl ANAME {
+    /// The data that words write: one name, which the origin completes if it is relative. Refused are words that are
+    /// missing, too many or unfit (RFC 1035 5.1).
+    pub fn from_tokens<I: Iterator + Drop>(
+        alloc: Global,
+        tokens: I,
+        origin: Option<&Name>,
+    ) -> Result<ANAME, ParseError>
+    where
+        I::Item: AsStr + Drop,
+        requires can { I.can_next tokens }
+        requires ends { IsFinite (I.remaining tokens) }
+        ensures ok { IfOk result (λ aname. (words : List I.Item) × Drains I.next_gives tokens words
+            × IsAnameText (map I.Item.text words) (option_copied origin.entry) aname) }
+        ensures refused { IfErr result (λ e. IsOutOfMemory e ⊎ ((words : List I.Item) × Drains I.next_gives tokens words
+            × ((aname : ANAME) → IsAnameText (map I.Item.text words) (option_copied origin.entry) aname → ⊥))) }
+    {
+        match read_tokens::<(Name, ()), I>(alloc, tokens, origin) {
+            Ok((name, ())) => Ok(ANAME(name)),
+            Err(refused) => Err(refused),
+        }
+    }
+
     // The fields of the data.
     fn fields(&self) -> (&Name, ())
         ensures { name result.0.now ∷ [] ≡ aname_fields self.now }

@@ -1,6 +1,9 @@
 //! SOA (RFC 1035 3.3.13).
-ghost use Rattle.std.specs.Prelude.{◌≡◌, ◌∷◌, [], ℕ, Some};
+ghost use Rattle.std.specs.Prelude.{◌≡◌, ◌∷◌, ◌⊎◌, [], ℕ, List, Some, IfOk, IfErr, map};
+ghost use Rattle.std.specs.Fmt.{WritesOnOk};
 ghost use Rattle.std.specs.Int.{w32, cast_unsigned};
+ghost use Rattle.std.specs.Iterator.{Drains, IsFinite};
+ghost use Rattle.std.specs.Option.{option_copied};
 ghost use Rattle.std.specs.Cmp.{partial_equiv_from_equiv};
 ghost use Rattle.dnw_encoder.specs.declared.modes.RDataEncoding.TheVariants.{StandardRecord};
 ghost use Rattle.drd_fields.specs.Fields.{long, name, FieldsAt};
@@ -10,18 +13,36 @@ ghost use Rattle.drd_fields.specs.EqualityLaws.{data_equiv};
 ghost use Rattle.drd_fields.specs.Writing.{EmitsData, RefusesFields, canonical_octets};
 ghost use Rattle.drd_names.specs.Fields.{soa_fields, soa_kinds};
 ghost use Rattle.drd_names.specs.Serials.{next_serial};
-ghost use Rattle.drd_names.specs.Texts.{soa_print};
+ghost use Rattle.drd_names.specs.Texts.{soa_print, numbers_print, IsSoaText};
+ghost use Rattle.drd_words.specs.Word.{IsOutOfMemory};
 
-use dnw_codes::{DecodeError, ProtoError};
+use dnw_codes::{DecodeError, ParseError, ProtoError};
 use dnw_decoder::{BinDecodable, BinDecoder};
 use dnw_encoder::{BinEncodable, BinEncoder, RDataEncoding};
 use dnw_name::Name;
 use drd_fields::{DataFields, emit_data, read_data};
+use drd_words::{TimeInterval, TimeToLive, read_tokens};
 use std::alloc::Global;
+use std::convert::AsStr;
 use std::fmt;
 
 // Two names, the serial number and four intervals.
 type SoaFields<'a> = (&'a Name, (&'a Name, (u32, (i32, (i32, (i32, (u32, ())))))));
+
+// The words of the data: two names, the serial number, three intervals and a time to live.
+type Written = (
+    Name,
+    (
+        Name,
+        (
+            u32,
+            (
+                TimeInterval,
+                (TimeInterval, (TimeInterval, (TimeToLive, ()))),
+            ),
+        ),
+    ),
+);
 
 /// The start of a zone of authority (RFC 1035 3.3.13).
 #[derive(Clone, Debug, Drop)]
@@ -76,6 +97,38 @@ impl SOA {
         ensures { self.new ≡ next_serial self.old }
     {
         self.serial = self.serial.wrapping_add(1);
+    }
+
+    /// The data that seven words write: two names, which the origin completes if they are relative, a number and four
+    /// times to live. Refused are words that are missing, too many or unfit (RFC 1035 5.1).
+    pub fn from_tokens<I: Iterator + Drop>(
+        alloc: Global,
+        tokens: I,
+        origin: Option<&Name>,
+    ) -> Result<SOA, ParseError>
+    where
+        I::Item: AsStr + Drop,
+        requires can { I.can_next tokens }
+        requires ends { IsFinite (I.remaining tokens) }
+        ensures ok { IfOk result (λ soa. (words : List I.Item) × Drains I.next_gives tokens words
+            × IsSoaText (map I.Item.text words) (option_copied origin.entry) soa) }
+        ensures refused { IfErr result (λ e. IsOutOfMemory e ⊎ ((words : List I.Item) × Drains I.next_gives tokens words
+            × ((soa : SOA) → IsSoaText (map I.Item.text words) (option_copied origin.entry) soa → ⊥))) }
+    {
+        match read_tokens::<Written, I>(alloc, tokens, origin) {
+            Ok((mname, (rname, (serial, (refresh, (retry, (expire, (minimum, ())))))))) => Ok(
+                SOA {
+                    mname,
+                    rname,
+                    serial,
+                    refresh: refresh.0,
+                    retry: retry.0,
+                    expire: expire.0,
+                    minimum: minimum.0,
+                },
+            ),
+            Err(refused) => Err(refused),
+        }
     }
 
     // The fields of the data.
@@ -151,16 +204,17 @@ impl fmt::Display for SOA {
     ghost output = { λ soa. Some (soa_print soa) };
 
     fn fmt<W: fmt::Write>(&self, f: &mut fmt::Formatter<W>) -> fmt::Result {
-        let (mname, rname, serial) = (&self.mname, &self.rname, self.serial);
-        let (refresh, retry, expire, minimum) = (
-            self.refresh,
-            self.retry,
-            self.expire,
-            self.minimum,
-        );
-        write!(
-            f,
-            "{mname} {rname} {serial} {refresh} {retry} {expire} {minimum}"
-        )
+        let (mname, rname) = (&self.mname, &self.rname);
+        write!(f, "{mname} {rname} ")?;
+        fmt_numbers(f, self)
     }
+}
+
+// Writes the serial number and the intervals.
+fn fmt_numbers<W: fmt::Write>(f: &mut fmt::Formatter<W>, soa: &SOA) -> fmt::Result
+    ensures { WritesOnOk W.write_str_gives f.old result (numbers_print soa.now) f.new }
+{
+    let (serial, minimum) = (soa.serial, soa.minimum);
+    let (refresh, retry, expire) = (soa.refresh, soa.retry, soa.expire);
+    write!(f, "{serial} {refresh} {retry} {expire} {minimum}")
 }

@@ -1,5 +1,7 @@
 //! SRV (RFC 2782).
-ghost use Rattle.std.specs.Prelude.{◌≡◌, ◌∷◌, [], ℕ, Some};
+ghost use Rattle.std.specs.Prelude.{◌≡◌, ◌∷◌, ◌⊎◌, [], ℕ, List, Some, IfOk, IfErr, map};
+ghost use Rattle.std.specs.Iterator.{Drains, IsFinite};
+ghost use Rattle.std.specs.Option.{option_copied};
 ghost use Rattle.std.specs.Cmp.{partial_equiv_from_equiv};
 ghost use Rattle.dnw_encoder.specs.declared.modes.RDataEncoding.TheVariants.{Canonical};
 ghost use Rattle.drd_fields.specs.Fields.{short, name, FieldsAt};
@@ -8,14 +10,17 @@ ghost use Rattle.drd_fields.specs.Equality.{AreFull, Tells, fields_eq};
 ghost use Rattle.drd_fields.specs.EqualityLaws.{data_equiv};
 ghost use Rattle.drd_fields.specs.Writing.{EmitsData, RefusesFields, canonical_octets};
 ghost use Rattle.drd_names.specs.Fields.{srv_fields, srv_kinds};
-ghost use Rattle.drd_names.specs.Texts.{srv_print};
+ghost use Rattle.drd_names.specs.Texts.{srv_print, IsSrvText};
+ghost use Rattle.drd_words.specs.Word.{IsOutOfMemory};
 
-use dnw_codes::{DecodeError, ProtoError};
+use dnw_codes::{DecodeError, ParseError, ProtoError};
 use dnw_decoder::{BinDecodable, BinDecoder};
 use dnw_encoder::{BinEncodable, BinEncoder, RDataEncoding};
 use dnw_name::Name;
 use drd_fields::{DataFields, emit_data, read_data};
+use drd_words::read_tokens;
 use std::alloc::Global;
+use std::convert::AsStr;
 use std::fmt;
 
 /// Where a service is offered: a host and its port. Of several the lowest priority comes first; those of one priority
@@ -40,6 +45,30 @@ impl SRV {
             weight,
             port,
             target,
+        }
+    }
+
+    /// The data that words write: priority, weight, port and target, a name that the origin completes if it is
+    /// relative. Refused are words that are missing, too many or unfit (RFC 1035 5.1).
+    pub fn from_tokens<I: Iterator + Drop>(
+        alloc: Global,
+        tokens: I,
+        origin: Option<&Name>,
+    ) -> Result<SRV, ParseError>
+    where
+        I::Item: AsStr + Drop,
+        requires can { I.can_next tokens }
+        requires ends { IsFinite (I.remaining tokens) }
+        ensures ok { IfOk result (λ srv. (words : List I.Item) × Drains I.next_gives tokens words
+            × IsSrvText (map I.Item.text words) (option_copied origin.entry) srv) }
+        ensures refused { IfErr result (λ e. IsOutOfMemory e ⊎ ((words : List I.Item) × Drains I.next_gives tokens words
+            × ((srv : SRV) → IsSrvText (map I.Item.text words) (option_copied origin.entry) srv → ⊥))) }
+    {
+        match read_tokens::<(u16, (u16, (u16, (Name, ())))), I>(alloc, tokens, origin) {
+            Ok((priority, (weight, (port, (target, ()))))) => Ok(SRV::new(
+                priority, weight, port, target,
+            )),
+            Err(refused) => Err(refused),
         }
     }
 
