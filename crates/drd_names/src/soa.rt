@@ -116,8 +116,10 @@ impl SOA {
             × ((soa : SOA) → IsSoaText (map I.Item.text words) (option_copied origin.entry) soa → ⊥))) }
     {
         match read_tokens::<Written, I>(alloc, tokens, origin) {
-            Ok((mname, (rname, (serial, (refresh, (retry, (expire, (minimum, ())))))))) => Ok(
-                SOA {
+            Ok(written) => {
+                let (mname, (rname, (serial, (refresh, (retry, (expire, (minimum, ()))))))) =
+                    written;
+                Ok(SOA {
                     mname,
                     rname,
                     serial,
@@ -125,8 +127,8 @@ impl SOA {
                     retry: retry.0,
                     expire: expire.0,
                     minimum: minimum.0,
-                },
-            ),
+                })
+            }
             Err(refused) => Err(refused),
         }
     }
