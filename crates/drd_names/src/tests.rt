@@ -2,6 +2,7 @@
 mod rows;
 
 use crate::{ANAME, CNAME, MX, NS, PTR, SOA, SRV};
+use dnw_codes::DecodeError;
 use dnw_decoder::{BinDecodable, BinDecoder};
 use dnw_encoder::{BinEncodable, BinEncoder, NameEncoding};
 use dnw_name::Name;
@@ -15,14 +16,18 @@ use std::process::Abort;
 use std::test::Fail;
 
 // The data at a place of a message, if they go to its end.
-fn whole<T: BinDecodable + Drop>(alloc: Global, message: &[u8], place: u16) -> Result<T, Fail> {
+fn whole<T: BinDecodable + Drop>(
+    alloc: Global,
+    message: &[u8],
+    place: u16,
+) -> Result<T, DecodeError> {
     if usize::from(place) > message.len() {
-        return Err(Fail::from("a place behind the message"));
+        return Err(DecodeError::InsufficientBytes);
     }
     let mut decoder = BinDecoder::new(message).clone(place);
     let read = T::read(alloc, &mut decoder)?;
     if !decoder.is_empty() {
-        return Err(Fail::from("octets behind the data"));
+        return Err(DecodeError::InsufficientBytes);
     }
     Ok(read)
 }
@@ -53,7 +58,11 @@ fn agrees<T: BinDecodable + BinEncodable + Display + Drop>(
     }
     for row in refused {
         let (message, place) = *row;
-        assert!(rt; whole::<T>(alloc, message, place).is_err());
+        match whole::<T>(alloc, message, place) {
+            Ok(_) => return Err(Fail::from("data that are refused were read")),
+            Err(DecodeError::Memory) => return Err(Fail::from("out of memory")),
+            Err(_) => {}
+        }
     }
     Ok(())
 }
@@ -106,6 +115,7 @@ fn stands_behind_owner<T: BinDecodable + BinEncodable + Drop>(
     let read: T = whole(alloc, message, place)?;
     let mut octets = Vec::new(alloc);
     let mut encoder = BinEncoder::new(&mut octets);
+    encoder.set_name_encoding(NameEncoding::Compressed);
     Name::from_ascii(alloc, "example.com.")?.emit(&mut encoder)?;
     read.emit(&mut encoder)?;
     let _octets = encoder.into_bytes();
