@@ -1,23 +1,30 @@
 //! MX (RFC 1035 3.3.9).
-ghost use Rattle.std.specs.Prelude.{◌≡◌, ◌∷◌, [], ℕ};
+ghost use Rattle.std.specs.Prelude.{◌≡◌, ◌∷◌, ◌⊎◌, [], ℕ, List, Some, IfOk, IfErr, map};
+ghost use Rattle.std.specs.Iterator.{Drains, IsFinite};
+ghost use Rattle.std.specs.Option.{option_copied};
+ghost use Rattle.std.specs.Cmp.{partial_equiv_from_equiv};
 ghost use Rattle.dnw_encoder.specs.declared.modes.RDataEncoding.TheVariants.{StandardRecord};
 ghost use Rattle.drd_fields.specs.Fields.{short, name, FieldsAt};
 ghost use Rattle.drd_fields.specs.Reading.{Stops};
 ghost use Rattle.drd_fields.specs.Equality.{AreFull, Tells, fields_eq};
-ghost use Rattle.drd_fields.specs.Writing.{EmitsData, RefusesFields, canonical_octets};
-ghost use Rattle.std.specs.Cmp.{partial_equiv_from_equiv};
 ghost use Rattle.drd_fields.specs.EqualityLaws.{data_equiv};
+ghost use Rattle.drd_fields.specs.Writing.{EmitsData, RefusesFields, canonical_octets};
 ghost use Rattle.drd_names.specs.Fields.{mx_fields, mx_kinds};
+ghost use Rattle.drd_names.specs.Texts.{mx_print, IsMxText};
+ghost use Rattle.drd_words.specs.Word.{IsOutOfMemory};
 
-use dnw_codes::{DecodeError, ProtoError};
+use dnw_codes::{DecodeError, ParseError, ProtoError};
 use dnw_decoder::{BinDecodable, BinDecoder};
 use dnw_encoder::{BinEncodable, BinEncoder, RDataEncoding};
 use dnw_name::Name;
 use drd_fields::{DataFields, emit_data, read_data};
+use drd_words::read_tokens;
 use std::alloc::Global;
+use std::convert::AsStr;
+use std::fmt;
 
 /// A mail exchange: a host that takes the owner's mail, the one of the lowest preference first.
-#[derive(Debug, Drop)]
+#[derive(Clone, Debug, Drop)]
 pub struct MX {
     pub preference: u16,
     pub exchange: Name,
@@ -31,6 +38,28 @@ impl MX {
         MX {
             preference,
             exchange,
+        }
+    }
+
+    /// The data that words write: the preference and the exchange, a name that the origin completes if it is
+    /// relative. Refused are words that are missing, too many or unfit (RFC 1035 5.1).
+    pub fn from_tokens<I: Iterator + Drop>(
+        alloc: Global,
+        tokens: I,
+        origin: Option<&Name>,
+    ) -> Result<MX, ParseError>
+    where
+        I::Item: AsStr + Drop,
+        requires can { I.can_next tokens }
+        requires ends { IsFinite (I.remaining tokens) }
+        ensures ok { IfOk result (λ mx. (words : List I.Item) × Drains I.next_gives tokens words
+            × IsMxText (map I.Item.text words) (option_copied origin.entry) mx) }
+        ensures refused { IfErr result (λ e. IsOutOfMemory e ⊎ ((words : List I.Item) × Drains I.next_gives tokens words
+            × ((mx : MX) → IsMxText (map I.Item.text words) (option_copied origin.entry) mx → ⊥))) }
+    {
+        match read_tokens::<(u16, (Name, ())), I>(alloc, tokens, origin) {
+            Ok((preference, (exchange, ()))) => Ok(MX::new(preference, exchange)),
+            Err(refused) => Err(refused),
         }
     }
 
@@ -81,4 +110,14 @@ impl PartialEq for MX {
 
 impl Eq for MX {
     ghost laws = { data_equiv mx_fields };
+}
+
+impl fmt::Display for MX {
+    ghost output = { λ mx. Some (mx_print mx) };
+
+    fn fmt<W: fmt::Write>(&self, f: &mut fmt::Formatter<W>) -> fmt::Result {
+        let preference = self.preference;
+        let exchange = &self.exchange;
+        write!(f, "{preference} {exchange}")
+    }
 }

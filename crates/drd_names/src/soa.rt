@@ -1,0 +1,222 @@
+//! SOA (RFC 1035 3.3.13).
+ghost use Rattle.std.specs.Prelude.{◌≡◌, ◌∷◌, ◌⊎◌, [], ℕ, List, Some, IfOk, IfErr, map};
+ghost use Rattle.std.specs.Fmt.{WritesOnOk};
+ghost use Rattle.std.specs.Int.{w32, cast_unsigned};
+ghost use Rattle.std.specs.Iterator.{Drains, IsFinite};
+ghost use Rattle.std.specs.Option.{option_copied};
+ghost use Rattle.std.specs.Cmp.{partial_equiv_from_equiv};
+ghost use Rattle.dnw_encoder.specs.declared.modes.RDataEncoding.TheVariants.{StandardRecord};
+ghost use Rattle.drd_fields.specs.Fields.{long, name, FieldsAt};
+ghost use Rattle.drd_fields.specs.Reading.{Stops};
+ghost use Rattle.drd_fields.specs.Equality.{AreFull, Tells, fields_eq};
+ghost use Rattle.drd_fields.specs.EqualityLaws.{data_equiv};
+ghost use Rattle.drd_fields.specs.Writing.{EmitsData, RefusesFields, canonical_octets};
+ghost use Rattle.drd_names.specs.Fields.{soa_fields, soa_kinds};
+ghost use Rattle.drd_names.specs.Serials.{next_serial};
+ghost use Rattle.drd_names.specs.Texts.{soa_print, numbers_print, IsSoaText};
+ghost use Rattle.drd_words.specs.Word.{IsOutOfMemory};
+
+use dnw_codes::{DecodeError, ParseError, ProtoError};
+use dnw_decoder::{BinDecodable, BinDecoder};
+use dnw_encoder::{BinEncodable, BinEncoder, RDataEncoding};
+use dnw_name::Name;
+use drd_fields::{DataFields, emit_data, read_data};
+use drd_words::{TimeInterval, TimeToLive, read_tokens};
+use std::alloc::Global;
+use std::convert::AsStr;
+use std::fmt;
+
+// Two names, the serial number and four intervals.
+type SoaFields<'a> = (&'a Name, (&'a Name, (u32, (i32, (i32, (i32, (u32, ())))))));
+
+// The words of the data: two names, the serial number, three intervals and a time to live.
+type Written = (
+    Name,
+    (
+        Name,
+        (
+            u32,
+            (
+                TimeInterval,
+                (TimeInterval, (TimeInterval, (TimeToLive, ()))),
+            ),
+        ),
+    ),
+);
+
+/// The start of a zone of authority (RFC 1035 3.3.13).
+#[derive(Clone, Debug, Drop)]
+pub struct SOA {
+    /// The name server that the zone's data come from.
+    pub mname: Name,
+    /// The mailbox of the person in charge, its local part as the first label.
+    pub rname: Name,
+    /// The version of the zone, a number on a circle (RFC 1982).
+    pub serial: u32,
+    /// Seconds until a secondary asks whether the zone has changed.
+    pub refresh: i32,
+    /// Seconds until it asks again where that failed.
+    pub retry: i32,
+    /// Seconds after which a zone that couldn't be refreshed is no longer served.
+    pub expire: i32,
+    /// Seconds that the absence of a name or type may be kept (RFC 2308 4).
+    pub minimum: u32,
+}
+
+impl SOA {
+    pub fn new(
+        mname: Name,
+        rname: Name,
+        serial: u32,
+        refresh: i32,
+        retry: i32,
+        expire: i32,
+        minimum: u32,
+    ) -> SOA
+        ensures mname { result.mname ≡ mname }
+        ensures rname { result.rname ≡ rname }
+        ensures serial { result.serial ≡ serial }
+        ensures refresh { result.refresh ≡ refresh }
+        ensures retry { result.retry ≡ retry }
+        ensures expire { result.expire ≡ expire }
+        ensures minimum { result.minimum ≡ minimum }
+    {
+        SOA {
+            mname,
+            rname,
+            serial,
+            refresh,
+            retry,
+            expire,
+            minimum,
+        }
+    }
+
+    /// The zone's version goes up by one, from 2^32 - 1 to 0 (RFC 1982 3.1).
+    pub fn increment_serial(&mut self)
+        ensures { self.new ≡ next_serial self.old }
+    {
+        self.serial = self.serial.wrapping_add(1);
+    }
+
+    /// The data that seven words write: two names, which the origin completes if they are relative, a number and four
+    /// times to live. Refused are words that are missing, too many or unfit (RFC 1035 5.1).
+    pub fn from_tokens<I: Iterator + Drop>(
+        alloc: Global,
+        tokens: I,
+        origin: Option<&Name>,
+    ) -> Result<SOA, ParseError>
+    where
+        I::Item: AsStr + Drop,
+        requires can { I.can_next tokens }
+        requires ends { IsFinite (I.remaining tokens) }
+        ensures ok { IfOk result (λ soa. (words : List I.Item) × Drains I.next_gives tokens words
+            × IsSoaText (map I.Item.text words) (option_copied origin.entry) soa) }
+        ensures refused { IfErr result (λ e. IsOutOfMemory e ⊎ ((words : List I.Item) × Drains I.next_gives tokens words
+            × ((soa : SOA) → IsSoaText (map I.Item.text words) (option_copied origin.entry) soa → ⊥))) }
+    {
+        match read_tokens::<Written, I>(alloc, tokens, origin) {
+            Ok(written) => {
+                let (mname, (rname, (serial, (refresh, (retry, (expire, (minimum, ()))))))) =
+                    written;
+                Ok(SOA {
+                    mname,
+                    rname,
+                    serial,
+                    refresh: refresh.0,
+                    retry: retry.0,
+                    expire: expire.0,
+                    minimum: minimum.0,
+                })
+            }
+            Err(refused) => Err(refused),
+        }
+    }
+
+    // The fields of the data.
+    fn fields(&self) -> SoaFields<'_>
+        ensures { name result.0.now ∷ name result.1.0.now ∷ long result.1.1.0 ∷ long (cast_unsigned w32 result.1.1.1.0)
+            ∷ long (cast_unsigned w32 result.1.1.1.1.0) ∷ long (cast_unsigned w32 result.1.1.1.1.1.0) ∷ long result.1.1.1.1.1.1.0 ∷ []
+            ≡ soa_fields self.now }
+    {
+        let times = (
+            self.refresh,
+            (self.retry, (self.expire, (self.minimum, ()))),
+        );
+        (&self.mname, (&self.rname, (self.serial, times)))
+    }
+}
+
+impl DataFields for SOA {
+    ghost fields = { soa_fields };
+
+    fn emit_fields(&self, encoder: &mut BinEncoder<'_>) -> Result<(), ProtoError> {
+        self.fields().emit_fields(encoder)
+    }
+
+    fn are_same(&self, other: &SOA) -> bool {
+        self.fields().are_same(&other.fields())
+    }
+}
+
+impl BinDecodable for SOA {
+    ghost reads = { λ message place soa end. FieldsAt message place (soa_fields soa) end };
+
+    ghost refuses = { λ message place e. (end at : ℕ) × Stops message end soa_kinds place e at };
+
+    fn read(alloc: Global, decoder: &mut BinDecoder<'_>) -> Result<SOA, DecodeError> {
+        let (mname, (rname, (serial, (refresh, (retry, (expire, (minimum, ()))))))) = read_data(
+            alloc, decoder,
+        )?;
+        Ok(SOA::new(mname, rname, serial, refresh, retry, expire, minimum))
+    }
+}
+
+impl BinEncodable for SOA {
+    ghost emits = { λ soa. EmitsData StandardRecord (soa_fields soa) };
+
+    ghost refuses = { λ soa old e new. RefusesFields (soa_fields soa) old e };
+
+    fn emit(&self, encoder: &mut BinEncoder<'_>) -> Result<(), ProtoError> {
+        emit_data(encoder, RDataEncoding::StandardRecord, self)
+    }
+}
+
+impl PartialEq for SOA {
+    ghost eq = { λ a b. fields_eq (soa_fields a) (soa_fields b) };
+
+    ghost laws = { partial_equiv_from_equiv (data_equiv soa_fields) };
+
+    /// Whether the numbers are the same, and the names up to the case of ASCII letters. Of data that were read this is so
+    /// exactly where the canonical octets are the same (RFC 4034 6.3).
+    fn eq(&self, other: &SOA) -> bool
+        ensures value { result ≡ fields_eq (soa_fields self.now) (soa_fields other.now) }
+        ensures canonical { AreFull (soa_fields self.now) → AreFull (soa_fields other.now)
+            → Tells result (canonical_octets (soa_fields self.now)) (canonical_octets (soa_fields other.now)) }
+    {
+        self.are_same(other)
+    }
+}
+
+impl Eq for SOA {
+    ghost laws = { data_equiv soa_fields };
+}
+
+impl fmt::Display for SOA {
+    ghost output = { λ soa. Some (soa_print soa) };
+
+    fn fmt<W: fmt::Write>(&self, f: &mut fmt::Formatter<W>) -> fmt::Result {
+        let (mname, rname) = (&self.mname, &self.rname);
+        write!(f, "{mname} {rname} ")?;
+        fmt_numbers(f, self)
+    }
+}
+
+// Writes the serial number and the intervals.
+fn fmt_numbers<W: fmt::Write>(f: &mut fmt::Formatter<W>, soa: &SOA) -> fmt::Result
+    ensures { WritesOnOk W.write_str_gives f.old result (numbers_print soa.now) f.new }
+{
+    let (serial, minimum) = (soa.serial, soa.minimum);
+    let (refresh, retry, expire) = (soa.refresh, soa.retry, soa.expire);
+    write!(f, "{serial} {refresh} {retry} {expire} {minimum}")
+}

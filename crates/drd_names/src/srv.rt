@@ -1,0 +1,135 @@
+//! SRV (RFC 2782).
+ghost use Rattle.std.specs.Prelude.{◌≡◌, ◌∷◌, ◌⊎◌, [], ℕ, List, Some, IfOk, IfErr, map};
+ghost use Rattle.std.specs.Iterator.{Drains, IsFinite};
+ghost use Rattle.std.specs.Option.{option_copied};
+ghost use Rattle.std.specs.Cmp.{partial_equiv_from_equiv};
+ghost use Rattle.dnw_encoder.specs.declared.modes.RDataEncoding.TheVariants.{Canonical};
+ghost use Rattle.drd_fields.specs.Fields.{short, name, FieldsAt};
+ghost use Rattle.drd_fields.specs.Reading.{Stops};
+ghost use Rattle.drd_fields.specs.Equality.{AreFull, Tells, fields_eq};
+ghost use Rattle.drd_fields.specs.EqualityLaws.{data_equiv};
+ghost use Rattle.drd_fields.specs.Writing.{EmitsData, RefusesFields, canonical_octets};
+ghost use Rattle.drd_names.specs.Fields.{srv_fields, srv_kinds};
+ghost use Rattle.drd_names.specs.Texts.{srv_print, IsSrvText};
+ghost use Rattle.drd_words.specs.Word.{IsOutOfMemory};
+
+use dnw_codes::{DecodeError, ParseError, ProtoError};
+use dnw_decoder::{BinDecodable, BinDecoder};
+use dnw_encoder::{BinEncodable, BinEncoder, RDataEncoding};
+use dnw_name::Name;
+use drd_fields::{DataFields, emit_data, read_data};
+use drd_words::read_tokens;
+use std::alloc::Global;
+use std::convert::AsStr;
+use std::fmt;
+
+/// Where a service is offered: a host and its port. Of several the lowest priority comes first; those of one priority
+/// share the load by their weights (RFC 2782).
+#[derive(Clone, Debug, Drop)]
+pub struct SRV {
+    pub priority: u16,
+    pub weight: u16,
+    pub port: u16,
+    pub target: Name,
+}
+
+impl SRV {
+    pub fn new(priority: u16, weight: u16, port: u16, target: Name) -> SRV
+        ensures priority { result.priority ≡ priority }
+        ensures weight { result.weight ≡ weight }
+        ensures port { result.port ≡ port }
+        ensures target { result.target ≡ target }
+    {
+        SRV {
+            priority,
+            weight,
+            port,
+            target,
+        }
+    }
+
+    /// The data that words write: priority, weight, port and target, a name that the origin completes if it is
+    /// relative. Refused are words that are missing, too many or unfit (RFC 1035 5.1).
+    pub fn from_tokens<I: Iterator + Drop>(
+        alloc: Global,
+        tokens: I,
+        origin: Option<&Name>,
+    ) -> Result<SRV, ParseError>
+    where
+        I::Item: AsStr + Drop,
+        requires can { I.can_next tokens }
+        requires ends { IsFinite (I.remaining tokens) }
+        ensures ok { IfOk result (λ srv. (words : List I.Item) × Drains I.next_gives tokens words
+            × IsSrvText (map I.Item.text words) (option_copied origin.entry) srv) }
+        ensures refused { IfErr result (λ e. IsOutOfMemory e ⊎ ((words : List I.Item) × Drains I.next_gives tokens words
+            × ((srv : SRV) → IsSrvText (map I.Item.text words) (option_copied origin.entry) srv → ⊥))) }
+    {
+        match read_tokens::<(u16, (u16, (u16, (Name, ())))), I>(alloc, tokens, origin) {
+            Ok((priority, (weight, (port, (target, ()))))) => Ok(SRV::new(
+                priority, weight, port, target,
+            )),
+            Err(refused) => Err(refused),
+        }
+    }
+
+    // The fields of the data.
+    fn fields(&self) -> (u16, (u16, (u16, (&Name, ()))))
+        ensures { short result.0 ∷ short result.1.0 ∷ short result.1.1.0 ∷ name result.1.1.1.0.now ∷ [] ≡ srv_fields self.now }
+    {
+        (
+            self.priority,
+            (self.weight, (self.port, (&self.target, ()))),
+        )
+    }
+}
+
+impl BinDecodable for SRV {
+    ghost reads = { λ message place srv end. FieldsAt message place (srv_fields srv) end };
+
+    ghost refuses = { λ message place e. (end at : ℕ) × Stops message end srv_kinds place e at };
+
+    fn read(alloc: Global, decoder: &mut BinDecoder<'_>) -> Result<SRV, DecodeError> {
+        let (priority, (weight, (port, (target, ())))) = read_data(alloc, decoder)?;
+        Ok(SRV::new(priority, weight, port, target))
+    }
+}
+
+impl BinEncodable for SRV {
+    ghost emits = { λ srv. EmitsData Canonical (srv_fields srv) };
+
+    ghost refuses = { λ srv old e new. RefusesFields (srv_fields srv) old e };
+
+    fn emit(&self, encoder: &mut BinEncoder<'_>) -> Result<(), ProtoError> {
+        emit_data(encoder, RDataEncoding::Canonical, &self.fields())
+    }
+}
+
+impl PartialEq for SRV {
+    ghost eq = { λ a b. fields_eq (srv_fields a) (srv_fields b) };
+
+    ghost laws = { partial_equiv_from_equiv (data_equiv srv_fields) };
+
+    /// Whether the numbers are the same, and the names up to the case of ASCII letters. Of data that were read this is so
+    /// exactly where the canonical octets are the same (RFC 4034 6.3).
+    fn eq(&self, other: &SRV) -> bool
+        ensures value { result ≡ fields_eq (srv_fields self.now) (srv_fields other.now) }
+        ensures canonical { AreFull (srv_fields self.now) → AreFull (srv_fields other.now)
+            → Tells result (canonical_octets (srv_fields self.now)) (canonical_octets (srv_fields other.now)) }
+    {
+        self.fields().are_same(&other.fields())
+    }
+}
+
+impl Eq for SRV {
+    ghost laws = { data_equiv srv_fields };
+}
+
+impl fmt::Display for SRV {
+    ghost output = { λ srv. Some (srv_print srv) };
+
+    fn fmt<W: fmt::Write>(&self, f: &mut fmt::Formatter<W>) -> fmt::Result {
+        let (priority, weight, port) = (self.priority, self.weight, self.port);
+        let target = &self.target;
+        write!(f, "{priority} {weight} {port} {target}")
+    }
+}
