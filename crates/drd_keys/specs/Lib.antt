@@ -1,0 +1,5 @@
+pub mod Cert
+pub mod Fields
+pub mod Print
+pub mod Sshfp
+pub mod Tlsa
