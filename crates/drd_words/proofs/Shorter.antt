@@ -1,5 +1,5 @@
 -- Behind a token less is left of the text.
-use Rattle.std.proofs.Common.{◌≡◌, ◌≢◌, ◌∙◌, ℕ, ◌<◌, ◌≤◌, suc, ◌++◌, ◌&&◌, ◌||◌, ◌==◌, Bool, true, false, not, cond, List, [], ◌∷◌, length, refl, sym, ap, subst, arith}
+use Rattle.std.proofs.Common.{◌≡◌, ℕ, ◌<◌, ◌≤◌, suc, ◌&&◌, ◌||◌, ◌==◌, Bool, true, false, not, cond, List, [], ◌∷◌, length, refl, ap, arith}
 use Rattle.std.specs.Prelude.{Result, Ok, Err, Option, Some, None, MatchBool}
 use Rattle.dnw_codes.specs.declared.error.LexerError.{LexerError}
 use Rattle.dnw_lexer.specs.Lexer.{Reading, before, Words, words_before, gap, is_blank, at_line_end, behind_line_end, begins_blank, without_blanks, line_end, without_comment, ends_word, PlainText, ends, plain, escaped, bracket, cut, StringText, ListText, closes, word, refused, unclosed, Lexeme, blank, end_of_line, Unread, unread, Given, lexeme_given, bare_lexeme, bare_given, string_given, list_given, BareToken, StringToken, ListToken, WordToken, LineToken, IsToken}
@@ -201,5 +201,9 @@ token-shorter u after lexeme h = by_test (u.front && begins_blank u.text) refl h
     by_test : (s : Bool) → (u.front && begins_blank u.text) ≡ s → MatchBool s (token_then lexeme after ≡ token_then blank (unread false (without_blanks u.text))) (LineToken u.front (without_comment (without_blanks u.text)) (Ok (Some lexeme, after))) → length after.text < length u.text
     by_test true e p = omega (arith, ap given_left p, blank-shorter u.text (and-second u.front (begins_blank u.text) e))
     by_test false e p =
-        omega (arith, comment-left (without_blanks u.text), blanks-left u.text,
-            line-shorter u.front (without_comment (without_blanks u.text)) lexeme after (comment-head (without_blanks u.text) (blanks-head u.text)) p)
+        omega (
+          arith,
+          comment-left (without_blanks u.text),
+          blanks-left u.text,
+          line-shorter u.front (without_comment (without_blanks u.text)) lexeme after (comment-head (without_blanks u.text) (blanks-head u.text)) p,
+        )

@@ -21,7 +21,11 @@ pub struct Base64Data(pub Vec<u8>);
 impl Words for Base64Data {
     ghost written = { λ words origin octets. IsBase64Words octets.0.items words };
 
-    fn from_words(alloc: Global, words: &[&str], _origin: Option<&Name>) -> Result<Base64Data, ParseError> {
+    fn from_words(
+        alloc: Global,
+        words: &[&str],
+        _origin: Option<&Name>,
+    ) -> Result<Base64Data, ParseError> {
         if words.is_empty() {
             return Err(ParseError::MissingToken("base64"));
         }
@@ -40,7 +44,11 @@ pub struct HexData(pub Vec<u8>);
 impl Words for HexData {
     ghost written = { λ words origin octets. IsHexWords octets.0.items words };
 
-    fn from_words(alloc: Global, words: &[&str], _origin: Option<&Name>) -> Result<HexData, ParseError> {
+    fn from_words(
+        alloc: Global,
+        words: &[&str],
+        _origin: Option<&Name>,
+    ) -> Result<HexData, ParseError> {
         if words.is_empty() {
             return Err(ParseError::MissingToken("hex"));
         }

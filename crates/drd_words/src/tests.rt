@@ -1,13 +1,4 @@
 //! Words of record data, by RFC 1035 5.1 and RFC 4648 10.
-use crate::{
-    Base64Data, CharacterString, HEX, HexData, TimeInterval, TimeToLive, Words, read_text, read_tokens,
-};
-use dnw_codes::ParseError;
-use dnw_name::Name;
-use std::net::{Ipv4Addr, Ipv6Addr};
-use std::process::Abort;
-use std::test::Fail;
-
 ghost use Rattle.std.specs.Prelude.{◌≡◌, ◌⊎◌, ℕ, List, Option, None, IfOk, IfErr, map};
 ghost use Rattle.std.specs.Iterator.{Drains, IsFinite};
 ghost use Rattle.std.specs.Option.{option_copied};
@@ -15,8 +6,17 @@ ghost use Rattle.drd_words.specs.Text.{TextWords};
 ghost use Rattle.drd_words.specs.Word.{IsOutOfMemory, IsNumberWord, IsNameWord};
 ghost use Rattle.drd_words.specs.Words.{NoWords, OneThen};
 
+use crate::{
+    Base64Data, CharacterString, HEX, HexData, TimeInterval, TimeToLive, Words, read_text,
+    read_tokens,
+};
+use dnw_codes::ParseError;
+use dnw_name::Name;
 use std::alloc::Global;
 use std::convert::AsStr;
+use std::net::{Ipv4Addr, Ipv6Addr};
+use std::process::Abort;
+use std::test::Fail;
 
 // A caller: the data of an MX record.
 #[derive(Drop)]
@@ -37,10 +37,13 @@ impl Exchange {
         requires ends { IsFinite (I.remaining tokens) }
         ensures ok { IfOk result (λ mx. (words : List I.Item) × Drains I.next_gives tokens words
             × OneThen (IsNumberWord 16 mx.preference) (OneThen (IsNameWord (option_copied origin.entry) mx.exchange) NoWords)
-                (map I.Item.text words)) }
+            (map I.Item.text words)) }
     {
         match read_tokens::<(u16, (Name, ())), I>(alloc, tokens, origin) {
-            Ok((preference, (exchange, ()))) => Ok(Exchange { preference, exchange }),
+            Ok((preference, (exchange, ()))) => Ok(Exchange {
+                preference,
+                exchange,
+            }),
             Err(refused) => Err(refused),
         }
     }
@@ -50,7 +53,10 @@ impl Exchange {
             × OneThen (IsNumberWord 16 mx.preference) (OneThen (IsNameWord None mx.exchange) NoWords) words) }
     {
         match read_text::<(u16, (Name, ()))>(alloc, text) {
-            Ok((preference, (exchange, ()))) => Ok(Exchange { preference, exchange }),
+            Ok((preference, (exchange, ()))) => Ok(Exchange {
+                preference,
+                exchange,
+            }),
             Err(refused) => Err(refused),
         }
     }
@@ -59,14 +65,33 @@ impl Exchange {
 #[test]
 fn a_caller(rt: HostRuntime) -> Result<(), Fail> {
     let origin = Name::from_ascii(rt.alloc(), "example.com.")?;
-    let words = ["010", "mail"];
-    let mx = Exchange::from_tokens(rt.alloc(), words.iter(), Some(&origin))?;
+    let mx = Exchange::from_tokens(
+        rt.alloc(),
+        "010 mail".split_ascii_whitespace(),
+        Some(&origin),
+    )?;
     assert_eq!(rt; mx.preference, 10);
-    assert_eq!(rt; mx.exchange.to_ascii(rt.alloc())?.as_str(), "mail.example.com.");
+    assert_eq!(rt;
+        mx.exchange.to_ascii(rt.alloc())?.as_str(),
+        "mail.example.com."
+    );
     let mx = Exchange::try_from_str(rt.alloc(), "  10 ( ; two words\n mail.example.com. )\n")?;
     assert_eq!(rt; mx.preference, 10);
-    assert_eq!(rt; mx.exchange.to_ascii(rt.alloc())?.as_str(), "mail.example.com.");
-    for text in ["", "10", "10 a. b.", "+1 a.", "65536 a.", "x a.", "10 @", "10 $TTL a.", "10 (a."] {
+    assert_eq!(rt;
+        mx.exchange.to_ascii(rt.alloc())?.as_str(),
+        "mail.example.com."
+    );
+    for text in [
+        "",
+        "10",
+        "10 a. b.",
+        "+1 a.",
+        "65536 a.",
+        "x a.",
+        "10 @",
+        "10 $TTL a.",
+        "10 (a.",
+    ] {
         assert!(rt; Exchange::try_from_str(rt.alloc(), text).is_err());
     }
     Ok(())
@@ -74,8 +99,10 @@ fn a_caller(rt: HostRuntime) -> Result<(), Fail> {
 
 #[test]
 fn words(rt: HostRuntime) -> Result<(), Fail> {
-    let (a, (b, (c, (d, ())))): (u8, (u32, (TimeToLive, (TimeInterval, ())))) =
-        read_text(rt.alloc(), "255 4294967295 1w2 2147483647")?;
+    let (a, (b, (c, (d, ())))): (u8, (u32, (TimeToLive, (TimeInterval, ())))) = read_text(
+        rt.alloc(),
+        "255 4294967295 1w2 2147483647",
+    )?;
     assert_eq!(rt; a, 255);
     assert_eq!(rt; b, 4_294_967_295);
     assert_eq!(rt; c, TimeToLive(604_802));
@@ -131,7 +158,10 @@ fn octets(rt: HostRuntime) -> Result<(), Fail> {
     for text in ["666F6f626172", "66 6f 6f6 26172"] {
         let HexData(read) = read_text(rt.alloc(), text)?;
         assert_eq!(rt; read.as_slice(), b"foobar".as_slice());
-        assert_eq!(rt; HEX.encode(rt.alloc(), read.as_slice())?.as_str(), "666f6f626172");
+        assert_eq!(rt;
+            HEX.encode(rt.alloc(), read.as_slice())?.as_str(),
+            "666f6f626172"
+        );
     }
     for text in ["", "666", "6g", "0x66"] {
         assert!(rt; read_text::<HexData>(rt.alloc(), text).is_err());

@@ -1,7 +1,7 @@
 //! The words of a text.
 ghost use Rattle.std.specs.Prelude.{◌≡◌, ◌≢◌, ◌++◌, ◌⊎◌, ℕ, List, None, Some, Ok, Err, OnOk, IfOk, IfErr, MatchResult, map, chars, true};
 ghost use Rattle.std.specs.String.{string_bytes};
-ghost use Rattle.dnw_codes.specs.declared.error.ParseError.TheVariants.{Lexer, UnexpectedToken};
+ghost use Rattle.dnw_codes.specs.declared.error.ParseError.TheVariants.{Lexer as Unlexed, UnexpectedToken};
 ghost use Rattle.dnw_codes.specs.declared.error.LexerError.TheVariants.{Memory};
 ghost use Rattle.dnw_lexer.specs.Lexer.{Lexeme, unread};
 ghost use Rattle.dnw_lexer.specs.Tokens.{IsLexeme};
@@ -58,7 +58,7 @@ fn words_of_text(alloc: Global, text: &str) -> Result<Vec<String>, ParseError>
 
 // The error for a token that can't be read. One for memory is the same for all that reads words.
 fn unreadable(refused: LexerError) -> ParseError
-    ensures { ((refused ≡ Memory) × IsOutOfMemory result) ⊎ ((refused ≢ Memory) × (result ≡ Lexer refused)) }
+    ensures { ((refused ≡ Memory) × IsOutOfMemory result) ⊎ ((refused ≢ Memory) × (result ≡ Unlexed refused)) }
 {
     match refused {
         LexerError::Memory => ParseError::Memory(AllocError),
@@ -70,7 +70,7 @@ fn unreadable(refused: LexerError) -> ParseError
 fn push_words(words: &mut Vec<String>, token: Token) -> Result<(), ParseError>
     ensures { (lexeme : Lexeme) → IsLexeme token lexeme → MatchResult result
         (λ done. (more : List (List ℕ)) × (lexeme_words lexeme ≡ Some more)
-            × (map string_bytes words.new.items ≡ map string_bytes words.old.items ++ more))
+        × (map string_bytes words.new.items ≡ map string_bytes words.old.items ++ more))
         (λ e. IsOutOfMemory e ⊎ ((e ≡ UnexpectedToken) × (lexeme_words lexeme ≡ None))) }
 {
     match token {

@@ -72,7 +72,11 @@ pub struct TimeToLive(pub u32);
 impl Word for TimeToLive {
     ghost written = { λ word origin time. IsTtlWord time.0 word };
 
-    fn from_word(_alloc: Global, word: &str, _origin: Option<&Name>) -> Result<TimeToLive, ParseError> {
+    fn from_word(
+        _alloc: Global,
+        word: &str,
+        _origin: Option<&Name>,
+    ) -> Result<TimeToLive, ParseError> {
         match parse_ttl(word) {
             Ok(seconds) => Ok(TimeToLive(seconds)),
             Err(refused) => Err(refused),
@@ -87,7 +91,11 @@ pub struct TimeInterval(pub i32);
 impl Word for TimeInterval {
     ghost written = { λ word origin interval. IsIntervalWord interval.0 word };
 
-    fn from_word(_alloc: Global, word: &str, _origin: Option<&Name>) -> Result<TimeInterval, ParseError> {
+    fn from_word(
+        _alloc: Global,
+        word: &str,
+        _origin: Option<&Name>,
+    ) -> Result<TimeInterval, ParseError> {
         let seconds = match parse_ttl(word) {
             Ok(seconds) => seconds,
             Err(refused) => return Err(refused),
@@ -155,7 +163,11 @@ impl CharacterString {
 impl Word for CharacterString {
     ghost written = { λ word origin string. IsStringWord string word };
 
-    fn from_word(alloc: Global, word: &str, _origin: Option<&Name>) -> Result<CharacterString, ParseError> {
+    fn from_word(
+        alloc: Global,
+        word: &str,
+        _origin: Option<&Name>,
+    ) -> Result<CharacterString, ParseError> {
         let octets = word.as_bytes();
         if octets.len() > CharacterString::MAX_LENGTH {
             return Err(ParseError::Message("a character string has at most 255 octets"));
@@ -172,7 +184,11 @@ impl Word for Ipv4Addr {
 
     ghost written = { λ word origin address. IsIpv4Text word address };
 
-    fn from_word(_alloc: Global, word: &str, _origin: Option<&Name>) -> Result<Ipv4Addr, ParseError> {
+    fn from_word(
+        _alloc: Global,
+        word: &str,
+        _origin: Option<&Name>,
+    ) -> Result<Ipv4Addr, ParseError> {
         match word.parse() {
             Ok(address) => Ok(address),
             Err(_) => Err(ParseError::AddrParse),
@@ -185,7 +201,11 @@ impl Word for Ipv6Addr {
 
     ghost written = { λ word origin address. IsIpv6Text word address };
 
-    fn from_word(_alloc: Global, word: &str, _origin: Option<&Name>) -> Result<Ipv6Addr, ParseError> {
+    fn from_word(
+        _alloc: Global,
+        word: &str,
+        _origin: Option<&Name>,
+    ) -> Result<Ipv6Addr, ParseError> {
         match word.parse() {
             Ok(address) => Ok(address),
             Err(_) => Err(ParseError::AddrParse),

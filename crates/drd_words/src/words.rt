@@ -27,7 +27,11 @@ pub trait Words: Sized + Drop {
 impl Words for () {
     ghost written = { λ words origin value. NoWords words };
 
-    fn from_words(_alloc: Global, words: &[&str], _origin: Option<&Name>) -> Result<(), ParseError> {
+    fn from_words(
+        _alloc: Global,
+        words: &[&str],
+        _origin: Option<&Name>,
+    ) -> Result<(), ParseError> {
         if words.is_empty() {
             Ok(())
         } else {
@@ -41,7 +45,11 @@ impl<A: Word, B: Words> Words for (A, B) {
     ghost written = { λ words origin value.
         OneThen (λ word. A.written word origin value.0) (λ rest. B.written rest origin value.1) words };
 
-    fn from_words(alloc: Global, words: &[&str], origin: Option<&Name>) -> Result<(A, B), ParseError> {
+    fn from_words(
+        alloc: Global,
+        words: &[&str],
+        origin: Option<&Name>,
+    ) -> Result<(A, B), ParseError> {
         let Some((first, rest)) = words.split_first() else {
             return Err(ParseError::MissingToken("a word"));
         };
@@ -55,7 +63,11 @@ impl<A: Word, B: Words> Words for (A, B) {
 impl<A: Word> Words for Vec<A> {
     ghost written = { λ words origin values. EachWord (λ x word. A.written word origin x) values.items words };
 
-    fn from_words(alloc: Global, words: &[&str], origin: Option<&Name>) -> Result<Vec<A>, ParseError> {
+    fn from_words(
+        alloc: Global,
+        words: &[&str],
+        origin: Option<&Name>,
+    ) -> Result<Vec<A>, ParseError> {
         let mut values = Vec::new(alloc);
         'words: for word in words {
             let value = match A::from_word(alloc, *word, origin) {

@@ -1,9 +1,8 @@
-use Rattle.std.proofs.Common.{◌≡◌, ◌∙◌, ◌++◌, ◌∷◌, [], ℕ, List, map, refl, sym, ap, subst}
+use Rattle.std.proofs.Common.{◌≡◌, ◌∙◌, ◌++◌, ◌∷◌, [], ℕ, List, map, ap, subst}
 use Rattle.std.specs.Prelude.{None}
 use Rattle.std.specs.Str.{encode_utf8_all}
 use Rattle.std.specs.String.{string_bytes}
 use Rattle.std.proofs.lemmas.List.{map-append}
-use Rattle.dnw_lexer.specs.Lexer.{Lexeme}
 use Rattle.dnw_lexer.specs.Tokens.{IsLexeme}
 use Rattle.dnw_lexer.specs.declared.token.Token.{Token}
 use Rattle.dnw_codes.specs.declared.error.ParseError.TheVariants.{UnexpectedToken}

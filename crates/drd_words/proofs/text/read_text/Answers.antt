@@ -1,4 +1,4 @@
-use Rattle.std.proofs.Common.{true, map, ap, ◌∙◌, ◌⊎◌, inl, inr}
+use Rattle.std.proofs.Common.{true, map, ap, ◌∙◌}
 use Rattle.std.specs.Prelude.{chars, None}
 use Rattle.std.specs.String.{string_bytes}
 use Rattle.dnw_lexer.specs.Lexer.{unread}

@@ -32,6 +32,7 @@ pub returns-in-Err-push_words-clause-refused : goal.returns-in-Err-push_words-cl
 returns-in-Err-push_words-clause-refused c =
     let at = token-at c.tokens.lexer c.next_token.new.self c.in-Ok-Some.field-0 c.in-Ok-Some.token c.in-Ok-Some.field-0-is c.in-Ok-Some.ensures.ok in
     elim (c.in-Err-push_words.ensures at.0 at.1) [
-      inl m ↦ inl m
-    | inr h ↦ inr (so_far-misplaced (unread true (chars c.args.text.now)) (map string_bytes c.tokens.words.items) c.tokens.lexer c.next_token.new.self at.0
-          c.in-Err-push_words.refused c.tokens.invariant at.2 h.1 h.0) ]
+      | inl m ↦ inl m
+      | inr h ↦ inr (so_far-misplaced (unread true (chars c.args.text.now)) (map string_bytes c.tokens.words.items) c.tokens.lexer c.next_token.new.self at.0
+          c.in-Err-push_words.refused c.tokens.invariant at.2 h.1 h.0)
+    ]

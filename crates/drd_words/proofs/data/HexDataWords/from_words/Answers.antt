@@ -1,5 +1,4 @@
 use Rattle.std.proofs.Common.{◌∙◌, ℕ, List, ◌⊎◌, inl, inr}
-use Rattle.std.specs.String.{string_bytes}
 use Rattle.drd_words.specs.Data.{IsHexText}
 use Rattle.drd_words.specs.declared.data.HexData.{HexData}
 use Rattle.drd_words.proofs.JoinedLemmas.{joined-whole, joined-refused}
