@@ -2,4 +2,5 @@ pub mod Cert
 pub mod Fields
 pub mod Print
 pub mod Sshfp
+pub mod Texts
 pub mod Tlsa

@@ -1,5 +1,6 @@
 //! CERT (RFC 4398).
-ghost use Rattle.std.specs.Prelude.{◌≡◌, ◌∷◌, [], ℕ, Some, IfOk};
+ghost use Rattle.std.specs.Prelude.{◌≡◌, ◌∷◌, [], ℕ, Some, IfOk, ◌⊎◌, List, IfErr, map};
+ghost use Rattle.std.specs.Iterator.{Drains, IsFinite};
 ghost use Rattle.std.specs.Cmp.Rules.{comparing};
 ghost use Rattle.std.proofs.Common.{rules};
 ghost use Rattle.std.specs.Cmp.{partial_equiv_from_equiv};
@@ -14,14 +15,18 @@ ghost use Rattle.base64.specs.GeneralPurpose.{encode_of};
 ghost use Rattle.std.specs.String.{string_bytes};
 ghost use Rattle.drd_keys.specs.Fields.{cert_fields, cert_kinds};
 ghost use Rattle.drd_keys.specs.Print.{cert_print};
+ghost use Rattle.drd_words.specs.Word.{IsOutOfMemory};
+ghost use Rattle.drd_keys.specs.Texts.{IsCertText};
 
-use crate::print::fmt_base64;
 use base64::engine::general_purpose::STANDARD;
-use dnw_codes::{DecodeError, ProtoError, Restrict};
+use dnw_codes::{DecodeError, ParseError, ProtoError, Restrict};
 use dnw_decoder::BinDecoder;
 use dnw_encoder::{BinEncodable, BinEncoder, RDataEncoding};
+use dnw_name::Name;
 use drd_fields::{DataFields, RecordDataDecodable, Rest, RestField, emit_data, read_data_within};
+use drd_words::{Base64Data, fmt_base64, read_tokens};
 use std::alloc::{AllocError, Global};
+use std::convert::AsStr;
 use std::fmt;
 
 /// The kind of a certificate (RFC 4398 2.1). Two are equal where their numbers are.
@@ -261,6 +266,27 @@ impl CERT {
         ensures { IfOk result (λ text. string_bytes text ≡ encode_of standard self.now.cert_data.items) }
     {
         STANDARD.encode(alloc, &self.cert_data)
+    }
+
+    /// Reads three numbers, and the certificate in base64, in one word or several (RFC 4398 2.2). Refused are other words.
+    pub fn from_tokens<I: Iterator + Drop>(
+        alloc: Global,
+        tokens: I,
+        origin: Option<&Name>,
+    ) -> Result<CERT, ParseError>
+    where
+        I::Item: AsStr + Drop,
+        requires can { I.can_next tokens }
+        requires ends { IsFinite (I.remaining tokens) }
+        ensures ok { IfOk result (λ cert. (words : List I.Item) × Drains I.next_gives tokens words × IsCertText (map I.Item.text words) cert) }
+        ensures refused { IfErr result (λ e. IsOutOfMemory e ⊎ ((words : List I.Item) × Drains I.next_gives tokens words
+            × ((cert : CERT) → IsCertText (map I.Item.text words) cert → ⊥))) }
+    {
+        let (cert_type, (key_tag, (algorithm, Base64Data(octets)))) = read_tokens::<
+            (u16, (u16, (u8, Base64Data))),
+            I,
+        >(alloc, tokens, origin)?;
+        Ok(CERT::new(cert_type.into(), key_tag, algorithm.into(), octets))
     }
 
     // The fields of the data.

@@ -10,11 +10,11 @@ ghost use Rattle.drd_fields.specs.Writing.{EmitsData, RefusesFields, canonical_o
 ghost use Rattle.drd_keys.specs.Fields.{null_fields, null_kinds};
 ghost use Rattle.drd_keys.specs.Print.{null_print};
 
-use crate::print::fmt_base64;
 use dnw_codes::{DecodeError, ProtoError, Restrict};
 use dnw_decoder::BinDecoder;
 use dnw_encoder::{BinEncodable, BinEncoder, RDataEncoding};
 use drd_fields::{DataFields, RecordDataDecodable, Rest, RestField, emit_data, read_data_within};
+use drd_words::fmt_base64;
 use std::alloc::Global;
 use std::fmt;
 

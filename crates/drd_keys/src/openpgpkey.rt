@@ -1,5 +1,6 @@
 //! OPENPGPKEY (RFC 7929).
-ghost use Rattle.std.specs.Prelude.{◌≡◌, ◌∷◌, [], ℕ, Some, IfOk};
+ghost use Rattle.std.specs.Prelude.{◌≡◌, ◌∷◌, [], ℕ, Some, IfOk, ◌⊎◌, List, IfErr, map};
+ghost use Rattle.std.specs.Iterator.{Drains, IsFinite};
 ghost use Rattle.std.specs.Cmp.{partial_equiv_from_equiv};
 ghost use Rattle.dnw_encoder.specs.declared.modes.RDataEncoding.TheVariants.{Other};
 ghost use Rattle.drd_fields.specs.Fields.{rest, FieldsAt};
@@ -9,13 +10,17 @@ ghost use Rattle.drd_fields.specs.Reading.{Stops};
 ghost use Rattle.drd_fields.specs.Writing.{EmitsData, RefusesFields, canonical_octets};
 ghost use Rattle.drd_keys.specs.Fields.{openpgpkey_fields, openpgpkey_kinds};
 ghost use Rattle.drd_keys.specs.Print.{openpgpkey_print};
+ghost use Rattle.drd_words.specs.Word.{IsOutOfMemory};
+ghost use Rattle.drd_keys.specs.Texts.{IsOpenpgpkeyText};
 
-use crate::print::fmt_base64;
-use dnw_codes::{DecodeError, ProtoError, Restrict};
+use dnw_codes::{DecodeError, ParseError, ProtoError, Restrict};
 use dnw_decoder::BinDecoder;
 use dnw_encoder::{BinEncodable, BinEncoder, RDataEncoding};
+use dnw_name::Name;
 use drd_fields::{DataFields, RecordDataDecodable, Rest, RestField, emit_data, read_data_within};
+use drd_words::{Base64Data, fmt_base64, read_tokens};
 use std::alloc::Global;
+use std::convert::AsStr;
 use std::fmt;
 
 /// The OpenPGP public key of a mail address.
@@ -29,6 +34,24 @@ impl OPENPGPKEY {
         ensures { result.public_key ≡ public_key }
     {
         OPENPGPKEY { public_key }
+    }
+
+    /// Reads the key in base64, in one word or several (RFC 7929 2.3). Refused are other words.
+    pub fn from_tokens<I: Iterator + Drop>(
+        alloc: Global,
+        tokens: I,
+        origin: Option<&Name>,
+    ) -> Result<OPENPGPKEY, ParseError>
+    where
+        I::Item: AsStr + Drop,
+        requires can { I.can_next tokens }
+        requires ends { IsFinite (I.remaining tokens) }
+        ensures ok { IfOk result (λ key. (words : List I.Item) × Drains I.next_gives tokens words × IsOpenpgpkeyText (map I.Item.text words) key) }
+        ensures refused { IfErr result (λ e. IsOutOfMemory e ⊎ ((words : List I.Item) × Drains I.next_gives tokens words
+            × ((key : OPENPGPKEY) → IsOpenpgpkeyText (map I.Item.text words) key → ⊥))) }
+    {
+        let Base64Data(public_key) = read_tokens::<Base64Data, I>(alloc, tokens, origin)?;
+        Ok(OPENPGPKEY::new(public_key))
     }
 
     // The fields of the data.

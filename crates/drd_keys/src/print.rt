@@ -1,21 +1,9 @@
 //! Printed octets.
 ghost use Rattle.std.specs.Prelude.{◌<◌, ◌∷◌, []};
 ghost use Rattle.std.specs.Fmt.{WritesOnOk};
-ghost use Rattle.base64.specs.Engines.{standard};
-ghost use Rattle.base64.specs.GeneralPurpose.{encode_of};
 ghost use Rattle.drd_keys.specs.Print.{hex_digit, hex_octet, hex_print};
 
-use base64::display::Base64Display;
-use base64::engine::general_purpose::STANDARD;
 use std::fmt;
-
-// Writes octets in base64 (RFC 4648 4), with its padding.
-pub(crate) fn fmt_base64<W: fmt::Write>(f: &mut fmt::Formatter<W>, octets: &[u8]) -> fmt::Result
-    ensures { WritesOnOk W.write_str_gives f.old result (encode_of standard octets.now) f.new }
-{
-    let shown = Base64Display::new(octets, &STANDARD);
-    fmt::Display::fmt(&shown, f)
-}
 
 // Writes octets in hex (RFC 4648 8), in lower case.
 pub(crate) fn fmt_hex<W: fmt::Write>(f: &mut fmt::Formatter<W>, octets: &[u8]) -> fmt::Result

@@ -1,5 +1,6 @@
 //! SMIMEA (RFC 8162).
-ghost use Rattle.std.specs.Prelude.{◌≡◌, Some};
+ghost use Rattle.std.specs.Prelude.{◌≡◌, Some, ◌⊎◌, List, IfOk, IfErr, map};
+ghost use Rattle.std.specs.Iterator.{Drains, IsFinite};
 ghost use Rattle.std.specs.Cmp.{partial_equiv_from_equiv};
 ghost use Rattle.dnw_encoder.specs.declared.modes.RDataEncoding.TheVariants.{Other};
 ghost use Rattle.drd_fields.specs.Equality.{Tells, fields_eq};
@@ -9,13 +10,17 @@ ghost use Rattle.drd_fields.specs.Reading.{Stops};
 ghost use Rattle.drd_fields.specs.Writing.{EmitsData, RefusesFields, canonical_octets};
 ghost use Rattle.drd_keys.specs.Fields.{smimea_fields, smimea_kinds};
 ghost use Rattle.drd_keys.specs.Print.{smimea_print};
+ghost use Rattle.drd_words.specs.Word.{IsOutOfMemory};
+ghost use Rattle.drd_keys.specs.Texts.{IsSmimeaText};
 
 use crate::tlsa::{CertUsage, Matching, Selector, TLSA};
-use dnw_codes::{DecodeError, ProtoError, Restrict};
+use dnw_codes::{DecodeError, ParseError, ProtoError, Restrict};
 use dnw_decoder::BinDecoder;
 use dnw_encoder::{BinEncodable, BinEncoder};
+use dnw_name::Name;
 use drd_fields::RecordDataDecodable;
 use std::alloc::Global;
+use std::convert::AsStr;
 use std::fmt;
 
 /// The certificate, or the key, of the holder of a mail address, in the form of TLSA.
@@ -35,6 +40,23 @@ impl SMIMEA {
         ensures cert_data { result.0.cert_data ≡ cert_data }
     {
         SMIMEA(TLSA::new(cert_usage, selector, matching, cert_data))
+    }
+
+    /// Reads the words of TLSA (RFC 8162 2). Refused are other words.
+    pub fn from_tokens<I: Iterator + Drop>(
+        alloc: Global,
+        tokens: I,
+        origin: Option<&Name>,
+    ) -> Result<SMIMEA, ParseError>
+    where
+        I::Item: AsStr + Drop,
+        requires can { I.can_next tokens }
+        requires ends { IsFinite (I.remaining tokens) }
+        ensures ok { IfOk result (λ smimea. (words : List I.Item) × Drains I.next_gives tokens words × IsSmimeaText (map I.Item.text words) smimea) }
+        ensures refused { IfErr result (λ e. IsOutOfMemory e ⊎ ((words : List I.Item) × Drains I.next_gives tokens words
+            × ((smimea : SMIMEA) → IsSmimeaText (map I.Item.text words) smimea → ⊥))) }
+    {
+        Ok(SMIMEA(TLSA::from_tokens(alloc, tokens, origin)?))
     }
 }
 

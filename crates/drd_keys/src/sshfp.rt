@@ -1,5 +1,6 @@
 //! SSHFP (RFC 4255).
-ghost use Rattle.std.specs.Prelude.{◌≡◌, ◌∷◌, [], ℕ, Some, IfOk};
+ghost use Rattle.std.specs.Prelude.{◌≡◌, ◌∷◌, [], ℕ, Some, IfOk, ◌⊎◌, List, IfErr, map};
+ghost use Rattle.std.specs.Iterator.{Drains, IsFinite};
 ghost use Rattle.std.specs.Cmp.Rules.{comparing};
 ghost use Rattle.std.proofs.Common.{rules};
 ghost use Rattle.std.specs.Cmp.{partial_equiv_from_equiv};
@@ -11,13 +12,18 @@ ghost use Rattle.drd_fields.specs.Reading.{Stops};
 ghost use Rattle.drd_fields.specs.Writing.{EmitsData, RefusesFields, canonical_octets};
 ghost use Rattle.drd_keys.specs.Fields.{sshfp_fields, sshfp_kinds};
 ghost use Rattle.drd_keys.specs.Print.{sshfp_print};
+ghost use Rattle.drd_words.specs.Word.{IsOutOfMemory};
+ghost use Rattle.drd_keys.specs.Texts.{IsSshfpText};
 
 use crate::print::fmt_hex;
-use dnw_codes::{DecodeError, ProtoError, Restrict};
+use dnw_codes::{DecodeError, ParseError, ProtoError, Restrict};
 use dnw_decoder::BinDecoder;
 use dnw_encoder::{BinEncodable, BinEncoder, RDataEncoding};
+use dnw_name::Name;
 use drd_fields::{DataFields, RecordDataDecodable, Rest, RestField, emit_data, read_data_within};
+use drd_words::{HexData, read_tokens};
 use std::alloc::Global;
+use std::convert::AsStr;
 use std::fmt;
 
 /// The algorithm of a host's key. Two algorithms are equal where their numbers are.
@@ -164,6 +170,27 @@ impl SSHFP {
             fingerprint_type,
             fingerprint,
         }
+    }
+
+    /// Reads two numbers, and the fingerprint in hex, in one word or several (RFC 4255 3.2). Refused are other words.
+    pub fn from_tokens<I: Iterator + Drop>(
+        alloc: Global,
+        tokens: I,
+        origin: Option<&Name>,
+    ) -> Result<SSHFP, ParseError>
+    where
+        I::Item: AsStr + Drop,
+        requires can { I.can_next tokens }
+        requires ends { IsFinite (I.remaining tokens) }
+        ensures ok { IfOk result (λ sshfp. (words : List I.Item) × Drains I.next_gives tokens words × IsSshfpText (map I.Item.text words) sshfp) }
+        ensures refused { IfErr result (λ e. IsOutOfMemory e ⊎ ((words : List I.Item) × Drains I.next_gives tokens words
+            × ((sshfp : SSHFP) → IsSshfpText (map I.Item.text words) sshfp → ⊥))) }
+    {
+        let (algorithm, (fingerprint_type, HexData(octets))) = read_tokens::<
+            (u8, (u8, HexData)),
+            I,
+        >(alloc, tokens, origin)?;
+        Ok(SSHFP::new(algorithm.into(), fingerprint_type.into(), octets))
     }
 
     // The fields of the data.

@@ -1,5 +1,6 @@
 //! TLSA (RFC 6698).
-ghost use Rattle.std.specs.Prelude.{◌≡◌, ◌∷◌, [], ℕ, Some, IfOk};
+ghost use Rattle.std.specs.Prelude.{◌≡◌, ◌∷◌, [], ℕ, Some, IfOk, ◌⊎◌, List, IfErr, map};
+ghost use Rattle.std.specs.Iterator.{Drains, IsFinite};
 ghost use Rattle.std.specs.Cmp.Rules.{comparing};
 ghost use Rattle.std.proofs.Common.{rules};
 ghost use Rattle.std.specs.Cmp.{partial_equiv_from_equiv};
@@ -11,13 +12,18 @@ ghost use Rattle.drd_fields.specs.Reading.{Stops};
 ghost use Rattle.drd_fields.specs.Writing.{EmitsData, RefusesFields, canonical_octets};
 ghost use Rattle.drd_keys.specs.Fields.{tlsa_fields, tlsa_kinds};
 ghost use Rattle.drd_keys.specs.Print.{tlsa_print};
+ghost use Rattle.drd_words.specs.Word.{IsOutOfMemory};
+ghost use Rattle.drd_keys.specs.Texts.{IsTlsaText};
 
 use crate::print::fmt_hex;
-use dnw_codes::{DecodeError, ProtoError, Restrict};
+use dnw_codes::{DecodeError, ParseError, ProtoError, Restrict};
 use dnw_decoder::BinDecoder;
 use dnw_encoder::{BinEncodable, BinEncoder, RDataEncoding};
+use dnw_name::Name;
 use drd_fields::{DataFields, RecordDataDecodable, Rest, RestField, emit_data, read_data_within};
+use drd_words::{HexData, read_tokens};
 use std::alloc::Global;
+use std::convert::AsStr;
 use std::fmt;
 
 /// What the certificate is for (RFC 6698 2.1.1, RFC 7218 2.1). Two are equal where their numbers are.
@@ -236,6 +242,27 @@ impl TLSA {
             matching,
             cert_data,
         }
+    }
+
+    /// Reads three numbers, and the octets in hex, in one word or several (RFC 6698 2.2). Refused are other words.
+    pub fn from_tokens<I: Iterator + Drop>(
+        alloc: Global,
+        tokens: I,
+        origin: Option<&Name>,
+    ) -> Result<TLSA, ParseError>
+    where
+        I::Item: AsStr + Drop,
+        requires can { I.can_next tokens }
+        requires ends { IsFinite (I.remaining tokens) }
+        ensures ok { IfOk result (λ tlsa. (words : List I.Item) × Drains I.next_gives tokens words × IsTlsaText (map I.Item.text words) tlsa) }
+        ensures refused { IfErr result (λ e. IsOutOfMemory e ⊎ ((words : List I.Item) × Drains I.next_gives tokens words
+            × ((tlsa : TLSA) → IsTlsaText (map I.Item.text words) tlsa → ⊥))) }
+    {
+        let (cert_usage, (selector, (matching, HexData(octets)))) = read_tokens::<
+            (u8, (u8, (u8, HexData))),
+            I,
+        >(alloc, tokens, origin)?;
+        Ok(TLSA::new(cert_usage.into(), selector.into(), matching.into(), octets))
     }
 
     // The fields of the data.
