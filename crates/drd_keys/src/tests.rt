@@ -63,6 +63,8 @@ fn sshfp(rt: HostRuntime) -> Result<(), Fail> {
     let alloc = rt.alloc();
     for row in &SSHFP_ROWS {
         agrees::<SSHFP, _>(&rt, alloc, row, 2)?;
+        let read = SSHFP::from_tokens(alloc, row.1.split_ascii_whitespace(), None)?;
+        assert_eq!(rt; read.to_string(alloc)?.as_str(), row.1);
     }
     let fingerprint = Vec::from_slice(alloc, &[0xab, 0xcd])?;
     let made = SSHFP::new(
@@ -71,7 +73,10 @@ fn sshfp(rt: HostRuntime) -> Result<(), Fail> {
         fingerprint,
     );
     assert_eq!(rt; made.to_string(alloc)?.as_str(), "6 2 abcd");
-    assert_eq!(rt; made.to_bytes(alloc)?.as_slice(), &[6, 2, 0xab, 0xcd]);
+    assert_eq!(rt;
+        made.to_bytes(alloc)?.as_slice(),
+        [6u8, 2, 0xab, 0xcd].as_slice()
+    );
     Ok(())
 }
 
@@ -80,9 +85,13 @@ fn tlsa(rt: HostRuntime) -> Result<(), Fail> {
     let alloc = rt.alloc();
     for row in &TLSA_ROWS {
         agrees::<TLSA, _>(&rt, alloc, row, 3)?;
+        let read = TLSA::from_tokens(alloc, row.1.split_ascii_whitespace(), None)?;
+        assert_eq!(rt; read.to_string(alloc)?.as_str(), row.1);
     }
     for row in &SMIMEA_ROWS {
         agrees::<SMIMEA, _>(&rt, alloc, row, 3)?;
+        let read = SMIMEA::from_tokens(alloc, row.1.split_ascii_whitespace(), None)?;
+        assert_eq!(rt; read.to_string(alloc)?.as_str(), row.1);
     }
     let made = TLSA::new(
         CertUsage::DaneEe,
@@ -106,6 +115,8 @@ fn cert(rt: HostRuntime) -> Result<(), Fail> {
     let alloc = rt.alloc();
     for row in &CERT_ROWS {
         agrees::<CERT, _>(&rt, alloc, row, 5)?;
+        let read = CERT::from_tokens(alloc, row.1.split_ascii_whitespace(), None)?;
+        assert_eq!(rt; read.to_string(alloc)?.as_str(), row.1);
     }
     let certificate = Vec::from_slice(alloc, b"AQID")?;
     let made = CERT::new(
@@ -118,7 +129,7 @@ fn cert(rt: HostRuntime) -> Result<(), Fail> {
     assert_eq!(rt; made.cert_base64(alloc)?.as_str(), "QVFJRA==");
     assert_eq!(rt;
         made.to_bytes(alloc)?.as_slice(),
-        &[0, 1, 0x30, 0x39, 8, 0x41, 0x51, 0x49, 0x44]
+        [0u8, 1, 0x30, 0x39, 8, 0x41, 0x51, 0x49, 0x44].as_slice()
     );
     Ok(())
 }
@@ -128,6 +139,8 @@ fn octets_alone(rt: HostRuntime) -> Result<(), Fail> {
     let alloc = rt.alloc();
     for row in &OPENPGPKEY_ROWS {
         agrees::<OPENPGPKEY, _>(&rt, alloc, row, 0)?;
+        let read = OPENPGPKEY::from_tokens(alloc, row.1.split_ascii_whitespace(), None)?;
+        assert_eq!(rt; read.to_string(alloc)?.as_str(), row.1);
         agrees::<NULL, _>(&rt, alloc, row, 0)?;
     }
     let key = OPENPGPKEY::new(Vec::from_slice(alloc, b"AQID")?);
@@ -153,6 +166,39 @@ fn octets_alone(rt: HostRuntime) -> Result<(), Fail> {
         Restrict::new(4),
     )?;
     assert!(rt; other != unknown);
+    Ok(())
+}
+
+#[test]
+fn words(rt: HostRuntime) -> Result<(), Fail> {
+    let alloc = rt.alloc();
+    let read = SSHFP::from_tokens(alloc, "1 2 aB cD".split_ascii_whitespace(), None)?;
+    assert_eq!(rt; read.to_string(alloc)?.as_str(), "1 2 abcd");
+    let read = CERT::from_tokens(alloc, "1 12345 8 QVF JRA==".split_ascii_whitespace(), None)?;
+    assert_eq!(rt; read.to_string(alloc)?.as_str(), "1 12345 8 QVFJRA==");
+    for text in [
+        "", "1", "1 2", "1 2 a", "1 2 zz", "256 2 aa", "1 +2 aa", "x 2 aa",
+    ] {
+        assert!(rt; SSHFP::from_tokens(alloc, text.split_ascii_whitespace(), None).is_err());
+    }
+    for text in ["3 1", "3 1 1", "3 1 1 a", "3 1 256 aa", "3 1 1 aa g"] {
+        assert!(rt; TLSA::from_tokens(alloc, text.split_ascii_whitespace(), None).is_err());
+        assert!(rt; SMIMEA::from_tokens(alloc, text.split_ascii_whitespace(), None).is_err());
+    }
+    for text in [
+        "1 2 8",
+        "1 2 256 AA==",
+        "65536 2 8 AA==",
+        "PKIX 2 8 AA==",
+        "1 2 8 AA",
+        "1 2 8 A===",
+        "1 2 8 AB==",
+    ] {
+        assert!(rt; CERT::from_tokens(alloc, text.split_ascii_whitespace(), None).is_err());
+    }
+    for text in ["", "A", "AA", "AA=", "AA== AA==", "****"] {
+        assert!(rt; OPENPGPKEY::from_tokens(alloc, text.split_ascii_whitespace(), None).is_err());
+    }
     Ok(())
 }
 
