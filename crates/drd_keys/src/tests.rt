@@ -47,10 +47,8 @@ fn agrees<
     let copy = value.clone()?;
     assert!(rt; copy == value);
     assert!(rt; is_cut::<T>(alloc, octets.as_slice(), octets.len() + 1));
-    let mut length = 0usize;
-    while length < numbers {
+    for length in 0..numbers {
         assert!(rt; is_cut::<T>(alloc, octets.as_slice(), length));
-        length += 1;
     }
     let bare: T = read(alloc, octets.as_slice(), numbers)?;
     assert_eq!(rt; bare.to_bytes(alloc)?.len(), numbers);
