@@ -1,0 +1,6 @@
+pub mod Cert
+pub mod Fields
+pub mod Print
+pub mod Sshfp
+pub mod Texts
+pub mod Tlsa

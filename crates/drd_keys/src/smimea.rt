@@ -1,0 +1,111 @@
+//! SMIMEA (RFC 8162).
+ghost use Rattle.std.specs.Prelude.{◌≡◌, Some, ◌⊎◌, List, IfOk, IfErr, map};
+ghost use Rattle.std.specs.Iterator.{Drains, IsFinite};
+ghost use Rattle.std.specs.Cmp.{partial_equiv_from_equiv};
+ghost use Rattle.dnw_encoder.specs.declared.modes.RDataEncoding.TheVariants.{Other};
+ghost use Rattle.drd_fields.specs.Equality.{Tells, fields_eq};
+ghost use Rattle.drd_fields.specs.EqualityLaws.{data_equiv};
+ghost use Rattle.drd_fields.specs.Fields.{FieldsAt};
+ghost use Rattle.drd_fields.specs.Reading.{Stops};
+ghost use Rattle.drd_fields.specs.Writing.{EmitsData, RefusesFields, canonical_octets};
+ghost use Rattle.drd_keys.specs.Fields.{smimea_fields, smimea_kinds};
+ghost use Rattle.drd_keys.specs.Print.{smimea_print};
+ghost use Rattle.drd_words.specs.Word.{IsOutOfMemory};
+ghost use Rattle.drd_keys.specs.Texts.{IsSmimeaText};
+
+use crate::tlsa::{CertUsage, Matching, Selector, TLSA};
+use dnw_codes::{DecodeError, ParseError, ProtoError, Restrict};
+use dnw_decoder::BinDecoder;
+use dnw_encoder::{BinEncodable, BinEncoder};
+use dnw_name::Name;
+use drd_fields::RecordDataDecodable;
+use std::alloc::Global;
+use std::convert::AsStr;
+use std::fmt;
+
+/// The certificate, or the key, of the holder of a mail address, in the form of TLSA.
+#[derive(Clone, Debug, Drop)]
+pub struct SMIMEA(pub TLSA);
+
+impl SMIMEA {
+    pub fn new(
+        cert_usage: CertUsage,
+        selector: Selector,
+        matching: Matching,
+        cert_data: Vec<u8>,
+    ) -> SMIMEA
+        ensures cert_usage { result.0.cert_usage ≡ cert_usage }
+        ensures selector { result.0.selector ≡ selector }
+        ensures matching { result.0.matching ≡ matching }
+        ensures cert_data { result.0.cert_data ≡ cert_data }
+    {
+        SMIMEA(TLSA::new(cert_usage, selector, matching, cert_data))
+    }
+
+    /// Reads the words of TLSA (RFC 8162 2). Refused are other words.
+    pub fn from_tokens<I: Iterator + Drop>(
+        alloc: Global,
+        tokens: I,
+        origin: Option<&Name>,
+    ) -> Result<SMIMEA, ParseError>
+    where
+        I::Item: AsStr + Drop,
+        requires can { I.can_next tokens }
+        requires ends { IsFinite (I.remaining tokens) }
+        ensures ok { IfOk result (λ smimea. (words : List I.Item) × Drains I.next_gives tokens words × IsSmimeaText (map I.Item.text words) smimea) }
+        ensures refused { IfErr result (λ e. IsOutOfMemory e ⊎ ((words : List I.Item) × Drains I.next_gives tokens words
+            × ((smimea : SMIMEA) → IsSmimeaText (map I.Item.text words) smimea → ⊥))) }
+    {
+        Ok(SMIMEA(TLSA::from_tokens(alloc, tokens, origin)?))
+    }
+}
+
+impl RecordDataDecodable for SMIMEA {
+    ghost reads = { λ message place smimea end. FieldsAt message place (smimea_fields smimea) end };
+
+    ghost refuses = { λ message place end e at. Stops message end smimea_kinds place e at };
+
+    fn read_data(
+        alloc: Global,
+        decoder: &mut BinDecoder<'_>,
+        length: Restrict<u16>,
+    ) -> Result<SMIMEA, DecodeError> {
+        Ok(SMIMEA(TLSA::read_data(alloc, decoder, length)?))
+    }
+}
+
+impl BinEncodable for SMIMEA {
+    ghost emits = { λ smimea. EmitsData Other (smimea_fields smimea) };
+
+    ghost refuses = { λ smimea old e new. RefusesFields (smimea_fields smimea) old e };
+
+    fn emit(&self, encoder: &mut BinEncoder<'_>) -> Result<(), ProtoError> {
+        self.0.emit(encoder)
+    }
+}
+
+impl PartialEq for SMIMEA {
+    ghost eq = { λ a b. fields_eq (smimea_fields a) (smimea_fields b) };
+
+    ghost laws = { partial_equiv_from_equiv (data_equiv smimea_fields) };
+
+    /// Whether the octets are the same.
+    fn eq(&self, other: &SMIMEA) -> bool
+        ensures value { result ≡ fields_eq (smimea_fields self.now) (smimea_fields other.now) }
+        ensures canonical { Tells result (canonical_octets (smimea_fields self.now)) (canonical_octets (smimea_fields other.now)) }
+    {
+        self.0 == other.0
+    }
+}
+
+impl Eq for SMIMEA {
+    ghost laws = { data_equiv smimea_fields };
+}
+
+impl fmt::Display for SMIMEA {
+    ghost output = { λ smimea. Some (smimea_print smimea) };
+
+    fn fmt<W: fmt::Write>(&self, f: &mut fmt::Formatter<W>) -> fmt::Result {
+        fmt::Display::fmt(&self.0, f)
+    }
+}
