@@ -9,13 +9,19 @@ ghost use Rattle.drd_fields.specs.Equality.{AreFull, Tells, fields_eq};
 ghost use Rattle.drd_fields.specs.EqualityLaws.{data_equiv};
 ghost use Rattle.drd_fields.specs.Writing.{EmitsData, RefusesFields, canonical_octets};
 ghost use Rattle.drd_plain.specs.Fields.{a_fields, a_kinds};
+ghost use Rattle.std.specs.Iterator.{Drains, IsFinite};
+ghost use Rattle.drd_words.specs.Word.{IsOutOfMemory};
+ghost use Rattle.drd_plain.specs.Words.{IsAText};
 ghost use Rattle.drd_plain.specs.Print.{a_print};
 
-use dnw_codes::{DecodeError, ProtoError};
+use dnw_codes::{DecodeError, ParseError, ProtoError};
 use dnw_decoder::{BinDecodable, BinDecoder};
 use dnw_encoder::{BinEncodable, BinEncoder, RDataEncoding};
+use dnw_name::Name;
 use drd_fields::{DataFields, emit_data, read_data};
+use drd_words::read_tokens;
 use std::alloc::Global;
+use std::convert::AsStr;
 use std::fmt;
 use std::net::Ipv4Addr;
 use std::ops::Deref;
@@ -30,6 +36,27 @@ impl A {
         ensures { ipv4_octets result.0 ≡ a ∷ b ∷ c ∷ d ∷ [] }
     {
         A(Ipv4Addr::new(a, b, c, d))
+    }
+
+    /// The address that one word writes with dots between its octets (RFC 1035 5.1).
+    pub fn from_tokens<I: Iterator + Drop>(
+        alloc: Global,
+        tokens: I,
+        origin: Option<&Name>,
+    ) -> Result<A, ParseError>
+    where
+        I::Item: AsStr + Drop,
+        requires can { I.can_next tokens }
+        requires ends { IsFinite (I.remaining tokens) }
+        ensures ok { IfOk result (λ value. (words : List I.Item) × Drains I.next_gives tokens words
+            × IsAText (map I.Item.text words) value) }
+        ensures refused { IfErr result (λ e. IsOutOfMemory e ⊎ ((words : List I.Item) × Drains I.next_gives tokens words
+            × ((value : A) → IsAText (map I.Item.text words) value → ⊥))) }
+    {
+        match read_tokens::<(Ipv4Addr, ()), I>(alloc, tokens, origin) {
+            Ok((address, ())) => Ok(A(address)),
+            Err(refused) => Err(refused),
+        }
     }
 
     // The fields of the data.

@@ -9,13 +9,19 @@ ghost use Rattle.drd_fields.specs.Equality.{AreFull, Tells, fields_eq};
 ghost use Rattle.drd_fields.specs.EqualityLaws.{data_equiv};
 ghost use Rattle.drd_fields.specs.Writing.{EmitsData, RefusesFields, canonical_octets};
 ghost use Rattle.drd_plain.specs.Fields.{aaaa_fields, aaaa_kinds, group};
+ghost use Rattle.std.specs.Iterator.{Drains, IsFinite};
+ghost use Rattle.drd_words.specs.Word.{IsOutOfMemory};
+ghost use Rattle.drd_plain.specs.Words.{IsAaaaText};
 ghost use Rattle.drd_plain.specs.Print.{aaaa_print};
 
-use dnw_codes::{DecodeError, ProtoError};
+use dnw_codes::{DecodeError, ParseError, ProtoError};
 use dnw_decoder::{BinDecodable, BinDecoder};
 use dnw_encoder::{BinEncodable, BinEncoder, RDataEncoding};
+use dnw_name::Name;
 use drd_fields::{DataFields, emit_data, read_data};
+use drd_words::read_tokens;
 use std::alloc::Global;
+use std::convert::AsStr;
 use std::fmt;
 use std::net::Ipv6Addr;
 use std::ops::Deref;
@@ -33,6 +39,27 @@ impl AAAA {
         ensures { ipv6_segments result.0 ≡ a ∷ b ∷ c ∷ d ∷ e ∷ f ∷ g ∷ h ∷ [] }
     {
         AAAA(Ipv6Addr::new(a, b, c, d, e, f, g, h))
+    }
+
+    /// The address that one word writes (RFC 4291 2.2).
+    pub fn from_tokens<I: Iterator + Drop>(
+        alloc: Global,
+        tokens: I,
+        origin: Option<&Name>,
+    ) -> Result<AAAA, ParseError>
+    where
+        I::Item: AsStr + Drop,
+        requires can { I.can_next tokens }
+        requires ends { IsFinite (I.remaining tokens) }
+        ensures ok { IfOk result (λ value. (words : List I.Item) × Drains I.next_gives tokens words
+            × IsAaaaText (map I.Item.text words) value) }
+        ensures refused { IfErr result (λ e. IsOutOfMemory e ⊎ ((words : List I.Item) × Drains I.next_gives tokens words
+            × ((value : AAAA) → IsAaaaText (map I.Item.text words) value → ⊥))) }
+    {
+        match read_tokens::<(Ipv6Addr, ()), I>(alloc, tokens, origin) {
+            Ok((address, ())) => Ok(AAAA(address)),
+            Err(refused) => Err(refused),
+        }
     }
 
     // The fields of the data.

@@ -8,13 +8,21 @@ ghost use Rattle.drd_fields.specs.Equality.{AreFull, Tells, fields_eq};
 ghost use Rattle.drd_fields.specs.EqualityLaws.{data_equiv};
 ghost use Rattle.drd_fields.specs.Writing.{EmitsData, RefusesFields, canonical_octets};
 ghost use Rattle.drd_plain.specs.Fields.{hinfo_fields, hinfo_kinds};
+ghost use Rattle.std.specs.Iterator.{Drains, IsFinite};
+ghost use Rattle.drd_words.specs.Word.{IsOutOfMemory};
+ghost use Rattle.drd_plain.specs.Words.{IsHinfoText};
+ghost use Rattle.drd_plain.specs.Print.{hinfo_print};
 
 use crate::emit::emit_two;
-use dnw_codes::{DecodeError, ProtoError};
+use dnw_codes::{DecodeError, ParseError, ProtoError};
 use dnw_decoder::{BinDecodable, BinDecoder};
 use dnw_encoder::{BinEncodable, BinEncoder};
+use dnw_name::Name;
 use drd_fields::{CharacterString, DataFields, StringField, read_data};
+use drd_words::{CharacterString as Word, fmt_escaped, read_tokens};
 use std::alloc::Global;
+use std::convert::AsStr;
+use std::fmt;
 
 /// A host's processor and operating system, in at most 255 octets each.
 #[derive(Clone, Debug, Drop)]
@@ -38,6 +46,28 @@ impl HINFO {
         ensures os { result.os ≡ os }
     {
         HINFO::new(cpu, os)
+    }
+
+    /// The data that two words write, of at most 255 octets each (RFC 1035 5.1).
+    pub fn from_tokens<I: Iterator + Drop>(
+        alloc: Global,
+        tokens: I,
+        origin: Option<&Name>,
+    ) -> Result<HINFO, ParseError>
+    where
+        I::Item: AsStr + Drop,
+        requires can { I.can_next tokens }
+        requires ends { IsFinite (I.remaining tokens) }
+        ensures ok { IfOk result (λ value. (words : List I.Item) × Drains I.next_gives tokens words
+            × IsHinfoText (map I.Item.text words) value) }
+        ensures refused { IfErr result (λ e. IsOutOfMemory e ⊎ ((words : List I.Item) × Drains I.next_gives tokens words
+            × ((value : HINFO) → IsHinfoText (map I.Item.text words) value → ⊥))) }
+    {
+        let (cpu, (os, ())) = match read_tokens::<(Word, (Word, ())), I>(alloc, tokens, origin) {
+            Ok(words) => words,
+            Err(refused) => return Err(refused),
+        };
+        Ok(HINFO::new(cpu.into_bytes(), os.into_bytes()))
     }
 
     // The fields of the data.
@@ -86,4 +116,15 @@ impl PartialEq for HINFO {
 
 impl Eq for HINFO {
     ghost laws = { data_equiv hinfo_fields };
+}
+
+impl fmt::Display for HINFO {
+    ghost output = { λ hinfo. Some (hinfo_print hinfo) };
+
+    /// Writes both strings, a space between them.
+    fn fmt<W: fmt::Write>(&self, f: &mut fmt::Formatter<W>) -> fmt::Result {
+        fmt_escaped(f, &self.cpu)?;
+        f.write_char(' ')?;
+        fmt_escaped(f, &self.os)
+    }
 }

@@ -11,3 +11,6 @@ pub use a::A;
 pub use aaaa::AAAA;
 pub use hinfo::HINFO;
 pub use txt::TXT;
+
+#[cfg(test)]
+mod tests;

@@ -8,6 +8,7 @@ ghost use Rattle.drd_fields.specs.Equality.{AreFull, Tells, fields_eq};
 ghost use Rattle.drd_fields.specs.EqualityLaws.{data_equiv};
 ghost use Rattle.drd_fields.specs.Writing.{EmitsData, RefusesFields, canonical_octets};
 ghost use Rattle.drd_plain.specs.Fields.{txt_fields, txt_kinds, txt_strings};
+ghost use Rattle.drd_plain.specs.Print.{txt_print};
 
 use dnw_codes::{DecodeError, ProtoError, Restrict};
 use dnw_decoder::BinDecoder;
@@ -15,7 +16,9 @@ use dnw_encoder::{BinEncodable, BinEncoder, RDataEncoding};
 use drd_fields::{
     CharacterStrings, DataFields, RecordDataDecodable, StringFields, emit_data, read_data_within,
 };
+use drd_words::fmt_escaped;
 use std::alloc::Global;
+use std::fmt;
 
 /// Strings of at most 255 octets each.
 #[derive(Clone, Debug, Drop)]
@@ -84,4 +87,16 @@ impl PartialEq for TXT {
 
 impl Eq for TXT {
     ghost laws = { data_equiv txt_fields };
+}
+
+impl fmt::Display for TXT {
+    ghost output = { λ txt. Some (txt_print txt) };
+
+    /// Writes the strings without anything between them.
+    fn fmt<W: fmt::Write>(&self, f: &mut fmt::Formatter<W>) -> fmt::Result {
+        'strings: for string in &self.txt_data {
+            fmt_escaped(f, string)?;
+        }
+        Ok(())
+    }
 }
