@@ -2,7 +2,7 @@
 ghost use Rattle.std.specs.Prelude.{◌≡◌, ◌∷◌, [], IfErr, OnOk};
 ghost use Rattle.dnw_encoder.specs.Encoders.{state};
 ghost use Rattle.dnw_encoder.specs.Effects.{Writes};
-ghost use Rattle.dnw_encoder.specs.declared.modes.RDataEncoding.TheVariants.{Canonical, Other};
+ghost use Rattle.dnw_encoder.specs.declared.modes.RDataEncoding.TheVariants.{Other};
 ghost use Rattle.drd_fields.specs.Writing.{EmitsData, RefusesFields};
 
 use dnw_codes::ProtoError;

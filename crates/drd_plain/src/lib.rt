@@ -3,12 +3,17 @@
 
 mod a;
 mod aaaa;
+mod caa;
 mod emit;
+mod flags;
 mod hinfo;
+mod print;
 mod txt;
 
 pub use a::A;
 pub use aaaa::AAAA;
+pub use caa::CAA;
+pub use flags::verify_flags;
 pub use hinfo::HINFO;
 pub use txt::TXT;
 

@@ -1,14 +1,14 @@
 //! Record data read, written and printed as dnspython does it; `rows.rt` holds what it gave.
 mod rows;
 
-use crate::{A, AAAA, HINFO, TXT};
+use crate::{A, AAAA, CAA, HINFO, TXT, verify_flags};
 use dnw_codes::Restrict;
 use dnw_decoder::{BinDecodable, BinDecoder};
 use dnw_encoder::BinEncodable;
 use drd_fields::RecordDataDecodable;
 use rows::{
-    A_REFUSED, A_ROWS, AAAA_REFUSED, AAAA_ROWS, HINFO_REFUSED, HINFO_ROWS, Row, TXT_REFUSED,
-    TXT_ROWS,
+    A_REFUSED, A_ROWS, AAAA_REFUSED, AAAA_ROWS, CAA_REFUSED, CAA_ROWS, HINFO_REFUSED, HINFO_ROWS,
+    Row, TXT_REFUSED, TXT_ROWS,
 };
 use std::alloc::Global;
 use std::fmt::Display;
@@ -161,5 +161,34 @@ fn txt(rt: HostRuntime) -> Result<(), Fail> {
         let txt: TXT = whole_within(alloc, octets)?;
         assert_eq!(&rt; txt.to_string(alloc)?.as_str(), text);
     }
+    Ok(())
+}
+
+#[test]
+fn flags(rt: HostRuntime) -> Result<(), Fail> {
+    for flags in ["", "u", "aZ09"] {
+        assert!(&rt; verify_flags(flags.as_bytes()));
+    }
+    for flags in ["-", "a ", "é", "a/", ":z", "@A", "[", "`", "{"] {
+        assert!(&rt; !verify_flags(flags.as_bytes()));
+    }
+    Ok(())
+}
+
+#[test]
+fn caa(rt: HostRuntime) -> Result<(), Fail> {
+    let alloc = rt.alloc();
+    agrees_within::<CAA>(&rt, alloc, CAA_ROWS, CAA_REFUSED, true)?;
+    let octets = b"\x00\x05issueca.example.net".as_slice();
+    let caa: CAA = whole_within(alloc, octets)?;
+    assert!(&rt; !caa.issuer_critical);
+    assert_eq!(&rt;
+        caa.to_string(alloc)?.as_str(),
+        "0 issue \"ca.example.net\""
+    );
+    // Tags of 0, 15 and 16 octets.
+    assert!(&rt; !fills_within::<CAA>(alloc, b"\x00\x00".as_slice()));
+    assert!(&rt; fills_within::<CAA>(alloc, b"\x81\x0fabcdefghijklmno".as_slice()));
+    assert!(&rt; !fills_within::<CAA>(alloc, b"\x80\x10abcdefghijklmnop".as_slice()));
     Ok(())
 }
