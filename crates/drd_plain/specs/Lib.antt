@@ -1,0 +1,4 @@
+pub mod Fields
+pub mod Print
+pub mod Reading
+pub mod Words

@@ -1,0 +1,41 @@
+-- Printed record data (RFC 1035 5.1).
+use Rattle.std.specs.Prelude.{ℕ, List, [], ◌∷◌, ◌++◌}
+use Rattle.std.specs.Fmt.{decimal}
+use Rattle.std.specs.List.{flat_map}
+use Rattle.std.specs.Net.Addr.{ipv4_octets, ipv6_segments}
+use Rattle.std.specs.Net.Text.{ipv4_text, ipv6_text}
+use Rattle.drd_words.specs.Print.{escaped_print}
+use Rattle.drd_plain.specs.declared.a.A.{A}
+use Rattle.drd_plain.specs.declared.aaaa.AAAA.{AAAA}
+use Rattle.drd_plain.specs.declared.caa.CAA.{CAA}
+use Rattle.drd_plain.specs.declared.hinfo.HINFO.{HINFO}
+use Rattle.drd_plain.specs.declared.txt.TXT.{TXT}
+use Rattle.drd_plain.specs.Fields.{caa_flags, txt_strings}
+
+-- Words, each but the first behind a space.
+abbrev pub spaced : List ℕ → List (List ℕ) → List ℕ
+spaced first words = first ++ flat_map (λ word. 32 ∷ word) words
+
+-- A string between quotes.
+abbrev pub quoted : List ℕ → List ℕ
+quoted octets = 34 ∷ (escaped_print octets ++ 34 ∷ [])
+
+-- Four decimal numbers between dots.
+abbrev pub a_print : A → List ℕ
+a_print a = ipv4_text (ipv4_octets a.0)
+
+-- The text of RFC 5952.
+abbrev pub aaaa_print : AAAA → List ℕ
+aaaa_print aaaa = ipv6_text (ipv6_segments aaaa.0)
+
+-- The processor and the operating system.
+abbrev pub hinfo_print : HINFO → List ℕ
+hinfo_print hinfo = spaced (escaped_print hinfo.cpu.items) (escaped_print hinfo.os.items ∷ [])
+
+-- The strings without anything between them.
+abbrev pub txt_print : TXT → List ℕ
+txt_print txt = flat_map escaped_print (txt_strings txt)
+
+-- The flags, the tag and the value.
+abbrev pub caa_print : CAA → List ℕ
+caa_print caa = spaced (decimal (caa_flags caa)) (escaped_print caa.tag.items ∷ quoted caa.value.items ∷ [])

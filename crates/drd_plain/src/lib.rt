@@ -1,0 +1,21 @@
+//! Record data of addresses, strings and flags.
+#![tactic(auto)]
+
+mod a;
+mod aaaa;
+mod caa;
+mod emit;
+mod flags;
+mod hinfo;
+mod print;
+mod txt;
+
+pub use a::A;
+pub use aaaa::AAAA;
+pub use caa::CAA;
+pub use flags::verify_flags;
+pub use hinfo::HINFO;
+pub use txt::TXT;
+
+#[cfg(test)]
+mod tests;

@@ -1,0 +1,194 @@
+//! Record data read, written and printed as dnspython does it; `rows.rt` holds what it gave.
+mod rows;
+
+use crate::{A, AAAA, CAA, HINFO, TXT, verify_flags};
+use dnw_codes::Restrict;
+use dnw_decoder::{BinDecodable, BinDecoder};
+use dnw_encoder::BinEncodable;
+use drd_fields::RecordDataDecodable;
+use rows::{
+    A_REFUSED, A_ROWS, AAAA_REFUSED, AAAA_ROWS, CAA_REFUSED, CAA_ROWS, HINFO_REFUSED, HINFO_ROWS,
+    Row, TXT_REFUSED, TXT_ROWS,
+};
+use std::alloc::Global;
+use std::fmt::Display;
+use std::net::{Ipv4Addr, Ipv6Addr};
+use std::process::Abort;
+use std::test::Fail;
+
+// The data that fill these octets.
+fn whole<T: BinDecodable + Drop>(alloc: Global, octets: &[u8]) -> Result<T, Fail> {
+    let mut decoder = BinDecoder::new(octets);
+    let read = T::read(alloc, &mut decoder)?;
+    if !decoder.is_empty() {
+        return Err(Fail::from("octets behind the data"));
+    }
+    Ok(read)
+}
+
+// The data that fill these octets, whose length is told.
+fn whole_within<T: RecordDataDecodable + Drop>(alloc: Global, octets: &[u8]) -> Result<T, Fail> {
+    if octets.len() > 65_535 {
+        return Err(Fail::from("too many octets"));
+    }
+    let mut decoder = BinDecoder::new(octets);
+    let read = T::read_data(alloc, &mut decoder, Restrict::new(octets.len() as u16))?;
+    if !decoder.is_empty() {
+        return Err(Fail::from("octets behind the data"));
+    }
+    Ok(read)
+}
+
+// Whether data fill these octets.
+fn fills<T: BinDecodable + Drop>(alloc: Global, octets: &[u8]) -> bool {
+    let mut decoder = BinDecoder::new(octets);
+    T::read(alloc, &mut decoder).is_ok() && decoder.is_empty()
+}
+
+fn fills_within<T: RecordDataDecodable + Drop>(alloc: Global, octets: &[u8]) -> bool {
+    if octets.len() > 65_535 {
+        return false;
+    }
+    let mut decoder = BinDecoder::new(octets);
+    let length = Restrict::new(octets.len() as u16);
+    T::read_data(alloc, &mut decoder, length).is_ok() && decoder.is_empty()
+}
+
+// Whether the data are written as they stood, and equal to their clone.
+fn stays<T: BinEncodable + PartialEq + Clone + Drop>(
+    rt: &impl Abort,
+    alloc: Global,
+    read: &T,
+    octets: &[u8],
+) -> Result<(), Fail> {
+    assert_eq!(rt; read.to_bytes(alloc)?.as_slice(), octets);
+    assert!(rt; *read == read.clone()?);
+    Ok(())
+}
+
+fn agrees<T: BinDecodable + BinEncodable + PartialEq + Clone + Display + Drop>(
+    rt: &impl Abort,
+    alloc: Global,
+    rows: &[Row],
+    refused: &[&[u8]],
+    is_printed: bool,
+) -> Result<(), Fail> {
+    for row in rows {
+        let (octets, text) = *row;
+        let read: T = whole(alloc, octets)?;
+        stays(rt, alloc, &read, octets)?;
+        if is_printed {
+            assert_eq!(rt; read.to_string(alloc)?.as_str(), text);
+        }
+    }
+    for octets in refused {
+        assert!(rt; !fills::<T>(alloc, *octets));
+    }
+    Ok(())
+}
+
+fn agrees_within<T: RecordDataDecodable + BinEncodable + PartialEq + Clone + Display + Drop>(
+    rt: &impl Abort,
+    alloc: Global,
+    rows: &[Row],
+    refused: &[&[u8]],
+    is_printed: bool,
+) -> Result<(), Fail> {
+    for row in rows {
+        let (octets, text) = *row;
+        let read: T = whole_within(alloc, octets)?;
+        stays(rt, alloc, &read, octets)?;
+        if is_printed {
+            assert_eq!(rt; read.to_string(alloc)?.as_str(), text);
+        }
+    }
+    for octets in refused {
+        assert!(rt; !fills_within::<T>(alloc, *octets));
+    }
+    Ok(())
+}
+
+#[test]
+fn addresses(rt: HostRuntime) -> Result<(), Fail> {
+    let alloc = rt.alloc();
+    agrees::<A>(&rt, alloc, A_ROWS, A_REFUSED, true)?;
+    agrees::<AAAA>(&rt, alloc, AAAA_ROWS, AAAA_REFUSED, true)?;
+    let address = Ipv4Addr::new(192, 0, 2, 1);
+    let a = A::new(192, 0, 2, 1);
+    assert!(&rt; a == A::from(address));
+    assert!(&rt; a != A::new(192, 0, 2, 2));
+    assert_eq!(&rt; Ipv4Addr::from(a), address);
+    assert!(&rt; !a.is_loopback());
+    let address = Ipv6Addr::new(0x2001, 0xdb8, 0, 0, 0, 0, 0, 1);
+    let aaaa = AAAA::new(0x2001, 0xdb8, 0, 0, 0, 0, 0, 1);
+    assert!(&rt; aaaa == AAAA::from(address));
+    assert!(&rt; aaaa != AAAA::new(0x2001, 0xdb8, 0, 0, 0, 0, 0, 2));
+    assert_eq!(&rt; Ipv6Addr::from(aaaa), address);
+    assert!(&rt; !aaaa.is_loopback());
+    Ok(())
+}
+
+// dnspython prints strings between quotes, and escapes in decimal digits; here the octets alone are compared.
+#[test]
+fn hinfo(rt: HostRuntime) -> Result<(), Fail> {
+    let alloc = rt.alloc();
+    agrees::<HINFO>(&rt, alloc, HINFO_ROWS, HINFO_REFUSED, false)?;
+    for (cpu, os, text) in [
+        ("PC", "Linux", "PC Linux"),
+        ("", "", " "),
+        ("a b", "c\"d\\e", "a b c\\\"d\\\\e"),
+        ("\x00\x7f", "~", "\\000\\177 ~"),
+        ("é", "x", "\\303\\251 x"),
+    ] {
+        let cpu = Vec::from_slice(alloc, cpu.as_bytes())?;
+        let os = Vec::from_slice(alloc, os.as_bytes())?;
+        let hinfo = HINFO::from_bytes(cpu, os);
+        assert_eq!(&rt; hinfo.to_string(alloc)?.as_str(), text);
+    }
+    Ok(())
+}
+
+#[test]
+fn txt(rt: HostRuntime) -> Result<(), Fail> {
+    let alloc = rt.alloc();
+    agrees_within::<TXT>(&rt, alloc, TXT_ROWS, TXT_REFUSED, false)?;
+    for (octets, text) in [
+        (b"\x03a b\x01c".as_slice(), "a bc"),
+        (b"".as_slice(), ""),
+        (b"\x00\x00\x01\\\x01\"".as_slice(), "\\\\\\\""),
+        (b"\x03\x00\xff~".as_slice(), "\\000\\377~"),
+    ] {
+        let txt: TXT = whole_within(alloc, octets)?;
+        assert_eq!(&rt; txt.to_string(alloc)?.as_str(), text);
+    }
+    Ok(())
+}
+
+#[test]
+fn flags(rt: HostRuntime) -> Result<(), Fail> {
+    for flags in ["", "u", "aZ09"] {
+        assert!(&rt; verify_flags(flags.as_bytes()));
+    }
+    for flags in ["-", "a ", "é", "a/", ":z", "@A", "[", "`", "{"] {
+        assert!(&rt; !verify_flags(flags.as_bytes()));
+    }
+    Ok(())
+}
+
+#[test]
+fn caa(rt: HostRuntime) -> Result<(), Fail> {
+    let alloc = rt.alloc();
+    agrees_within::<CAA>(&rt, alloc, CAA_ROWS, CAA_REFUSED, true)?;
+    let octets = b"\x00\x05issueca.example.net".as_slice();
+    let caa: CAA = whole_within(alloc, octets)?;
+    assert!(&rt; !caa.issuer_critical);
+    assert_eq!(&rt;
+        caa.to_string(alloc)?.as_str(),
+        "0 issue \"ca.example.net\""
+    );
+    // Tags of 0, 15 and 16 octets.
+    assert!(&rt; !fills_within::<CAA>(alloc, b"\x00\x00".as_slice()));
+    assert!(&rt; fills_within::<CAA>(alloc, b"\x81\x0fabcdefghijklmno".as_slice()));
+    assert!(&rt; !fills_within::<CAA>(alloc, b"\x80\x10abcdefghijklmnop".as_slice()));
+    Ok(())
+}

@@ -1,0 +1,140 @@
+//! Record data as dnspython 2.3.0 has them: for each text that `dns.rdata.from_text(..)` reads, the octets of `to_wire()`
+//! and the text of `to_text()` once they are read back. Octets that are refused are those where `dns.rdata.from_wire(..)` raises an error.
+
+/// Octets, and the text that dnspython prints.
+pub(crate) type Row = (&'static [u8], &'static str);
+
+#[rattlefmt::skip]
+pub(crate) const A_ROWS: &[Row] = &[
+    (b"\x00\x00\x00\x00", "0.0.0.0"),
+    (b"\xff\xff\xff\xff", "255.255.255.255"),
+    (b"\xc0\x00\x02\x01", "192.0.2.1"),
+    (b"\xc63d\x07", "198.51.100.7"),
+    (b"\xcb\x00q\xff", "203.0.113.255"),
+    (b"\x7f\x00\x00\x01", "127.0.0.1"),
+    (b"\x0a\x00\x00\x01", "10.0.0.1"),
+    (b"\x01\x02\x03\x04", "1.2.3.4"),
+    (b"\xe0\x00\x00\xfb", "224.0.0.251"),
+    (b"\xac\x10\xfe\x03", "172.16.254.3"),
+    (b"\x00\x00\x00\x01", "0.0.0.1"),
+    (b"\x80\x00\x00\x00", "128.0.0.0"),
+];
+
+#[rattlefmt::skip]
+pub(crate) const A_REFUSED: &[&[u8]] = &[
+    b"",
+    b"\x01",
+    b"\x01\x02\x03",
+    b"\x01\x02\x03\x04\x05",
+];
+
+#[rattlefmt::skip]
+pub(crate) const AAAA_ROWS: &[Row] = &[
+    (b"\x00\x00\x00\x00\x00\x00\x00\x00\x00\x00\x00\x00\x00\x00\x00\x00", "::"),
+    (b"\x00\x00\x00\x00\x00\x00\x00\x00\x00\x00\x00\x00\x00\x00\x00\x01", "::1"),
+    (b" \x01\x0d\xb8\x00\x00\x00\x00\x00\x00\x00\x00\x00\x00\x00\x01", "2001:db8::1"),
+    (b" \x01\x0d\xb8\x00\x00\x00\x00\x00\x00\xff\x00\x00B\x83)", "2001:db8::ff00:42:8329"),
+    (b"\xfe\x80\x00\x00\x00\x00\x00\x00\x00\x01\x00\x02\x00\x03\x00\x04", "fe80::1:2:3:4"),
+    (b"\xff\x02\x00\x00\x00\x00\x00\x00\x00\x00\x00\x00\x00\x00\x00\xfb", "ff02::fb"),
+    (b" \x01\x0d\xb8\x00\x01\x00\x02\x00\x03\x00\x04\x00\x05\x00\x06", "2001:db8:1:2:3:4:5:6"),
+    (b"\x00\x01\x00\x00\x00\x00\x00\x02\x00\x00\x00\x00\x00\x00\x00\x03", "1:0:0:2::3"),
+    (b"\x00\x01\x00\x00\x00\x00\x00\x02\x00\x03\x00\x00\x00\x00\x00\x04", "1::2:3:0:0:4"),
+    (b"\xff\xff\xff\xff\xff\xff\xff\xff\xff\xff\xff\xff\xff\xff\xff\xff", "ffff:ffff:ffff:ffff:ffff:ffff:ffff:ffff"),
+    (b"\x00d\xff\x9b\x00\x00\x00\x00\x00\x00\x00\x00\xc0\x00\x02!", "64:ff9b::c000:221"),
+    (b" \x01\x0d\xb8\x00\x00\x00\x01\x00\x01\x00\x01\x00\x01\x00\x01", "2001:db8:0:1:1:1:1:1"),
+    (b"\x00\x00\x00\x00\x00\x00\x00\x00\x00\x00\xff\xff\xc0\x00\x02\x01", "::ffff:192.0.2.1"),
+    (b"\x80\x00\x00\x00\x00\x00\x00\x00\x00\x00\x00\x00\x00\x00\x00\x00", "8000::"),
+];
+
+#[rattlefmt::skip]
+pub(crate) const AAAA_REFUSED: &[&[u8]] = &[
+    b"",
+    b"\x00\x00\x00\x00\x00\x00\x00\x00\x00\x00\x00\x00\x00\x00\x00",
+    b"\x00\x00\x00\x00\x00\x00\x00\x00\x00\x00\x00\x00\x00\x00\x00\x00\x00",
+    b"\x00\x00\x00\x00",
+];
+
+#[rattlefmt::skip]
+pub(crate) const HINFO_ROWS: &[Row] = &[
+    (b"\x02PC\x05Linux", "\"PC\" \"Linux\""),
+    (b"\x00\x00", "\"\" \"\""),
+    (b"\x0aVAX-11/780\x04UNIX", "\"VAX-11/780\" \"UNIX\""),
+    (b"\x09Intel x86\x08Free BSD", "\"Intel x86\" \"Free BSD\""),
+    (b"\xffaaaaaaaaaaaaaaaaaaaaaaaaaaaaaaaaaaaaaaaaaaaaaaaaaaaaaaaaaaaaaaaaaaaaaaaaaaaaaaaaaaaaaaaaaaaaaaaaaaaaaaaaaaaaaaaaaaaaaaaaaaaaaaaaaaaaaaaaaaaaaaaaaaaaaaaaaaaaaaaaaaaaaaaaaaaaaaaaaaaaaaaaaaaaaaaaaaaaaaaaaaaaaaaaaaaaaaaaaaaaaaaaaaaaaaaaaaaaaaaaaaaaaaaaaaaaaaa\xffaaaaaaaaaaaaaaaaaaaaaaaaaaaaaaaaaaaaaaaaaaaaaaaaaaaaaaaaaaaaaaaaaaaaaaaaaaaaaaaaaaaaaaaaaaaaaaaaaaaaaaaaaaaaaaaaaaaaaaaaaaaaaaaaaaaaaaaaaaaaaaaaaaaaaaaaaaaaaaaaaaaaaaaaaaaaaaaaaaaaaaaaaaaaaaaaaaaaaaaaaaaaaaaaaaaaaaaaaaaaaaaaaaaaaaaaaaaaaaaaaaaaaaaaaaaaaaa", "\"aaaaaaaaaaaaaaaaaaaaaaaaaaaaaaaaaaaaaaaaaaaaaaaaaaaaaaaaaaaaaaaaaaaaaaaaaaaaaaaaaaaaaaaaaaaaaaaaaaaaaaaaaaaaaaaaaaaaaaaaaaaaaaaaaaaaaaaaaaaaaaaaaaaaaaaaaaaaaaaaaaaaaaaaaaaaaaaaaaaaaaaaaaaaaaaaaaaaaaaaaaaaaaaaaaaaaaaaaaaaaaaaaaaaaaaaaaaaaaaaaaaaaaaaaaaaaaa\" \"aaaaaaaaaaaaaaaaaaaaaaaaaaaaaaaaaaaaaaaaaaaaaaaaaaaaaaaaaaaaaaaaaaaaaaaaaaaaaaaaaaaaaaaaaaaaaaaaaaaaaaaaaaaaaaaaaaaaaaaaaaaaaaaaaaaaaaaaaaaaaaaaaaaaaaaaaaaaaaaaaaaaaaaaaaaaaaaaaaaaaaaaaaaaaaaaaaaaaaaaaaaaaaaaaaaaaaaaaaaaaaaaaaaaaaaaaaaaaaaaaaaaaaaaaaaaaaa\""),
+    (b"\x01a\x00", "\"a\" \"\""),
+    (b"\x00\x01b", "\"\" \"b\""),
+    (b"\x03a;b\x03(c)", "\"a;b\" \"(c)\""),
+    (b"\x02\x00\x01\x03\xc3\xbf\x7f", "\"\\000\\001\" \"\\195\\191\\127\""),
+    (b"\x07RFC8482\x00", "\"RFC8482\" \"\""),
+    (b"\x03\x22q\x22\x03b\x5cs", "\"\\\"q\\\"\" \"b\\\\s\""),
+    (b"\x02\xc3\xa9\x01x", "\"\\195\\169\" \"x\""),
+];
+
+#[rattlefmt::skip]
+pub(crate) const HINFO_REFUSED: &[&[u8]] = &[
+    b"",
+    b"\x00",
+    b"\x01a",
+    b"\x01a\x01",
+    b"\x02a",
+    b"\x01a\x02b",
+    b"\xffaaaaaaaaaaaaaaaaaaaaaaaaaaaaaaaaaaaaaaaaaaaaaaaaaaaaaaaaaaaaaaaaaaaaaaaaaaaaaaaaaaaaaaaaaaaaaaaaaaaaaaaaaaaaaaaaaaaaaaaaaaaaaaaaaaaaaaaaaaaaaaaaaaaaaaaaaaaaaaaaaaaaaaaaaaaaaaaaaaaaaaaaaaaaaaaaaaaaaaaaaaaaaaaaaaaaaaaaaaaaaaaaaaaaaaaaaaaaaaaaaaaaaaaaaaaaaa",
+    b"\x00\x00\x00",
+    b"\x01a\x01b\x00",
+];
+
+#[rattlefmt::skip]
+pub(crate) const TXT_ROWS: &[Row] = &[
+    (b"\x03a b\x01c", "\"a b\" \"c\""),
+    (b"\x00", "\"\""),
+    (b"\x00\x00", "\"\" \"\""),
+    (b"\x06v=spf1", "\"v=spf1\""),
+    (b"\x0bv=spf1 -all", "\"v=spf1 -all\""),
+    (b"\xffaaaaaaaaaaaaaaaaaaaaaaaaaaaaaaaaaaaaaaaaaaaaaaaaaaaaaaaaaaaaaaaaaaaaaaaaaaaaaaaaaaaaaaaaaaaaaaaaaaaaaaaaaaaaaaaaaaaaaaaaaaaaaaaaaaaaaaaaaaaaaaaaaaaaaaaaaaaaaaaaaaaaaaaaaaaaaaaaaaaaaaaaaaaaaaaaaaaaaaaaaaaaaaaaaaaaaaaaaaaaaaaaaaaaaaaaaaaaaaaaaaaaaaaaaaaaaaa", "\"aaaaaaaaaaaaaaaaaaaaaaaaaaaaaaaaaaaaaaaaaaaaaaaaaaaaaaaaaaaaaaaaaaaaaaaaaaaaaaaaaaaaaaaaaaaaaaaaaaaaaaaaaaaaaaaaaaaaaaaaaaaaaaaaaaaaaaaaaaaaaaaaaaaaaaaaaaaaaaaaaaaaaaaaaaaaaaaaaaaaaaaaaaaaaaaaaaaaaaaaaaaaaaaaaaaaaaaaaaaaaaaaaaaaaaaaaaaaaaaaaaaaaaaaaaaaaaa\""),
+    (b"\xffaaaaaaaaaaaaaaaaaaaaaaaaaaaaaaaaaaaaaaaaaaaaaaaaaaaaaaaaaaaaaaaaaaaaaaaaaaaaaaaaaaaaaaaaaaaaaaaaaaaaaaaaaaaaaaaaaaaaaaaaaaaaaaaaaaaaaaaaaaaaaaaaaaaaaaaaaaaaaaaaaaaaaaaaaaaaaaaaaaaaaaaaaaaaaaaaaaaaaaaaaaaaaaaaaaaaaaaaaaaaaaaaaaaaaaaaaaaaaaaaaaaaaaaaaaaaaaa\xffaaaaaaaaaaaaaaaaaaaaaaaaaaaaaaaaaaaaaaaaaaaaaaaaaaaaaaaaaaaaaaaaaaaaaaaaaaaaaaaaaaaaaaaaaaaaaaaaaaaaaaaaaaaaaaaaaaaaaaaaaaaaaaaaaaaaaaaaaaaaaaaaaaaaaaaaaaaaaaaaaaaaaaaaaaaaaaaaaaaaaaaaaaaaaaaaaaaaaaaaaaaaaaaaaaaaaaaaaaaaaaaaaaaaaaaaaaaaaaaaaaaaaaaaaaaaaaa\x01x", "\"aaaaaaaaaaaaaaaaaaaaaaaaaaaaaaaaaaaaaaaaaaaaaaaaaaaaaaaaaaaaaaaaaaaaaaaaaaaaaaaaaaaaaaaaaaaaaaaaaaaaaaaaaaaaaaaaaaaaaaaaaaaaaaaaaaaaaaaaaaaaaaaaaaaaaaaaaaaaaaaaaaaaaaaaaaaaaaaaaaaaaaaaaaaaaaaaaaaaaaaaaaaaaaaaaaaaaaaaaaaaaaaaaaaaaaaaaaaaaaaaaaaaaaaaaaaaaaa\" \"aaaaaaaaaaaaaaaaaaaaaaaaaaaaaaaaaaaaaaaaaaaaaaaaaaaaaaaaaaaaaaaaaaaaaaaaaaaaaaaaaaaaaaaaaaaaaaaaaaaaaaaaaaaaaaaaaaaaaaaaaaaaaaaaaaaaaaaaaaaaaaaaaaaaaaaaaaaaaaaaaaaaaaaaaaaaaaaaaaaaaaaaaaaaaaaaaaaaaaaaaaaaaaaaaaaaaaaaaaaaaaaaaaaaaaaaaaaaaaaaaaaaaaaaaaaaaaa\" \"x\""),
+    (b"\x01a\x01b\x01c\x01d\x01e\x01f", "\"a\" \"b\" \"c\" \"d\" \"e\" \"f\""),
+    (b"\x02\x00\xff", "\"\\000\\255\""),
+    (b"\x08\x22quoted\x22", "\"\\\"quoted\\\"\""),
+    (b"\x0aback\x5cslash", "\"back\\\\slash\""),
+    (b"\x05k=\x7f;\x09", "\"k=\\127;\\009\""),
+    (b"\x02\xc3\xa9", "\"\\195\\169\""),
+];
+
+#[rattlefmt::skip]
+pub(crate) const TXT_REFUSED: &[&[u8]] = &[
+    b"\x01",
+    b"\x02a",
+    b"\x00\x01",
+    b"\x01a\x02b",
+    b"\xffaaaaaaaaaaaaaaaaaaaaaaaaaaaaaaaaaaaaaaaaaaaaaaaaaaaaaaaaaaaaaaaaaaaaaaaaaaaaaaaaaaaaaaaaaaaaaaaaaaaaaaaaaaaaaaaaaaaaaaaaaaaaaaaaaaaaaaaaaaaaaaaaaaaaaaaaaaaaaaaaaaaaaaaaaaaaaaaaaaaaaaaaaaaaaaaaaaaaaaaaaaaaaaaaaaaaaaaaaaaaaaaaaaaaaaaaaaaaaaaaaaaaaaaaaaaaaa",
+];
+
+#[rattlefmt::skip]
+pub(crate) const CAA_ROWS: &[Row] = &[
+    (b"\x00\x05issueca.example.net", "0 issue \"ca.example.net\""),
+    (b"\x80\x05issueca.example.net", "128 issue \"ca.example.net\""),
+    (b"\x00\x09issuewild;", "0 issuewild \";\""),
+    (b"\x00\x05iodefmailto:security@example.com", "0 iodef \"mailto:security@example.com\""),
+    (b"\x01\x03tbsUnknown", "1 tbs \"Unknown\""),
+    (b"\x80\x03tbsUnknown", "128 tbs \"Unknown\""),
+    (b"\x00\x05issue;", "0 issue \";\""),
+    (b"\x00\x05issueca1.example.net; account=230123", "0 issue \"ca1.example.net; account=230123\""),
+    (b"\xff\x05Issue", "255 Issue \"\""),
+    (b"\x00\x05issuexxxxxxxxxxxxxxxxxxxxxxxxxxxxxxxxxxxxxxxxxxxxxxxxxxxxxxxxxxxxxxxxxxxxxxxxxxxxxxxxxxxxxxxxxxxxxxxxxxxxxxxxxxxxxxxxxxxxxxxxxxxxxxxxxxxxxxxxxxxxxxxxxxxxxxxxxxxxxxxxxxxxxxxxxxxxxxxxxxxxxxxxxxxxxxxxxxxxxxxxxxxxxxxxxxxxxxxxxxxxxxxxxxxxxxxxxxxxxxxxxxxxxxxxxxxxxxxxxxxxxxxxxxxxxxxxxxxxxxxxxxxxxxxxxxxxxxxxxxxx", "0 issue \"xxxxxxxxxxxxxxxxxxxxxxxxxxxxxxxxxxxxxxxxxxxxxxxxxxxxxxxxxxxxxxxxxxxxxxxxxxxxxxxxxxxxxxxxxxxxxxxxxxxxxxxxxxxxxxxxxxxxxxxxxxxxxxxxxxxxxxxxxxxxxxxxxxxxxxxxxxxxxxxxxxxxxxxxxxxxxxxxxxxxxxxxxxxxxxxxxxxxxxxxxxxxxxxxxxxxxxxxxxxxxxxxxxxxxxxxxxxxxxxxxxxxxxxxxxxxxxxxxxxxxxxxxxxxxxxxxxxxxxxxxxxxxxxxxxxxxxxxxxxx\""),
+    (b"\x00\x01a", "0 a \"\""),
+    (b"@\x0fabcdefghijk1234v w", "64 abcdefghijk1234 \"v w\""),
+    (b"\x00\x05iodefhttp://iodef.example.com/", "0 iodef \"http://iodef.example.com/\""),
+    (b"\x00\x05issuea\x22b\x5cc", "0 issue \"a\\\"b\\\\c\""),
+];
+
+#[rattlefmt::skip]
+pub(crate) const CAA_REFUSED: &[&[u8]] = &[
+    b"",
+    b"\x00",
+    b"\x00\x05issu",
+    b"\x00\x01",
+    b"\x00\x05iss-e",
+    b"\x00\x05issu\xe9v",
+    b"\x00\x02a ",
+    b"\x00\xffaaaaaaaaaaaaaaaaaaaaaaaaaaaaaaaaaaaaaaaaaaaaaaaaaaaaaaaaaaaaaaaaaaaaaaaaaaaaaaaaaaaaaaaaaaaaaaaaaaaaaaaaaaaaaaaaaaaaaaaaaaaaaaaaaaaaaaaaaaaaaaaaaaaaaaaaaaaaaaaaaaaaaaaaaaaaaaaaaaaaaaaaaaaaaaaaaaaaaaaaaaaaaaaaaaaaaaaaaaaaaaaaaaaaaaaaaaaaaaaaaaaaaaaaaaaaaa",
+];
