@@ -8,6 +8,7 @@ use Rattle.drd_plain.specs.declared.a.A.{A}
 use Rattle.drd_plain.specs.declared.aaaa.AAAA.{AAAA}
 use Rattle.drd_plain.specs.declared.caa.CAA.{CAA}
 use Rattle.drd_plain.specs.declared.hinfo.HINFO.{HINFO}
+use Rattle.drd_plain.specs.declared.naptr.NAPTR.{NAPTR}
 use Rattle.drd_plain.specs.declared.txt.TXT.{TXT}
 
 -- RFC 1035 3.4.1: an address of 32 bits, its greatest octet first.
@@ -49,6 +50,22 @@ txt_kinds = all_strings ∷ []
 -- ASCII letters and digits alone.
 abbrev pub are_alphanumeric : List ℕ → Bool
 are_alphanumeric octets = list_all is_ascii_alphanumeric octets
+
+-- RFC 3403 4.1: order, preference, flags, services, regexp and replacement.
+abbrev pub regexp_on : NAPTR → List Field
+regexp_on n = string n.regexp.items ∷ name n.replacement ∷ []
+
+abbrev pub services_on : NAPTR → List Field
+services_on n = string n.services.items ∷ regexp_on n
+
+abbrev pub flags_on : NAPTR → List Field
+flags_on n = string n.flags.items ∷ services_on n
+
+abbrev pub naptr_fields : NAPTR → List Field
+naptr_fields n = short n.order ∷ short n.preference ∷ flags_on n
+
+abbrev pub naptr_kinds : List Kind
+naptr_kinds = a_short ∷ a_short ∷ a_string ∷ a_string ∷ a_string ∷ a_name ∷ []
 
 -- RFC 8659 4.1: the critical flag is the top bit of the flags, the others are reserved.
 abbrev pub caa_flags : CAA → ℕ

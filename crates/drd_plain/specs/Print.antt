@@ -4,11 +4,13 @@ use Rattle.std.specs.Fmt.{decimal}
 use Rattle.std.specs.List.{flat_map}
 use Rattle.std.specs.Net.Addr.{ipv4_octets, ipv6_segments}
 use Rattle.std.specs.Net.Text.{ipv4_text, ipv6_text}
+use Rattle.dnw_name.specs.NamePrint.{name_print}
 use Rattle.drd_words.specs.Print.{escaped_print}
 use Rattle.drd_plain.specs.declared.a.A.{A}
 use Rattle.drd_plain.specs.declared.aaaa.AAAA.{AAAA}
 use Rattle.drd_plain.specs.declared.caa.CAA.{CAA}
 use Rattle.drd_plain.specs.declared.hinfo.HINFO.{HINFO}
+use Rattle.drd_plain.specs.declared.naptr.NAPTR.{NAPTR}
 use Rattle.drd_plain.specs.declared.txt.TXT.{TXT}
 use Rattle.drd_plain.specs.Fields.{caa_flags, txt_strings}
 
@@ -35,6 +37,16 @@ hinfo_print hinfo = spaced (escaped_print hinfo.cpu.items) (escaped_print hinfo.
 -- The strings without anything between them.
 abbrev pub txt_print : TXT → List ℕ
 txt_print txt = flat_map escaped_print (txt_strings txt)
+
+-- Three strings, each behind a space.
+abbrev pub naptr_strings : List ℕ → List ℕ → List ℕ → List ℕ
+naptr_strings flags services regexp = 32 ∷ quoted flags ++ 32 ∷ quoted services ++ 32 ∷ quoted regexp
+
+-- Order, preference, flags, services, regexp and replacement.
+abbrev pub naptr_print : NAPTR → List ℕ
+naptr_print n =
+    decimal n.order ++ 32 ∷ decimal n.preference ++ naptr_strings n.flags.items n.services.items n.regexp.items
+    ++ 32 ∷ name_print n.replacement
 
 -- The flags, the tag and the value.
 abbrev pub caa_print : CAA → List ℕ

@@ -3,7 +3,7 @@ ghost use Rattle.std.specs.Prelude.{◌≡◌, ◌∷◌, [], IfErr, OnOk};
 ghost use Rattle.dnw_encoder.specs.Encoders.{state};
 ghost use Rattle.dnw_encoder.specs.Effects.{Writes};
 ghost use Rattle.dnw_encoder.specs.declared.modes.RDataEncoding.TheVariants.{Other};
-ghost use Rattle.drd_fields.specs.Writing.{EmitsData, RefusesFields};
+ghost use Rattle.drd_fields.specs.Writing.{EmitsData, EmitsFields, RefusesFields};
 
 use dnw_codes::ProtoError;
 use dnw_encoder::{BinEncoder, RDataEncoding};
@@ -33,4 +33,18 @@ pub(crate) fn emit_three<A: DataField + Copy, B: DataField + Copy, C: DataFields
     ensures cause { IfErr result (RefusesFields (A.field fields.0 ∷ B.field fields.1.0 ∷ C.fields fields.1.1) (state encoder.old)) }
 {
     emit_data(encoder, RDataEncoding::Other, &fields)
+}
+
+/// Writes a field and those behind it, in the encoder's mode.
+pub(crate) fn emit_pair<A: DataField + Copy, B: DataFields + Copy>(
+    encoder: &mut BinEncoder<'_>,
+    first: A,
+    later: B,
+) -> Result<(), ProtoError>
+    ensures same_reference { encoder.new.buffer.ghost_name ≡ encoder.old.buffer.ghost_name }
+    ensures writes { Writes (state encoder.old) (state encoder.new) }
+    ensures ok { OnOk result (EmitsFields (A.field first ∷ B.fields later) (state encoder.old) (state encoder.new)) }
+    ensures cause { IfErr result (RefusesFields (A.field first ∷ B.fields later) (state encoder.old)) }
+{
+    (first, later).emit_fields(encoder)
 }

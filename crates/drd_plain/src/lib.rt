@@ -7,6 +7,7 @@ mod caa;
 mod emit;
 mod flags;
 mod hinfo;
+mod naptr;
 mod print;
 mod txt;
 
@@ -15,6 +16,7 @@ pub use aaaa::AAAA;
 pub use caa::CAA;
 pub use flags::verify_flags;
 pub use hinfo::HINFO;
+pub use naptr::NAPTR;
 pub use txt::TXT;
 
 #[cfg(test)]

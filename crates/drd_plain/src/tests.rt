@@ -1,14 +1,14 @@
 //! Record data read, written and printed as dnspython does it; `rows.rt` holds what it gave.
 mod rows;
 
-use crate::{A, AAAA, CAA, HINFO, TXT, verify_flags};
-use dnw_codes::Restrict;
+use crate::{A, AAAA, CAA, HINFO, NAPTR, TXT, verify_flags};
+use dnw_codes::{DecodeError, Restrict};
 use dnw_decoder::{BinDecodable, BinDecoder};
 use dnw_encoder::BinEncodable;
 use drd_fields::RecordDataDecodable;
 use rows::{
     A_REFUSED, A_ROWS, AAAA_REFUSED, AAAA_ROWS, CAA_REFUSED, CAA_ROWS, HINFO_REFUSED, HINFO_ROWS,
-    Row, TXT_REFUSED, TXT_ROWS,
+    NAPTR_REFUSED, NAPTR_ROWS, Row, TXT_REFUSED, TXT_ROWS,
 };
 use std::alloc::Global;
 use std::fmt::Display;
@@ -165,12 +165,18 @@ fn txt(rt: HostRuntime) -> Result<(), Fail> {
 }
 
 #[test]
-fn flags(rt: HostRuntime) -> Result<(), Fail> {
+fn naptr(rt: HostRuntime) -> Result<(), Fail> {
+    agrees::<NAPTR>(&rt, rt.alloc(), NAPTR_ROWS, NAPTR_REFUSED, true)?;
     for flags in ["", "u", "aZ09"] {
         assert!(&rt; verify_flags(flags.as_bytes()));
     }
     for flags in ["-", "a ", "é", "a/", ":z", "@A", "[", "`", "{"] {
         assert!(&rt; !verify_flags(flags.as_bytes()));
+    }
+    let octets = b"\x00\x01\x00\x02\x01-\x00\x00\x00".as_slice();
+    match NAPTR::from_bytes(rt.alloc(), octets) {
+        Ok(_) => return Err(Fail::from("flags that are no letters")),
+        Err(refused) => assert!(&rt; refused == DecodeError::Utf8),
     }
     Ok(())
 }

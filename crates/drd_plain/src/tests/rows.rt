@@ -110,6 +110,36 @@ pub(crate) const TXT_REFUSED: &[&[u8]] = &[
 ];
 
 #[rattlefmt::skip]
+pub(crate) const NAPTR_ROWS: &[Row] = &[
+    (b"\x00d\x00\x0a\x01u\x07E2U+sip\x1b!^.*$!sip:info@example.com!\x00", "100 10 \"u\" \"E2U+sip\" \"!^.*$!sip:info@example.com!\" ."),
+    (b"\x00\x00\x00\x00\x00\x00\x00\x00", "0 0 \"\" \"\" \"\" ."),
+    (b"\xff\xff\xff\xff\x01s\x07SIP+D2U\x00\x04_sip\x04_udp\x07example\x03com\x00", "65535 65535 \"s\" \"SIP+D2U\" \"\" _sip._udp.example.com."),
+    (b"\x00d\x002\x01a\x0dz3950+N2L+N2C\x00\x09cidserver\x07example\x03com\x00", "100 50 \"a\" \"z3950+N2L+N2C\" \"\" cidserver.example.com."),
+    (b"\x00d\x002\x01S\x08http+N2L\x00\x03www\x07Example\x03COM\x00", "100 50 \"S\" \"http+N2L\" \"\" www.Example.COM."),
+    (b"\x00\x01\x00\x02\x04aZ09\x01x\x01y\x01a\x00", "1 2 \"aZ09\" \"x\" \"y\" a."),
+    (b"\x00\x0a\x00d\x01P\x00\x00\x01p\x07example\x00", "10 100 \"P\" \"\" \"\" p.example."),
+    (b"\x00\x0a\x00d\x01u\x09E2U+email\x1e!^.*$!mailto:a b@example.com!i\x00", "10 100 \"u\" \"E2U+email\" \"!^.*$!mailto:a b@example.com!i\" ."),
+    (b"\x00\x0a\x00d\x01u\x03x\x22y\x03b\x5c1\x00", "10 100 \"u\" \"x\\\"y\" \"b\\\\1\" ."),
+    (b"\x00\x0a\x00d\xffAAAAAAAAAAAAAAAAAAAAAAAAAAAAAAAAAAAAAAAAAAAAAAAAAAAAAAAAAAAAAAAAAAAAAAAAAAAAAAAAAAAAAAAAAAAAAAAAAAAAAAAAAAAAAAAAAAAAAAAAAAAAAAAAAAAAAAAAAAAAAAAAAAAAAAAAAAAAAAAAAAAAAAAAAAAAAAAAAAAAAAAAAAAAAAAAAAAAAAAAAAAAAAAAAAAAAAAAAAAAAAAAAAAAAAAAAAAAAAAAAAAAAAAAAAAAAAA\x01s\x00\x00", "10 100 \"AAAAAAAAAAAAAAAAAAAAAAAAAAAAAAAAAAAAAAAAAAAAAAAAAAAAAAAAAAAAAAAAAAAAAAAAAAAAAAAAAAAAAAAAAAAAAAAAAAAAAAAAAAAAAAAAAAAAAAAAAAAAAAAAAAAAAAAAAAAAAAAAAAAAAAAAAAAAAAAAAAAAAAAAAAAAAAAAAAAAAAAAAAAAAAAAAAAAAAAAAAAAAAAAAAAAAAAAAAAAAAAAAAAAAAAAAAAAAAAAAAAAAAAAAAAAAAA\" \"s\" \"\" ."),
+    (b"\x00\x0a\x00d\x01U\xffaaaaaaaaaaaaaaaaaaaaaaaaaaaaaaaaaaaaaaaaaaaaaaaaaaaaaaaaaaaaaaaaaaaaaaaaaaaaaaaaaaaaaaaaaaaaaaaaaaaaaaaaaaaaaaaaaaaaaaaaaaaaaaaaaaaaaaaaaaaaaaaaaaaaaaaaaaaaaaaaaaaaaaaaaaaaaaaaaaaaaaaaaaaaaaaaaaaaaaaaaaaaaaaaaaaaaaaaaaaaaaaaaaaaaaaaaaaaaaaaaaaaaaaaaaaaaaa\xffaaaaaaaaaaaaaaaaaaaaaaaaaaaaaaaaaaaaaaaaaaaaaaaaaaaaaaaaaaaaaaaaaaaaaaaaaaaaaaaaaaaaaaaaaaaaaaaaaaaaaaaaaaaaaaaaaaaaaaaaaaaaaaaaaaaaaaaaaaaaaaaaaaaaaaaaaaaaaaaaaaaaaaaaaaaaaaaaaaaaaaaaaaaaaaaaaaaaaaaaaaaaaaaaaaaaaaaaaaaaaaaaaaaaaaaaaaaaaaaaaaaaaaaaaaaaaaa\x01e\x00", "10 100 \"U\" \"aaaaaaaaaaaaaaaaaaaaaaaaaaaaaaaaaaaaaaaaaaaaaaaaaaaaaaaaaaaaaaaaaaaaaaaaaaaaaaaaaaaaaaaaaaaaaaaaaaaaaaaaaaaaaaaaaaaaaaaaaaaaaaaaaaaaaaaaaaaaaaaaaaaaaaaaaaaaaaaaaaaaaaaaaaaaaaaaaaaaaaaaaaaaaaaaaaaaaaaaaaaaaaaaaaaaaaaaaaaaaaaaaaaaaaaaaaaaaaaaaaaaaaaaaaaaaaa\" \"aaaaaaaaaaaaaaaaaaaaaaaaaaaaaaaaaaaaaaaaaaaaaaaaaaaaaaaaaaaaaaaaaaaaaaaaaaaaaaaaaaaaaaaaaaaaaaaaaaaaaaaaaaaaaaaaaaaaaaaaaaaaaaaaaaaaaaaaaaaaaaaaaaaaaaaaaaaaaaaaaaaaaaaaaaaaaaaaaaaaaaaaaaaaaaaaaaaaaaaaaaaaaaaaaaaaaaaaaaaaaaaaaaaaaaaaaaaaaaaaaaaaaaaaaaaaaaa\" e."),
+    (b"\x00\x07\x00\x08\x019\x00\x00\x04nine\x07example\x00", "7 8 \"9\" \"\" \"\" nine.example."),
+];
+
+#[rattlefmt::skip]
+pub(crate) const NAPTR_REFUSED: &[&[u8]] = &[
+    b"",
+    b"\x00",
+    b"\x00\x01\x00",
+    b"\x00\x01\x00\x02",
+    b"\x00\x01\x00\x02\x01u",
+    b"\x00\x01\x00\x02\x01u\x01s\x01r",
+    b"\x00\x01\x00\x02\x01u\x01s\x01",
+    b"\x00\x01\x00\x02\x01u\x01s\x01r\x01a",
+    b"\x00\x01\x00\x02\x02u",
+    b"\x00\x01\x00\x02\x00\x00\x00\x00\x00",
+];
+
+#[rattlefmt::skip]
 pub(crate) const CAA_ROWS: &[Row] = &[
     (b"\x00\x05issueca.example.net", "0 issue \"ca.example.net\""),
     (b"\x80\x05issueca.example.net", "128 issue \"ca.example.net\""),

@@ -1,0 +1,259 @@
+//! NAPTR (RFC 3403 4).
+ghost use Rattle.std.specs.Prelude.{◌≡◌, ◌+◌, ◌≤◌, ◌∷◌, [], ℕ, List, ◌⊎◌, true, Some, Ok, Err, Result, IfOk, IfErr, OnErr, length, map};
+ghost use Rattle.std.specs.Fmt.{WritesOnOk};
+ghost use Rattle.std.specs.Cmp.{partial_equiv_from_equiv};
+ghost use Rattle.dnw_decoder.specs.Reading.{IsWantOfMemory};
+ghost use Rattle.dnw_encoder.specs.declared.modes.RDataEncoding.TheVariants.{Canonical};
+ghost use Rattle.drd_fields.specs.Fields.{Field, short, string, name, FieldsAt, kinds_of};
+ghost use Rattle.drd_fields.specs.Reading.{Stops};
+ghost use Rattle.drd_fields.specs.Equality.{AreFull, Tells, fields_eq};
+ghost use Rattle.drd_fields.specs.EqualityLaws.{data_equiv};
+ghost use Rattle.drd_fields.specs.Writing.{EmitsData, RefusesFields, canonical_octets};
+ghost use Rattle.drd_plain.specs.Fields.{naptr_fields, naptr_kinds, flags_on, services_on, regexp_on, are_alphanumeric};
+ghost use Rattle.drd_plain.specs.Print.{naptr_print, naptr_strings, quoted};
+ghost use Rattle.drd_plain.specs.Reading.{RefusesNaptr};
+
+use crate::emit::emit_pair;
+use crate::flags::verify_flags;
+use crate::print::fmt_quoted;
+use dnw_codes::{DecodeError, ProtoError};
+use dnw_decoder::{BinDecodable, BinDecoder};
+use dnw_encoder::{BinEncodable, BinEncoder, RDataEncoding};
+use dnw_name::Name;
+use drd_fields::{CharacterString, DataFields, StringField, emit_data, read_data};
+use std::alloc::Global;
+use std::fmt;
+
+/// A rule by which a name is rewritten, or found at another one.
+#[derive(Clone, Debug, Drop)]
+pub struct NAPTR {
+    /// Rules of a lower order come first.
+    pub order: u16,
+    /// Of rules of one order, those of a lower preference come first.
+    pub preference: u16,
+    /// ASCII letters and digits, which say what the rule's outcome is.
+    pub flags: Vec<u8>,
+    /// The services that the rule leads to.
+    pub services: Vec<u8>,
+    /// An expression that rewrites the name, or nothing.
+    pub regexp: Vec<u8>,
+    /// The name to go on with, or the root.
+    pub replacement: Name,
+}
+
+// What the data are read as.
+type Parts = (
+    u16,
+    (
+        u16,
+        (
+            CharacterString,
+            (CharacterString, (CharacterString, (Name, ()))),
+        ),
+    ),
+);
+
+impl NAPTR {
+    /// The data of a rule.
+    pub fn new(
+        order: u16,
+        preference: u16,
+        flags: Vec<u8>,
+        services: Vec<u8>,
+        regexp: Vec<u8>,
+        replacement: Name,
+    ) -> NAPTR
+        ensures order { result.order ≡ order }
+        ensures preference { result.preference ≡ preference }
+        ensures flags { result.flags ≡ flags }
+        ensures services { result.services ≡ services }
+        ensures regexp { result.regexp ≡ regexp }
+        ensures replacement { result.replacement ≡ replacement }
+    {
+        NAPTR {
+            order,
+            preference,
+            flags,
+            services,
+            regexp,
+            replacement,
+        }
+    }
+
+    // The fields of the data.
+    fn fields(&self) -> (u16, (u16, FromFlags<'_>))
+        ensures { short result.0 ∷ short result.1.0 ∷ flags_on result.1.1.0.now ≡ naptr_fields self.now }
+    {
+        (self.order, (self.preference, FromFlags(self)))
+    }
+}
+
+// The fields from the flags on, from the services on, and from the expression on.
+#[derive(Clone, Copy)]
+struct FromFlags<'a>(&'a NAPTR);
+
+#[derive(Clone, Copy)]
+struct FromServices<'a>(&'a NAPTR);
+
+#[derive(Clone, Copy)]
+struct FromRegexp<'a>(&'a NAPTR);
+
+impl DataFields for FromFlags<'_> {
+    ghost fields = { λ from. flags_on from.0.now };
+
+    fn emit_fields(&self, encoder: &mut BinEncoder<'_>) -> Result<(), ProtoError> {
+        emit_pair(encoder, StringField(&self.0.flags), FromServices(self.0))
+    }
+
+    fn are_same(&self, other: &Self) -> bool {
+        (StringField(&self.0.flags), FromServices(self.0)).are_same(&(
+            StringField(&other.0.flags),
+            FromServices(other.0),
+        ))
+    }
+}
+
+impl DataFields for FromServices<'_> {
+    ghost fields = { λ from. services_on from.0.now };
+
+    fn emit_fields(&self, encoder: &mut BinEncoder<'_>) -> Result<(), ProtoError> {
+        emit_pair(encoder, StringField(&self.0.services), FromRegexp(self.0))
+    }
+
+    fn are_same(&self, other: &Self) -> bool {
+        (StringField(&self.0.services), FromRegexp(self.0)).are_same(&(
+            StringField(&other.0.services),
+            FromRegexp(other.0),
+        ))
+    }
+}
+
+impl DataFields for FromRegexp<'_> {
+    ghost fields = { λ from. regexp_on from.0.now };
+
+    fn emit_fields(&self, encoder: &mut BinEncoder<'_>) -> Result<(), ProtoError> {
+        emit_pair(
+            encoder,
+            StringField(&self.0.regexp),
+            (&self.0.replacement, ()),
+        )
+    }
+
+    fn are_same(&self, other: &Self) -> bool {
+        (StringField(&self.0.regexp), (&self.0.replacement, ())).are_same(&(
+            StringField(&other.0.regexp),
+            (&other.0.replacement, ()),
+        ))
+    }
+}
+
+// The fields, whatever the flags are.
+fn read_parts(alloc: Global, decoder: &mut BinDecoder<'_>) -> Result<NAPTR, DecodeError>
+    ensures ok { IfOk result (λ naptr. FieldsAt decoder.old.octets decoder.old.index (naptr_fields naptr) decoder.new.index) }
+    ensures same { decoder.new.octets ≡ decoder.old.octets }
+    ensures forward { decoder.old.index ≤ decoder.new.index }
+    ensures within { decoder.new.index ≤ length decoder.new.octets }
+    ensures err { OnErr result (decoder.new ≡ decoder.old) }
+    ensures refused { IfErr result (λ e. (end at : ℕ) × Stops decoder.old.octets end naptr_kinds decoder.old.index e at) }
+    ensures none { IfErr result (λ e. IsWantOfMemory e
+        ⊎ ((fs : List Field) (end : ℕ) → kinds_of fs ≡ naptr_kinds → FieldsAt decoder.old.octets decoder.old.index fs end → ⊥)) }
+{
+    let (order, (preference, (flags, (services, (regexp, (replacement, ())))))) = match read_data::<
+        Parts,
+    >(alloc, decoder)
+    {
+        Ok(found) => found,
+        Err(refused) => return Err(refused),
+    };
+    let (CharacterString(flags), CharacterString(services)) = (flags, services);
+    let CharacterString(regexp) = regexp;
+    Ok(NAPTR::new(order, preference, flags, services, regexp, replacement))
+}
+
+impl BinDecodable for NAPTR {
+    ghost reads = { λ message place naptr end. FieldsAt message place (naptr_fields naptr) end
+        × (are_alphanumeric naptr.flags.items ≡ true) };
+
+    ghost refuses = { RefusesNaptr };
+
+    /// The rule that stands at the decoder's index. One whose flags are other octets than letters and digits is refused.
+    fn read(alloc: Global, decoder: &mut BinDecoder<'_>) -> Result<NAPTR, DecodeError> {
+        let start = decoder.index();
+        match read_parts(alloc, decoder) {
+            Ok(naptr) => {
+                if verify_flags(&naptr.flags) {
+                    Ok(naptr)
+                } else {
+                    decoder.set_index(start);
+                    Err(DecodeError::Utf8)
+                }
+            }
+            Err(refused) => Err(refused),
+        }
+    }
+}
+
+impl BinEncodable for NAPTR {
+    ghost emits = { λ naptr. EmitsData Canonical (naptr_fields naptr) };
+
+    ghost refuses = { λ naptr old e new. RefusesFields (naptr_fields naptr) old e };
+
+    fn emit(&self, encoder: &mut BinEncoder<'_>) -> Result<(), ProtoError> {
+        emit_data(encoder, RDataEncoding::Canonical, &self.fields())
+    }
+}
+
+impl PartialEq for NAPTR {
+    ghost eq = { λ a b. fields_eq (naptr_fields a) (naptr_fields b) };
+
+    ghost laws = { partial_equiv_from_equiv (data_equiv naptr_fields) };
+
+    /// Whether numbers and strings are the same, and the names up to the case of ASCII letters. Of data that were read this
+    /// is so exactly where the canonical octets are the same (RFC 4034 6.3).
+    fn eq(&self, other: &NAPTR) -> bool
+        ensures value { result ≡ fields_eq (naptr_fields self.now) (naptr_fields other.now) }
+        ensures canonical { AreFull (naptr_fields self.now) → AreFull (naptr_fields other.now)
+            → Tells result (canonical_octets (naptr_fields self.now)) (canonical_octets (naptr_fields other.now)) }
+    {
+        self.fields().are_same(&other.fields())
+    }
+}
+
+impl Eq for NAPTR {
+    ghost laws = { data_equiv naptr_fields };
+}
+
+impl fmt::Display for NAPTR {
+    ghost output = { λ naptr. Some (naptr_print naptr) };
+
+    /// Writes the six words, the strings between quotes.
+    fn fmt<W: fmt::Write>(&self, f: &mut fmt::Formatter<W>) -> fmt::Result {
+        let (order, preference) = (self.order, self.preference);
+        write!(f, "{order} {preference}")?;
+        fmt_strings(f, &self.flags, &self.services, &self.regexp)?;
+        f.write_char(' ')?;
+        fmt::Display::fmt(&self.replacement, f)
+    }
+}
+
+// Writes three strings between quotes, each behind a space.
+fn fmt_strings<W: fmt::Write>(
+    f: &mut fmt::Formatter<W>,
+    flags: &[u8],
+    services: &[u8],
+    regexp: &[u8],
+) -> fmt::Result
+    ensures { WritesOnOk W.write_str_gives f.old result (naptr_strings flags.now services.now regexp.now) f.new }
+{
+    fmt_behind_space(f, flags)?;
+    fmt_behind_space(f, services)?;
+    fmt_behind_space(f, regexp)
+}
+
+// Writes a space and a string between quotes.
+fn fmt_behind_space<W: fmt::Write>(f: &mut fmt::Formatter<W>, octets: &[u8]) -> fmt::Result
+    ensures { WritesOnOk W.write_str_gives f.old result (32 ∷ quoted octets.now) f.new }
+{
+    f.write_char(' ')?;
+    fmt_quoted(f, octets)
+}
