@@ -19,7 +19,7 @@ fn chained(alloc: Global) -> Result<Vec<u8>> {
 }
 
 // Reads the name behind so many pointers of the chain, and gives its octets.
-pub fn read_chain(alloc: Global, count: u64) -> Result<u64> {
+pub(crate) fn read_chain(alloc: Global, count: u64) -> Result<u64> {
     let message = chained(alloc)?;
     let pointers = count.min(u64::from(POINTERS)) as usize;
     let place = if pointers == 0 { 0 } else { 1 + 2 * pointers };
@@ -32,7 +32,7 @@ pub fn read_chain(alloc: Global, count: u64) -> Result<u64> {
 }
 
 // Reads a name of three labels so many times, and gives its octets, added.
-pub fn read_names(alloc: Global, count: u64) -> Result<u64> {
+pub(crate) fn read_names(alloc: Global, count: u64) -> Result<u64> {
     let mut octets = 0u64;
     'names: for _ in 0..count {
         let mut decoder = BinDecoder::new(b"\x03www\x07example\x03com\x00");
@@ -43,7 +43,7 @@ pub fn read_names(alloc: Global, count: u64) -> Result<u64> {
 }
 
 // Writes a name so many times into the same buffer, and gives its octets, added.
-pub fn write_names(alloc: Global, name: &Name, count: u64) -> Result<u64> {
+pub(crate) fn write_names(alloc: Global, name: &Name, count: u64) -> Result<u64> {
     let mut buffer = Vec::with_capacity(alloc, 512)?;
     let mut octets = 0u64;
     'names: for _ in 0..count {
