@@ -129,3 +129,36 @@ def minus(counter, base):
     difference = collections.Counter(counter)
     difference.subtract(base)
     return difference
+
+
+def one(program, words, folder):
+    """What a run of a program counted, with these words and no input."""
+    path = f"{folder}/one.callgrind"
+    command = ["valgrind", "--tool=callgrind", f"--callgrind-out-file={path}", program, *words]
+    run = subprocess.run(command, capture_output=True, text=True)
+    if run.returncode != 0:
+        raise Failed(f"status {run.returncode} of {' '.join(command)}\n{run.stderr}")
+    return read_counts(path)
+
+
+def allocations(run):
+    """How often a run took memory."""
+    return sum(run.called[name] for name in ALLOCATORS)
+
+
+def each(program, words, count, folder):
+    """Instructions and allocations of one of count operations, less a run of none; the count is the last word."""
+    none = one(program, [*words, "0"], folder)
+    some = one(program, [*words, str(count)], folder)
+    return (some.instructions - none.instructions) / count, (allocations(some) - allocations(none)) / count
+
+
+def built(path, crate, words):
+    """The built program: the one given, else the repository's, which rt proves and builds where it is missing."""
+    if path:
+        return os.path.abspath(path)
+    folder = os.path.join(TOP, "crates", crate)
+    program = os.path.join(folder, "out", crate)
+    if not os.access(program, os.X_OK):
+        subprocess.run(["rt", "run", "--", *words, "0"], cwd=folder, stdout=subprocess.DEVNULL)
+    return program

@@ -1,2 +1,8 @@
 //! Calls across the crates, with values from RFCs.
+mod addresses;
+mod codes;
+mod lexer;
+mod names;
+mod net;
 mod rows;
+mod texts;

@@ -14,6 +14,3 @@ pub use error::{DecodeError, LexerError, ParseError, ParseResult, ProtoError};
 pub use record_type::RecordType;
 pub use restrict::{Restrict, RestrictedMath, Verified};
 pub use serial_number::SerialNumber;
-
-#[cfg(test)]
-mod tests;

@@ -62,15 +62,7 @@ impl<'a> BinEncoder<'a> {
         ensures state { state result.encoder.now
             ≡ with_encoding (state self.old) (rdata_encoding encoding (state self.old).canonical (state self.old).encoding) }
     {
-        let name_encoding = match (encoding, self.canonical_form) {
-            (RDataEncoding::StandardRecord, false) => self.name_encoding,
-            (RDataEncoding::StandardRecord | RDataEncoding::Canonical, true) => {
-                NameEncoding::UncompressedLowercase
-            }
-            (RDataEncoding::Canonical, false) | (RDataEncoding::Other, _) => {
-                NameEncoding::Uncompressed
-            }
-        };
+        let name_encoding = encoding.name_encoding(self.canonical_form, self.name_encoding);
         self.with_name_encoding(name_encoding)
     }
 }

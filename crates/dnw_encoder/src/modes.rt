@@ -1,6 +1,6 @@
 //! How names are written.
 ghost use Rattle.std.specs.Prelude.{◌≡◌};
-ghost use Rattle.dnw_encoder.specs.State.{is_lower};
+ghost use Rattle.dnw_encoder.specs.State.{is_lower, rdata_encoding};
 
 /// How an encoder writes names.
 #[derive(Clone, Copy, Debug, PartialEq, Eq)]
@@ -34,4 +34,22 @@ pub enum RDataEncoding {
     Canonical,
     /// Data whose names stand in full and as they are.
     Other,
+}
+
+impl RDataEncoding {
+    /// How the names of such data are written, in canonical form or not, by an encoder in this mode (RFC 3597 4, RFC 4034
+    /// 6.2).
+    pub fn name_encoding(self, is_canonical: bool, mode: NameEncoding) -> NameEncoding
+        ensures { result ≡ rdata_encoding self is_canonical mode }
+    {
+        match (self, is_canonical) {
+            (RDataEncoding::StandardRecord, false) => mode,
+            (RDataEncoding::StandardRecord | RDataEncoding::Canonical, true) => {
+                NameEncoding::UncompressedLowercase
+            }
+            (RDataEncoding::Canonical, false) | (RDataEncoding::Other, _) => {
+                NameEncoding::Uncompressed
+            }
+        }
+    }
 }

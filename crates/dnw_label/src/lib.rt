@@ -7,9 +7,11 @@
 #![tactic(auto)]
 
 mod label;
+mod label_iter;
 mod label_print;
 mod label_text;
 
 pub use label::{CaseInsensitive, CaseSensitive, IntoLabel, Label, LabelCmp};
+pub use label_iter::LabelIter;
 pub use label_print::fmt_label;
 pub use label_text::label_at;

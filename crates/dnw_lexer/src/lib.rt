@@ -15,6 +15,3 @@ mod word;
 pub use lexer::Lexer;
 pub use token::Token;
 pub use ttl::parse_ttl;
-
-#[cfg(test)]
-mod tests;

@@ -2,7 +2,6 @@ pub mod ArpaLemmas
 pub mod Fronts
 pub mod KeyOrder
 pub mod Lengths
-pub mod NetworkLemmas
 pub mod Orders
 pub mod RoundTrip
 pub mod SuffixLemmas

@@ -4,9 +4,11 @@ ghost use Rattle.std.specs.Char.{digit_char};
 ghost use Rattle.std.specs.declared.net.ip_addr.IpAddr.TheVariants.{V4, V6};
 ghost use Rattle.dnw_codes.specs.ProtoError.{IsMemory};
 ghost use Rattle.dnw_name.specs.DomainName.{domain_name, labels_len};
-ghost use Rattle.dnw_name.specs.Arpa.{v4_labels, v6_labels, arpa_name};
+ghost use Rattle.dnw_arpa.specs.ArpaLabels.{v4_labels, v6_labels};
+ghost use Rattle.dnw_name.specs.Arpa.{arpa_name};
 
 use crate::name::Name;
+use dnw_arpa::hex_digit;
 use dnw_codes::ProtoError;
 use std::alloc::Global;
 use std::net::IpAddr;
@@ -112,15 +114,4 @@ fn with_digits(name: Name, octet: u8) -> Result<Name, ProtoError>
     let high = [hex_digit(octet / 16)];
     let name = with_label(name, &low)?;
     with_label(name, &high)
-}
-
-fn hex_digit(digit: u8) -> u8
-    requires { digit < 16 }
-    ensures { result ≡ digit_char digit }
-{
-    if digit < 10 {
-        b'0' + digit
-    } else {
-        b'a' + (digit - 10)
-    }
 }

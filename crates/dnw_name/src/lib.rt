@@ -11,7 +11,6 @@ mod arpa;
 mod builder;
 mod from_labels;
 mod key;
-mod label_iter;
 mod lower_name;
 mod name;
 mod name_print;
@@ -20,13 +19,9 @@ mod network;
 mod rr_key;
 
 pub use builder::NameBuilder;
-pub use dnw_label::{CaseInsensitive, CaseSensitive, IntoLabel, Label, LabelCmp};
+pub use dnw_label::{CaseInsensitive, CaseSensitive, IntoLabel, Label, LabelCmp, LabelIter};
 pub use key::{base_key, key_of};
-pub use label_iter::LabelIter;
 pub use lower_name::LowerName;
 pub use name::Name;
 pub use name_text::IntoName;
 pub use rr_key::RrKey;
-
-#[cfg(test)]
-mod tests;

@@ -11,9 +11,8 @@ ghost use Rattle.dnw_name.specs.DomainName.{DomainName, domain_name, IsDomainNam
 ghost use Rattle.dnw_name.specs.NameOrder.{name_eq-by_cmp};
 ghost use Rattle.dnw_label.specs.Label.{label_eq};
 
-use crate::label_iter::LabelIter;
 use dnw_codes::{DecodeError, ProtoError};
-use dnw_label::{CaseInsensitive, CaseSensitive, IntoLabel, Label, LabelCmp};
+use dnw_label::{CaseInsensitive, CaseSensitive, IntoLabel, Label, LabelCmp, LabelIter};
 use std::alloc::{AllocError, Global};
 use std::cmp::Ordering;
 use std::hash::{Hash, Hasher};
@@ -377,6 +376,18 @@ impl Name {
         ensures name { IsDomainName self.now }
     {
         LabelIter::new(&self.labels)
+    }
+}
+
+impl<'a> IntoIterator for &'a Name {
+    type Item = &'a [u8];
+
+    type IntoIter = LabelIter<'a>;
+
+    ghost into_iter_gives = { λ name labels. labels ≡ name.now.labels };
+
+    fn into_iter(self) -> LabelIter<'a> {
+        self.iter()
     }
 }
 

@@ -117,6 +117,3 @@ fn front_v6(addr: Ipv6Addr, rest: u32) -> u128
     }
     bits >> rest
 }
-
-#[cfg(test)]
-mod tests;

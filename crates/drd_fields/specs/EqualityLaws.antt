@@ -18,7 +18,7 @@ use Rattle.drd_fields.specs.Fields.{Field, octet, short, long, name, string, str
 use Rattle.drd_fields.specs.Writing.{string_octets}
 use Rattle.drd_fields.specs.Equality.{Tells, TellsApart, canonical_field, field_eq, fields_eq}
 
-from_test : (n m : ℕ) → (n == m) ≡ true → n ≡ m
+pub from_test : (n m : ℕ) → (n == m) ≡ true → n ≡ m
 from_test n m e = grind (arith, nat_tests)
 
 from_no_test : (n m : ℕ) → (n == m) ≡ false → n ≡ m → ⊥
@@ -54,14 +54,14 @@ long_apart n m small few = record {
   other = λ e xs ys whole. from_no_test n m e (long_same n m small few xs ys whole);
 }
 
-true_or_false : (b : Bool) → b ≡ true → b ≡ false → ⊥
+pub true_or_false : (b : Bool) → b ≡ true → b ≡ false → ⊥
 true_or_false b e f = cc
 
 -- Octets found equal one by one are the same, and the same octets are found so.
-same_octets : (xs ys : List ℕ) → pointwise nat_eq xs ys ≡ true → xs ≡ ys
+pub same_octets : (xs ys : List ℕ) → pointwise nat_eq xs ys ≡ true → xs ≡ ys
 same_octets xs ys e = same_text xs ys (sym e)
 
-found_same : (xs ys : List ℕ) → xs ≡ ys → pointwise nat_eq xs ys ≡ true
+pub found_same : (xs ys : List ℕ) → xs ≡ ys → pointwise nat_eq xs ys ≡ true
 found_same xs ys e = subst (λ (t : List ℕ). pointwise nat_eq xs t ≡ true) e (nat_list_eq_equiv.refl xs)
 
 pub rest_tells : (xs ys : List ℕ) → Tells (pointwise nat_eq xs ys) xs ys
@@ -71,7 +71,7 @@ rest_tells xs ys = record {
 }
 
 -- Strings behind their lengths begin with the same string.
-string_same : (s t xs ys : List ℕ) → string_octets s ++ xs ≡ string_octets t ++ ys → (s ≡ t) × (xs ≡ ys)
+pub string_same : (s t xs ys : List ℕ) → string_octets s ++ xs ≡ string_octets t ++ ys → (s ≡ t) × (xs ≡ ys)
 string_same s t xs ys whole =
     let long : length s ≡ length t = cc whole in
     let tails : s ++ xs ≡ t ++ ys = cc whole in
@@ -92,11 +92,11 @@ strings_same (s ∷ ss) (t ∷ ts) e =
     let parts = string_same s t (flat_map string_octets ss) (flat_map string_octets ts) e in
     ap (λ (x : List ℕ). x ∷ ss) parts.0 ∙ ap (λ (xs : List (List ℕ)). t ∷ xs) (strings_same ss ts parts.1)
 
-both_true : (a b : Bool) → (a && b) ≡ true → (a ≡ true) × (b ≡ true)
+pub both_true : (a b : Bool) → (a && b) ≡ true → (a ≡ true) × (b ≡ true)
 both_true true b e = (refl, e)
 both_true false b e = absurd (cc e)
 
-found_strings : (ss ts : List (List ℕ)) → pointwise (pointwise nat_eq) ss ts ≡ true → ss ≡ ts
+pub found_strings : (ss ts : List (List ℕ)) → pointwise (pointwise nat_eq) ss ts ≡ true → ss ≡ ts
 found_strings [] [] e = refl
 found_strings [] (t ∷ ts) e = absurd (cc e)
 found_strings (s ∷ ss) [] e = absurd (cc e)
@@ -129,7 +129,7 @@ labels_same (a ∷ cs) (b ∷ bs) xs ys p q e =
     let parts = string_same a b (flat_map string_octets cs ++ 0 ∷ xs) (flat_map string_octets bs ++ 0 ∷ ys) whole in
     ap (λ (x : List ℕ). x ∷ cs) parts.0 ∙ ap (λ (ls : List (List ℕ)). b ∷ ls) (labels_same cs bs xs ys (All-tail IsLabel a cs p) (All-tail IsLabel b bs q) parts.1)
 
-lower_found : (cs bs : List (List ℕ)) → pointwise label_eq cs bs ≡ true → map str_to_ascii_lowercase cs ≡ map str_to_ascii_lowercase bs
+pub lower_found : (cs bs : List (List ℕ)) → pointwise label_eq cs bs ≡ true → map str_to_ascii_lowercase cs ≡ map str_to_ascii_lowercase bs
 lower_found [] [] e = refl
 lower_found [] (b ∷ bs) e = absurd (cc e)
 lower_found (a ∷ cs) [] e = absurd (cc e)
@@ -138,7 +138,7 @@ lower_found (a ∷ cs) (b ∷ bs) e =
     ap (λ (x : List ℕ). x ∷ map str_to_ascii_lowercase cs) (same_octets (str_to_ascii_lowercase a) (str_to_ascii_lowercase b) parts.0)
     ∙ ap (λ (ls : List (List ℕ)). str_to_ascii_lowercase b ∷ ls) (lower_found cs bs parts.1)
 
-found_lower : (cs bs : List (List ℕ)) → map str_to_ascii_lowercase cs ≡ map str_to_ascii_lowercase bs → pointwise label_eq cs bs ≡ true
+pub found_lower : (cs bs : List (List ℕ)) → map str_to_ascii_lowercase cs ≡ map str_to_ascii_lowercase bs → pointwise label_eq cs bs ≡ true
 found_lower [] [] e = refl
 found_lower [] (b ∷ bs) e = absurd (cc e)
 found_lower (a ∷ cs) [] e = absurd (cc e)

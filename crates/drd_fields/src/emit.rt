@@ -3,12 +3,11 @@ ghost use Rattle.std.specs.Prelude.{◌≡◌, ◌+◌, ◌≤◌, ◌⊎◌, �
 ghost use Rattle.std.specs.Int.{w32, cast_unsigned};
 ghost use Rattle.dnw_encoder.specs.Encoders.{state};
 ghost use Rattle.dnw_encoder.specs.Effects.{Writes, IsRefusal};
-ghost use Rattle.dnw_encoder.specs.State.{rdata_encoding};
 ghost use Rattle.drd_fields.specs.Fields.{octet, short, long, name, string, strings, rest};
 ghost use Rattle.drd_fields.specs.Writing.{EmitsData, EmitsField, RefusesFields, SomeTooLong, string_octets};
 
 use dnw_codes::ProtoError;
-use dnw_encoder::{BinEncodable, BinEncoder, NameEncoding, RDataEncoding};
+use dnw_encoder::{BinEncodable, BinEncoder, RDataEncoding};
 use dnw_name::Name;
 
 /// A value that is written as one field.
@@ -237,19 +236,6 @@ impl DataFields for StringFields<'_> {
     }
 }
 
-// How names are written in data of a kind, where the encoder is in canonical form or not, and in this mode.
-fn names_of(kind: RDataEncoding, is_canonical: bool, former: NameEncoding) -> NameEncoding
-    ensures { result ≡ rdata_encoding kind is_canonical former }
-{
-    match (kind, is_canonical) {
-        (RDataEncoding::StandardRecord, false) => former,
-        (RDataEncoding::StandardRecord | RDataEncoding::Canonical, true) => {
-            NameEncoding::UncompressedLowercase
-        }
-        (RDataEncoding::Canonical, false) | (RDataEncoding::Other, _) => NameEncoding::Uncompressed,
-    }
-}
-
 /// Writes the data of a record at the encoder's offset, their names as data of this kind have them (RFC 3597 4, RFC 4034
 /// 6.2). Refused are data that would pass the maximum, and strings of more than 255 octets.
 pub fn emit_data<D: DataFields>(
@@ -263,7 +249,7 @@ pub fn emit_data<D: DataFields>(
     ensures cause { IfErr result (RefusesFields (D.fields fields.now) (state encoder.old)) }
 {
     let former = encoder.name_encoding();
-    let names = names_of(kind, encoder.is_canonical_form(), former);
+    let names = kind.name_encoding(encoder.is_canonical_form(), former);
     encoder.set_name_encoding(names);
     let written = fields.emit_fields(encoder);
     encoder.set_name_encoding(former);

@@ -1,6 +1,7 @@
 -- The numbers of CERT data (RFC 4398 2.1; RFC 4034 A.1 and its registry).
-use Rattle.std.specs.Prelude.{ℕ, ◌==◌, ◌&&◌, nat_le, Bool, List, [], ◌∷◌, if◌then◌else◌, unwrap_or, find}
+use Rattle.std.specs.Prelude.{ℕ, ◌≡◌, ◌<◌, ◌^◌, ◌==◌, ◌&&◌, nat_le, Bool, List, [], ◌∷◌, if◌then◌else◌, unwrap_or, find}
 use Rattle.std.specs.Ordering.{on}
+use Rattle.dnw_decoder.specs.Octets.{octets_16, Stands}
 use Rattle.drd_keys.specs.declared.cert.CertType.{CertType}
 use Rattle.drd_keys.specs.declared.cert.CertType.TheVariants as cert_type
 use Rattle.drd_keys.specs.declared.cert.Algorithm.{Algorithm}
@@ -75,3 +76,17 @@ cert_algorithm_of number =
 -- Two are the same where their numbers are.
 abbrev pub same_cert_algorithm : Algorithm → Algorithm → Bool
 same_cert_algorithm = on cert_algorithm_number ◌==◌
+
+-- A number of two octets stands at a place, and is the kind of a certificate.
+pub record CertTypeAt (message : List ℕ) (place : ℕ) (kind : CertType) (end : ℕ) : Type 0 where
+  pub number : ℕ
+  pub small : number < 2 ^ 16
+  pub there : Stands message place (octets_16 number) end
+  pub means : kind ≡ cert_type_of number
+
+-- An octet stands at a place, and is the number of an algorithm.
+pub record CertAlgorithmAt (message : List ℕ) (place : ℕ) (of_key : Algorithm) (end : ℕ) : Type 0 where
+  pub number : ℕ
+  pub small : number < 2 ^ 8
+  pub there : Stands message place (number ∷ []) end
+  pub means : of_key ≡ cert_algorithm_of number

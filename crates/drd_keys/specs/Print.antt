@@ -1,10 +1,10 @@
 -- Printed record data of keys, certificates and fingerprints: decimal numbers, and octets in hex in lower case or in
 -- base64, one space apart.
-use Rattle.std.specs.Prelude.{ℕ, ◌+◌, ◌/◌, ◌%◌, nat_lt, if◌then◌else◌, List, [], ◌∷◌, ◌++◌, codes}
-use Rattle.std.specs.List.{flat_map}
+use Rattle.std.specs.Prelude.{ℕ, List, ◌++◌, codes}
 use Rattle.std.specs.Fmt.{decimal}
 use Rattle.base64.specs.Engines.{standard}
 use Rattle.base64.specs.GeneralPurpose.{encode_of}
+use Rattle.hex.specs.Hex.{encode_lower}
 use Rattle.drd_keys.specs.Cert.{cert_type_number, cert_algorithm_number}
 use Rattle.drd_keys.specs.Sshfp.{sshfp_algorithm_number, fingerprint_type_number}
 use Rattle.drd_keys.specs.Tlsa.{cert_usage_number, selector_number, matching_number}
@@ -15,17 +15,6 @@ use Rattle.drd_keys.specs.declared.smimea.SMIMEA.{SMIMEA}
 use Rattle.drd_keys.specs.declared.sshfp.SSHFP.{SSHFP}
 use Rattle.drd_keys.specs.declared.tlsa.TLSA.{TLSA}
 use Rattle.drd_keys.specs.declared.unknown.Unknown.{Unknown}
-
--- `0` to `9`, and `a` to `f` from ten on.
-abbrev pub hex_digit : ℕ → ℕ
-hex_digit digit = if nat_lt digit 10 then 48 + digit else 87 + digit
-
--- Two digits of each octet, the high four bits first (RFC 4648 8).
-abbrev pub hex_octet : ℕ → List ℕ
-hex_octet octet = hex_digit (octet / 16) ∷ hex_digit (octet % 16) ∷ []
-
-abbrev pub hex_print : List ℕ → List ℕ
-hex_print octets = flat_map hex_octet octets
 
 -- RFC 4398 2.2: three numbers, and the certificate in base64.
 abbrev pub cert_print : CERT → List ℕ
@@ -45,13 +34,13 @@ openpgpkey_print key = encode_of standard key.public_key.items
 abbrev pub sshfp_print : SSHFP → List ℕ
 sshfp_print sshfp =
     decimal (sshfp_algorithm_number sshfp.algorithm) ++ codes " " ++ decimal (fingerprint_type_number sshfp.fingerprint_type)
-    ++ codes " " ++ hex_print sshfp.fingerprint.items
+    ++ codes " " ++ encode_lower sshfp.fingerprint.items
 
 -- RFC 6698 2.2: three numbers, and the octets in hex.
 abbrev pub tlsa_print : TLSA → List ℕ
 tlsa_print tlsa =
     decimal (cert_usage_number tlsa.cert_usage) ++ codes " " ++ decimal (selector_number tlsa.selector) ++ codes " "
-    ++ decimal (matching_number tlsa.matching) ++ codes " " ++ hex_print tlsa.cert_data.items
+    ++ decimal (matching_number tlsa.matching) ++ codes " " ++ encode_lower tlsa.cert_data.items
 
 -- RFC 8162 2: that of TLSA.
 abbrev pub smimea_print : SMIMEA → List ℕ

@@ -1,5 +1,6 @@
 //! CERT (RFC 4398).
 ghost use Rattle.std.specs.Prelude.{◌≡◌, ◌∷◌, [], ℕ, Some, IfOk, ◌⊎◌, List, IfErr, map};
+ghost use Rattle.std.specs.Fmt.{decimal};
 ghost use Rattle.std.specs.Iterator.{Drains, IsFinite};
 ghost use Rattle.std.specs.Cmp.Rules.{comparing};
 ghost use Rattle.std.proofs.Common.{rules};
@@ -20,7 +21,7 @@ ghost use Rattle.drd_keys.specs.Texts.{IsCertText};
 
 use base64::engine::general_purpose::STANDARD;
 use dnw_codes::{DecodeError, ParseError, ProtoError, Restrict};
-use dnw_decoder::BinDecoder;
+use dnw_decoder::{BinDecodable, BinDecoder};
 use dnw_encoder::{BinEncodable, BinEncoder, RDataEncoding};
 use dnw_name::Name;
 use drd_fields::{DataFields, RecordDataDecodable, Rest, RestField, emit_data, read_data_within};
@@ -129,6 +130,35 @@ impl Eq for CertType {
     ghost laws = { Prim.search (comparing, rules) };
 }
 
+impl BinDecodable for CertType {
+    ghost use Rattle.dnw_decoder.specs.Reading.{IsCut};
+    ghost use Rattle.drd_keys.specs.Cert.{CertTypeAt};
+
+    ghost reads = { CertTypeAt };
+
+    ghost refuses = { IsCut 2 };
+
+    /// The kind of the number in two octets.
+    fn read(_alloc: Global, decoder: &mut BinDecoder<'_>) -> Result<CertType, DecodeError> {
+        match decoder.read_u16() {
+            Ok(number) => Ok(CertType::from(number.unverified())),
+            Err(refused) => Err(refused),
+        }
+    }
+}
+
+impl fmt::Display for CertType {
+    ghost use Rattle.drd_keys.specs.Cert.{cert_type_number};
+
+    ghost output = { λ cert_type. Some (decimal (cert_type_number cert_type)) };
+
+    /// Writes the number.
+    fn fmt<W: fmt::Write>(&self, f: &mut fmt::Formatter<W>) -> fmt::Result {
+        let number = u16::from(*self);
+        write!(f, "{number}")
+    }
+}
+
 /// The algorithm of a key (RFC 4034 A.1 and its registry). Two are equal where their numbers are.
 #[derive(Clone, Copy, Debug)]
 pub enum Algorithm {
@@ -235,6 +265,35 @@ impl PartialEq for Algorithm {
 
 impl Eq for Algorithm {
     ghost laws = { Prim.search (comparing, rules) };
+}
+
+impl BinDecodable for Algorithm {
+    ghost use Rattle.dnw_decoder.specs.Reading.{IsCut};
+    ghost use Rattle.drd_keys.specs.Cert.{CertAlgorithmAt};
+
+    ghost reads = { CertAlgorithmAt };
+
+    ghost refuses = { IsCut 1 };
+
+    /// The algorithm of the number in an octet.
+    fn read(_alloc: Global, decoder: &mut BinDecoder<'_>) -> Result<Algorithm, DecodeError> {
+        match decoder.read_u8() {
+            Ok(number) => Ok(Algorithm::from(number.unverified())),
+            Err(refused) => Err(refused),
+        }
+    }
+}
+
+impl fmt::Display for Algorithm {
+    ghost use Rattle.drd_keys.specs.Cert.{cert_algorithm_number};
+
+    ghost output = { λ algorithm. Some (decimal (cert_algorithm_number algorithm)) };
+
+    /// Writes the number.
+    fn fmt<W: fmt::Write>(&self, f: &mut fmt::Formatter<W>) -> fmt::Result {
+        let number = u8::from(*self);
+        write!(f, "{number}")
+    }
 }
 
 /// A certificate, or a list of revoked ones.

@@ -4,7 +4,6 @@
 pub mod cert;
 pub mod null;
 pub mod openpgpkey;
-mod print;
 pub mod smimea;
 pub mod sshfp;
 pub mod tlsa;
@@ -17,6 +16,3 @@ pub use smimea::SMIMEA;
 pub use sshfp::SSHFP;
 pub use tlsa::TLSA;
 pub use unknown::Unknown;
-
-#[cfg(test)]
-mod tests;

@@ -22,6 +22,7 @@ use drd_fields::RecordDataDecodable;
 use std::alloc::Global;
 use std::convert::AsStr;
 use std::fmt;
+use std::ops::Deref;
 
 /// The certificate, or the key, of the holder of a mail address, in the form of TLSA.
 #[derive(Clone, Debug, Drop)]
@@ -57,6 +58,16 @@ impl SMIMEA {
             × ((smimea : SMIMEA) → IsSmimeaText (map I.Item.text words) smimea → ⊥))) }
     {
         Ok(SMIMEA(TLSA::from_tokens(alloc, tokens, origin)?))
+    }
+}
+
+impl Deref for SMIMEA {
+    type Target = TLSA;
+
+    ghost deref_gives = { λ smimea tlsa. tlsa ≡ smimea.0 };
+
+    fn deref(&self) -> &TLSA {
+        &self.0
     }
 }
 

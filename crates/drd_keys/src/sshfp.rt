@@ -15,13 +15,12 @@ ghost use Rattle.drd_keys.specs.Print.{sshfp_print};
 ghost use Rattle.drd_words.specs.Word.{IsOutOfMemory};
 ghost use Rattle.drd_keys.specs.Texts.{IsSshfpText};
 
-use crate::print::fmt_hex;
 use dnw_codes::{DecodeError, ParseError, ProtoError, Restrict};
 use dnw_decoder::BinDecoder;
 use dnw_encoder::{BinEncodable, BinEncoder, RDataEncoding};
 use dnw_name::Name;
 use drd_fields::{DataFields, RecordDataDecodable, Rest, RestField, emit_data, read_data_within};
-use drd_words::{HexData, read_tokens};
+use drd_words::{HexData, fmt_hex, read_tokens};
 use std::alloc::Global;
 use std::convert::AsStr;
 use std::fmt;

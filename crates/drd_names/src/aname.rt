@@ -23,6 +23,7 @@ use drd_words::read_tokens;
 use std::alloc::Global;
 use std::convert::AsStr;
 use std::fmt;
+use std::ops::Deref;
 
 /// A name whose addresses stand at the owner (draft-ietf-dnsop-aname-04).
 #[derive(Clone, Debug, Drop)]
@@ -56,6 +57,16 @@ impl ANAME {
         ensures { name result.0.now ∷ [] ≡ aname_fields self.now }
     {
         (&self.0, ())
+    }
+}
+
+impl Deref for ANAME {
+    type Target = Name;
+
+    ghost deref_gives = { λ aname name. name ≡ aname.0 };
+
+    fn deref(&self) -> &Name {
+        &self.0
     }
 }
 

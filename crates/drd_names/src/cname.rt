@@ -23,6 +23,7 @@ use drd_words::read_tokens;
 use std::alloc::Global;
 use std::convert::AsStr;
 use std::fmt;
+use std::ops::Deref;
 
 /// The canonical name of an alias: the name that its owner stands for (RFC 1035 3.3.1).
 #[derive(Clone, Debug, Drop)]
@@ -56,6 +57,16 @@ impl CNAME {
         ensures { name result.0.now ∷ [] ≡ cname_fields self.now }
     {
         (&self.0, ())
+    }
+}
+
+impl Deref for CNAME {
+    type Target = Name;
+
+    ghost deref_gives = { λ cname name. name ≡ cname.0 };
+
+    fn deref(&self) -> &Name {
+        &self.0
     }
 }
 

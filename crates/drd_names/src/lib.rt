@@ -17,6 +17,3 @@ pub use ns::NS;
 pub use ptr::PTR;
 pub use soa::SOA;
 pub use srv::SRV;
-
-#[cfg(test)]
-mod tests;

@@ -23,6 +23,7 @@ use drd_words::read_tokens;
 use std::alloc::Global;
 use std::convert::AsStr;
 use std::fmt;
+use std::ops::Deref;
 
 /// A name server of the zone that begins at the owner (RFC 1035 3.3.11).
 #[derive(Clone, Debug, Drop)]
@@ -56,6 +57,16 @@ impl NS {
         ensures { name result.0.now ∷ [] ≡ ns_fields self.now }
     {
         (&self.0, ())
+    }
+}
+
+impl Deref for NS {
+    type Target = Name;
+
+    ghost deref_gives = { λ ns name. name ≡ ns.0 };
+
+    fn deref(&self) -> &Name {
+        &self.0
     }
 }
 

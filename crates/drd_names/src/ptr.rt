@@ -23,6 +23,7 @@ use drd_words::read_tokens;
 use std::alloc::Global;
 use std::convert::AsStr;
 use std::fmt;
+use std::ops::Deref;
 
 /// A name that the owner points to, as that of a host from its address (RFC 1035 3.3.12).
 #[derive(Clone, Debug, Drop)]
@@ -56,6 +57,16 @@ impl PTR {
         ensures { name result.0.now ∷ [] ≡ ptr_fields self.now }
     {
         (&self.0, ())
+    }
+}
+
+impl Deref for PTR {
+    type Target = Name;
+
+    ghost deref_gives = { λ ptr name. name ≡ ptr.0 };
+
+    fn deref(&self) -> &Name {
+        &self.0
     }
 }
 

@@ -1,10 +1,9 @@
 -- One place holds one text.
 use Rattle.std.proofs.Common.{◌≡◌, ℕ, List, [], ◌∷◌, ap, sym, subst, arith, Bool, true, false}
-use Rattle.drd_fields.specs.Fields.{Field, octet, short, name, string, rest, StringAt, FieldsAt}
+use Rattle.drd_fields.specs.Fields.{Field, short, name, string, StringAt, FieldsAt}
 use Rattle.drd_fields.specs.FieldLaws.{string_once}
-use Rattle.drd_plain.specs.declared.caa.CAA.{CAA}
 use Rattle.drd_plain.specs.declared.naptr.NAPTR.{NAPTR}
-use Rattle.drd_plain.specs.Fields.{naptr_fields, are_alphanumeric, caa_fields, caa_flags, is_caa_tag}
+use Rattle.drd_plain.specs.Fields.{naptr_fields, are_alphanumeric}
 
 true_or_false : (b c : Bool) → b ≡ c → b ≡ true → c ≡ false → ⊥
 true_or_false b c same e f = cc
@@ -15,20 +14,8 @@ third_string message place a b c d s t fs gs e f p q =
     let same : p.2.0 ≡ q.2.0 = omega (arith, p.1.behind, q.1.behind, p.2.1.behind, q.2.1.behind) in
     (string_once message p.2.0 s t p.2.2.0 q.2.2.0 p.2.2.1 (subst (λ (n : ℕ). StringAt message n t q.2.2.0) (sym same) q.2.2.1)).0
 
--- The string behind an octet.
-second_string : (message : List ℕ) (place a b : ℕ) (s t : List ℕ) (fs gs : List Field) (e f : ℕ) → FieldsAt message place (octet a ∷ string s ∷ fs) e → FieldsAt message place (octet b ∷ string t ∷ gs) f → s ≡ t
-second_string message place a b s t fs gs e f p q =
-    let same : p.0 ≡ q.0 = omega (arith, p.1.behind, q.1.behind) in
-    (string_once message p.0 s t p.2.0 q.2.0 p.2.1 (subst (λ (n : ℕ). StringAt message n t q.2.0) (sym same) q.2.1)).0
-
 -- Where a rule stands whose flags are refused, none stands with others.
 pub no_naptr : (message : List ℕ) (place : ℕ) (n : NAPTR) (e : ℕ) → FieldsAt message place (naptr_fields n) e → are_alphanumeric n.flags.items ≡ false → (v : NAPTR) (end : ℕ) → FieldsAt message place (naptr_fields v) end × (are_alphanumeric v.flags.items ≡ true) → ⊥
 no_naptr message place n e there bad v end p =
     let same = third_string message place n.order n.preference v.order v.preference n.flags.items v.flags.items (string n.services.items ∷ string n.regexp.items ∷ name n.replacement ∷ []) (string v.services.items ∷ string v.regexp.items ∷ name v.replacement ∷ []) e end there p.0 in
     true_or_false (are_alphanumeric v.flags.items) (are_alphanumeric n.flags.items) (sym (ap are_alphanumeric same)) p.1 bad
-
--- Where a property stands whose tag is refused, none stands with another.
-pub no_caa : (message : List ℕ) (place : ℕ) (n : CAA) (e : ℕ) → FieldsAt message place (caa_fields n) e → is_caa_tag n.tag.items ≡ false → (v : CAA) (end : ℕ) → FieldsAt message place (caa_fields v) end × (is_caa_tag v.tag.items ≡ true) → ⊥
-no_caa message place n e there bad v end p =
-    let same = second_string message place (caa_flags n) (caa_flags v) n.tag.items v.tag.items (rest n.value.items ∷ []) (rest v.value.items ∷ []) e end there p.0 in
-    true_or_false (is_caa_tag v.tag.items) (is_caa_tag n.tag.items) (sym (ap is_caa_tag same)) p.1 bad

@@ -1,12 +1,11 @@
--- The fields of record data that are addresses, strings and flags.
-use Rattle.std.specs.Prelude.{ℕ, ◌+◌, ◌%◌, ◌&&◌, Bool, nat_le, List, [], ◌∷◌, length, get_or, map, cond}
+-- The fields of record data that are addresses and strings.
+use Rattle.std.specs.Prelude.{ℕ, Bool, List, [], ◌∷◌, get_or, map}
 use Rattle.std.specs.Char.{is_ascii_alphanumeric}
 use Rattle.std.specs.List.{list_all}
 use Rattle.std.specs.Net.Addr.{ipv4_bits, ipv6_segments}
-use Rattle.drd_fields.specs.Fields.{Field, octet, short, long, name, string, strings, rest, Kind, an_octet, a_short, a_long, a_name, a_string, all_strings, the_rest}
+use Rattle.drd_fields.specs.Fields.{Field, short, long, name, string, strings, Kind, a_short, a_long, a_name, a_string, all_strings}
 use Rattle.drd_plain.specs.declared.a.A.{A}
 use Rattle.drd_plain.specs.declared.aaaa.AAAA.{AAAA}
-use Rattle.drd_plain.specs.declared.caa.CAA.{CAA}
 use Rattle.drd_plain.specs.declared.hinfo.HINFO.{HINFO}
 use Rattle.drd_plain.specs.declared.naptr.NAPTR.{NAPTR}
 use Rattle.drd_plain.specs.declared.txt.TXT.{TXT}
@@ -66,18 +65,3 @@ naptr_fields n = short n.order ∷ short n.preference ∷ flags_on n
 
 abbrev pub naptr_kinds : List Kind
 naptr_kinds = a_short ∷ a_short ∷ a_string ∷ a_string ∷ a_string ∷ a_name ∷ []
-
--- RFC 8659 4.1: the critical flag is the top bit of the flags, the others are reserved.
-abbrev pub caa_flags : CAA → ℕ
-caa_flags caa = cond caa.issuer_critical 128 0 + caa.reserved_flags % 128
-
--- RFC 8659 4.1: a tag has 1 to 15 ASCII letters and digits.
-abbrev pub is_caa_tag : List ℕ → Bool
-is_caa_tag tag = nat_le 1 (length tag) && nat_le (length tag) 15 && are_alphanumeric tag
-
--- RFC 8659 4.1: the flags, the tag behind its length, and the value up to the end of the data.
-abbrev pub caa_fields : CAA → List Field
-caa_fields caa = octet (caa_flags caa) ∷ string caa.tag.items ∷ rest caa.value.items ∷ []
-
-abbrev pub caa_kinds : List Kind
-caa_kinds = an_octet ∷ a_string ∷ the_rest ∷ []

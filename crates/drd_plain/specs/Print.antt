@@ -8,11 +8,10 @@ use Rattle.dnw_name.specs.NamePrint.{name_print}
 use Rattle.drd_words.specs.Print.{escaped_print}
 use Rattle.drd_plain.specs.declared.a.A.{A}
 use Rattle.drd_plain.specs.declared.aaaa.AAAA.{AAAA}
-use Rattle.drd_plain.specs.declared.caa.CAA.{CAA}
 use Rattle.drd_plain.specs.declared.hinfo.HINFO.{HINFO}
 use Rattle.drd_plain.specs.declared.naptr.NAPTR.{NAPTR}
 use Rattle.drd_plain.specs.declared.txt.TXT.{TXT}
-use Rattle.drd_plain.specs.Fields.{caa_flags, txt_strings}
+use Rattle.drd_plain.specs.Fields.{txt_strings}
 
 -- Words, each but the first behind a space.
 abbrev pub spaced : List ℕ → List (List ℕ) → List ℕ
@@ -47,7 +46,3 @@ abbrev pub naptr_print : NAPTR → List ℕ
 naptr_print n =
     decimal n.order ++ 32 ∷ decimal n.preference ++ naptr_strings n.flags.items n.services.items n.regexp.items
     ++ 32 ∷ name_print n.replacement
-
--- The flags, the tag and the value.
-abbrev pub caa_print : CAA → List ℕ
-caa_print caa = spaced (decimal (caa_flags caa)) (escaped_print caa.tag.items ∷ quoted caa.value.items ∷ [])

@@ -2,21 +2,14 @@
 use Rattle.std.specs.Prelude.{ℕ, ◌≡◌, false, List}
 use Rattle.std.proofs.Common.{◌⊎◌}
 use Rattle.dnw_codes.specs.declared.error.DecodeError.{DecodeError}
-use Rattle.dnw_codes.specs.declared.error.DecodeError.TheVariants.{CaaTagInvalid, Utf8}
+use Rattle.dnw_codes.specs.declared.error.DecodeError.TheVariants.{Utf8}
 use Rattle.drd_fields.specs.Fields.{FieldsAt}
 use Rattle.drd_fields.specs.Reading.{Stops}
-use Rattle.drd_plain.specs.declared.caa.CAA.{CAA}
 use Rattle.drd_plain.specs.declared.naptr.NAPTR.{NAPTR}
-use Rattle.drd_plain.specs.Fields.{naptr_fields, naptr_kinds, are_alphanumeric, caa_fields, caa_kinds, is_caa_tag}
+use Rattle.drd_plain.specs.Fields.{naptr_fields, naptr_kinds, are_alphanumeric}
 
 -- A field can't be read, or all stand and the flags have an octet that is no letter and no digit (RFC 3403 4.1).
 abbrev pub RefusesNaptr : List ℕ → ℕ → DecodeError → Type 0
 RefusesNaptr message place e =
     ((end at : ℕ) × Stops message end naptr_kinds place e at)
     ⊎ ((e ≡ Utf8) × (naptr : NAPTR) × (end : ℕ) × FieldsAt message place (naptr_fields naptr) end × (are_alphanumeric naptr.flags.items ≡ false))
-
--- A field can't be read, or all stand and the tag isn't 1 to 15 letters and digits (RFC 8659 4.1).
-abbrev pub RefusesCaa : List ℕ → ℕ → ℕ → DecodeError → ℕ → Type 0
-RefusesCaa message place end e at =
-    Stops message end caa_kinds place e at
-    ⊎ ((e ≡ CaaTagInvalid) × (at ≡ end) × (caa : CAA) × FieldsAt message place (caa_fields caa) end × (is_caa_tag caa.tag.items ≡ false))

@@ -1,6 +1,7 @@
 //! A (RFC 1035 3.4.1).
 ghost use Rattle.std.specs.Prelude.{◌≡◌, ◌∷◌, [], ℕ, List, ◌⊎◌, Some, Ok, Err, Result, IfOk, IfErr, map};
 ghost use Rattle.std.specs.Net.Addr.{ipv4_octets, ipv4_bits};
+ghost use Rattle.std.specs.Net.Grammar.{Parses, IsIpv4Text};
 ghost use Rattle.std.specs.Cmp.{partial_equiv_from_equiv};
 ghost use Rattle.dnw_encoder.specs.declared.modes.RDataEncoding.TheVariants.{Other};
 ghost use Rattle.drd_fields.specs.Fields.{long, FieldsAt};
@@ -23,8 +24,9 @@ use drd_words::read_tokens;
 use std::alloc::Global;
 use std::convert::AsStr;
 use std::fmt;
-use std::net::Ipv4Addr;
+use std::net::{AddrParseError, Ipv4Addr};
 use std::ops::Deref;
+use std::str::FromStr;
 
 /// A host's address of 32 bits.
 #[derive(Clone, Copy, Debug)]
@@ -80,6 +82,20 @@ impl From<A> for Ipv4Addr {
 
     fn from(a: A) -> Ipv4Addr {
         a.0
+    }
+}
+
+/// Reads the address as four decimal numbers with dots between them.
+impl FromStr for A {
+    type Err = AddrParseError;
+
+    ghost from_str_gives = { Parses (λ text a. IsIpv4Text text a.0) };
+
+    fn from_str(s: &str) -> Result<A, AddrParseError> {
+        match Ipv4Addr::from_str(s) {
+            Ok(address) => Ok(A(address)),
+            Err(refused) => Err(refused),
+        }
     }
 }
 

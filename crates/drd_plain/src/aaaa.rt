@@ -1,6 +1,7 @@
 //! AAAA (RFC 3596 2.2).
 ghost use Rattle.std.specs.Prelude.{◌≡◌, ◌∷◌, [], ℕ, List, ◌⊎◌, Some, Ok, Err, Result, IfOk, IfErr, map};
 ghost use Rattle.std.specs.Net.Addr.{ipv6_segments};
+ghost use Rattle.std.specs.Net.Grammar.{Parses, IsIpv6Text};
 ghost use Rattle.std.specs.Cmp.{partial_equiv_from_equiv};
 ghost use Rattle.dnw_encoder.specs.declared.modes.RDataEncoding.TheVariants.{Other};
 ghost use Rattle.drd_fields.specs.Fields.{short, FieldsAt};
@@ -23,8 +24,9 @@ use drd_words::read_tokens;
 use std::alloc::Global;
 use std::convert::AsStr;
 use std::fmt;
-use std::net::Ipv6Addr;
+use std::net::{AddrParseError, Ipv6Addr};
 use std::ops::Deref;
+use std::str::FromStr;
 
 /// A host's address of 128 bits.
 #[derive(Clone, Copy, Debug)]
@@ -85,6 +87,20 @@ impl From<AAAA> for Ipv6Addr {
 
     fn from(aaaa: AAAA) -> Ipv6Addr {
         aaaa.0
+    }
+}
+
+/// Reads the address as RFC 4291 2.2 writes it.
+impl FromStr for AAAA {
+    type Err = AddrParseError;
+
+    ghost from_str_gives = { Parses (λ text aaaa. IsIpv6Text text aaaa.0) };
+
+    fn from_str(s: &str) -> Result<AAAA, AddrParseError> {
+        match Ipv6Addr::from_str(s) {
+            Ok(address) => Ok(AAAA(address)),
+            Err(refused) => Err(refused),
+        }
     }
 }
 

@@ -22,19 +22,6 @@ pub(crate) fn emit_two<A: DataField + Copy, B: DataFields + Copy>(
     emit_data(encoder, RDataEncoding::Other, &fields)
 }
 
-/// Writes two fields and those behind them.
-pub(crate) fn emit_three<A: DataField + Copy, B: DataField + Copy, C: DataFields + Copy>(
-    encoder: &mut BinEncoder<'_>,
-    fields: (A, (B, C)),
-) -> Result<(), ProtoError>
-    ensures same_reference { encoder.new.buffer.ghost_name ≡ encoder.old.buffer.ghost_name }
-    ensures writes { Writes (state encoder.old) (state encoder.new) }
-    ensures ok { OnOk result (EmitsData Other (A.field fields.0 ∷ B.field fields.1.0 ∷ C.fields fields.1.1) (state encoder.old) (state encoder.new)) }
-    ensures cause { IfErr result (RefusesFields (A.field fields.0 ∷ B.field fields.1.0 ∷ C.fields fields.1.1) (state encoder.old)) }
-{
-    emit_data(encoder, RDataEncoding::Other, &fields)
-}
-
 /// Writes a field and those behind it, in the encoder's mode.
 pub(crate) fn emit_pair<A: DataField + Copy, B: DataFields + Copy>(
     encoder: &mut BinEncoder<'_>,

@@ -1,9 +1,8 @@
-//! Record data of addresses, strings and flags.
+//! Record data of addresses and strings.
 #![tactic(auto)]
 
 mod a;
 mod aaaa;
-mod caa;
 mod emit;
 mod flags;
 mod hinfo;
@@ -13,11 +12,8 @@ mod txt;
 
 pub use a::A;
 pub use aaaa::AAAA;
-pub use caa::CAA;
 pub use flags::verify_flags;
 pub use hinfo::HINFO;
 pub use naptr::NAPTR;
+pub use print::fmt_quoted;
 pub use txt::TXT;
-
-#[cfg(test)]
-mod tests;

@@ -2,6 +2,9 @@
 ghost use Rattle.std.specs.Prelude.{◌≡◌, ◌+◌, ◌≤◌, ◌∷◌, [], ℕ, List, ◌⊎◌, true, Some, Ok, Err, Result, IfOk, IfErr, OnErr, length, map};
 ghost use Rattle.std.specs.Fmt.{WritesOnOk};
 ghost use Rattle.std.specs.Cmp.{partial_equiv_from_equiv};
+ghost use Rattle.std.specs.Iterator.{Drains, IsFinite};
+ghost use Rattle.std.specs.Option.{option_copied};
+ghost use Rattle.drd_words.specs.Word.{IsOutOfMemory};
 ghost use Rattle.dnw_decoder.specs.Reading.{IsWantOfMemory};
 ghost use Rattle.dnw_encoder.specs.declared.modes.RDataEncoding.TheVariants.{Canonical};
 ghost use Rattle.drd_fields.specs.Fields.{Field, short, string, name, FieldsAt, kinds_of};
@@ -12,16 +15,19 @@ ghost use Rattle.drd_fields.specs.Writing.{EmitsData, RefusesFields, canonical_o
 ghost use Rattle.drd_plain.specs.Fields.{naptr_fields, naptr_kinds, flags_on, services_on, regexp_on, are_alphanumeric};
 ghost use Rattle.drd_plain.specs.Print.{naptr_print, naptr_strings, quoted};
 ghost use Rattle.drd_plain.specs.Reading.{RefusesNaptr};
+ghost use Rattle.drd_plain.specs.Words.{IsNaptrText};
 
 use crate::emit::emit_pair;
-use crate::flags::verify_flags;
+use crate::flags::{Flags, verify_flags};
 use crate::print::fmt_quoted;
-use dnw_codes::{DecodeError, ProtoError};
+use dnw_codes::{DecodeError, ParseError, ProtoError};
 use dnw_decoder::{BinDecodable, BinDecoder};
 use dnw_encoder::{BinEncodable, BinEncoder, RDataEncoding};
 use dnw_name::Name;
 use drd_fields::{CharacterString, DataFields, StringField, emit_data, read_data};
+use drd_words::{CharacterString as Word, read_tokens};
 use std::alloc::Global;
+use std::convert::AsStr;
 use std::fmt;
 
 /// A rule by which a name is rewritten, or found at another one.
@@ -53,6 +59,9 @@ type Parts = (
     ),
 );
 
+// What their words are read as.
+type Written = (u16, (u16, (Flags, (Word, (Word, (Name, ()))))));
+
 impl NAPTR {
     /// The data of a rule.
     pub fn new(
@@ -78,6 +87,33 @@ impl NAPTR {
             regexp,
             replacement,
         }
+    }
+
+    /// The data that six words write: order, preference, flags, services, regexp and replacement, a name that the origin
+    /// completes if it is relative. Refused are words that are missing, too many or unfit, such as flags with other
+    /// octets than ASCII letters and digits (RFC 3403 4.1, RFC 1035 5.1).
+    pub fn from_tokens<I: Iterator + Drop>(
+        alloc: Global,
+        tokens: I,
+        origin: Option<&Name>,
+    ) -> Result<NAPTR, ParseError>
+    where
+        I::Item: AsStr + Drop,
+        requires can { I.can_next tokens }
+        requires ends { IsFinite (I.remaining tokens) }
+        ensures ok { IfOk result (λ naptr. (words : List I.Item) × Drains I.next_gives tokens words
+            × IsNaptrText (map I.Item.text words) (option_copied origin.entry) naptr) }
+        ensures refused { IfErr result (λ e. IsOutOfMemory e ⊎ ((words : List I.Item) × Drains I.next_gives tokens words
+            × ((naptr : NAPTR) → IsNaptrText (map I.Item.text words) (option_copied origin.entry) naptr → ⊥))) }
+    {
+        let (order, (preference, (flags, (services, (regexp, (replacement, ())))))) =
+            match read_tokens::<Written, I>(alloc, tokens, origin) {
+                Ok(words) => words,
+                Err(refused) => return Err(refused),
+            };
+        let Flags(flags) = flags;
+        let (services, regexp) = (services.into_bytes(), regexp.into_bytes());
+        Ok(NAPTR::new(order, preference, flags, services, regexp, replacement))
     }
 
     // The fields of the data.

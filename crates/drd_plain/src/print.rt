@@ -6,7 +6,7 @@ use drd_words::fmt_escaped;
 use std::fmt;
 
 /// Writes a string between quotes.
-pub(crate) fn fmt_quoted<W: fmt::Write>(f: &mut fmt::Formatter<W>, octets: &[u8]) -> fmt::Result
+pub fn fmt_quoted<W: fmt::Write>(f: &mut fmt::Formatter<W>, octets: &[u8]) -> fmt::Result
     ensures { WritesOnOk W.write_str_gives f.old result (quoted octets.now) f.new }
 {
     f.write_char('"')?;

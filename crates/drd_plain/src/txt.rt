@@ -8,16 +8,22 @@ ghost use Rattle.drd_fields.specs.Equality.{AreFull, Tells, fields_eq};
 ghost use Rattle.drd_fields.specs.EqualityLaws.{data_equiv};
 ghost use Rattle.drd_fields.specs.Writing.{EmitsData, RefusesFields, canonical_octets};
 ghost use Rattle.drd_plain.specs.Fields.{txt_fields, txt_kinds, txt_strings};
+ghost use Rattle.std.specs.Iterator.{Drains, IsFinite};
+ghost use Rattle.drd_words.specs.Word.{IsOutOfMemory, IsStringWord};
+ghost use Rattle.drd_words.specs.Words.{EachWord};
+ghost use Rattle.drd_plain.specs.Words.{IsTxtText};
 ghost use Rattle.drd_plain.specs.Print.{txt_print};
 
-use dnw_codes::{DecodeError, ProtoError, Restrict};
+use dnw_codes::{DecodeError, ParseError, ProtoError, Restrict};
 use dnw_decoder::BinDecoder;
 use dnw_encoder::{BinEncodable, BinEncoder, RDataEncoding};
+use dnw_name::Name;
 use drd_fields::{
     CharacterStrings, DataFields, RecordDataDecodable, StringFields, emit_data, read_data_within,
 };
-use drd_words::fmt_escaped;
-use std::alloc::Global;
+use drd_words::{CharacterString, Word, Words, fmt_escaped, read_tokens};
+use std::alloc::{AllocError, Global};
+use std::convert::AsStr;
 use std::fmt;
 
 /// Strings of at most 255 octets each.
@@ -34,11 +40,72 @@ impl TXT {
         TXT { txt_data }
     }
 
+    /// The data of copies of these strings, whatever their octets.
+    pub fn from_bytes(alloc: Global, txt_data: &[&[u8]]) -> Result<TXT, AllocError>
+        ensures { IfOk result (λ txt. txt_strings txt ≡ map (λ s. s.now) txt_data.now) }
+    {
+        let mut strings = Vec::new(alloc);
+        'strings: for string in txt_data {
+            let copy = Vec::from_slice(alloc, *string)?;
+            strings.push(copy)?;
+        }
+        Ok(TXT::new(strings))
+    }
+
+    /// The data that words write, each one string of at most 255 octets (RFC 1035 5.1). Where there is no word there is
+    /// no string.
+    pub fn from_tokens<I: Iterator + Drop>(
+        alloc: Global,
+        tokens: I,
+        origin: Option<&Name>,
+    ) -> Result<TXT, ParseError>
+    where
+        I::Item: AsStr + Drop,
+        requires can { I.can_next tokens }
+        requires ends { IsFinite (I.remaining tokens) }
+        ensures ok { IfOk result (λ value. (words : List I.Item) × Drains I.next_gives tokens words
+            × IsTxtText (map I.Item.text words) value) }
+        ensures refused { IfErr result (λ e. IsOutOfMemory e ⊎ ((words : List I.Item) × Drains I.next_gives tokens words
+            × ((value : TXT) → IsTxtText (map I.Item.text words) value → ⊥))) }
+    {
+        match read_tokens::<StringWords, I>(alloc, tokens, origin) {
+            Ok(StringWords(txt_data)) => Ok(TXT::new(txt_data)),
+            Err(refused) => Err(refused),
+        }
+    }
+
     // The fields of the data.
     fn fields(&self) -> StringFields<'_>
         ensures { strings (map (λ s. s.items) result.0.now) ∷ [] ≡ txt_fields self.now }
     {
         StringFields(&self.txt_data)
+    }
+}
+
+// Strings that words write, each one of them.
+#[derive(Drop)]
+struct StringWords(Vec<Vec<u8>>);
+
+impl Words for StringWords {
+    ghost written = { λ words origin strings. EachWord IsStringWord (map (λ s. s.items) strings.0.items) words };
+
+    fn from_words(
+        alloc: Global,
+        words: &[&str],
+        origin: Option<&Name>,
+    ) -> Result<StringWords, ParseError> {
+        let mut strings = Vec::new(alloc);
+        'words: for word in words {
+            let string = match CharacterString::from_word(alloc, *word, origin) {
+                Ok(string) => string,
+                Err(refused) => return Err(refused),
+            };
+            match strings.push(string.into_bytes()) {
+                Ok(()) => {}
+                Err(_) => return Err(ParseError::Memory(AllocError)),
+            }
+        }
+        Ok(StringWords(strings))
     }
 }
 

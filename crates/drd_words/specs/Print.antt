@@ -1,7 +1,8 @@
--- Printed character strings (RFC 1035 5.1, with octal digits in escapes).
-use Rattle.std.specs.Prelude.{ℕ, ◌==◌, ◌&&◌, ◌||◌, nat_le, List, [], ◌∷◌, if◌then◌else◌}
+-- Printed character strings (RFC 1035 5.1, with octal digits in escapes), and octets in hex.
+use Rattle.std.specs.Prelude.{ℕ, ◌/◌, ◌%◌, ◌==◌, ◌&&◌, ◌||◌, nat_le, List, [], ◌∷◌, if◌then◌else◌, slice_index}
 use Rattle.std.specs.List.{flat_map}
 use Rattle.dnw_label.specs.LabelPrint.{octal_print}
+use Rattle.hex.specs.Hex.{lower_digits}
 
 -- A quote and a backslash stand behind a backslash, other printed characters and the space for themselves, all
 -- else as a backslash and three octal digits.
@@ -12,3 +13,7 @@ escaped_octet c =
 
 abbrev pub escaped_print : List ℕ → List ℕ
 escaped_print octets = flat_map escaped_octet octets
+
+-- The two hex digits of an octet, the high four bits first (RFC 4648 8).
+abbrev pub hex_pair : ℕ → List ℕ
+hex_pair octet = slice_index lower_digits (octet / 16) ∷ slice_index lower_digits (octet % 16) ∷ []

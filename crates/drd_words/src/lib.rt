@@ -13,11 +13,8 @@ mod word;
 mod words;
 
 pub use data::{Base64Data, HEX, HexData};
-pub use print::{fmt_base64, fmt_escaped};
+pub use print::{fmt_base64, fmt_escaped, fmt_hex};
 pub use text::read_text;
 pub use tokens::read_tokens;
 pub use word::{CharacterString, TimeInterval, TimeToLive, Word};
 pub use words::Words;
-
-#[cfg(test)]
-mod tests;

@@ -1,10 +1,11 @@
 //! Printed record data.
-ghost use Rattle.std.specs.Prelude.{◌≡◌, ◌∷◌, [], Some};
+ghost use Rattle.std.specs.Prelude.{◌≡◌, ◌<◌, ◌∷◌, [], Some, slice_index};
 ghost use Rattle.std.specs.Fmt.{WritesOnOk};
 ghost use Rattle.base64.specs.Engines.{standard};
 ghost use Rattle.base64.specs.GeneralPurpose.{encode_of};
+ghost use Rattle.hex.specs.Hex.{encode_lower, lower_digits};
 ghost use Rattle.dnw_label.specs.LabelPrint.{octal_print};
-ghost use Rattle.drd_words.specs.Print.{escaped_octet, escaped_print};
+ghost use Rattle.drd_words.specs.Print.{escaped_octet, escaped_print, hex_pair};
 
 use crate::word::CharacterString;
 use base64::display::Base64Display;
@@ -59,4 +60,34 @@ pub fn fmt_base64<W: fmt::Write>(f: &mut fmt::Formatter<W>, octets: &[u8]) -> fm
 {
     let shown = Base64Display::new(octets, &STANDARD);
     fmt::Display::fmt(&shown, f)
+}
+
+/// Writes octets in hex (RFC 4648 8), in lower case.
+pub fn fmt_hex<W: fmt::Write>(f: &mut fmt::Formatter<W>, octets: &[u8]) -> fmt::Result
+    ensures { WritesOnOk W.write_str_gives f.old result (encode_lower octets.now) f.new }
+{
+    'octets: for octet in octets {
+        fmt_pair(f, *octet)?;
+    }
+    Ok(())
+}
+
+// Writes the two digits of an octet, the high four bits first.
+fn fmt_pair<W: fmt::Write>(f: &mut fmt::Formatter<W>, octet: u8) -> fmt::Result
+    ensures { WritesOnOk W.write_str_gives f.old result (hex_pair octet) f.new }
+{
+    fmt_digit(f, octet / 16)?;
+    fmt_digit(f, octet % 16)
+}
+
+// Writes a hex digit.
+#[tactic(auto, using(crate::proofs::Hex::low_digit, crate::proofs::Hex::high_digit))]
+fn fmt_digit<W: fmt::Write>(f: &mut fmt::Formatter<W>, digit: u8) -> fmt::Result
+    requires { digit < 16 }
+    ensures { WritesOnOk W.write_str_gives f.old result (slice_index lower_digits digit ∷ []) f.new }
+{
+    if digit < 10 {
+        return f.write_char(char::from(b'0' + digit));
+    }
+    f.write_char(char::from(b'a' - 10 + digit))
 }

@@ -5,7 +5,8 @@ use Rattle.std.specs.declared.net.ip_addr.IpAddr.{IpAddr}
 use Rattle.dnw_label.specs.Label.{label_eq}
 use Rattle.dnw_net.specs.declared.IpNet.{IpNet}
 use Rattle.dnw_name.specs.Arpa.{IsArpaName}
-use Rattle.dnw_name.proofs.SuffixLemmas.{result-ok, result-only, address-from, label_eq-from, suffix-v4, suffix-v6, no-suffix}
+use Rattle.dnw_arpa.proofs.SuffixLemmas.{suffix-v4, suffix-v6}
+use Rattle.dnw_name.proofs.SuffixLemmas.{result-ok, result-only, address-from, label_eq-from, no-suffix}
 use Rattle.dnw_name.proofs.name.Name.parse_arpa_name.Goals as goal
 use Rattle.dnw_name.proofs.name.Name.parse_arpa_name.Goals.{After-net_of_v4, After-net_of_v6}
 

@@ -1,0 +1,11 @@
+//! Record data as RFCs and other DNS software have them.
+mod caa;
+mod csync;
+mod keys;
+mod names;
+mod opt;
+mod option;
+mod order;
+mod plain;
+mod svcb;
+mod words;

@@ -1,0 +1,8 @@
+//! The labels of names of addresses and networks, below `in-addr.arpa.` and `ip6.arpa.` (RFC 1035 3.5, RFC 3596 2.5).
+//!
+//! `IsBelowSuffix` says which labels are those of a network; `net_of_v4` and `net_of_v6` read exactly these.
+#![tactic(auto)]
+
+mod network;
+
+pub use network::{hex_digit, net_of_v4, net_of_v6};

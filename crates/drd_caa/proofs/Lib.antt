@@ -1,0 +1,5 @@
+pub mod Blanks
+pub mod Cuts
+pub mod Issuers
+pub mod Parameters
+pub mod Texts

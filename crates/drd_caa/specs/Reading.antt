@@ -1,0 +1,15 @@
+-- Why CAA data are not read.
+use Rattle.std.specs.Prelude.{ℕ, ◌≡◌, false, List}
+use Rattle.std.proofs.Common.{◌⊎◌}
+use Rattle.dnw_codes.specs.declared.error.DecodeError.{DecodeError}
+use Rattle.dnw_codes.specs.declared.error.DecodeError.TheVariants.{CaaTagInvalid}
+use Rattle.drd_fields.specs.Fields.{FieldsAt}
+use Rattle.drd_fields.specs.Reading.{Stops}
+use Rattle.drd_caa.specs.declared.caa.CAA.{CAA}
+use Rattle.drd_caa.specs.Fields.{caa_fields, caa_kinds, is_caa_tag}
+
+-- A field can't be read, or all stand and the tag isn't 1 to 15 letters and digits (RFC 8659 4.1).
+abbrev pub RefusesCaa : List ℕ → ℕ → ℕ → DecodeError → ℕ → Type 0
+RefusesCaa message place end e at =
+    Stops message end caa_kinds place e at
+    ⊎ ((e ≡ CaaTagInvalid) × (at ≡ end) × (caa : CAA) × FieldsAt message place (caa_fields caa) end × (is_caa_tag caa.tag.items ≡ false))

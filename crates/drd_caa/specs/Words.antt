@@ -1,0 +1,19 @@
+-- The words that CAA data are read from (RFC 8659 4.1.1).
+use Rattle.std.specs.Prelude.{ℕ, ◌≡◌, true, List}
+use Rattle.drd_words.specs.Word.{IsNumberWord}
+use Rattle.drd_words.specs.Words.{NoWords, OneThen}
+use Rattle.drd_caa.specs.declared.caa.CAA.{CAA}
+use Rattle.drd_caa.specs.Fields.{caa_flags, is_caa_tag}
+
+-- The tag's letters and digits.
+abbrev pub IsTagWord : List ℕ → List ℕ → Type 0
+IsTagWord tag word = (tag ≡ word) × (is_caa_tag word ≡ true)
+
+-- The value's octets, of any number: no octet before them counts them.
+abbrev pub IsValueWord : List ℕ → List ℕ → Type 0
+IsValueWord value word = value ≡ word
+
+-- The flags as a number, the tag and the value.
+abbrev pub IsCaaText : List (List ℕ) → CAA → Type 0
+IsCaaText words caa =
+    OneThen (IsNumberWord 8 (caa_flags caa)) (OneThen (IsTagWord caa.tag.items) (OneThen (IsValueWord caa.value.items) NoWords)) words

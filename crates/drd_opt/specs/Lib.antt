@@ -1,0 +1,5 @@
+pub mod Entries
+pub mod Equality
+pub mod EqualityLaws
+pub mod Lending
+pub mod Reading

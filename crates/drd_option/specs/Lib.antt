@@ -1,0 +1,4 @@
+pub mod Codes
+pub mod Options
+pub mod Subnets
+pub mod Texts

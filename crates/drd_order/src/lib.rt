@@ -1,0 +1,13 @@
+//! The order of record data (RFC 4034 6.3) and their hash, field by field, as `drd_fields` reads, writes and compares
+//! them.
+//!
+//! `fields_cmp` is the order: total, and `Equal` exactly where `are_same` says that the fields are equal. Of data whose
+//! names are fully qualified it is the order of their canonical octets, from the left. Neither takes memory.
+#![tactic(auto)]
+
+mod field;
+mod fields;
+mod octets;
+
+pub use field::OrderField;
+pub use fields::OrderFields;

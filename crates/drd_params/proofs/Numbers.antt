@@ -1,0 +1,85 @@
+-- Numbers that stand one behind the other.
+use Rattle.std.proofs.Common.{◌≡◌, ℕ, ◌+◌, ◌⊎◌, inl, inr, List, [], ◌∷◌, ◌++◌, length, drop, refl, sym, ap, subst, ◌∙◌, arith}
+use Rattle.std.proofs.lemmas.List.{drop_at}
+use Rattle.dnw_codes.specs.declared.error.DecodeError.{DecodeError}
+use Rattle.dnw_codes.specs.declared.error.DecodeError.TheVariants.{InsufficientBytes}
+use Rattle.dnw_decoder.specs.Octets.{octets_16, octets_32, Stands}
+use Rattle.dnw_decoder.specs.Reading.{IsWantOfMemory}
+use Rattle.dnw_decoder.specs.Standing.{stands_joined, stands_split}
+use Rattle.drd_fields.specs.Fields.{Field, octet, short, long, name, string, strings, rest, Kind, an_octet, a_short, a_long, a_name, a_string, all_strings, the_rest, kinds_of, FieldsAt}
+use Rattle.drd_fields.specs.Reading.{Stops}
+use Rattle.drd_fields.specs.Writing.{fields_octets}
+
+abbrev pub AreNumbers : List Kind → Type 0
+AreNumbers [] = Unit {0}
+AreNumbers (an_octet ∷ ks) = AreNumbers ks
+AreNumbers (a_short ∷ ks) = AreNumbers ks
+AreNumbers (a_long ∷ ks) = AreNumbers ks
+AreNumbers (k ∷ ks) = ⊥
+
+pub numbers_stand : (message : List ℕ) (place : ℕ) (fs : List Field) (end : ℕ) → AreNumbers (kinds_of fs) → FieldsAt message place fs end → Stands message place (fields_octets fs) end
+numbers_stand message place [] end are there = record { there = ap (λ (p : ℕ). drop p message) (sym there); behind = omega (arith, there) }
+numbers_stand message place (octet n ∷ fs) end are there =
+    stands_joined message place (n ∷ []) there.0 (fields_octets fs) end there.1 (numbers_stand message there.0 fs end are there.2)
+numbers_stand message place (short n ∷ fs) end are there =
+    stands_joined message place (octets_16 n) there.0 (fields_octets fs) end there.1 (numbers_stand message there.0 fs end are there.2)
+numbers_stand message place (long n ∷ fs) end are there =
+    stands_joined message place (octets_32 n) there.0 (fields_octets fs) end there.1 (numbers_stand message there.0 fs end are there.2)
+numbers_stand message place (name n ∷ fs) end are there = absurd are
+numbers_stand message place (string s ∷ fs) end are there = absurd are
+numbers_stand message place (strings ss ∷ fs) end are there = absurd are
+numbers_stand message place (rest o ∷ fs) end are there = absurd are
+
+pub stand_numbers : (message : List ℕ) (place : ℕ) (fs : List Field) (end : ℕ) → AreNumbers (kinds_of fs) → Stands message place (fields_octets fs) end → FieldsAt message place fs end
+stand_numbers message place [] end are s = omega (arith, s.behind)
+stand_numbers message place (octet n ∷ fs) end are s =
+    let parts = stands_split message place (n ∷ []) (fields_octets fs) end s in
+    (place + length (n ∷ []), parts.0, stand_numbers message (place + length (n ∷ [])) fs end are parts.1)
+stand_numbers message place (short n ∷ fs) end are s =
+    let parts = stands_split message place (octets_16 n) (fields_octets fs) end s in
+    (place + length (octets_16 n), parts.0, stand_numbers message (place + length (octets_16 n)) fs end are parts.1)
+stand_numbers message place (long n ∷ fs) end are s =
+    let parts = stands_split message place (octets_32 n) (fields_octets fs) end s in
+    (place + length (octets_32 n), parts.0, stand_numbers message (place + length (octets_32 n)) fs end are parts.1)
+stand_numbers message place (name n ∷ fs) end are s = absurd are
+stand_numbers message place (string t ∷ fs) end are s = absurd are
+stand_numbers message place (strings ts ∷ fs) end are s = absurd are
+stand_numbers message place (rest o ∷ fs) end are s = absurd are
+
+-- Where a number can't be read, the octets end too early.
+pub numbers_cause : (message : List ℕ) (end : ℕ) (ks : List Kind) (place : ℕ) (e : DecodeError) (at : ℕ) → AreNumbers ks → Stops message end ks place e at → IsWantOfMemory e ⊎ (e ≡ InsufficientBytes)
+numbers_cause message end [] place e at are s = absurd s
+numbers_cause message end (an_octet ∷ ks) place e at are (inl (inl m, here)) = inl m
+numbers_cause message end (an_octet ∷ ks) place e at are (inl (inr cut, here)) = inr cut.0
+numbers_cause message end (an_octet ∷ ks) place e at are (inr (f, behind, same, there, later)) = numbers_cause message end ks behind e at are later
+numbers_cause message end (a_short ∷ ks) place e at are (inl (inl m, here)) = inl m
+numbers_cause message end (a_short ∷ ks) place e at are (inl (inr cut, here)) = inr cut.0
+numbers_cause message end (a_short ∷ ks) place e at are (inr (f, behind, same, there, later)) = numbers_cause message end ks behind e at are later
+numbers_cause message end (a_long ∷ ks) place e at are (inl (inl m, here)) = inl m
+numbers_cause message end (a_long ∷ ks) place e at are (inl (inr cut, here)) = inr cut.0
+numbers_cause message end (a_long ∷ ks) place e at are (inr (f, behind, same, there, later)) = numbers_cause message end ks behind e at are later
+numbers_cause message end (a_name ∷ ks) place e at are s = absurd are
+numbers_cause message end (a_string ∷ ks) place e at are s = absurd are
+numbers_cause message end (all_strings ∷ ks) place e at are s = absurd are
+numbers_cause message end (the_rest ∷ ks) place e at are s = absurd are
+
+stands_first : (octets front behind : List ℕ) → octets ≡ front ++ behind → Stands octets 0 front (length front)
+stands_first octets front behind is = record {
+  there = is ∙ ap (λ (o : List ℕ). front ++ o) (sym (ap (λ (o : List ℕ). drop (length front) o) is ∙ drop_at front behind (length front) refl));
+  behind = omega arith;
+}
+
+-- Octets that no such numbers are read from begin with none.
+pub numbers-refused : {X : Type 0} (fields : X → List Field) (kinds : List Kind) (message : List ℕ) (place : ℕ) (octets : List ℕ) (e : DecodeError) → ((x : X) → AreNumbers (kinds_of (fields x))) → AreNumbers kinds → message ≡ octets → place ≡ 0 → ((end at : ℕ) × Stops message end kinds place e at) → IsWantOfMemory e ⊎ ((x : X) (end : ℕ) → FieldsAt message place (fields x) end → ⊥) → IsWantOfMemory e ⊎ ((e ≡ InsufficientBytes) × ((x : X) (behind : List ℕ) → octets ≡ fields_octets (fields x) ++ behind → ⊥))
+numbers-refused fields kinds message place octets e are kind_are same start stops (inl m) = inl m
+numbers-refused fields kinds message place octets e are kind_are same start stops (inr none) =
+    elim (numbers_cause message stops.0 kinds place e stops.1 kind_are stops.2) [
+      | inl m ↦ inl m
+      | inr cause ↦ inr (
+        cause,
+        λ x behind is.
+            let front = fields_octets (fields x) in
+            let here : FieldsAt octets 0 (fields x) (length front) = stand_numbers octets 0 (fields x) (length front) (are x) (stands_first octets front behind is) in
+            none x (length front) (subst (λ (m : List ℕ). FieldsAt m place (fields x) (length front)) (sym same) (subst (λ (p : ℕ). FieldsAt octets p (fields x) (length front)) (sym start) here)),
+      )
+    ]

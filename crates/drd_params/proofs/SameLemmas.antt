@@ -1,0 +1,97 @@
+-- Lists that are compared entry by entry.
+use Rattle.std.proofs.Common.{◌≡◌, ◌==◌, ◌&&◌, Bool, true, false, ℕ, ◌<◌, List, [], ◌∷◌, ◌++◌, nat_eq, length, length-append, refl, sym, ap, subst, ◌∙◌, arith}
+use Rattle.std.specs.Cmp.Lexicographic.{pointwise}
+use Rattle.std.specs.List.{flat_map}
+use Rattle.std.proofs.lemmas.Bool.Decides.{nat_tests}
+use Rattle.std.proofs.lemmas.List.Concat.{flat_map-cons}
+use Rattle.drd_fields.specs.Equality.{Tells, TellsApart, fields_eq}
+use Rattle.drd_fields.specs.EqualityLaws.{front_tells, rest_tells, and_true}
+use Rattle.drd_fields.specs.Fields.{short, rest}
+use Rattle.drd_params.specs.Equality.{value_kind, value_code, params_code}
+use Rattle.drd_params.specs.Keys.{key_number}
+use Rattle.drd_params.specs.Params.{Param}
+use Rattle.drd_params.specs.Values.{value_octets}
+
+module _ {T : Type 0} (spelled : T → List ℕ) where
+  pub lists-more : (b c : Bool) (x y : T) (xs ys left right : List T) → left ≡ x ∷ xs → right ≡ y ∷ ys → TellsApart b (spelled x) (spelled y) → Tells c (flat_map spelled xs) (flat_map spelled ys) → Tells (b && c) (flat_map spelled left) (flat_map spelled right)
+  lists-more b c x y xs ys left right at other front later =
+      let one : spelled x ++ flat_map spelled xs ≡ flat_map spelled left = sym (flat_map-cons spelled x xs) ∙ ap (λ (l : List T). flat_map spelled l) (sym at) in
+      let two : spelled y ++ flat_map spelled ys ≡ flat_map spelled right = sym (flat_map-cons spelled y ys) ∙ ap (λ (l : List T). flat_map spelled l) (sym other) in
+      subst (λ (o : List ℕ). Tells (b && c) o (flat_map spelled right)) one
+      (subst (λ (o : List ℕ). Tells (b && c) (spelled x ++ flat_map spelled xs) o) two (front_tells b c (spelled x) (spelled y) (flat_map spelled xs) (flat_map spelled ys) front later))
+
+  pub lists-differ : (x y : T) (xs ys left right : List T) → left ≡ x ∷ xs → right ≡ y ∷ ys → TellsApart false (spelled x) (spelled y) → Tells false (flat_map spelled left) (flat_map spelled right)
+  lists-differ x y xs ys left right at other front = record {
+    equal = λ e. absurd (cc e);
+    other = λ e same. front.other refl (flat_map spelled xs) (flat_map spelled ys)
+        (sym (flat_map-cons spelled x xs) ∙ ap (λ (l : List T). flat_map spelled l) (sym at) ∙ same ∙ ap (λ (l : List T). flat_map spelled l) other ∙ flat_map-cons spelled y ys);
+  }
+
+  pub lists-short : ((x : T) → 0 < length (spelled x)) → (x : T) (xs left right : List T) → left ≡ x ∷ xs → length right ≡ 0 → Tells false (flat_map spelled left) (flat_map spelled right)
+  lists-short takes x xs left [] at none = record {
+    equal = λ e. absurd (cc e);
+    other = λ e same. omega (arith, takes x, length-append (spelled x) (flat_map spelled xs), ap length (sym (flat_map-cons spelled x xs) ∙ ap (λ (l : List T). flat_map spelled l) (sym at) ∙ same));
+  }
+  lists-short takes x xs left (y ∷ ys) at none = absurd (omega (arith, none))
+
+  pub lists-end : ((x : T) → 0 < length (spelled x)) → (b : Bool) (left right : List T) → length left ≡ 0 → b ≡ (length right == 0) → Tells b (flat_map spelled left) (flat_map spelled right)
+  lists-end takes b [] [] none is = record { equal = λ e. refl; other = λ e same. absurd (cc (sym e ∙ is)) }
+  lists-end takes b [] (y ∷ ys) none is = record {
+    equal = λ e. absurd (grind (arith, nat_tests));
+    other = λ e same. omega (arith, takes y, length-append (spelled y) (flat_map spelled ys), ap length (same ∙ flat_map-cons spelled y ys));
+  }
+  lists-end takes b (x ∷ xs) right none is = absurd (omega (arith, none))
+
+-- Two that tell the same are the same.
+one_told : (a b : Bool) (xs ys : List ℕ) → Tells a xs ys → Tells b xs ys → a ≡ b
+one_told true true xs ys p q = refl
+one_told false false xs ys p q = refl
+one_told true false xs ys p q = absurd (q.other refl (p.equal refl))
+one_told false true xs ys p q = absurd (p.other refl (q.equal refl))
+
+kinds_same : (n : ℕ) → (n == n) ≡ true
+kinds_same n = grind (arith, nat_tests)
+
+-- Values of one kind are equal where their octets are the same.
+pub kind-told : (b : Bool) (k : ℕ) (xs ys : List ℕ) → Tells b xs ys → b ≡ fields_eq (short k ∷ rest xs ∷ []) (short k ∷ rest ys ∷ [])
+kind-told b k xs ys tells =
+    one_told b (pointwise nat_eq xs ys) xs ys tells (rest_tells xs ys) ∙ sym (and_true (pointwise nat_eq xs ys))
+    ∙ ap (λ (t : Bool). t && (pointwise nat_eq xs ys && true)) (sym (kinds_same k))
+
+and_three : (x y z w : Bool) → (x && (y && (z && w))) ≡ ((x && (y && (z && true))) && w)
+and_three true true true w = refl
+and_three true true false w = refl
+and_three true false z w = refl
+and_three false y z w = refl
+
+and_split : (x y w : Bool) → x ≡ true → y ≡ true → ((x && y) && w) ≡ w
+and_split x y w e f = rw (e, f) refl
+
+-- Behind equal parameters, lists are equal where their rests are.
+pub params-more : (p q : Param) (ps qs left right : List Param) → left ≡ p ∷ ps → right ≡ q ∷ qs → (key_number p.0 == key_number q.0) ≡ true → fields_eq (value_code p.1) (value_code q.1) ≡ true → fields_eq (params_code left) (params_code right) ≡ fields_eq (params_code ps) (params_code qs)
+params-more p q ps qs left right at other keys values =
+    ap (λ (l : List Param). fields_eq (params_code l) (params_code right)) at ∙ ap (λ (l : List Param). fields_eq (params_code (p ∷ ps)) (params_code l)) other
+    ∙ and_three (key_number p.0 == key_number q.0) (value_kind p.1 == value_kind q.1) (pointwise nat_eq (value_octets p.1) (value_octets q.1)) (fields_eq (params_code ps) (params_code qs))
+    ∙ and_split (key_number p.0 == key_number q.0) (fields_eq (value_code p.1) (value_code q.1)) (fields_eq (params_code ps) (params_code qs)) keys values
+
+pub params-keys : (p q : Param) (ps qs left right : List Param) → left ≡ p ∷ ps → right ≡ q ∷ qs → (key_number p.0 == key_number q.0) ≡ false → fields_eq (params_code left) (params_code right) ≡ false
+params-keys p q ps qs left right at other keys = rw (at, other) (rw keys refl)
+
+pub params-values : (p q : Param) (ps qs left right : List Param) → left ≡ p ∷ ps → right ≡ q ∷ qs → fields_eq (value_code p.1) (value_code q.1) ≡ false → fields_eq (params_code left) (params_code right) ≡ false
+params-values p q ps qs left right at other values =
+    ap (λ (l : List Param). fields_eq (params_code l) (params_code right)) at ∙ ap (λ (l : List Param). fields_eq (params_code (p ∷ ps)) (params_code l)) other
+    ∙ and_three (key_number p.0 == key_number q.0) (value_kind p.1 == value_kind q.1) (pointwise nat_eq (value_octets p.1) (value_octets q.1)) (fields_eq (params_code ps) (params_code qs))
+    ∙ no_split (key_number p.0 == key_number q.0) (fields_eq (value_code p.1) (value_code q.1)) (fields_eq (params_code ps) (params_code qs)) values
+  where
+    no_split : (x y w : Bool) → y ≡ false → ((x && y) && w) ≡ false
+    no_split true y w e = rw e refl
+    no_split false y w e = refl
+
+pub params-short : (p : Param) (ps left right : List Param) → left ≡ p ∷ ps → length right ≡ 0 → fields_eq (params_code left) (params_code right) ≡ false
+params-short p ps left [] at none = ap (λ (l : List Param). fields_eq (params_code l) []) at
+params-short p ps left (q ∷ qs) at none = absurd (omega (arith, none))
+
+pub params-end : (b : Bool) (left right : List Param) → length left ≡ 0 → b ≡ (length right == 0) → fields_eq (params_code left) (params_code right) ≡ b
+params-end b [] [] none is = sym is
+params-end b [] (q ∷ qs) none is = grind (arith, nat_tests)
+params-end b (p ∷ ps) right none is = absurd (omega (arith, none))

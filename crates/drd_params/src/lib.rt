@@ -1,0 +1,18 @@
+//! The parameters of SVCB data (RFC 9460 2.1): their keys and values.
+#![tactic(auto)]
+
+mod entry;
+mod key;
+mod params;
+mod print;
+mod same;
+mod value;
+mod write;
+
+pub use entry::Entry;
+pub use key::SvcParamKey;
+pub use params::read_params;
+pub use print::fmt_param;
+pub use same::are_same_params;
+pub use value::{Alpn, EchConfigList, IpHint, Mandatory, SvcParamValue, Unknown};
+pub use write::write_params;

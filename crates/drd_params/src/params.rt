@@ -1,0 +1,91 @@
+//! Parameters, one behind the other.
+ghost use Rattle.std.specs.Prelude.{◌≡◌, ◌<◌, ◌⊎◌, ◌++◌, length, IfOk, IfErr, MatchOption};
+ghost use Rattle.dnw_codes.specs.declared.error.DecodeError.TheVariants.{InsufficientBytes};
+ghost use Rattle.dnw_decoder.specs.Octets.{octets_16};
+ghost use Rattle.dnw_decoder.specs.Reading.{IsWantOfMemory};
+ghost use Rattle.drd_params.specs.Keys.{key_number, key_of};
+ghost use Rattle.drd_params.specs.Params.{AreParams, BeginsNoPart, IsParam, NoParam, NoParams, param_octets, params_octets, part_octets};
+
+use crate::key::SvcParamKey;
+use crate::value::SvcParamValue;
+use dnw_codes::DecodeError;
+use std::alloc::Global;
+
+// The number that octets begin with, and those behind it.
+fn split_number(octets: &[u8]) -> Option<(u16, &[u8])>
+    ensures { MatchOption result (length octets.now < 2) (λ found. octets.now ≡ octets_16 found.0 ++ found.1.now) }
+{
+    let (high, behind) = octets.split_first()?;
+    let (low, behind) = behind.split_first()?;
+    Some((u16::from_be_bytes([*high, *low]), behind))
+}
+
+// The number of a key, the octets of its value, and those behind it.
+fn split_part(octets: &[u8]) -> Result<(u16, &[u8], &[u8]), DecodeError>
+    ensures ok { IfOk result (λ found. octets.now ≡ part_octets found.0 found.1.now ++ found.2.now) }
+    ensures few { IfOk result (λ found. length found.1.now < 65536) }
+    ensures refused { IfErr result (λ e. (e ≡ InsufficientBytes) × BeginsNoPart octets.now) }
+{
+    let Some((number, behind)) = split_number(octets) else {
+        return Err(DecodeError::InsufficientBytes);
+    };
+    let Some((len, behind)) = split_number(behind) else {
+        return Err(DecodeError::InsufficientBytes);
+    };
+    let Some((value, behind)) = behind.split_at_checked(usize::from(len)) else {
+        return Err(DecodeError::InsufficientBytes);
+    };
+    Ok((number, value, behind))
+}
+
+// The parameter that octets begin with, and those behind it.
+fn split_param(
+    alloc: Global,
+    octets: &[u8],
+) -> Result<((SvcParamKey, SvcParamValue), &[u8]), DecodeError>
+    ensures param { IfOk result (λ found. IsParam found.0) }
+    ensures ok { IfOk result (λ found. octets.now ≡ param_octets found.0 ++ found.1.now) }
+    ensures refused { IfErr result (λ e. IsWantOfMemory e ⊎ NoParam octets.now e) }
+{
+    let (number, value, behind) = match split_part(octets) {
+        Ok(part) => part,
+        Err(refused) => return Err(refused),
+    };
+    let key = SvcParamKey::from(number);
+    match SvcParamValue::read(alloc, key, value) {
+        Ok(value) => Ok(((key, value), behind)),
+        Err(refused) => Err(refused),
+    }
+}
+
+/// The parameters that fill these octets. Refused are octets that end inside a parameter, a value that isn't one of its
+/// key, and then, by `SvcParamsOutOfOrder`, a key that isn't above those before it (RFC 9460 2.2).
+pub fn read_params(
+    alloc: Global,
+    octets: &[u8],
+) -> Result<Vec<(SvcParamKey, SvcParamValue)>, DecodeError>
+    ensures params { IfOk result (λ params. AreParams params.items) }
+    ensures ok { IfOk result (λ params. params_octets params.items ≡ octets.now) }
+    ensures refused { IfErr result (λ e. IsWantOfMemory e ⊎ NoParams octets.now e) }
+{
+    let mut found = Vec::new(alloc);
+    let mut least = 0;
+    let mut left = octets;
+    'params: while !left.is_empty() {
+        let (param, behind) = match split_param(alloc, left) {
+            Ok(split) => split,
+            Err(refused) => return Err(refused),
+        };
+        let number = u32::from(u16::from(param.0));
+        if number < least {
+            return Err(DecodeError::SvcParamsOutOfOrder);
+        }
+        match found.push(param) {
+            Ok(()) => {}
+            Err(_) => return Err(DecodeError::Memory),
+        }
+        least = number + 1;
+        left = behind;
+    }
+    Ok(found)
+}

@@ -1,0 +1,21 @@
+-- Why SVCB data are not read.
+use Rattle.std.specs.Prelude.{ℕ, ◌≡◌, List}
+use Rattle.std.proofs.Common.{◌⊎◌}
+use Rattle.dnw_codes.specs.declared.error.DecodeError.{DecodeError}
+use Rattle.dnw_decoder.specs.Reading.{IsWantOfMemory}
+use Rattle.dnw_name.specs.DomainName.{DomainName}
+use Rattle.drd_fields.specs.Fields.{FieldsAt}
+use Rattle.drd_fields.specs.Reading.{Stops}
+use Rattle.drd_params.specs.Params.{RefusesParams}
+use Rattle.drd_svcb.specs.Fields.{svcb_kinds, svcb_parts}
+
+-- The octets behind the target are refused as parameters, or a growth was refused.
+abbrev pub HasNoParams : List ℕ → ℕ → ℕ → DecodeError → Type 0
+HasNoParams message place end e =
+    (priority : ℕ) × (target : DomainName) × (octets : List ℕ)
+    × FieldsAt message place (svcb_parts priority target octets) end × (IsWantOfMemory e ⊎ RefusesParams octets e)
+
+-- A field can't be read, or all stand and the last one holds no parameters.
+abbrev pub RefusesSvcb : List ℕ → ℕ → ℕ → DecodeError → ℕ → Type 0
+RefusesSvcb message place end e at =
+    Stops message end svcb_kinds place e at ⊎ ((at ≡ end) × HasNoParams message place end e)

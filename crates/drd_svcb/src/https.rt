@@ -1,0 +1,96 @@
+//! HTTPS (RFC 9460 9).
+ghost use Rattle.std.specs.Prelude.{◌≡◌, ◌⊎◌, Some};
+ghost use Rattle.std.specs.Cmp.{partial_equiv_from_equiv};
+ghost use Rattle.dnw_encoder.specs.declared.modes.RDataEncoding.TheVariants.{Other};
+ghost use Rattle.drd_fields.specs.Fields.{FieldsAt};
+ghost use Rattle.drd_fields.specs.Equality.{AreFull, Tells, fields_eq};
+ghost use Rattle.drd_fields.specs.EqualityLaws.{data_equiv};
+ghost use Rattle.drd_fields.specs.Writing.{EmitsData, RefusesFields, canonical_octets};
+ghost use Rattle.drd_params.specs.Params.{AreParams};
+ghost use Rattle.drd_params.specs.Writing.{RefusesWriting};
+ghost use Rattle.drd_svcb.specs.Fields.{svcb_code, svcb_fields};
+ghost use Rattle.drd_svcb.specs.Print.{svcb_print};
+ghost use Rattle.drd_svcb.specs.Reading.{RefusesSvcb};
+
+use crate::svcb::SVCB;
+use dnw_codes::{DecodeError, ProtoError, Restrict};
+use dnw_decoder::BinDecoder;
+use dnw_encoder::{BinEncodable, BinEncoder};
+use drd_fields::RecordDataDecodable;
+use std::alloc::Global;
+use std::fmt;
+use std::ops::Deref;
+
+/// Where a web service is, and how it is reached, in the form of SVCB.
+#[derive(Clone, Debug, Drop)]
+pub struct HTTPS(pub SVCB);
+
+impl Deref for HTTPS {
+    type Target = SVCB;
+
+    ghost deref_gives = { λ https svcb. svcb ≡ https.0 };
+
+    fn deref(&self) -> &SVCB {
+        &self.0
+    }
+}
+
+impl RecordDataDecodable for HTTPS {
+    ghost reads = { λ message place https end. FieldsAt message place (svcb_fields https.0) end
+        × AreParams https.0.svc_params.items };
+
+    ghost refuses = { RefusesSvcb };
+
+    /// The service in so many octets, as SVCB.
+    fn read_data(
+        alloc: Global,
+        decoder: &mut BinDecoder<'_>,
+        length: Restrict<u16>,
+    ) -> Result<HTTPS, DecodeError> {
+        match SVCB::read_data(alloc, decoder, length) {
+            Ok(svcb) => Ok(HTTPS(svcb)),
+            Err(refused) => Err(refused),
+        }
+    }
+}
+
+impl BinEncodable for HTTPS {
+    ghost emits = { λ https. EmitsData Other (svcb_fields https.0) };
+
+    ghost refuses = { λ https old e new. RefusesFields (svcb_fields https.0) old e
+        ⊎ RefusesWriting https.0.svc_params.items e };
+
+    /// Writes the data of SVCB.
+    fn emit(&self, encoder: &mut BinEncoder<'_>) -> Result<(), ProtoError> {
+        self.0.emit(encoder)
+    }
+}
+
+impl PartialEq for HTTPS {
+    ghost eq = { λ a b. fields_eq (svcb_code a.0) (svcb_code b.0) };
+
+    ghost laws = { partial_equiv_from_equiv (data_equiv (λ https. svcb_code https.0)) };
+
+    /// Whether the data of SVCB are equal.
+    fn eq(&self, other: &HTTPS) -> bool
+        ensures value { result ≡ fields_eq (svcb_code self.now.0) (svcb_code other.now.0) }
+        ensures canonical { AreFull (svcb_fields self.now.0) → AreFull (svcb_fields other.now.0)
+            → AreParams self.now.0.svc_params.items → AreParams other.now.0.svc_params.items
+            → Tells result (canonical_octets (svcb_fields self.now.0)) (canonical_octets (svcb_fields other.now.0)) }
+    {
+        SVCB::eq(&self.0, &other.0)
+    }
+}
+
+impl Eq for HTTPS {
+    ghost laws = { data_equiv (λ https. svcb_code https.0) };
+}
+
+impl fmt::Display for HTTPS {
+    ghost output = { λ https. Some (svcb_print https.0) };
+
+    /// Writes the data of SVCB.
+    fn fmt<W: fmt::Write>(&self, f: &mut fmt::Formatter<W>) -> fmt::Result {
+        fmt::Display::fmt(&self.0, f)
+    }
+}
