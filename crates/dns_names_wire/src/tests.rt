@@ -6,3 +6,4 @@ mod names;
 mod net;
 mod rows;
 mod texts;
+mod type_sets;

@@ -1,3 +1,4 @@
 pub mod SetBits
 pub mod Windows
 pub mod SortedTypes
+pub mod Walk

@@ -1,7 +1,7 @@
 -- Windows that were read, and those that are ahead.
-use Rattle.std.proofs.Common.{◌≡◌, ℕ, ◌+◌, ◌-◌, ◌*◌, ◌/◌, ◌<◌, ◌≤◌, ◌⊎◌, inl, inr, List, [], ◌∷◌, ◌++◌, length, get_or, Some, None, slice_get, refl, sym, ap, subst, ◌∙◌, arith, append_assoc, append-nil, length-append}
+use Rattle.std.proofs.Common.{◌≡◌, ℕ, suc, ◌+◌, ◌-◌, ◌*◌, ◌/◌, ◌<◌, ◌≤◌, ◌⊎◌, inl, inr, List, [], ◌∷◌, ◌++◌, length, get_or, Some, None, slice_get, refl, sym, ap, subst, ◌∙◌, arith, append_assoc, append-nil, length-append}
 use Rattle.std.proofs.lemmas.List.{get_or_push, nil_from_length}
-use Rattle.dnw_types.specs.BitMaps.{BitMaps, no_window, window, IsMap, IsTightMap, Rises, map_types, octet_types}
+use Rattle.dnw_types.specs.BitMaps.{AreOctets, BitMaps, no_window, window, IsMap, IsTightMap, Rises, map_types, octet_types}
 use Rattle.dnw_types.specs.BitMapLaws.{Begins, maps_begin, window_first}
 
 pub not_begun : (above : ℕ) (octets : List ℕ) → 0 < length octets → (Begins above octets → ⊥) → (types : List ℕ) → BitMaps IsMap above octets types → ⊥
@@ -151,3 +151,8 @@ first_some (y ∷ ys) x e = (omega arith, cc e)
 pub first_none : (rest : List ℕ) → slice_get rest 0 ≡ None → length rest ≡ 0
 first_none [] e = refl
 first_none (y ∷ ys) e = absurd (cc e)
+
+-- Numbers that fit octets.
+pub small_octets : (octets : List ℕ) → ((i : ℕ) → get_or octets i 0 < 256) → AreOctets octets
+small_octets [] fits = tt
+small_octets (octet ∷ octets) fits = (fits 0, small_octets octets (λ i. fits (suc i)))

@@ -33,10 +33,20 @@ pub record IsTightMap (map : List ℕ) : Type 0 where
   pub few : length map ≤ 32
   pub tight : 0 < get_or map (length map - 1) 0
 
+-- Numbers that octets hold.
+abbrev pub AreOctets : List ℕ → Type 0
+AreOctets [] = Unit {0}
+AreOctets (octet ∷ octets) = (octet < 256) × AreOctets octets
+
 -- Octets that are bit maps of these types: windows of a number, a length and octets, whose numbers rise, from a number on.
 pub data BitMaps (Fine : List ℕ → Type 0) : ℕ → List ℕ → List ℕ → Type 0 where
   no_window : {above : ℕ} → BitMaps Fine above [] []
   window : {above number : ℕ} {map rest later octets types : List ℕ} → above ≤ number → number < 256 → Fine map → octets ≡ number ∷ length map ∷ (map ++ rest) → types ≡ map_types (256 * number) map ++ later → BitMaps Fine (number + 1) rest later → BitMaps Fine above octets types
+
+-- The bit maps of types as they are written: octets, none of which is zero at a window's end.
+pub record AreTightMaps (octets types : List ℕ) : Type 0 where
+  pub maps : BitMaps IsTightMap 0 octets types
+  pub small : AreOctets octets
 
 -- Numbers that rise, from one on and below another.
 abbrev pub Rises : ℕ → List ℕ → ℕ → Type 0
@@ -61,6 +71,7 @@ pub record TypesAt (message : List ℕ) (place len : ℕ) (types : List ℕ) (en
 pub record EmitsTypes (types : List ℕ) (old new : State) : Type 0 where
   pub octets : List ℕ
   pub maps : BitMaps IsTightMap 0 octets types
+  pub small : AreOctets octets
   pub puts : Puts octets old new
   pub stays : Sound old → Holds new new.offset (λ message. TypesAt message old.offset (length octets) types new.offset)
 

@@ -1,2 +1,5 @@
+pub mod BitLaws
 pub mod BitMaps
 pub mod BitMapLaws
+pub mod MapOrder
+pub mod MapOrderLaws

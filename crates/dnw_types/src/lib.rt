@@ -1,10 +1,12 @@
 //! Sets of record types, as bit maps name them (RFC 4034 4.1.2).
 //!
 //! A contract sees a `RecordTypeSet` as the numbers of its types, which rise. `read_data` reads exactly the bit maps,
-//! and `emit` writes them without a zero octet at a window's end.
+//! and `emit` writes them without a zero octet at a window's end. Sets stand in the order of what `emit` writes (RFC 4034
+//! 6.3), which is told without writing it.
 #![tactic(auto)]
 
 mod bits;
+mod order;
 mod read;
 mod set;
 mod write;

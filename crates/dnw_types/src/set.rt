@@ -1,7 +1,9 @@
 //! Sets of types.
 ghost use Rattle.std.specs.Prelude.{◌≡◌, ◌==◌, ◌⊎◌, ◌<◌, ℕ, List, map, length, nat_eq, IfOk, IfErr, OnErr};
-ghost use Rattle.std.specs.Cmp.Lexicographic.{pointwise};
+ghost use Rattle.std.specs.Cmp.{partial_order_from_own_ties, partial_order_from_total};
+ghost use Rattle.std.specs.Cmp.Lexicographic.{pointwise, slice_cmp};
 ghost use Rattle.std.specs.Cmp.Rules.{comparing, hashing};
+ghost use Rattle.std.specs.Ordering.{nat_cmp, as_partial_cmp};
 ghost use Rattle.std.specs.Hash as fed;
 ghost use Rattle.std.proofs.Common.{rules};
 ghost use Rattle.std.specs.Iterator.{Drains, IsFinite, YieldsFirst, item_count};
@@ -14,14 +16,18 @@ ghost use Rattle.dnw_decoder.specs.Octets.{Stands};
 ghost use Rattle.dnw_decoder.specs.Reading.{IsWantOfMemory, Lacks};
 ghost use Rattle.dnw_encoder.specs.Encoders.{state};
 ghost use Rattle.dnw_encoder.specs.Effects.{Writes};
-ghost use Rattle.dnw_types.specs.BitMaps.{BitMaps, IsMap, Rises, TypesAt, EmitsTypes, RefusesTypes};
+ghost use Rattle.dnw_types.specs.BitMaps.{BitMaps, IsMap, AreTightMaps, Rises, TypesAt, EmitsTypes, RefusesTypes};
+ghost use Rattle.dnw_types.specs.MapOrder.{types_cmp};
+ghost use Rattle.dnw_types.specs.MapOrderLaws.{types_total, types_ties};
 
+use crate::order::cmp_codes;
 use crate::read::read_types;
 use crate::write::map_octets;
 use dnw_codes::{DecodeError, ProtoError, RecordType};
 use dnw_decoder::BinDecoder;
 use dnw_encoder::{BinEncodable, BinEncoder};
 use std::alloc::{AllocError, Global};
+use std::cmp::Ordering;
 use std::hash::{Hash, Hasher};
 use std::marker::Model;
 
@@ -185,6 +191,34 @@ impl PartialEq for RecordTypeSet {
 
 impl Eq for RecordTypeSet {
     ghost laws = { Prim.search (comparing, rules) };
+}
+
+impl Ord for RecordTypeSet {
+    ghost cmp = { types_cmp };
+
+    ghost total = { types_total };
+
+    ghost matches_partial_cmp = { Prim.search (comparing, rules) };
+
+    ghost matches_eq = { types_ties };
+
+    /// The order of the octets of the bit maps that `emit` writes, from the left (RFC 4034 6.3). It takes no memory.
+    fn cmp(&self, other: &RecordTypeSet) -> Ordering
+        ensures value { result ≡ types_cmp self.now other.now }
+        ensures canonical { (xs ys : List ℕ) → AreTightMaps xs self.now → AreTightMaps ys other.now → result ≡ slice_cmp nat_cmp xs ys }
+    {
+        cmp_codes(&self.codes, &other.codes)
+    }
+}
+
+impl PartialOrd for RecordTypeSet {
+    ghost partial_cmp = { as_partial_cmp types_cmp };
+
+    ghost laws = { partial_order_from_own_ties (partial_order_from_total types_total) types_ties };
+
+    fn partial_cmp(&self, other: &RecordTypeSet) -> Option<Ordering> {
+        Some(self.cmp(other))
+    }
 }
 
 impl Hash for RecordTypeSet {

@@ -1,6 +1,6 @@
 //! Bit maps that are written.
 ghost use Rattle.std.specs.Prelude.{◌≡◌, ◌+◌, ◌^◌, ◌<◌, ◌≤◌, ◌++◌, length, get_or, MatchBool, IfOk, OnOk, ◌∷◌, []};
-ghost use Rattle.dnw_types.specs.BitMaps.{BitMaps, IsTightMap, Rises, map_types};
+ghost use Rattle.dnw_types.specs.BitMaps.{AreOctets, AreTightMaps, IsTightMap, Rises, map_types};
 
 use crate::bits::octet_of;
 use smallvec::SmallVec;
@@ -57,7 +57,7 @@ fn push_window(octets: &mut SmallVec<u8, 64>, number: u8, map: &[u8]) -> Result<
 /// The bit maps of types, by their numbers.
 pub(crate) fn map_octets(alloc: Global, codes: &[u16]) -> Result<SmallVec<u8, 64>, AllocError>
     requires { Rises 0 codes.now 65536 }
-    ensures { IfOk result (λ octets. BitMaps IsTightMap 0 octets.items codes.now) }
+    ensures { IfOk result (λ octets. AreTightMaps octets.items codes.now) }
 {
     let mut octets = SmallVec::new(alloc);
     let mut rest = codes;
@@ -67,5 +67,13 @@ pub(crate) fn map_octets(alloc: Global, codes: &[u16]) -> Result<SmallVec<u8, 64
         push_window(&mut octets, number, map.as_slice())?;
         rest = behind;
     }
+    are_octets(octets.as_slice());
     Ok(octets)
+}
+
+// A law: octets are below 256.
+fn are_octets(octets: &[u8])
+    ensures { AreOctets octets.now }
+{
+    let _ = octets;
 }

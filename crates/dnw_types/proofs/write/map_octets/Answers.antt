@@ -1,5 +1,5 @@
 use Rattle.std.proofs.Common.{◌≡◌, ℕ, ◌+◌, ◌*◌, ◌/◌, ◌<◌, ◌∷◌, [], ◌++◌, List, length, get_or, Some, slice_get, ap, subst, sym, arith}
-use Rattle.dnw_types.specs.BitMaps.{IsTightMap, Rises, map_types}
+use Rattle.dnw_types.specs.BitMaps.{AreOctets, IsTightMap, Rises, map_types}
 use Rattle.dnw_types.proofs.Windows.{Writing, writing_more, writing_end, first_some, first_none}
 use Rattle.dnw_types.proofs.write.map_octets.Goals as goal
 
@@ -20,4 +20,7 @@ windows-preserved-in_ok-push_window c =
     step c.windows.octets.items c.args.codes.now c.windows.rest.now c.in-Some.first.now c.in_ok-map.map.items c.in_ok-map.behind.now c.push_window.new.octets.items c.from.result (omega arith) c.windows.invariant c.in-Some.ensures.value c.from.ensures c.in_ok-map.ensures.tight c.in_ok-map.ensures.types c.in_ok-map.ensures.rises (rw c.as_slice.ensures at c.in_ok-push_window.ensures)
 
 pub returns : goal.returns
-returns c = writing_end c.windows.octets.items c.args.codes.now c.windows.rest.now c.windows.invariant (first_none c.windows.rest.now (sym c.in_default.ensures.value))
+returns c = record {
+  maps = writing_end c.windows.octets.items c.args.codes.now c.windows.rest.now c.windows.invariant (first_none c.windows.rest.now (sym c.in_default.ensures.value));
+  small = subst AreOctets c.as_slice-2.ensures c.are_octets.ensures;
+}
