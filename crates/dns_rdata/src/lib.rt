@@ -1,4 +1,4 @@
-//! Record data by type: read from messages and texts, written, compared and printed.
+//! Record data by type, and as one: read from messages and texts, written, compared and printed.
 //!
 //! This is the face of the crates below, and holds nothing of its own. Types whose codes and values have names of their
 //! own have a module each, as `svcb`.
@@ -12,7 +12,7 @@ pub mod svcb;
 pub use drd_caa::CAA;
 pub use drd_csync::CSYNC;
 pub use drd_fields::RecordDataDecodable;
-pub use drd_keys::{CERT, NULL, OPENPGPKEY, SMIMEA, SSHFP, TLSA, Unknown, cert, sshfp, tlsa};
+pub use drd_keys::{CERT, NULL, OPENPGPKEY, SMIMEA, SSHFP, TLSA, cert, sshfp, tlsa};
 pub use drd_names::{ANAME, CNAME, MX, NS, PTR, SOA, SRV};
 pub use drd_opt::OPT;
 pub use drd_plain::{A, AAAA, HINFO, NAPTR, TXT};

@@ -15,14 +15,13 @@ ghost use Rattle.drd_caa.specs.Reading.{RefusesCaa};
 ghost use Rattle.drd_caa.specs.Words.{IsCaaText};
 ghost use Rattle.drd_words.specs.Word.{IsOutOfMemory};
 
-use crate::emit::emit_three;
 use crate::words::{Tag, Value, is_tag};
 use dnw_codes::{DecodeError, ParseError, ProtoError, Restrict};
 use dnw_decoder::BinDecoder;
-use dnw_encoder::{BinEncodable, BinEncoder};
+use dnw_encoder::{BinEncodable, BinEncoder, RDataEncoding};
 use dnw_name::Name;
 use drd_fields::{
-    CharacterString, DataFields, RecordDataDecodable, Rest, RestField, StringField,
+    CharacterString, DataFields, RecordDataDecodable, Rest, RestField, StringField, emit_three,
     read_data_within,
 };
 use drd_plain::fmt_quoted;
@@ -101,7 +100,7 @@ impl CAA {
     }
 
     // The fields of the data.
-    fn fields(&self) -> (u8, (StringField<'_>, RestField<'_>))
+    pub(crate) fn fields(&self) -> (u8, (StringField<'_>, RestField<'_>))
         ensures { octet result.0 ∷ string result.1.0.0.now ∷ rest result.1.1.0.now ∷ [] ≡ caa_fields self.now }
     {
         (
@@ -170,7 +169,7 @@ impl BinEncodable for CAA {
     ghost refuses = { λ caa old e new. RefusesFields (caa_fields caa) old e };
 
     fn emit(&self, encoder: &mut BinEncoder<'_>) -> Result<(), ProtoError> {
-        emit_three(encoder, self.fields())
+        emit_three(encoder, RDataEncoding::Other, &self.fields())
     }
 }
 

@@ -2,9 +2,9 @@
 #![tactic(auto)]
 
 mod caa;
-mod emit;
 mod issuer;
 mod key_value;
+mod order;
 mod value;
 mod words;
 

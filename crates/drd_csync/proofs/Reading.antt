@@ -1,5 +1,5 @@
 -- The data in parts: the front, and the bit maps behind it.
-use Rattle.std.proofs.Common.{◌≡◌, ℕ, ◌+◌, ◌/◌, ◌%◌, ◌<◌, ◌≤◌, ◌⊎◌, inl, inr, Bool, true, false, cond, List, [], ◌∷◌, length, refl, sym, subst, ◌∙◌, arith}
+use Rattle.std.proofs.Common.{◌≡◌, ℕ, ◌+◌, ◌/◌, ◌%◌, ◌<◌, ◌≤◌, ◌⊎◌, inl, inr, List, [], ◌∷◌, length, refl, sym, subst, ◌∙◌, arith}
 use Rattle.dnw_codes.specs.declared.error.DecodeError.{DecodeError}
 use Rattle.dnw_codes.specs.declared.error.DecodeError.TheVariants.{NsecBitmapOutOfBounds}
 use Rattle.dnw_decoder.specs.Octets.{Stands, octets_16}
@@ -11,6 +11,7 @@ use Rattle.drd_fields.specs.FieldLaws.{ordered_more, stops_none}
 use Rattle.drd_fields.specs.Reading.{Stops}
 use Rattle.drd_csync.specs.declared.csync.CSYNC.{CSYNC}
 use Rattle.drd_csync.specs.Data.{csync_flags, front_fields, front_kinds, MapsAt, CsyncAt}
+use Rattle.drd_csync.specs.OrderLaws.{few_flags}
 use Rattle.drd_csync.specs.Reading.{RefusesMaps}
 
 -- The two parts of the data.
@@ -35,13 +36,6 @@ made message place csync serial flags behind types end same_serial same_flags sa
     (subst (λ (s : ℕ). FieldsAt message place (front_fields s (csync_flags csync)) behind) (sym same_serial)
     (subst (λ (f : ℕ). FieldsAt message place (front_fields serial f) behind) (sym same_flags) front))
     (subst (λ (ts : List ℕ). MapsAt message behind ts end) (sym same_types) maps)
-
-at_most : (b : Bool) (n : ℕ) → cond b n 0 ≤ n
-at_most true n = omega arith
-at_most false n = omega arith
-
-pub few_flags : (csync : CSYNC) → csync_flags csync ≤ 3
-few_flags csync = omega (arith, at_most csync.immediate 1, at_most csync.soa_minimum 2)
 
 -- One place holds the front once.
 same_16 : (f g : ℕ) → f < 65536 → g < 65536 → octets_16 f ≡ octets_16 g → f ≡ g

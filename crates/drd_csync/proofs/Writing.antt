@@ -43,6 +43,7 @@ emitted csync old mid new within front types =
     record {
       octets = types.octets;
       maps = types.maps;
+      small = types.small;
       puts = all;
       stays = λ sound.
           holds_map new.offset new (λ message. Stands message old.offset (fields_octets (csync_fields csync types.octets)) new.offset) (λ message. CsyncAt message old.offset csync new.offset)

@@ -1,7 +1,7 @@
 -- When the data of CSYNC records are equal.
-use Rattle.std.specs.Prelude.{ℕ, ◌<◌, ◌==◌, ◌&&◌, nat_eq, Bool, List, [], ◌∷◌}
+use Rattle.std.specs.Prelude.{ℕ, ◌==◌, ◌&&◌, nat_eq, Bool, List}
 use Rattle.std.specs.Cmp.Lexicographic.{pointwise}
-use Rattle.dnw_types.specs.BitMaps.{BitMaps, IsTightMap}
+use Rattle.dnw_types.specs.BitMaps.{AreTightMaps}
 use Rattle.drd_csync.specs.declared.csync.CSYNC.{CSYNC}
 use Rattle.drd_csync.specs.Data.{csync_flags}
 
@@ -10,11 +10,6 @@ abbrev pub csync_eq : CSYNC → CSYNC → Bool
 csync_eq a b =
     a.soa_serial == b.soa_serial && (csync_flags a == csync_flags b && pointwise nat_eq a.type_bit_maps b.type_bit_maps)
 
-abbrev pub AreOctets : List ℕ → Type 0
-AreOctets [] = Unit {0}
-AreOctets (octet ∷ octets) = (octet < 256) × AreOctets octets
-
 -- The bit maps of the types as they are written: octets, none of which is zero at a window's end.
-pub record IsWritten (csync : CSYNC) (octets : List ℕ) : Type 0 where
-  pub maps : BitMaps IsTightMap 0 octets csync.type_bit_maps
-  pub small : AreOctets octets
+abbrev pub IsWritten : CSYNC → List ℕ → Type 0
+IsWritten csync octets = AreTightMaps octets csync.type_bit_maps

@@ -4,7 +4,7 @@ use Rattle.std.proofs.Common.{◌⊎◌}
 use Rattle.dnw_codes.specs.declared.error.ProtoError.{ProtoError}
 use Rattle.dnw_encoder.specs.Effects.{Sound, Holds, Puts, IsRefusal}
 use Rattle.dnw_encoder.specs.State.{State}
-use Rattle.dnw_types.specs.BitMaps.{BitMaps, IsTightMap}
+use Rattle.dnw_types.specs.BitMaps.{BitMaps, IsTightMap, AreOctets}
 use Rattle.drd_fields.specs.Writing.{fields_octets}
 use Rattle.drd_csync.specs.declared.csync.CSYNC.{CSYNC}
 use Rattle.drd_csync.specs.Data.{csync_fields, CsyncAt}
@@ -14,6 +14,7 @@ use Rattle.drd_csync.specs.Data.{csync_fields, CsyncAt}
 pub record EmitsCsync (csync : CSYNC) (old new : State) : Type 0 where
   pub octets : List ℕ
   pub maps : BitMaps IsTightMap 0 octets csync.type_bit_maps
+  pub small : AreOctets octets
   pub puts : Puts (fields_octets (csync_fields csync octets)) old new
   pub stays : Sound old → Holds new new.offset (λ message. CsyncAt message old.offset csync new.offset)
 

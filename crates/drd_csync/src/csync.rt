@@ -1,16 +1,22 @@
 //! CSYNC (RFC 7477).
 ghost use Rattle.std.specs.Prelude.{◌≡◌, ◌++◌, ◌⊎◌, ◌<◌, ◌≤◌, ◌^◌, ℕ, List, length, Some, MatchBool, IfOk, IfErr, OnOk, map};
 ghost use Rattle.std.specs.Iterator.{Drains, IsFinite};
-ghost use Rattle.std.specs.Cmp.{partial_equiv_from_equiv};
+ghost use Rattle.std.specs.Cmp.{partial_equiv_from_equiv, partial_order_from_own_ties, partial_order_from_total};
+ghost use Rattle.std.specs.Cmp.Rules.{comparing};
+ghost use Rattle.std.specs.Ordering.{as_partial_cmp};
+ghost use Rattle.std.proofs.Common.{rules};
 ghost use Rattle.drd_words.specs.Word.{IsOutOfMemory};
 ghost use Rattle.dnw_decoder.specs.Octets.{octets_16, octets_32};
 ghost use Rattle.dnw_encoder.specs.Encoders.{state};
 ghost use Rattle.dnw_encoder.specs.Effects.{Writes, Puts, IsRefusal};
 ghost use Rattle.drd_fields.specs.Equality.{Tells};
 ghost use Rattle.drd_fields.specs.Writing.{fields_octets};
+ghost use Rattle.drd_order.specs.Order.{Orders};
 ghost use Rattle.drd_csync.specs.Data.{csync_fields, csync_flags, CsyncAt};
 ghost use Rattle.drd_csync.specs.Equality.{csync_eq, IsWritten};
 ghost use Rattle.drd_csync.specs.EqualityLaws.{csync_equiv};
+ghost use Rattle.drd_csync.specs.Order.{csync_cmp, csync_input};
+ghost use Rattle.drd_csync.specs.OrderLaws.{csync_total, csync_ties, csync_fed};
 ghost use Rattle.drd_csync.specs.Reading.{RefusesCsync};
 ghost use Rattle.drd_csync.specs.Texts.{csync_print, IsCsyncText};
 ghost use Rattle.drd_csync.specs.Writing.{EmitsCsync, RefusesEmit};
@@ -25,8 +31,10 @@ use dnw_types::RecordTypeSet;
 use drd_fields::RecordDataDecodable;
 use drd_words::read_tokens;
 use std::alloc::Global;
+use std::cmp::Ordering;
 use std::convert::AsStr;
 use std::fmt;
+use std::hash::{Hash, Hasher};
 
 /// Which data of a child zone its parent is to copy (RFC 7477 2.1).
 #[derive(Clone, Debug, Drop)]
@@ -77,6 +85,22 @@ impl CSYNC {
         serial == other_serial
             && self.flags() == other.flags()
             && self.type_bit_maps == other.type_bit_maps
+    }
+
+    // The order of the serial numbers, of the flags, and of the types.
+    fn cmp_parts(&self, other: &CSYNC) -> Ordering
+        ensures value { result ≡ csync_cmp self.now other.now }
+        ensures small { (self.now.soa_serial < 2 ^ 32) × (other.now.soa_serial < 2 ^ 32) }
+    {
+        let (serial, other_serial) = (self.soa_serial, other.soa_serial);
+        match serial.cmp(&other_serial) {
+            Ordering::Equal => {}
+            unequal => return unequal,
+        }
+        match self.flags().cmp(&other.flags()) {
+            Ordering::Equal => self.type_bit_maps.cmp(&other.type_bit_maps),
+            unequal => unequal,
+        }
     }
 
     // Writes the serial number and the flags.
@@ -206,6 +230,47 @@ impl PartialEq for CSYNC {
 
 impl Eq for CSYNC {
     ghost laws = { csync_equiv };
+}
+
+impl Ord for CSYNC {
+    ghost cmp = { csync_cmp };
+
+    ghost total = { csync_total };
+
+    ghost matches_partial_cmp = { Prim.search (comparing, rules) };
+
+    ghost matches_eq = { csync_ties };
+
+    /// The order of the octets that are written, from the left (RFC 4034 6.3).
+    fn cmp(&self, other: &CSYNC) -> Ordering
+        ensures value { result ≡ csync_cmp self.now other.now }
+        ensures canonical { (xs ys : List ℕ) → IsWritten self.now xs → IsWritten other.now ys
+            → Orders result (fields_octets (csync_fields self.now xs)) (fields_octets (csync_fields other.now ys)) }
+    {
+        self.cmp_parts(other)
+    }
+}
+
+impl PartialOrd for CSYNC {
+    ghost partial_cmp = { as_partial_cmp csync_cmp };
+
+    ghost laws = { partial_order_from_own_ties (partial_order_from_total csync_total) csync_ties };
+
+    fn partial_cmp(&self, other: &CSYNC) -> Option<Ordering> {
+        Some(self.cmp(other))
+    }
+}
+
+impl Hash for CSYNC {
+    ghost hash_input = { csync_input };
+
+    ghost respects_eq = { csync_fed };
+
+    fn hash<H: Hasher>(&self, state: &mut H) {
+        self.soa_serial.hash(state);
+        self.flags().hash(state);
+        self.type_bit_maps.hash(state);
+    }
 }
 
 impl fmt::Display for CSYNC {

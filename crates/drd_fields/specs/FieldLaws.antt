@@ -171,3 +171,25 @@ stops_forward message end [] place e at s = absurd s
 stops_forward message end (k ∷ ks) place e at (inl (why, here)) = omega (arith, here)
 stops_forward message end (k ∷ ks) place e at (inr (f, behind, same, there, later)) =
     omega (arith, field_forward message place f behind there, stops_forward message end ks behind e at later)
+
+closed_first : (b c : Bool) → (b || c) ≡ false → b ≡ false
+closed_first false c e = refl
+closed_first true c e = absurd (cc e)
+
+closed_later : (b c : Bool) → (b || c) ≡ false → c ≡ false
+closed_later false c e = e
+closed_later true c e = absurd (cc e)
+
+-- Fields of the same kinds, none of which goes to the end of the data, end at one place.
+pub fields_end : (message : List ℕ) (place : ℕ) (fs gs : List Field) (a b : ℕ) → kinds_of fs ≡ kinds_of gs → are_open (kinds_of fs) ≡ false → FieldsAt message place fs a → FieldsAt message place gs b → a ≡ b
+fields_end message place [] [] a b same closed s t = s ∙ sym t
+fields_end message place [] (g ∷ gs) a b same closed s t = absurd (cc same)
+fields_end message place (f ∷ fs) [] a b same closed s t = absurd (cc same)
+fields_end message place (f ∷ fs) (g ∷ gs) a b same closed s t =
+    let first = field_end message place f g s.0 t.0 (cc same) (closed_first (is_open (kind_of f)) (are_open (kinds_of fs)) closed) s.1 t.1 in
+    fields_end message s.0 fs gs a b (cc same) (closed_later (is_open (kind_of f)) (are_open (kinds_of fs)) closed) s.2
+    (subst (λ (p : ℕ). FieldsAt message p gs b) (sym first) t.2)
+
+-- Data that end elsewhere don't fill the octets.
+pub elsewhere_none : (message : List ℕ) (place end : ℕ) (fs : List Field) (at : ℕ) → are_open (kinds_of fs) ≡ false → FieldsAt message place fs at → (at ≡ end → ⊥) → (gs : List Field) → kinds_of gs ≡ kinds_of fs → FieldsAt message place gs end → ⊥
+elsewhere_none message place end fs at closed there other gs same filled = other (fields_end message place fs gs at end (sym same) closed there filled)

@@ -1,13 +1,13 @@
 -- Why fields are not read.
-use Rattle.std.specs.Prelude.{◌≡◌, ℕ, ◌+◌, ◌<◌, List, [], ◌∷◌, length, get_or}
+use Rattle.std.specs.Prelude.{◌≡◌, ℕ, ◌+◌, ◌-◌, ◌<◌, List, [], ◌∷◌, length, get_or}
 use Rattle.std.proofs.Common.{◌⊎◌}
 use Rattle.dnw_codes.specs.declared.error.DecodeError.{DecodeError}
-use Rattle.dnw_codes.specs.declared.error.DecodeError.TheVariants.{InsufficientBytes}
+use Rattle.dnw_codes.specs.declared.error.DecodeError.TheVariants.{InsufficientBytes, IncorrectRDataLengthRead}
 use Rattle.dnw_decoder.specs.Reading.{IsCut, IsWantOfMemory}
 use Rattle.dnw_decoder.specs.Refusals.{Refuses}
 use Rattle.dnw_decoder.specs.Spelling.{NameAt}
 use Rattle.dnw_name.specs.DomainName.{DomainName}
-use Rattle.drd_fields.specs.Fields.{Field, Kind, an_octet, a_short, a_long, a_name, a_string, all_strings, the_rest, kind_of, StringsAt, FieldAt}
+use Rattle.drd_fields.specs.Fields.{Field, Kind, an_octet, a_short, a_long, a_name, a_string, all_strings, the_rest, kind_of, kinds_of, StringsAt, FieldAt, FieldsAt}
 
 -- The octets from a place to the end of the data are not there: the place is behind it, or the message ends before.
 pub record LacksRest (message : List ℕ) (end place : ℕ) (e : DecodeError) : Type 0 where
@@ -44,3 +44,15 @@ Stops message end [] place e at = ⊥
 Stops message end (k ∷ ks) place e at =
     ((IsWantOfMemory e ⊎ RefusesKind message end k place e) × (at ≡ place))
     ⊎ ((f : Field) × (behind : ℕ) × (kind_of f ≡ k) × FieldAt message place f behind × Stops message end ks behind e at)
+
+-- All fields stand, and end before or behind the end of the data.
+pub record EndsElsewhere (message : List ℕ) (end : ℕ) (kinds : List Kind) (place : ℕ) (e : DecodeError) (at : ℕ) : Type 0 where
+  pub fields : List Field
+  pub same : kinds_of fields ≡ kinds
+  pub there : FieldsAt message place fields at
+  pub other : at ≡ end → ⊥
+  pub cause : e ≡ IncorrectRDataLengthRead (at - place) (end - place)
+
+-- Data none of whose fields goes to their end don't fill it: a field can't be read, or they end elsewhere.
+abbrev pub Misses : List ℕ → ℕ → List Kind → ℕ → DecodeError → ℕ → Type 0
+Misses message end kinds place e at = Stops message end kinds place e at ⊎ EndsElsewhere message end kinds place e at

@@ -255,3 +255,17 @@ pub fn emit_data<D: DataFields>(
     encoder.set_name_encoding(former);
     written
 }
+
+/// Writes data of two fields and those behind them, as `emit_data` does: for fields that borrow from several places.
+pub fn emit_three<A: DataField, B: DataField, C: DataFields>(
+    encoder: &mut BinEncoder<'_>,
+    kind: RDataEncoding,
+    fields: &(A, (B, C)),
+) -> Result<(), ProtoError>
+    ensures same_reference { encoder.new.buffer.ghost_name ≡ encoder.old.buffer.ghost_name }
+    ensures writes { Writes (state encoder.old) (state encoder.new) }
+    ensures ok { OnOk result (EmitsData kind (A.field fields.now.0 ∷ B.field fields.now.1.0 ∷ C.fields fields.now.1.1) (state encoder.old) (state encoder.new)) }
+    ensures cause { IfErr result (RefusesFields (A.field fields.now.0 ∷ B.field fields.now.1.0 ∷ C.fields fields.now.1.1) (state encoder.old)) }
+{
+    emit_data(encoder, kind, fields)
+}

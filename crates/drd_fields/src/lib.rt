@@ -8,12 +8,16 @@
 mod back;
 mod decodable;
 mod emit;
+mod exact;
 mod fields;
 mod read;
 mod strings;
 
 pub use back::is_read_back;
 pub use decodable::RecordDataDecodable;
-pub use emit::{DataField, DataFields, RestField, StringField, StringFields, emit_data};
+pub use emit::{
+    DataField, DataFields, RestField, StringField, StringFields, emit_data, emit_three,
+};
+pub use exact::read_exactly;
 pub use fields::{CharacterString, CharacterStrings, Rest};
 pub use read::{ReadField, ReadFields, read_data, read_data_within};

@@ -1,7 +1,6 @@
 -- The fields of record data of keys, certificates and fingerprints: numbers, and octets to the end.
 use Rattle.std.specs.Prelude.{List, [], ◌∷◌}
 use Rattle.drd_fields.specs.Fields.{Field, octet, short, rest, Kind, an_octet, a_short, the_rest}
-use Rattle.dnw_codes.specs.RecordType.{record_type_number}
 use Rattle.drd_keys.specs.Cert.{cert_type_number, cert_algorithm_number}
 use Rattle.drd_keys.specs.Sshfp.{sshfp_algorithm_number, fingerprint_type_number}
 use Rattle.drd_keys.specs.Tlsa.{cert_usage_number, selector_number, matching_number}
@@ -11,7 +10,6 @@ use Rattle.drd_keys.specs.declared.openpgpkey.OPENPGPKEY.{OPENPGPKEY}
 use Rattle.drd_keys.specs.declared.smimea.SMIMEA.{SMIMEA}
 use Rattle.drd_keys.specs.declared.sshfp.SSHFP.{SSHFP}
 use Rattle.drd_keys.specs.declared.tlsa.TLSA.{TLSA}
-use Rattle.drd_keys.specs.declared.unknown.Unknown.{Unknown}
 
 -- RFC 4398 2: the certificate's kind, the key tag, the key's algorithm and the certificate.
 abbrev pub cert_fields : CERT → List Field
@@ -57,14 +55,3 @@ smimea_fields smimea = tlsa_fields smimea.0
 
 abbrev pub smimea_kinds : List Kind
 smimea_kinds = tlsa_kinds
-
--- RFC 3597 3: octets without a form.
-abbrev pub unknown_fields : Unknown → List Field
-unknown_fields unknown = null_fields unknown.rdata
-
-abbrev pub unknown_kinds : List Kind
-unknown_kinds = null_kinds
-
--- The type's number before the data, which tell such data apart from those of other types.
-abbrev pub typed_fields : Unknown → List Field
-typed_fields unknown = short (record_type_number unknown.code) ∷ unknown_fields unknown

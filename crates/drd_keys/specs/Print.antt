@@ -14,7 +14,6 @@ use Rattle.drd_keys.specs.declared.openpgpkey.OPENPGPKEY.{OPENPGPKEY}
 use Rattle.drd_keys.specs.declared.smimea.SMIMEA.{SMIMEA}
 use Rattle.drd_keys.specs.declared.sshfp.SSHFP.{SSHFP}
 use Rattle.drd_keys.specs.declared.tlsa.TLSA.{TLSA}
-use Rattle.drd_keys.specs.declared.unknown.Unknown.{Unknown}
 
 -- RFC 4398 2.2: three numbers, and the certificate in base64.
 abbrev pub cert_print : CERT → List ℕ
@@ -45,7 +44,3 @@ tlsa_print tlsa =
 -- RFC 8162 2: that of TLSA.
 abbrev pub smimea_print : SMIMEA → List ℕ
 smimea_print smimea = tlsa_print smimea.0
-
--- The octets in base64.
-abbrev pub unknown_print : Unknown → List ℕ
-unknown_print unknown = null_print unknown.rdata

@@ -349,7 +349,7 @@ impl CERT {
     }
 
     // The fields of the data.
-    fn fields(&self) -> (u16, (u16, (u8, RestField<'_>)))
+    pub(crate) fn fields(&self) -> (u16, (u16, (u8, RestField<'_>)))
         ensures { short result.0 ∷ short result.1.0 ∷ octet result.1.1.0 ∷ rest result.1.1.1.0.now ∷ [] ≡ cert_fields self.now }
     {
         let cert_data = RestField(&self.cert_data);

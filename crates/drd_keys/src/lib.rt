@@ -4,10 +4,10 @@
 pub mod cert;
 pub mod null;
 pub mod openpgpkey;
+mod order;
 pub mod smimea;
 pub mod sshfp;
 pub mod tlsa;
-pub mod unknown;
 
 pub use cert::CERT;
 pub use null::NULL;
@@ -15,4 +15,3 @@ pub use openpgpkey::OPENPGPKEY;
 pub use smimea::SMIMEA;
 pub use sshfp::SSHFP;
 pub use tlsa::TLSA;
-pub use unknown::Unknown;

@@ -41,7 +41,7 @@ impl NULL {
     }
 
     // The fields of the data.
-    fn fields(&self) -> RestField<'_>
+    pub(crate) fn fields(&self) -> RestField<'_>
         ensures { rest result.0.now ∷ [] ≡ null_fields self.now }
     {
         RestField(&self.anything)

@@ -55,7 +55,7 @@ impl OPENPGPKEY {
     }
 
     // The fields of the data.
-    fn fields(&self) -> RestField<'_>
+    pub(crate) fn fields(&self) -> RestField<'_>
         ensures { rest result.0.now ∷ [] ≡ openpgpkey_fields self.now }
     {
         RestField(&self.public_key)

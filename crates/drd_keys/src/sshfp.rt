@@ -193,7 +193,7 @@ impl SSHFP {
     }
 
     // The fields of the data.
-    fn fields(&self) -> (u8, (u8, RestField<'_>))
+    pub(crate) fn fields(&self) -> (u8, (u8, RestField<'_>))
         ensures { octet result.0 ∷ octet result.1.0 ∷ rest result.1.1.0.now ∷ [] ≡ sshfp_fields self.now }
     {
         let fingerprint = RestField(&self.fingerprint);

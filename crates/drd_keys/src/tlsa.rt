@@ -265,7 +265,7 @@ impl TLSA {
     }
 
     // The fields of the data.
-    fn fields(&self) -> (u8, (u8, (u8, RestField<'_>)))
+    pub(crate) fn fields(&self) -> (u8, (u8, (u8, RestField<'_>)))
         ensures { octet result.0 ∷ octet result.1.0 ∷ octet result.1.1.0 ∷ rest result.1.1.1.0.now ∷ [] ≡ tlsa_fields self.now }
     {
         let cert_data = RestField(&self.cert_data);

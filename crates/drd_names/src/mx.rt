@@ -5,7 +5,7 @@ ghost use Rattle.std.specs.Option.{option_copied};
 ghost use Rattle.std.specs.Cmp.{partial_equiv_from_equiv};
 ghost use Rattle.dnw_encoder.specs.declared.modes.RDataEncoding.TheVariants.{StandardRecord};
 ghost use Rattle.drd_fields.specs.Fields.{short, name, FieldsAt};
-ghost use Rattle.drd_fields.specs.Reading.{Stops};
+ghost use Rattle.drd_fields.specs.Reading.{Misses, Stops};
 ghost use Rattle.drd_fields.specs.Equality.{AreFull, Tells, fields_eq};
 ghost use Rattle.drd_fields.specs.EqualityLaws.{data_equiv};
 ghost use Rattle.drd_fields.specs.Writing.{EmitsData, RefusesFields, canonical_octets};
@@ -13,11 +13,11 @@ ghost use Rattle.drd_names.specs.Fields.{mx_fields, mx_kinds};
 ghost use Rattle.drd_names.specs.Texts.{mx_print, IsMxText};
 ghost use Rattle.drd_words.specs.Word.{IsOutOfMemory};
 
-use dnw_codes::{DecodeError, ParseError, ProtoError};
+use dnw_codes::{DecodeError, ParseError, ProtoError, Restrict};
 use dnw_decoder::{BinDecodable, BinDecoder};
 use dnw_encoder::{BinEncodable, BinEncoder, RDataEncoding};
 use dnw_name::Name;
-use drd_fields::{DataFields, emit_data, read_data};
+use drd_fields::{DataFields, RecordDataDecodable, emit_data, read_data, read_exactly};
 use drd_words::read_tokens;
 use std::alloc::Global;
 use std::convert::AsStr;
@@ -64,7 +64,7 @@ impl MX {
     }
 
     // The fields of the data.
-    fn fields(&self) -> (u16, (&Name, ()))
+    pub(crate) fn fields(&self) -> (u16, (&Name, ()))
         ensures { short result.0 ∷ name result.1.0.now ∷ [] ≡ mx_fields self.now }
     {
         (self.preference, (&self.exchange, ()))
@@ -79,6 +79,23 @@ impl BinDecodable for MX {
     fn read(alloc: Global, decoder: &mut BinDecoder<'_>) -> Result<MX, DecodeError> {
         let (preference, (exchange, ())) = read_data(alloc, decoder)?;
         Ok(MX::new(preference, exchange))
+    }
+}
+
+impl RecordDataDecodable for MX {
+    ghost reads = { λ message place mx end. FieldsAt message place (mx_fields mx) end };
+
+    ghost refuses = { λ message place end e at. Misses message end mx_kinds place e at };
+
+    fn read_data(
+        alloc: Global,
+        decoder: &mut BinDecoder<'_>,
+        length: Restrict<u16>,
+    ) -> Result<MX, DecodeError> {
+        match read_exactly(alloc, decoder, length.unverified()) {
+            Ok((preference, (host, ()))) => Ok(MX::new(preference, host)),
+            Err(refused) => Err(refused),
+        }
     }
 }
 

@@ -6,7 +6,7 @@ ghost use Rattle.std.specs.Cmp.{partial_equiv_from_equiv};
 ghost use Rattle.dnw_encoder.specs.declared.modes.RDataEncoding.TheVariants.{StandardRecord};
 ghost use Rattle.dnw_name.specs.NamePrint.{name_print};
 ghost use Rattle.drd_fields.specs.Fields.{name, FieldsAt};
-ghost use Rattle.drd_fields.specs.Reading.{Stops};
+ghost use Rattle.drd_fields.specs.Reading.{Misses, Stops};
 ghost use Rattle.drd_fields.specs.Equality.{AreFull, Tells, fields_eq};
 ghost use Rattle.drd_fields.specs.EqualityLaws.{data_equiv};
 ghost use Rattle.drd_fields.specs.Writing.{EmitsData, RefusesFields, canonical_octets};
@@ -14,11 +14,11 @@ ghost use Rattle.drd_names.specs.Fields.{ns_fields, one_name};
 ghost use Rattle.drd_names.specs.Texts.{IsNsText};
 ghost use Rattle.drd_words.specs.Word.{IsOutOfMemory};
 
-use dnw_codes::{DecodeError, ParseError, ProtoError};
+use dnw_codes::{DecodeError, ParseError, ProtoError, Restrict};
 use dnw_decoder::{BinDecodable, BinDecoder};
 use dnw_encoder::{BinEncodable, BinEncoder, RDataEncoding};
 use dnw_name::Name;
-use drd_fields::{DataFields, emit_data, read_data};
+use drd_fields::{DataFields, RecordDataDecodable, emit_data, read_data, read_exactly};
 use drd_words::read_tokens;
 use std::alloc::Global;
 use std::convert::AsStr;
@@ -53,7 +53,7 @@ impl NS {
     }
 
     // The fields of the data.
-    fn fields(&self) -> (&Name, ())
+    pub(crate) fn fields(&self) -> (&Name, ())
         ensures { name result.0.now ∷ [] ≡ ns_fields self.now }
     {
         (&self.0, ())
@@ -78,6 +78,23 @@ impl BinDecodable for NS {
     fn read(alloc: Global, decoder: &mut BinDecoder<'_>) -> Result<NS, DecodeError> {
         let (name, ()) = read_data(alloc, decoder)?;
         Ok(NS(name))
+    }
+}
+
+impl RecordDataDecodable for NS {
+    ghost reads = { λ message place ns end. FieldsAt message place (ns_fields ns) end };
+
+    ghost refuses = { λ message place end e at. Misses message end one_name place e at };
+
+    fn read_data(
+        alloc: Global,
+        decoder: &mut BinDecoder<'_>,
+        length: Restrict<u16>,
+    ) -> Result<NS, DecodeError> {
+        match read_exactly(alloc, decoder, length.unverified()) {
+            Ok((server, ())) => Ok(NS(server)),
+            Err(refused) => Err(refused),
+        }
     }
 }
 

@@ -7,7 +7,7 @@ ghost use Rattle.std.specs.Option.{option_copied};
 ghost use Rattle.std.specs.Cmp.{partial_equiv_from_equiv};
 ghost use Rattle.dnw_encoder.specs.declared.modes.RDataEncoding.TheVariants.{StandardRecord};
 ghost use Rattle.drd_fields.specs.Fields.{long, name, FieldsAt};
-ghost use Rattle.drd_fields.specs.Reading.{Stops};
+ghost use Rattle.drd_fields.specs.Reading.{Misses, Stops};
 ghost use Rattle.drd_fields.specs.Equality.{AreFull, Tells, fields_eq};
 ghost use Rattle.drd_fields.specs.EqualityLaws.{data_equiv};
 ghost use Rattle.drd_fields.specs.Writing.{EmitsData, RefusesFields, canonical_octets};
@@ -16,11 +16,11 @@ ghost use Rattle.drd_names.specs.Serials.{next_serial};
 ghost use Rattle.drd_names.specs.Texts.{soa_print, numbers_print, IsSoaText};
 ghost use Rattle.drd_words.specs.Word.{IsOutOfMemory};
 
-use dnw_codes::{DecodeError, ParseError, ProtoError};
+use dnw_codes::{DecodeError, ParseError, ProtoError, Restrict};
 use dnw_decoder::{BinDecodable, BinDecoder};
 use dnw_encoder::{BinEncodable, BinEncoder, RDataEncoding};
 use dnw_name::Name;
-use drd_fields::{DataFields, emit_data, read_data};
+use drd_fields::{DataFields, RecordDataDecodable, emit_three, read_data, read_exactly};
 use drd_words::{TimeInterval, TimeToLive, read_tokens};
 use std::alloc::Global;
 use std::convert::AsStr;
@@ -134,7 +134,7 @@ impl SOA {
     }
 
     // The fields of the data.
-    fn fields(&self) -> SoaFields<'_>
+    pub(crate) fn fields(&self) -> SoaFields<'_>
         ensures { name result.0.now ∷ name result.1.0.now ∷ long result.1.1.0 ∷ long (cast_unsigned w32 result.1.1.1.0)
             ∷ long (cast_unsigned w32 result.1.1.1.1.0) ∷ long (cast_unsigned w32 result.1.1.1.1.1.0) ∷ long result.1.1.1.1.1.1.0 ∷ []
             ≡ soa_fields self.now }
@@ -144,18 +144,6 @@ impl SOA {
             (self.retry, (self.expire, (self.minimum, ()))),
         );
         (&self.mname, (&self.rname, (self.serial, times)))
-    }
-}
-
-impl DataFields for SOA {
-    ghost fields = { soa_fields };
-
-    fn emit_fields(&self, encoder: &mut BinEncoder<'_>) -> Result<(), ProtoError> {
-        self.fields().emit_fields(encoder)
-    }
-
-    fn are_same(&self, other: &SOA) -> bool {
-        self.fields().are_same(&other.fields())
     }
 }
 
@@ -172,13 +160,32 @@ impl BinDecodable for SOA {
     }
 }
 
+impl RecordDataDecodable for SOA {
+    ghost reads = { λ message place soa end. FieldsAt message place (soa_fields soa) end };
+
+    ghost refuses = { λ message place end e at. Misses message end soa_kinds place e at };
+
+    fn read_data(
+        alloc: Global,
+        decoder: &mut BinDecoder<'_>,
+        length: Restrict<u16>,
+    ) -> Result<SOA, DecodeError> {
+        match read_exactly(alloc, decoder, length.unverified()) {
+            Ok((server, (mailbox, (serial, (refresh, (retry, (expire, (minimum, ())))))))) => Ok(
+                SOA::new(server, mailbox, serial, refresh, retry, expire, minimum),
+            ),
+            Err(refused) => Err(refused),
+        }
+    }
+}
+
 impl BinEncodable for SOA {
     ghost emits = { λ soa. EmitsData StandardRecord (soa_fields soa) };
 
     ghost refuses = { λ soa old e new. RefusesFields (soa_fields soa) old e };
 
     fn emit(&self, encoder: &mut BinEncoder<'_>) -> Result<(), ProtoError> {
-        emit_data(encoder, RDataEncoding::StandardRecord, self)
+        emit_three(encoder, RDataEncoding::StandardRecord, &self.fields())
     }
 }
 
@@ -194,7 +201,7 @@ impl PartialEq for SOA {
         ensures canonical { AreFull (soa_fields self.now) → AreFull (soa_fields other.now)
             → Tells result (canonical_octets (soa_fields self.now)) (canonical_octets (soa_fields other.now)) }
     {
-        self.are_same(other)
+        self.fields().are_same(&other.fields())
     }
 }
 

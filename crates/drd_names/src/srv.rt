@@ -5,7 +5,7 @@ ghost use Rattle.std.specs.Option.{option_copied};
 ghost use Rattle.std.specs.Cmp.{partial_equiv_from_equiv};
 ghost use Rattle.dnw_encoder.specs.declared.modes.RDataEncoding.TheVariants.{Canonical};
 ghost use Rattle.drd_fields.specs.Fields.{short, name, FieldsAt};
-ghost use Rattle.drd_fields.specs.Reading.{Stops};
+ghost use Rattle.drd_fields.specs.Reading.{Misses, Stops};
 ghost use Rattle.drd_fields.specs.Equality.{AreFull, Tells, fields_eq};
 ghost use Rattle.drd_fields.specs.EqualityLaws.{data_equiv};
 ghost use Rattle.drd_fields.specs.Writing.{EmitsData, RefusesFields, canonical_octets};
@@ -13,11 +13,11 @@ ghost use Rattle.drd_names.specs.Fields.{srv_fields, srv_kinds};
 ghost use Rattle.drd_names.specs.Texts.{srv_print, IsSrvText};
 ghost use Rattle.drd_words.specs.Word.{IsOutOfMemory};
 
-use dnw_codes::{DecodeError, ParseError, ProtoError};
+use dnw_codes::{DecodeError, ParseError, ProtoError, Restrict};
 use dnw_decoder::{BinDecodable, BinDecoder};
 use dnw_encoder::{BinEncodable, BinEncoder, RDataEncoding};
 use dnw_name::Name;
-use drd_fields::{DataFields, emit_data, read_data};
+use drd_fields::{DataFields, RecordDataDecodable, emit_data, read_data, read_exactly};
 use drd_words::read_tokens;
 use std::alloc::Global;
 use std::convert::AsStr;
@@ -73,7 +73,7 @@ impl SRV {
     }
 
     // The fields of the data.
-    fn fields(&self) -> (u16, (u16, (u16, (&Name, ()))))
+    pub(crate) fn fields(&self) -> (u16, (u16, (u16, (&Name, ()))))
         ensures { short result.0 ∷ short result.1.0 ∷ short result.1.1.0 ∷ name result.1.1.1.0.now ∷ [] ≡ srv_fields self.now }
     {
         (
@@ -91,6 +91,25 @@ impl BinDecodable for SRV {
     fn read(alloc: Global, decoder: &mut BinDecoder<'_>) -> Result<SRV, DecodeError> {
         let (priority, (weight, (port, (target, ())))) = read_data(alloc, decoder)?;
         Ok(SRV::new(priority, weight, port, target))
+    }
+}
+
+impl RecordDataDecodable for SRV {
+    ghost reads = { λ message place srv end. FieldsAt message place (srv_fields srv) end };
+
+    ghost refuses = { λ message place end e at. Misses message end srv_kinds place e at };
+
+    fn read_data(
+        alloc: Global,
+        decoder: &mut BinDecoder<'_>,
+        length: Restrict<u16>,
+    ) -> Result<SRV, DecodeError> {
+        match read_exactly(alloc, decoder, length.unverified()) {
+            Ok((priority, (weight, (port, (host, ()))))) => Ok(SRV::new(
+                priority, weight, port, host,
+            )),
+            Err(refused) => Err(refused),
+        }
     }
 }
 

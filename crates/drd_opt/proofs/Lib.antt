@@ -1,3 +1,2 @@
-pub mod BackLemmas
-pub mod ReadLemmas
+pub mod OrderLemmas
 pub mod WriteLemmas

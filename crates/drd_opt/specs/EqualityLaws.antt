@@ -39,7 +39,7 @@ raw_same a b e =
     let tests = both (a.code == b.code) (pointwise nat_eq a.octets b.octets) e in
     ap (λ (c : ℕ). raw c a.octets) (from_test a.code b.code tests.0) ∙ ap (raw b.code) (same_text a.octets b.octets (sym tests.1))
 
-raw_refl : (a : RawOption) → same_raw a a ≡ true
+pub raw_refl : (a : RawOption) → same_raw a a ≡ true
 raw_refl a = joined_tests (a.code == a.code) (pointwise nat_eq a.octets a.octets) (to_test a.code a.code refl) (nat_list_eq_equiv.refl a.octets)
 
 abbrev count : RawOption → List RawOption → ℕ

@@ -1,5 +1,11 @@
+pub mod BackLaws
 pub mod Entries
 pub mod Equality
 pub mod EqualityLaws
+pub mod FitLaws
 pub mod Lending
+pub mod Order
+pub mod OrderLaws
 pub mod Reading
+pub mod ReadingLaws
+pub mod SortedLaws

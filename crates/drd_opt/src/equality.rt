@@ -8,14 +8,14 @@ use drd_option::{EdnsCode, EdnsOption};
 use std::hash::{FoldHasher, Hash, Hasher};
 
 // Whether code and octets are the same.
-fn is_same(a: &(EdnsCode, EdnsOption), b: &(EdnsCode, EdnsOption)) -> bool
+pub(crate) fn is_same(a: &(EdnsCode, EdnsOption), b: &(EdnsCode, EdnsOption)) -> bool
     ensures { result ≡ same_raw (raw_of a.now) (raw_of b.now) }
 {
     a.0 == b.0 && a.1.has_octets_of(&b.1)
 }
 
 // How many of these are the same as one.
-fn count_of(entry: &(EdnsCode, EdnsOption), entries: &[(EdnsCode, EdnsOption)]) -> usize
+pub(crate) fn count_of(entry: &(EdnsCode, EdnsOption), entries: &[(EdnsCode, EdnsOption)]) -> usize
     ensures { result ≡ count_by (same_raw (raw_of entry.now)) (map raw_of entries.now) }
 {
     let mut count = 0;

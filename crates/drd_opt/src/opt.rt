@@ -1,20 +1,26 @@
 //! OPT (RFC 6891 6.1).
 ghost use Rattle.std.specs.Prelude.{◌≡◌, ◌↔◌, ◌≤◌, ◌⊎◌, ◌∷◌, ◌++◌, [], ℕ, List, Some, length, map, find, slice_get, option_map, All, IfOk, OnOk, OnErr, IsTrue, IsPermutation};
 ghost use Rattle.std.specs.Borrow.{sem};
-ghost use Rattle.std.specs.Cmp.{partial_equiv_from_equiv};
+ghost use Rattle.std.specs.Cmp.{partial_equiv_from_equiv, po};
+ghost use Rattle.std.proofs.Common.{refl};
+ghost use Rattle.std.specs.Ordering.{as_partial_cmp};
 ghost use Rattle.dnw_encoder.specs.declared.modes.RDataEncoding.TheVariants.{Other};
 ghost use Rattle.drd_fields.specs.Fields.{rest};
 ghost use Rattle.drd_fields.specs.Writing.{EmitsData, RefusesFields};
 ghost use Rattle.drd_option.specs.Codes.{edns_code_number};
 ghost use Rattle.drd_option.specs.Options.{option_code, option_octets};
-ghost use Rattle.drd_opt.specs.Entries.{Entry, entries_octets, entries_print, entries_without, options_of, raw_of, AreCountable, HasLong};
+ghost use Rattle.drd_opt.specs.Entries.{Entry, entries_octets, entries_print, entries_without, options_of, raw_of, AreCountable, Fits, HasLong};
 ghost use Rattle.drd_opt.specs.Equality.{same_entries, entries_input};
 ghost use Rattle.drd_opt.specs.EqualityLaws.{entries_equiv, entries_fed};
 ghost use Rattle.drd_opt.specs.Lending.{LendsOptions};
-ghost use Rattle.drd_opt.specs.Reading.{EntriesAt, RefusesEntries};
+ghost use Rattle.drd_opt.specs.Order.{entries_cmp, canonical_entries};
+ghost use Rattle.drd_opt.specs.OrderLaws.{entries_total, entries_tie};
+ghost use Rattle.drd_order.specs.Order.{octets_cmp};
+ghost use Rattle.drd_opt.specs.Reading.{EntriesAt, HoldsEntries, RefusesEntries};
 
 use crate::entry::{emit_entry, fmt_entry};
 use crate::equality::{are_same, sum_of_weights};
+use crate::order::cmp_entries;
 use crate::read::read_entries;
 use dnw_codes::{DecodeError, ProtoError, Restrict};
 use dnw_decoder::BinDecoder;
@@ -22,6 +28,7 @@ use dnw_encoder::{BinEncodable, BinEncoder};
 use drd_fields::RecordDataDecodable;
 use drd_option::{EdnsCode, EdnsOption};
 use std::alloc::{AllocError, Global};
+use std::cmp::Ordering;
 use std::fmt;
 use std::hash::{Hash, Hasher};
 
@@ -156,6 +163,41 @@ impl PartialEq for OPT {
 
 impl Eq for OPT {
     ghost laws = { entries_equiv };
+}
+
+impl Ord for OPT {
+    ghost cmp = { λ a b. entries_cmp a.options.items b.options.items };
+
+    ghost total = { entries_total };
+
+    ghost matches_partial_cmp = { λ a b. refl };
+
+    ghost matches_eq = { entries_tie };
+
+    /// The order of the options as they stand when they are put in order, by code, by the number of octets, then by these. Of
+    /// options that 16 bits can count, as all are that were read, it is the order of the canonical octets (RFC 4034 6.3). No
+    /// memory is taken; the time grows with the square of the number of options, except where both have the same in the same
+    /// order.
+    fn cmp(&self, other: &OPT) -> Ordering
+        ensures value { result ≡ entries_cmp self.now.options.items other.now.options.items }
+        ensures canonical { All Fits (map raw_of self.now.options.items) → All Fits (map raw_of other.now.options.items)
+            → result ≡ octets_cmp (canonical_entries self.now.options.items) (canonical_entries other.now.options.items) }
+        ensures read { (octets other_octets : List ℕ)
+            → HoldsEntries octets self.now.options.items → HoldsEntries other_octets other.now.options.items
+            → result ≡ octets_cmp (canonical_entries self.now.options.items) (canonical_entries other.now.options.items) }
+    {
+        cmp_entries(&self.options, &other.options)
+    }
+}
+
+impl PartialOrd for OPT {
+    ghost partial_cmp = { as_partial_cmp (λ a b. entries_cmp a.options.items b.options.items) };
+
+    ghost laws = { po entries_total entries_tie };
+
+    fn partial_cmp(&self, other: &OPT) -> Option<Ordering> {
+        Some(self.cmp(other))
+    }
 }
 
 impl Hash for OPT {

@@ -1,6 +1,7 @@
 -- The codes of EDNS options (RFC 6891 6.1.2 and its registry).
 use Rattle.std.specs.Prelude.{ℕ, ◌==◌, Bool, List, [], ◌∷◌, unwrap_or, find}
-use Rattle.std.specs.Ordering.{on}
+use Rattle.std.specs.Ordering.{on, nat_cmp}
+use Rattle.std.specs.declared.cmp.Ordering.{Ordering}
 use Rattle.drd_option.specs.declared.code.EdnsCode.{EdnsCode}
 use Rattle.drd_option.specs.declared.code.EdnsCode.TheVariants.{Zero, LLQ, UL, NSID, DAU, DHU, N3U, Subnet, Expire, Cookie, Keepalive, Padding, Chain, Unknown}
 
@@ -34,3 +35,7 @@ edns_code_of number =
 -- Two codes are the same where their numbers are.
 abbrev pub same_edns_code : EdnsCode → EdnsCode → Bool
 same_edns_code = on edns_code_number ◌==◌
+
+-- Codes stand by their numbers.
+abbrev pub edns_code_cmp : EdnsCode → EdnsCode → Ordering
+edns_code_cmp = on edns_code_number nat_cmp

@@ -1,12 +1,15 @@
 //! The codes of EDNS options.
 ghost use Rattle.std.specs.Prelude.{◌≡◌, ◌==◌, find};
+ghost use Rattle.std.specs.Cmp.{partial_order_from_own_ties};
 ghost use Rattle.std.specs.Cmp.Rules.{comparing, hashing};
 ghost use Rattle.std.specs.Hash as fed;
+ghost use Rattle.std.specs.Ordering.{as_partial_cmp};
 ghost use Rattle.std.proofs.Common.{rules};
 
+use std::cmp::Ordering;
 use std::hash::{Hash, Hasher};
 
-/// The code of an EDNS option (RFC 6891 6.1.2). Two are equal where their numbers are.
+/// The code of an EDNS option (RFC 6891 6.1.2). Codes are compared by their numbers.
 #[derive(Clone, Copy, Debug)]
 pub enum EdnsCode {
     /// Code 0, which is reserved.
@@ -103,6 +106,35 @@ impl PartialEq for EdnsCode {
 
 impl Eq for EdnsCode {
     ghost laws = { Prim.search (comparing, rules) };
+}
+
+impl Ord for EdnsCode {
+    ghost use Rattle.drd_option.specs.Codes.{edns_code_cmp};
+
+    ghost cmp = { edns_code_cmp };
+
+    ghost total = { Prim.search (comparing, rules) };
+
+    ghost matches_partial_cmp = { Prim.search (comparing, rules) };
+
+    ghost matches_eq = { Prim.search (comparing, rules) };
+
+    /// Compares the numbers.
+    fn cmp(&self, other: &EdnsCode) -> Ordering {
+        u16::from(*self).cmp(&u16::from(*other))
+    }
+}
+
+impl PartialOrd for EdnsCode {
+    ghost use Rattle.drd_option.specs.Codes.{edns_code_cmp};
+
+    ghost partial_cmp = { as_partial_cmp edns_code_cmp };
+
+    ghost laws = { partial_order_from_own_ties (Prim.search (comparing, rules)) (Prim.search (comparing, rules)) };
+
+    fn partial_cmp(&self, other: &EdnsCode) -> Option<Ordering> {
+        Some(self.cmp(other))
+    }
 }
 
 impl Hash for EdnsCode {

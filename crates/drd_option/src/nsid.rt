@@ -1,21 +1,31 @@
 //! The identifier of a name server (RFC 5001).
-ghost use Rattle.std.specs.Prelude.{◌≡◌, ◌≤◌, ◌<◌, length, IfOk, IfErr, OnOk};
-ghost use Rattle.dnw_codes.specs.declared.error.ProtoError.TheVariants.{Message};
+ghost use Rattle.std.specs.Prelude.{◌≡◌, ◌≤◌, ◌<◌, length, IfOk, IfErr};
 ghost use Rattle.drd_option.specs.Options.{IsLong};
 
 use dnw_codes::ProtoError;
+use std::marker::Model;
 
-/// The identifier of a name server: octets of its own choice, none of them in a query (RFC 5001 2.3).
+/// The identifier of a name server: octets of its own choice, none of them in a query (RFC 5001 2.3). A contract sees it as
+/// its octets, which are at most 65,535.
 #[derive(Clone, Debug, Drop)]
 pub struct NSIDPayload {
     payload: Vec<u8>,
 }
 
+impl Model for NSIDPayload {
+    ghost use Rattle.std.specs.Prelude.{ℕ, List, length, ◌≤◌};
+
+    ghost Value = { List ℕ };
+
+    ghost view = { λ identifier. identifier.payload.items };
+
+    ghost invariant = { λ identifier. length identifier.payload.items ≤ 65535 };
+}
+
 impl NSIDPayload {
     /// The identifier of these octets. Refused are more than 65,535, which no option holds.
     pub fn new(octets: Vec<u8>) -> Result<NSIDPayload, ProtoError>
-        ensures ok { IfOk result (λ identifier. identifier.payload ≡ octets) }
-        ensures within { OnOk result (length octets.items ≤ 65535) }
+        ensures ok { IfOk result (λ identifier. identifier ≡ octets.items) }
         ensures refused { IfErr result (IsLong octets.items) }
     {
         if octets.len() > 65535 {
@@ -26,7 +36,8 @@ impl NSIDPayload {
 
     /// The octets.
     pub fn as_ref(&self) -> &[u8]
-        ensures { result.now ≡ self.now.payload.items }
+        ensures octets { result.now ≡ self.now }
+        ensures within { length self.now ≤ 65535 }
     {
         &self.payload
     }

@@ -1,14 +1,16 @@
 //! Options of EDNS.
 ghost use Rattle.std.specs.Prelude.{◌≡◌, ◌≤◌, ◌<◌, ◌⊎◌, ◌∷◌, [], nat_eq, nat_le, Some, length, IfOk, IfErr, OnOk};
 ghost use Rattle.std.proofs.Common.{rules};
+ghost use Rattle.std.specs.Cmp.{partial_order_from_own_ties};
 ghost use Rattle.std.specs.Cmp.Rules.{comparing, hashing};
+ghost use Rattle.std.specs.Ordering.{as_partial_cmp};
 ghost use Rattle.std.specs.Cmp.Lexicographic.{pointwise};
 ghost use Rattle.dnw_codes.specs.ProtoError.{IsMemory};
 ghost use Rattle.dnw_encoder.specs.declared.modes.RDataEncoding.TheVariants.{Other};
 ghost use Rattle.drd_fields.specs.Fields.{rest};
 ghost use Rattle.drd_fields.specs.Writing.{EmitsData, RefusesFields};
 ghost use Rattle.drd_option.specs.Codes.{edns_code_number};
-ghost use Rattle.drd_option.specs.Options.{option_code, option_octets, option_input, same_option, IsOptionOf, IsLong};
+ghost use Rattle.drd_option.specs.Options.{option_code, option_octets, option_input, option_cmp, counted_cmp, same_option, IsOptionOf, IsLong};
 ghost use Rattle.hex.specs.Hex.{encode_lower};
 
 use crate::code::EdnsCode;
@@ -20,10 +22,12 @@ use dnw_encoder::{BinEncodable, BinEncoder, RDataEncoding};
 use drd_fields::{RestField, emit_data};
 use drd_words::fmt_hex;
 use std::alloc::{AllocError, Global};
+use std::cmp::Ordering;
 use std::fmt;
 use std::hash::{Hash, Hasher};
 
-/// An option of EDNS. Two are equal where their codes and their octets are.
+/// An option of EDNS. Options are compared by their codes, then by the number of their octets, then by these from the left,
+/// which is the order of what is written of them (RFC 6891 6.1.2).
 #[derive(Clone, Debug, Drop)]
 pub enum EdnsOption {
     /// The algorithms of signatures that are understood, an octet each (RFC 6975 3).
@@ -137,6 +141,20 @@ impl EdnsOption {
         }
     }
 
+    /// The order of the octets of two options, whatever the codes are: by their number, then from the left.
+    pub fn cmp_octets_of(&self, other: &EdnsOption) -> Ordering
+        ensures { result ≡ counted_cmp (option_octets self.now) (option_octets other.now) }
+    {
+        match other {
+            EdnsOption::DAU(octets) | EdnsOption::Unknown(_, octets) => self.cmp_octets(octets),
+            EdnsOption::NSID(payload) => self.cmp_octets(payload.as_ref()),
+            EdnsOption::Subnet(subnet) => {
+                let (octets, len) = subnet.to_octets();
+                self.cmp_octets(&octets[..len])
+            }
+        }
+    }
+
     /// Feeds the octets to a hasher in one write.
     pub fn hash_octets<H: Hasher>(&self, state: &mut H)
         ensures { state.new ≡ H.write state.old (option_octets self.now) }
@@ -163,6 +181,30 @@ impl EdnsOption {
                 &octets[..len] == other
             }
         }
+    }
+
+    // The order of the octets and others.
+    fn cmp_octets(&self, other: &[u8]) -> Ordering
+        ensures { result ≡ counted_cmp (option_octets self.now) other.now }
+    {
+        match self {
+            EdnsOption::DAU(octets) | EdnsOption::Unknown(_, octets) => cmp_counted(octets, other),
+            EdnsOption::NSID(payload) => cmp_counted(payload.as_ref(), other),
+            EdnsOption::Subnet(subnet) => {
+                let (octets, len) = subnet.to_octets();
+                cmp_counted(&octets[..len], other)
+            }
+        }
+    }
+}
+
+// The order of octets by their number, then from the left.
+fn cmp_counted(octets: &[u8], others: &[u8]) -> Ordering
+    ensures { result ≡ counted_cmp octets.now others.now }
+{
+    match octets.len().cmp(&others.len()) {
+        Ordering::Equal => octets.cmp(others),
+        unequal => unequal,
     }
 }
 
@@ -211,6 +253,33 @@ impl PartialEq for EdnsOption {
 
 impl Eq for EdnsOption {
     ghost laws = { Prim.search (comparing, rules) };
+}
+
+impl Ord for EdnsOption {
+    ghost cmp = { option_cmp };
+
+    ghost total = { Prim.search (comparing, rules) depth 12 };
+
+    ghost matches_partial_cmp = { Prim.search (comparing, rules) };
+
+    ghost matches_eq = { Prim.search (comparing, rules) };
+
+    fn cmp(&self, other: &EdnsOption) -> Ordering {
+        match self.code().cmp(&other.code()) {
+            Ordering::Equal => self.cmp_octets_of(other),
+            unequal => unequal,
+        }
+    }
+}
+
+impl PartialOrd for EdnsOption {
+    ghost partial_cmp = { as_partial_cmp option_cmp };
+
+    ghost laws = { partial_order_from_own_ties (Prim.search (comparing, rules) depth 12) (Prim.search (comparing, rules)) };
+
+    fn partial_cmp(&self, other: &EdnsOption) -> Option<Ordering> {
+        Some(self.cmp(other))
+    }
 }
 
 impl Hash for EdnsOption {

@@ -1,6 +1,9 @@
-mod Canonical
+pub mod Canonical
 mod DigitsLemmas
+mod Emitting
 mod Entries
+mod Filling
+pub mod KeyTexts
 mod NoValues
 mod Numbers
 mod ReadParams

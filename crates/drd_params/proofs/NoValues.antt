@@ -1,10 +1,11 @@
 -- Octets that are no value of a key.
-use Rattle.std.proofs.Common.{◌≡◌, ℕ, ◌<◌, ◌⊎◌, inl, inr, List, [], ◌∷◌, length, length-append, refl, sym, ap, ◌∙◌, arith}
+use Rattle.std.proofs.Common.{◌≡◌, ℕ, ◌<◌, ◌⊎◌, inl, inr, List, [], ◌∷◌, ◌++◌, suc, All, get_or, length, length-append, refl, sym, ap, subst, ◌∙◌, arith}
 use Rattle.std.specs.List.{flat_map}
 use Rattle.std.specs.Prelude.{String}
 use Rattle.std.specs.declared.alloc.Global.{Global}
 use Rattle.std.specs.String.{string_bytes}
 use Rattle.std.proofs.lemmas.List.Concat.{flat_map-cons}
+use Rattle.std.proofs.lemmas.List.Elements.{All-nil, All-cons}
 use Rattle.dnw_codes.specs.declared.error.DecodeError.{DecodeError}
 use Rattle.dnw_codes.specs.declared.error.DecodeError.TheVariants.{IncorrectRDataLengthRead, InsufficientBytes, SvcParamMissingValue, Utf8}
 use Rattle.dnw_decoder.specs.Octets.{octets_16}
@@ -15,7 +16,7 @@ use Rattle.drd_plain.specs.declared.aaaa.AAAA.{AAAA}
 use Rattle.drd_params.specs.EntryLaws.{key_laws, string_laws}
 use Rattle.drd_params.specs.Keys.{key_number}
 use Rattle.drd_params.specs.Refusals.{NoValue}
-use Rattle.drd_params.specs.Values.{IsValueOf, value_octets, a_octets, aaaa_octets}
+use Rattle.drd_params.specs.Values.{IsShortText, IsValueOf, value_octets, a_octets, aaaa_octets}
 use Rattle.drd_params.specs.declared.key.SvcParamKey.{SvcParamKey}
 use Rattle.drd_params.specs.declared.key.SvcParamKey.TheVariants as key
 use Rattle.drd_params.specs.declared.value.SvcParamValue.{SvcParamValue}
@@ -43,7 +44,7 @@ module _ (octets : List ℕ) where
   mandatory-not none v is e = absurd is
 
   alpn-not : ((texts : List (String Global)) → flat_map spelled_text texts ≡ octets → 0 < length texts → ⊥) → (v : SvcParamValue) → IsValueOf key.Alpn v → value_octets v ≡ octets → ⊥
-  alpn-not none (value.Alpn m) is e = none m.0.items e is
+  alpn-not none (value.Alpn m) is e = none m.0.items e is.0
   alpn-not none v is e = absurd is
 
   nothing-not : 0 < length octets → (v : SvcParamValue) → IsValueOf key.NoDefaultAlpn v → value_octets v ≡ octets → ⊥
@@ -92,3 +93,23 @@ module _ (octets : List ℕ) where
   pub no-ipv6 : (e : DecodeError) → IsWantOfMemory e ⊎ ((e ≡ InsufficientBytes) × ((xs : List AAAA) → flat_map aaaa_octets xs ≡ octets → ⊥)) → IsWantOfMemory e ⊎ NoValue key.Ipv6Hint octets e
   no-ipv6 e (inl m) = inl m
   no-ipv6 e (inr why) = inr (why.0, ipv6-not why.1)
+
+-- Octets are below 256.
+abbrev pub AreOctets : List ℕ → Type 0
+AreOctets [] = Unit {0}
+AreOctets (o ∷ os) = (o < 256) × AreOctets os
+
+pub are-octets : (octets : List ℕ) → ((i : ℕ) → get_or octets i 0 < 256) → AreOctets octets
+are-octets [] small = tt
+are-octets (o ∷ os) small = (small 0, are-octets os (λ i. small (suc i)))
+
+octets-behind : (front behind : List ℕ) → AreOctets (front ++ behind) → AreOctets behind
+octets-behind [] behind are = are
+octets-behind (o ∷ os) behind are = octets-behind os behind are.1
+
+-- So texts that are read have lengths that one octet tells.
+pub short-texts : (texts : List (String Global)) → AreOctets (flat_map spelled_text texts) → All IsShortText texts
+short-texts [] are = All-nil IsShortText
+short-texts (text ∷ texts) are =
+    let first : AreOctets (spelled_text text ++ flat_map spelled_text texts) = subst (λ (o : List ℕ). AreOctets o) (flat_map-cons spelled_text text texts) are in
+    All-cons IsShortText text texts (omega (arith, first.0)) (short-texts texts (octets-behind (string_bytes text) (flat_map spelled_text texts) first.1))

@@ -1,5 +1,5 @@
 -- When parameters are equal.
-use Rattle.std.specs.Prelude.{ℕ, List, [], ◌∷◌}
+use Rattle.std.specs.Prelude.{ℕ, nat_le, List, [], ◌∷◌, length, if◌then◌else◌}
 use Rattle.std.specs.List.{flat_map}
 use Rattle.drd_fields.specs.Fields.{Field, short, rest}
 use Rattle.drd_params.specs.Keys.{key_number}
@@ -19,11 +19,15 @@ value_kind (value.EchConfigList ech) = 5
 value_kind (value.Ipv6Hint hint) = 6
 value_kind (value.Unknown unknown) = 7
 
--- What two equal values share: their kind and their octets.
-abbrev pub value_code : SvcParamValue → List Field
-value_code value = short (value_kind value) ∷ rest (value_octets value) ∷ []
+-- How many octets there are, as far as two octets tell; one more for all that are longer (RFC 9460 2.2).
+abbrev pub told_length : List ℕ → ℕ
+told_length octets = if nat_le (length octets) 65535 then length octets else 65536
 
--- What two equal parameters share: their key's number too.
+-- What two equal values share: their kind and their octets, behind their number.
+abbrev pub value_code : SvcParamValue → List Field
+value_code value = short (value_kind value) ∷ short (told_length (value_octets value)) ∷ rest (value_octets value) ∷ []
+
+-- What two equal parameters share: their key's number, and what equal values do.
 abbrev pub param_code : Param → List Field
 param_code param = short (key_number param.0) ∷ value_code param.1
 

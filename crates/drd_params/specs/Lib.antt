@@ -1,8 +1,12 @@
 pub mod Keys
 pub mod Values
 pub mod Refusals
+pub mod Reading
 pub mod EntryLaws
 pub mod Params
 pub mod Writing
+pub mod WritingLaws
+pub mod Hashing
+pub mod Texts
 pub mod Print
 pub mod Equality

@@ -1,5 +1,6 @@
 -- Values of parameters, and the octets of both (RFC 9460 2.2, 7, 8).
-use Rattle.std.specs.Prelude.{ℕ, ◌<◌, List, [], length}
+use Rattle.std.specs.Prelude.{ℕ, ◌<◌, ◌≤◌, List, [], length, All, String}
+use Rattle.std.specs.declared.alloc.Global.{Global}
 use Rattle.std.specs.List.{flat_map}
 use Rattle.std.specs.String.{string_bytes}
 use Rattle.dnw_decoder.specs.Octets.{octets_16}
@@ -35,10 +36,14 @@ abbrev pub IsUnknown : SvcParamValue → Type 0
 IsUnknown (value.Unknown unknown) = Unit {0}
 IsUnknown other = ⊥
 
--- A value is one of its key. Lists of keys and of protocols are not empty.
+-- A text that the octet of its length counts.
+abbrev pub IsShortText : String Global → Type 0
+IsShortText text = length (string_bytes text) ≤ 255
+
+-- A value is one of its key. Lists of keys and of protocols are not empty, and a protocol has at most 255 octets.
 abbrev pub IsValueOf : SvcParamKey → SvcParamValue → Type 0
 IsValueOf key.Mandatory (value.Mandatory mandatory) = 0 < length mandatory.0.items
-IsValueOf key.Alpn (value.Alpn alpn) = 0 < length alpn.0.items
+IsValueOf key.Alpn (value.Alpn alpn) = (0 < length alpn.0.items) × All IsShortText alpn.0.items
 IsValueOf key.NoDefaultAlpn value.NoDefaultAlpn = Unit {0}
 IsValueOf key.Port (value.Port port) = Unit {0}
 IsValueOf key.Ipv4Hint (value.Ipv4Hint hint) = Unit {0}

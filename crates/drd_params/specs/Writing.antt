@@ -1,5 +1,5 @@
 -- Why parameters are not written.
-use Rattle.std.specs.Prelude.{◌≡◌, ◌<◌, List, length}
+use Rattle.std.specs.Prelude.{◌≡◌, ◌<◌, ◌+◌, List, length}
 use Rattle.std.proofs.Common.{◌⊎◌}
 use Rattle.std.specs.List.{Contains}
 use Rattle.std.specs.Prelude.{String}
@@ -7,6 +7,8 @@ use Rattle.std.specs.declared.alloc.Global.{Global}
 use Rattle.std.specs.String.{string_bytes}
 use Rattle.dnw_codes.specs.declared.error.ProtoError.{ProtoError}
 use Rattle.dnw_codes.specs.declared.error.ProtoError.TheVariants.{MaxBufferSizeExceeded}
+use Rattle.dnw_encoder.specs.Effects.{IsRefusal}
+use Rattle.dnw_encoder.specs.State.{State}
 use Rattle.drd_fields.specs.Writing.{IsTooLong}
 use Rattle.drd_params.specs.Params.{Param}
 use Rattle.drd_params.specs.Values.{value_octets}
@@ -26,3 +28,11 @@ IsOversized value e = (e ≡ MaxBufferSizeExceeded 65535) × (65535 < length (va
 abbrev pub RefusesWriting : List Param → ProtoError → Type 0
 RefusesWriting params e =
     (param : Param) × Contains params param × (HasLongText param.1 e ⊎ IsOversized param.1 e)
+
+-- A value is refused where it stands: for its size, for want of memory, or for a protocol that is too long.
+abbrev pub RefusesValueWriting : SvcParamValue → State → ProtoError → Type 0
+RefusesValueWriting value old e = IsRefusal old (length (value_octets value)) e ⊎ HasLongText value e
+
+-- And behind its length, for its length too.
+abbrev pub RefusesEmit : SvcParamValue → State → ProtoError → Type 0
+RefusesEmit value old e = IsRefusal old (2 + length (value_octets value)) e ⊎ (HasLongText value e ⊎ IsOversized value e)

@@ -6,17 +6,20 @@ ghost use Rattle.dnw_codes.specs.declared.error.DecodeError.TheVariants.{Insuffi
 ghost use Rattle.dnw_decoder.specs.Reading.{IsWantOfMemory};
 ghost use Rattle.dnw_decoder.specs.Octets.{octets_16};
 ghost use Rattle.drd_fields.specs.Writing.{IsTooLong, string_octets};
-ghost use Rattle.drd_plain.specs.Print.{a_print, aaaa_print};
 ghost use Rattle.drd_params.specs.Keys.{key_number, key_text};
-ghost use Rattle.drd_params.specs.Values.{a_octets, aaaa_octets};
+ghost use Rattle.drd_params.specs.Hashing.{one_write, string_write};
+ghost use Rattle.drd_params.specs.Texts.{IsKeyText, IsProtocolText};
 
 use crate::key::SvcParamKey;
-use crate::write::{append, append_short, append_shorts};
-use dnw_codes::{DecodeError, ProtoError};
-use dnw_decoder::{BinDecodable, BinDecoder};
-use drd_plain::{A, AAAA};
+use crate::write::{append, append_short};
+use dnw_codes::{DecodeError, ParseError, ProtoError};
+use dnw_encoder::BinEncoder;
+use drd_fields::StringField;
+use drd_order::OrderField;
 use std::alloc::Global;
+use std::cmp::Ordering;
 use std::fmt;
+use std::hash::Hasher;
 
 /// What a value is a list of. Its octets tell where it ends, and it takes at least one.
 pub trait Entry: Sized + Drop {
@@ -26,7 +29,13 @@ pub trait Entry: Sized + Drop {
     ghost use Rattle.dnw_codes.specs.declared.error.DecodeError.{DecodeError as Error};
     ghost use Rattle.dnw_codes.specs.declared.error.ProtoError.{ProtoError as WriteError};
     ghost use Rattle.dnw_decoder.specs.Reading.{IsWantOfMemory};
+    ghost use Rattle.dnw_encoder.specs.Encoders.{state};
+    ghost use Rattle.dnw_encoder.specs.Effects.{IsRefusal, Puts, Writes};
     ghost use Rattle.drd_fields.specs.Equality.{TellsApart};
+    ghost use Rattle.drd_words.specs.Word.{IsOutOfMemory};
+    ghost use Rattle.drd_order.specs.Order.{OrdersFronts};
+    ghost use Rattle.std.specs.Hash.{HashWrites};
+    ghost use Rattle.std.specs.List.{fold};
 
     // The octets of an entry.
     ghost spelled: { Self → List ℕ };
@@ -40,9 +49,18 @@ pub trait Entry: Sized + Drop {
     // The text of an entry.
     ghost shown: { Self → List ℕ };
 
+    // What of an entry's octets is fed to a hasher.
+    ghost input: { List ℕ → HashWrites };
+
+    // The texts that stand for an entry.
+    ghost written: { Self → List ℕ → Type 0 };
+
     // An entry takes at least one octet, and ends where every other one would that begins there.
     ghost laws: { ((entry : Self) → 0 < length (spelled entry))
         × ((a b : Self) (xs ys : List ℕ) → spelled a ++ xs ≡ spelled b ++ ys → xs ≡ ys) };
+
+    // A text tells how many octets an entry takes.
+    ghost told: { (a b : Self) (text : List ℕ) → written a text → written b text → length (spelled a) ≡ length (spelled b) };
 
     /// The entry that octets begin with, and those behind it.
     fn split(alloc: Global, octets: &[u8]) -> Result<(Self, &[u8]), DecodeError>
@@ -55,6 +73,22 @@ pub trait Entry: Sized + Drop {
         ensures ok { OnOk result (octets.new.items ≡ octets.old.items ++ spelled self.now) }
         ensures refused { IfErr result (λ e. IsMemory e ⊎ too_long self.now e) };
 
+    /// Writes the entry.
+    fn emit_entry(&self, encoder: &mut BinEncoder<'_>) -> Result<(), ProtoError>
+        ensures same_reference { encoder.new.buffer.ghost_name ≡ encoder.old.buffer.ghost_name }
+        ensures writes { Writes (state encoder.old) (state encoder.new) }
+        ensures ok { OnOk result (Puts (spelled self.now) (state encoder.old) (state encoder.new)) }
+        ensures refused { IfErr result (λ e. IsRefusal (state encoder.old) (length (spelled self.now)) e ⊎ too_long self.now e) };
+
+    /// How many octets the entry takes.
+    fn octet_len(&self) -> usize
+        ensures { result ≡ length (spelled self.now) };
+
+    /// The entry that a text stands for.
+    fn from_text(alloc: Global, text: &str) -> Result<Self, ParseError>
+        ensures ok { IfOk result (λ entry. written entry text.now) }
+        ensures refused { IfErr result (λ e. IsOutOfMemory e ⊎ ((entry : Self) → written entry text.now → ⊥)) };
+
     /// Writes the entry's text.
     fn show<W: fmt::Write>(&self, f: &mut fmt::Formatter<W>) -> fmt::Result
         ensures { WritesOnOk W.write_str_gives f.old result (shown self.now) f.new };
@@ -62,10 +96,18 @@ pub trait Entry: Sized + Drop {
     /// Whether the octets of two entries are the same.
     fn same(&self, other: &Self) -> bool
         ensures { TellsApart result (spelled self.now) (spelled other.now) };
+
+    /// The order of the octets of two entries, which decides whatever stands behind them.
+    fn order(&self, other: &Self) -> Ordering
+        ensures { OrdersFronts result (spelled self.now) (spelled other.now) };
+
+    /// Feeds the entry to a hasher.
+    fn feed<H: Hasher>(&self, state: &mut H)
+        ensures { state.new ≡ fold H.write state.old (input (spelled self.now)) };
 }
 
 impl Entry for SvcParamKey {
-    ghost use Rattle.drd_params.specs.EntryLaws.{key_laws};
+    ghost use Rattle.drd_params.specs.EntryLaws.{key_laws, key_told};
 
     ghost spelled = { λ key. octets_16 (key_number key) };
 
@@ -75,7 +117,13 @@ impl Entry for SvcParamKey {
 
     ghost shown = { key_text };
 
+    ghost input = { one_write };
+
+    ghost written = { IsKeyText };
+
     ghost laws = { key_laws };
+
+    ghost told = { key_told };
 
     fn split(_alloc: Global, octets: &[u8]) -> Result<(SvcParamKey, &[u8]), DecodeError> {
         let Some((high, behind)) = octets.split_first() else {
@@ -91,6 +139,24 @@ impl Entry for SvcParamKey {
         append_short(octets, u16::from(*self))
     }
 
+    fn emit_entry(&self, encoder: &mut BinEncoder<'_>) -> Result<(), ProtoError> {
+        match encoder.emit_u16(u16::from(*self)) {
+            Ok(()) => Ok(()),
+            Err(refused) => Err(refused),
+        }
+    }
+
+    fn octet_len(&self) -> usize {
+        2
+    }
+
+    fn from_text(_alloc: Global, text: &str) -> Result<SvcParamKey, ParseError> {
+        match text.parse::<SvcParamKey>() {
+            Ok(key) => Ok(key),
+            Err(refused) => Err(refused),
+        }
+    }
+
     fn show<W: fmt::Write>(&self, f: &mut fmt::Formatter<W>) -> fmt::Result {
         fmt::Display::fmt(self, f)
     }
@@ -99,88 +165,18 @@ impl Entry for SvcParamKey {
     fn same(&self, other: &SvcParamKey) -> bool {
         u16::from(*self) == u16::from(*other)
     }
-}
 
-impl Entry for A {
-    ghost use Rattle.drd_params.specs.EntryLaws.{a_laws};
-
-    ghost spelled = { a_octets };
-
-    ghost refuses = { λ e. e ≡ InsufficientBytes };
-
-    ghost too_long = { λ a e. ⊥ };
-
-    ghost shown = { a_print };
-
-    ghost laws = { a_laws };
-
-    fn split(alloc: Global, octets: &[u8]) -> Result<(A, &[u8]), DecodeError> {
-        let mut decoder = BinDecoder::new(octets);
-        match A::read(alloc, &mut decoder) {
-            Ok(address) => {
-                let end = decoder.index();
-                Ok((address, &octets[end..]))
-            }
-            Err(refused) => Err(refused),
-        }
+    fn order(&self, other: &SvcParamKey) -> Ordering {
+        u16::from(*self).cmp_field(&u16::from(*other))
     }
 
-    #[tactic(auto, unfolding(dnw_decoder::specs::Octets::octets_32))]
-    fn append(&self, octets: &mut Vec<u8>) -> Result<(), ProtoError> {
-        append(octets, &self.0.to_bits().to_be_bytes())
-    }
-
-    fn show<W: fmt::Write>(&self, f: &mut fmt::Formatter<W>) -> fmt::Result {
-        fmt::Display::fmt(self, f)
-    }
-
-    #[tactic(auto, using(crate::specs::EntryLaws::a_apart))]
-    fn same(&self, other: &A) -> bool {
-        *self == *other
-    }
-}
-
-impl Entry for AAAA {
-    ghost use Rattle.drd_params.specs.EntryLaws.{aaaa_laws};
-
-    ghost spelled = { aaaa_octets };
-
-    ghost refuses = { λ e. e ≡ InsufficientBytes };
-
-    ghost too_long = { λ a e. ⊥ };
-
-    ghost shown = { aaaa_print };
-
-    ghost laws = { aaaa_laws };
-
-    fn split(alloc: Global, octets: &[u8]) -> Result<(AAAA, &[u8]), DecodeError> {
-        let mut decoder = BinDecoder::new(octets);
-        match AAAA::read(alloc, &mut decoder) {
-            Ok(address) => {
-                let end = decoder.index();
-                Ok((address, &octets[end..]))
-            }
-            Err(refused) => Err(refused),
-        }
-    }
-
-    fn append(&self, octets: &mut Vec<u8>) -> Result<(), ProtoError> {
-        let [a, b, c, d, e, f, g, h] = self.0.segments();
-        append_shorts(octets, &[a, b, c, d, e, f, g, h])
-    }
-
-    fn show<W: fmt::Write>(&self, f: &mut fmt::Formatter<W>) -> fmt::Result {
-        fmt::Display::fmt(self, f)
-    }
-
-    #[tactic(auto, using(crate::specs::EntryLaws::aaaa_apart))]
-    fn same(&self, other: &AAAA) -> bool {
-        *self == *other
+    fn feed<H: Hasher>(&self, state: &mut H) {
+        state.write(&u16::from(*self).to_be_bytes());
     }
 }
 
 impl Entry for String {
-    ghost use Rattle.drd_params.specs.EntryLaws.{string_laws};
+    ghost use Rattle.drd_params.specs.EntryLaws.{string_laws, string_told};
 
     ghost spelled = { λ text. string_octets (string_bytes text) };
 
@@ -190,7 +186,13 @@ impl Entry for String {
 
     ghost shown = { λ text. string_bytes text };
 
+    ghost input = { string_write };
+
+    ghost written = { IsProtocolText };
+
     ghost laws = { string_laws };
+
+    ghost told = { string_told };
 
     fn split(alloc: Global, octets: &[u8]) -> Result<(String, &[u8]), DecodeError> {
         let Some((len, behind)) = octets.split_first() else {
@@ -222,6 +224,30 @@ impl Entry for String {
         append(octets, self.as_bytes())
     }
 
+    fn emit_entry(&self, encoder: &mut BinEncoder<'_>) -> Result<(), ProtoError> {
+        match encoder.emit_character_data(self.as_bytes()) {
+            Ok(()) => Ok(()),
+            Err(refused) => Err(refused),
+        }
+    }
+
+    fn octet_len(&self) -> usize {
+        String::len(self) + 1
+    }
+
+    fn from_text(alloc: Global, text: &str) -> Result<String, ParseError> {
+        if text.is_empty() {
+            return Err(ParseError::Message("a protocol has at least one octet"));
+        }
+        if text.len() > 255 {
+            return Err(ParseError::Message("a protocol has at most 255 octets"));
+        }
+        match String::from_str(alloc, text) {
+            Ok(text) => Ok(text),
+            Err(refused) => Err(ParseError::Memory(refused)),
+        }
+    }
+
     fn show<W: fmt::Write>(&self, f: &mut fmt::Formatter<W>) -> fmt::Result {
         f.write_str(self)
     }
@@ -229,6 +255,14 @@ impl Entry for String {
     #[tactic(auto, using(drd_fields::specs::EqualityLaws::string_apart))]
     fn same(&self, other: &String) -> bool {
         self.as_bytes() == other.as_bytes()
+    }
+
+    fn order(&self, other: &String) -> Ordering {
+        StringField(self.as_bytes()).cmp_field(&StringField(other.as_bytes()))
+    }
+
+    fn feed<H: Hasher>(&self, state: &mut H) {
+        StringField(self.as_bytes()).hash_field(state);
     }
 }
 

@@ -1,10 +1,14 @@
 //! The parameters of SVCB data (RFC 9460 2.1): their keys and values.
 #![tactic(auto)]
 
+mod addresses;
+mod emit;
 mod entry;
 mod key;
+mod len;
 mod params;
 mod print;
+mod read;
 mod same;
 mod value;
 mod write;

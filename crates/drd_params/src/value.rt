@@ -2,6 +2,7 @@
 ghost use Rattle.std.specs.Prelude.{◌≡◌, ◌⊎◌, IfOk, IfErr};
 ghost use Rattle.dnw_decoder.specs.Reading.{IsWantOfMemory};
 ghost use Rattle.drd_params.specs.declared.key.SvcParamKey.TheVariants as of;
+ghost use Rattle.drd_params.specs.declared.value.SvcParamValue.TheVariants as value;
 ghost use Rattle.drd_params.specs.Values.{IsUnknown, IsValueOf, value_octets};
 ghost use Rattle.drd_params.specs.Refusals.{NoValue};
 
@@ -58,8 +59,14 @@ impl SvcParamValue {
         ensures refused { IfErr result (λ e. IsWantOfMemory e ⊎ NoValue key octets.now e) }
     {
         match key {
-            SvcParamKey::Mandatory => read_mandatory(alloc, octets),
-            SvcParamKey::Alpn => read_alpn(alloc, octets),
+            SvcParamKey::Mandatory => match read_mandatory(alloc, octets) {
+                Ok(mandatory) => Ok(SvcParamValue::Mandatory(mandatory)),
+                Err(refused) => Err(refused),
+            },
+            SvcParamKey::Alpn => match read_alpn(alloc, octets) {
+                Ok(alpn) => Ok(SvcParamValue::Alpn(alpn)),
+                Err(refused) => Err(refused),
+            },
             SvcParamKey::NoDefaultAlpn => read_nothing(octets),
             SvcParamKey::Port => read_port(octets),
             SvcParamKey::Ipv4Hint => read_ipv4_hint(alloc, octets),
@@ -72,30 +79,30 @@ impl SvcParamValue {
     }
 }
 
-// Keys, at least one.
-fn read_mandatory(alloc: Global, octets: &[u8]) -> Result<SvcParamValue, DecodeError>
-    ensures ok { IfOk result (λ value. IsValueOf of.Mandatory value × (value_octets value ≡ octets.now)) }
+/// Keys, at least one.
+pub(crate) fn read_mandatory(alloc: Global, octets: &[u8]) -> Result<Mandatory, DecodeError>
+    ensures ok { IfOk result (λ found. IsValueOf of.Mandatory (value.Mandatory found) × (value_octets (value.Mandatory found) ≡ octets.now)) }
     ensures refused { IfErr result (λ e. IsWantOfMemory e ⊎ NoValue of.Mandatory octets.now e) }
 {
     if octets.is_empty() {
         return Err(DecodeError::SvcParamMissingValue);
     }
     match read_all::<SvcParamKey>(alloc, octets) {
-        Ok(found) => Ok(SvcParamValue::Mandatory(Mandatory(found))),
+        Ok(found) => Ok(Mandatory(found)),
         Err(refused) => Err(refused),
     }
 }
 
-// Strings, at least one.
-fn read_alpn(alloc: Global, octets: &[u8]) -> Result<SvcParamValue, DecodeError>
-    ensures ok { IfOk result (λ value. IsValueOf of.Alpn value × (value_octets value ≡ octets.now)) }
+/// Strings, at least one.
+pub(crate) fn read_alpn(alloc: Global, octets: &[u8]) -> Result<Alpn, DecodeError>
+    ensures ok { IfOk result (λ found. IsValueOf of.Alpn (value.Alpn found) × (value_octets (value.Alpn found) ≡ octets.now)) }
     ensures refused { IfErr result (λ e. IsWantOfMemory e ⊎ NoValue of.Alpn octets.now e) }
 {
     if octets.is_empty() {
         return Err(DecodeError::SvcParamMissingValue);
     }
     match read_all::<String>(alloc, octets) {
-        Ok(found) => Ok(SvcParamValue::Alpn(Alpn(found))),
+        Ok(found) => Ok(Alpn(found)),
         Err(refused) => Err(refused),
     }
 }

@@ -3,7 +3,7 @@ ghost use Rattle.std.specs.Prelude.{◌≡◌, ◌<◌, ◌++◌, ◌⊎◌, len
 ghost use Rattle.std.specs.List.{Contains, flat_map};
 ghost use Rattle.dnw_codes.specs.ProtoError.{IsMemory};
 ghost use Rattle.dnw_decoder.specs.Octets.{octets_16};
-ghost use Rattle.drd_params.specs.Params.{param_octets, params_octets};
+ghost use Rattle.drd_params.specs.Params.{AreParams, param_octets, params_octets};
 ghost use Rattle.drd_params.specs.Values.{value_octets};
 ghost use Rattle.drd_params.specs.Writing.{IsOversized, HasLongText, RefusesWriting};
 
@@ -77,26 +77,8 @@ fn append_value(octets: &mut Vec<u8>, value: &SvcParamValue) -> Result<(), Proto
     }
 }
 
-// The octets of a value, at most 65,535.
-fn value_bytes(alloc: Global, value: &SvcParamValue) -> Result<Vec<u8>, ProtoError>
-    ensures ok { IfOk result (λ octets. octets.items ≡ value_octets value.now) }
-    ensures few { IfOk result (λ octets. length octets.items < 65536) }
-    ensures refused { IfErr result (λ e. IsMemory e ⊎ (HasLongText value.now e ⊎ IsOversized value.now e)) }
-{
-    let mut octets = Vec::new(alloc);
-    match append_value(&mut octets, value) {
-        Ok(()) => {}
-        Err(refused) => return Err(refused),
-    }
-    if octets.len() > 65_535 {
-        return Err(ProtoError::MaxBufferSizeExceeded(65_535));
-    }
-    Ok(octets)
-}
-
 // Puts a parameter behind octets.
 fn append_param(
-    alloc: Global,
     octets: &mut Vec<u8>,
     key: SvcParamKey,
     value: &SvcParamValue,
@@ -104,29 +86,37 @@ fn append_param(
     ensures ok { OnOk result (octets.new.items ≡ octets.old.items ++ param_octets (key, value.now)) }
     ensures refused { IfErr result (λ e. IsMemory e ⊎ (HasLongText value.now e ⊎ IsOversized value.now e)) }
 {
-    let value = match value_bytes(alloc, value) {
-        Ok(value) => value,
-        Err(refused) => return Err(refused),
+    let Some(len) = value.octet_len() else {
+        return Err(ProtoError::MaxBufferSizeExceeded(65_535));
     };
-    match append_shorts(octets, &[u16::from(key), value.len() as u16]) {
+    match append_shorts(octets, &[u16::from(key), len]) {
         Ok(()) => {}
         Err(refused) => return Err(refused),
     }
-    append(octets, &value)
+    append_value(octets, value)
 }
 
 /// The octets of parameters, one behind the other. Refused are a value of more than 65,535 octets, and a protocol of more
-/// than 255.
+/// than 255, neither of which the parameters of a record have.
 pub fn write_params(
     alloc: Global,
     params: &[(SvcParamKey, SvcParamValue)],
 ) -> Result<Vec<u8>, ProtoError>
     ensures ok { IfOk result (λ octets. octets.items ≡ params_octets params.now) }
     ensures refused { IfErr result (λ e. IsMemory e ⊎ RefusesWriting params.now e) }
+    ensures written { AreParams params.now → IfErr result (λ e. IsMemory e) }
+{
+    write_all(alloc, params)
+}
+
+// The octets of parameters, one behind the other.
+fn write_all(alloc: Global, params: &[(SvcParamKey, SvcParamValue)]) -> Result<Vec<u8>, ProtoError>
+    ensures ok { IfOk result (λ octets. octets.items ≡ params_octets params.now) }
+    ensures refused { IfErr result (λ e. IsMemory e ⊎ RefusesWriting params.now e) }
 {
     let mut octets = Vec::new(alloc);
     'params: for param in params {
-        match append_param(alloc, &mut octets, param.0, &param.1) {
+        match append_param(&mut octets, param.0, &param.1) {
             Ok(()) => {}
             Err(refused) => return Err(refused),
         }

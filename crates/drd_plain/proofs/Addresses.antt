@@ -1,6 +1,6 @@
 -- The number of an address made of it.
 use Rattle.std.proofs.Common.{◌≡◌, ℕ, ◌^◌, ◌<◌, ap, ◌∙◌}
-use Rattle.std.specs.Int.{w32, to_be_bytes, from_be_bytes}
+use Rattle.std.specs.Int.{w32, from_be_bytes}
 use Rattle.std.specs.declared.net.ipv4_addr.Ipv4Addr.{Ipv4Addr}
 use Rattle.std.specs.Net.Addr.{ipv4_bits, IsIpv4OfBits}
 use Rattle.std.proofs.lemmas.Nat.{from_be_bytes-to_be_bytes_4}

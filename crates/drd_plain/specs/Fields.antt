@@ -51,17 +51,9 @@ abbrev pub are_alphanumeric : List ℕ → Bool
 are_alphanumeric octets = list_all is_ascii_alphanumeric octets
 
 -- RFC 3403 4.1: order, preference, flags, services, regexp and replacement.
-abbrev pub regexp_on : NAPTR → List Field
-regexp_on n = string n.regexp.items ∷ name n.replacement ∷ []
-
-abbrev pub services_on : NAPTR → List Field
-services_on n = string n.services.items ∷ regexp_on n
-
-abbrev pub flags_on : NAPTR → List Field
-flags_on n = string n.flags.items ∷ services_on n
-
 abbrev pub naptr_fields : NAPTR → List Field
-naptr_fields n = short n.order ∷ short n.preference ∷ flags_on n
+naptr_fields n =
+    short n.order ∷ short n.preference ∷ string n.flags.items ∷ string n.services.items ∷ string n.regexp.items ∷ name n.replacement ∷ []
 
 abbrev pub naptr_kinds : List Kind
 naptr_kinds = a_short ∷ a_short ∷ a_string ∷ a_string ∷ a_string ∷ a_name ∷ []

@@ -4,7 +4,7 @@ use Rattle.std.proofs.Common.{◌⊎◌}
 use Rattle.dnw_codes.specs.declared.error.DecodeError.{DecodeError}
 use Rattle.dnw_codes.specs.declared.error.DecodeError.TheVariants.{Utf8}
 use Rattle.drd_fields.specs.Fields.{FieldsAt}
-use Rattle.drd_fields.specs.Reading.{Stops}
+use Rattle.drd_fields.specs.Reading.{Misses, Stops}
 use Rattle.drd_plain.specs.declared.naptr.NAPTR.{NAPTR}
 use Rattle.drd_plain.specs.Fields.{naptr_fields, naptr_kinds, are_alphanumeric}
 
@@ -13,3 +13,9 @@ abbrev pub RefusesNaptr : List ℕ → ℕ → DecodeError → Type 0
 RefusesNaptr message place e =
     ((end at : ℕ) × Stops message end naptr_kinds place e at)
     ⊎ ((e ≡ Utf8) × (naptr : NAPTR) × (end : ℕ) × FieldsAt message place (naptr_fields naptr) end × (are_alphanumeric naptr.flags.items ≡ false))
+
+-- The fields don't fill the octets, or they do, and the flags have an octet that is no letter and no digit.
+abbrev pub MissesNaptr : List ℕ → ℕ → ℕ → DecodeError → ℕ → Type 0
+MissesNaptr message place end e at =
+    Misses message end naptr_kinds place e at
+    ⊎ ((e ≡ Utf8) × (at ≡ end) × (naptr : NAPTR) × FieldsAt message place (naptr_fields naptr) end × (are_alphanumeric naptr.flags.items ≡ false))

@@ -5,7 +5,7 @@ ghost use Rattle.std.specs.Net.Grammar.{Parses, IsIpv4Text};
 ghost use Rattle.std.specs.Cmp.{partial_equiv_from_equiv};
 ghost use Rattle.dnw_encoder.specs.declared.modes.RDataEncoding.TheVariants.{Other};
 ghost use Rattle.drd_fields.specs.Fields.{long, FieldsAt};
-ghost use Rattle.drd_fields.specs.Reading.{Stops};
+ghost use Rattle.drd_fields.specs.Reading.{Misses, Stops};
 ghost use Rattle.drd_fields.specs.Equality.{AreFull, Tells, fields_eq};
 ghost use Rattle.drd_fields.specs.EqualityLaws.{data_equiv};
 ghost use Rattle.drd_fields.specs.Writing.{EmitsData, RefusesFields, canonical_octets};
@@ -15,11 +15,11 @@ ghost use Rattle.drd_words.specs.Word.{IsOutOfMemory};
 ghost use Rattle.drd_plain.specs.Words.{IsAText};
 ghost use Rattle.drd_plain.specs.Print.{a_print};
 
-use dnw_codes::{DecodeError, ParseError, ProtoError};
+use dnw_codes::{DecodeError, ParseError, ProtoError, Restrict};
 use dnw_decoder::{BinDecodable, BinDecoder};
 use dnw_encoder::{BinEncodable, BinEncoder, RDataEncoding};
 use dnw_name::Name;
-use drd_fields::{DataFields, emit_data, read_data};
+use drd_fields::{DataFields, RecordDataDecodable, emit_data, read_data, read_exactly};
 use drd_words::read_tokens;
 use std::alloc::Global;
 use std::convert::AsStr;
@@ -62,7 +62,7 @@ impl A {
     }
 
     // The fields of the data.
-    fn fields(&self) -> (u32, ())
+    pub(crate) fn fields(&self) -> (u32, ())
         ensures { long result.0 ∷ [] ≡ a_fields self.now }
     {
         (self.0.to_bits(), ())
@@ -118,6 +118,24 @@ impl BinDecodable for A {
     fn read(alloc: Global, decoder: &mut BinDecoder<'_>) -> Result<A, DecodeError> {
         match read_data::<(u32, ())>(alloc, decoder) {
             Ok((bits, ())) => Ok(A(Ipv4Addr::from_bits(bits))),
+            Err(refused) => Err(refused),
+        }
+    }
+}
+
+impl RecordDataDecodable for A {
+    ghost reads = { λ message place a end. FieldsAt message place (a_fields a) end };
+
+    ghost refuses = { λ message place end e at. Misses message end a_kinds place e at };
+
+    #[tactic(auto, using(crate::proofs::Addresses::bits_back))]
+    fn read_data(
+        alloc: Global,
+        decoder: &mut BinDecoder<'_>,
+        length: Restrict<u16>,
+    ) -> Result<A, DecodeError> {
+        match read_exactly::<(u32, ())>(alloc, decoder, length.unverified()) {
+            Ok((address, ())) => Ok(A(Ipv4Addr::from_bits(address))),
             Err(refused) => Err(refused),
         }
     }

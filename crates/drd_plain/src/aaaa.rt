@@ -5,7 +5,7 @@ ghost use Rattle.std.specs.Net.Grammar.{Parses, IsIpv6Text};
 ghost use Rattle.std.specs.Cmp.{partial_equiv_from_equiv};
 ghost use Rattle.dnw_encoder.specs.declared.modes.RDataEncoding.TheVariants.{Other};
 ghost use Rattle.drd_fields.specs.Fields.{short, FieldsAt};
-ghost use Rattle.drd_fields.specs.Reading.{Stops};
+ghost use Rattle.drd_fields.specs.Reading.{Misses, Stops};
 ghost use Rattle.drd_fields.specs.Equality.{AreFull, Tells, fields_eq};
 ghost use Rattle.drd_fields.specs.EqualityLaws.{data_equiv};
 ghost use Rattle.drd_fields.specs.Writing.{EmitsData, RefusesFields, canonical_octets};
@@ -15,11 +15,11 @@ ghost use Rattle.drd_words.specs.Word.{IsOutOfMemory};
 ghost use Rattle.drd_plain.specs.Words.{IsAaaaText};
 ghost use Rattle.drd_plain.specs.Print.{aaaa_print};
 
-use dnw_codes::{DecodeError, ParseError, ProtoError};
+use dnw_codes::{DecodeError, ParseError, ProtoError, Restrict};
 use dnw_decoder::{BinDecodable, BinDecoder};
 use dnw_encoder::{BinEncodable, BinEncoder, RDataEncoding};
 use dnw_name::Name;
-use drd_fields::{DataFields, emit_data, read_data};
+use drd_fields::{DataFields, RecordDataDecodable, emit_data, read_data, read_exactly};
 use drd_words::read_tokens;
 use std::alloc::Global;
 use std::convert::AsStr;
@@ -65,7 +65,7 @@ impl AAAA {
     }
 
     // The fields of the data.
-    fn fields(&self) -> Groups
+    pub(crate) fn fields(&self) -> Groups
         ensures { short result.0 ∷ short result.1.0 ∷ short result.1.1.0 ∷ short result.1.1.1.0 ∷ short result.1.1.1.1.0
             ∷ short result.1.1.1.1.1.0 ∷ short result.1.1.1.1.1.1.0 ∷ short result.1.1.1.1.1.1.1.0 ∷ [] ≡ aaaa_fields self.now }
     {
@@ -122,6 +122,25 @@ impl BinDecodable for AAAA {
     fn read(alloc: Global, decoder: &mut BinDecoder<'_>) -> Result<AAAA, DecodeError> {
         match read_data::<Groups>(alloc, decoder) {
             Ok((a, (b, (c, (d, (e, (f, (g, (h, ()))))))))) => Ok(AAAA::new(a, b, c, d, e, f, g, h)),
+            Err(refused) => Err(refused),
+        }
+    }
+}
+
+impl RecordDataDecodable for AAAA {
+    ghost reads = { λ message place aaaa end. FieldsAt message place (aaaa_fields aaaa) end };
+
+    ghost refuses = { λ message place end e at. Misses message end aaaa_kinds place e at };
+
+    fn read_data(
+        alloc: Global,
+        decoder: &mut BinDecoder<'_>,
+        length: Restrict<u16>,
+    ) -> Result<AAAA, DecodeError> {
+        match read_exactly::<Groups>(alloc, decoder, length.unverified()) {
+            Ok((a, (b, (c, (d, (e, (f, (g, (last, ()))))))))) => Ok(AAAA::new(
+                a, b, c, d, e, f, g, last,
+            )),
             Err(refused) => Err(refused),
         }
     }

@@ -3,7 +3,7 @@ ghost use Rattle.std.specs.Prelude.{◌≡◌, ◌∷◌, [], ◌++◌, ℕ, Lis
 ghost use Rattle.std.specs.Cmp.{partial_equiv_from_equiv};
 ghost use Rattle.dnw_encoder.specs.declared.modes.RDataEncoding.TheVariants.{Other};
 ghost use Rattle.drd_fields.specs.Fields.{string, FieldsAt};
-ghost use Rattle.drd_fields.specs.Reading.{Stops};
+ghost use Rattle.drd_fields.specs.Reading.{Misses, Stops};
 ghost use Rattle.drd_fields.specs.Equality.{AreFull, Tells, fields_eq};
 ghost use Rattle.drd_fields.specs.EqualityLaws.{data_equiv};
 ghost use Rattle.drd_fields.specs.Writing.{EmitsData, RefusesFields, canonical_octets};
@@ -13,12 +13,14 @@ ghost use Rattle.drd_words.specs.Word.{IsOutOfMemory};
 ghost use Rattle.drd_plain.specs.Words.{IsHinfoText};
 ghost use Rattle.drd_plain.specs.Print.{hinfo_print};
 
-use crate::emit::emit_two;
-use dnw_codes::{DecodeError, ParseError, ProtoError};
+use dnw_codes::{DecodeError, ParseError, ProtoError, Restrict};
 use dnw_decoder::{BinDecodable, BinDecoder};
-use dnw_encoder::{BinEncodable, BinEncoder};
+use dnw_encoder::{BinEncodable, BinEncoder, RDataEncoding};
 use dnw_name::Name;
-use drd_fields::{CharacterString, DataFields, StringField, read_data};
+use drd_fields::{
+    CharacterString, DataFields, RecordDataDecodable, StringField, emit_three, read_data,
+    read_exactly,
+};
 use drd_words::{CharacterString as Word, fmt_escaped, read_tokens};
 use std::alloc::Global;
 use std::convert::AsStr;
@@ -71,7 +73,7 @@ impl HINFO {
     }
 
     // The fields of the data.
-    fn fields(&self) -> (StringField<'_>, (StringField<'_>, ()))
+    pub(crate) fn fields(&self) -> (StringField<'_>, (StringField<'_>, ()))
         ensures { string result.0.0.now ∷ string result.1.0.0.now ∷ [] ≡ hinfo_fields self.now }
     {
         (StringField(&self.cpu), (StringField(&self.os), ()))
@@ -89,13 +91,32 @@ impl BinDecodable for HINFO {
     }
 }
 
+impl RecordDataDecodable for HINFO {
+    ghost reads = { λ message place hinfo end. FieldsAt message place (hinfo_fields hinfo) end };
+
+    ghost refuses = { λ message place end e at. Misses message end hinfo_kinds place e at };
+
+    fn read_data(
+        alloc: Global,
+        decoder: &mut BinDecoder<'_>,
+        length: Restrict<u16>,
+    ) -> Result<HINFO, DecodeError> {
+        match read_exactly(alloc, decoder, length.unverified()) {
+            Ok((CharacterString(kind), (CharacterString(system), ()))) => Ok(HINFO::new(
+                kind, system,
+            )),
+            Err(refused) => Err(refused),
+        }
+    }
+}
+
 impl BinEncodable for HINFO {
     ghost emits = { λ hinfo. EmitsData Other (hinfo_fields hinfo) };
 
     ghost refuses = { λ hinfo old e new. RefusesFields (hinfo_fields hinfo) old e };
 
     fn emit(&self, encoder: &mut BinEncoder<'_>) -> Result<(), ProtoError> {
-        emit_two(encoder, self.fields())
+        emit_three(encoder, RDataEncoding::Other, &self.fields())
     }
 }
 

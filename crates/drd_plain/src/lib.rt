@@ -3,10 +3,10 @@
 
 mod a;
 mod aaaa;
-mod emit;
 mod flags;
 mod hinfo;
 mod naptr;
+mod order;
 mod print;
 mod txt;
 

@@ -1,30 +1,34 @@
 //! NAPTR (RFC 3403 4).
-ghost use Rattle.std.specs.Prelude.{◌≡◌, ◌+◌, ◌≤◌, ◌∷◌, [], ℕ, List, ◌⊎◌, true, Some, Ok, Err, Result, IfOk, IfErr, OnErr, length, map};
+ghost use Rattle.std.specs.Prelude.{◌≡◌, ◌+◌, ◌≤◌, ◌∷◌, [], ℕ, List, ◌⊎◌, true, Some, Ok, Err, Result, IfOk, IfErr, OnOk, OnErr, length, map};
 ghost use Rattle.std.specs.Fmt.{WritesOnOk};
 ghost use Rattle.std.specs.Cmp.{partial_equiv_from_equiv};
 ghost use Rattle.std.specs.Iterator.{Drains, IsFinite};
 ghost use Rattle.std.specs.Option.{option_copied};
 ghost use Rattle.drd_words.specs.Word.{IsOutOfMemory};
 ghost use Rattle.dnw_decoder.specs.Reading.{IsWantOfMemory};
+ghost use Rattle.dnw_encoder.specs.Effects.{Writes};
+ghost use Rattle.dnw_encoder.specs.Encoders.{state};
 ghost use Rattle.dnw_encoder.specs.declared.modes.RDataEncoding.TheVariants.{Canonical};
 ghost use Rattle.drd_fields.specs.Fields.{Field, short, string, name, FieldsAt, kinds_of};
-ghost use Rattle.drd_fields.specs.Reading.{Stops};
+ghost use Rattle.drd_fields.specs.Reading.{Misses, Stops};
 ghost use Rattle.drd_fields.specs.Equality.{AreFull, Tells, fields_eq};
 ghost use Rattle.drd_fields.specs.EqualityLaws.{data_equiv};
 ghost use Rattle.drd_fields.specs.Writing.{EmitsData, RefusesFields, canonical_octets};
-ghost use Rattle.drd_plain.specs.Fields.{naptr_fields, naptr_kinds, flags_on, services_on, regexp_on, are_alphanumeric};
+ghost use Rattle.drd_plain.specs.Fields.{naptr_fields, naptr_kinds, are_alphanumeric};
 ghost use Rattle.drd_plain.specs.Print.{naptr_print, naptr_strings, quoted};
-ghost use Rattle.drd_plain.specs.Reading.{RefusesNaptr};
+ghost use Rattle.drd_plain.specs.Reading.{MissesNaptr, RefusesNaptr};
 ghost use Rattle.drd_plain.specs.Words.{IsNaptrText};
 
-use crate::emit::emit_pair;
 use crate::flags::{Flags, verify_flags};
 use crate::print::fmt_quoted;
-use dnw_codes::{DecodeError, ParseError, ProtoError};
+use dnw_codes::{DecodeError, ParseError, ProtoError, Restrict};
 use dnw_decoder::{BinDecodable, BinDecoder};
 use dnw_encoder::{BinEncodable, BinEncoder, RDataEncoding};
 use dnw_name::Name;
-use drd_fields::{CharacterString, DataFields, StringField, emit_data, read_data};
+use drd_fields::{
+    CharacterString, DataField, DataFields, RecordDataDecodable, StringField, emit_data, read_data,
+    read_exactly,
+};
 use drd_words::{CharacterString as Word, read_tokens};
 use std::alloc::Global;
 use std::convert::AsStr;
@@ -46,6 +50,18 @@ pub struct NAPTR {
     /// The name to go on with, or the root.
     pub replacement: Name,
 }
+
+// Two numbers, three strings and a name.
+type NaptrFields<'a> = (
+    u16,
+    (
+        u16,
+        (
+            StringField<'a>,
+            (StringField<'a>, (StringField<'a>, (&'a Name, ()))),
+        ),
+    ),
+);
 
 // What the data are read as.
 type Parts = (
@@ -117,70 +133,32 @@ impl NAPTR {
     }
 
     // The fields of the data.
-    fn fields(&self) -> (u16, (u16, FromFlags<'_>))
-        ensures { short result.0 ∷ short result.1.0 ∷ flags_on result.1.1.0.now ≡ naptr_fields self.now }
+    pub(crate) fn fields(&self) -> NaptrFields<'_>
+        ensures { short result.0 ∷ short result.1.0 ∷ string result.1.1.0.0.now ∷ string result.1.1.1.0.0.now
+            ∷ string result.1.1.1.1.0.0.now ∷ name result.1.1.1.1.1.0.now ∷ [] ≡ naptr_fields self.now }
     {
-        (self.order, (self.preference, FromFlags(self)))
-    }
-}
-
-// The fields from the flags on, from the services on, and from the expression on.
-#[derive(Clone, Copy)]
-struct FromFlags<'a>(&'a NAPTR);
-
-#[derive(Clone, Copy)]
-struct FromServices<'a>(&'a NAPTR);
-
-#[derive(Clone, Copy)]
-struct FromRegexp<'a>(&'a NAPTR);
-
-impl DataFields for FromFlags<'_> {
-    ghost fields = { λ from. flags_on from.0.now };
-
-    fn emit_fields(&self, encoder: &mut BinEncoder<'_>) -> Result<(), ProtoError> {
-        emit_pair(encoder, StringField(&self.0.flags), FromServices(self.0))
-    }
-
-    fn are_same(&self, other: &Self) -> bool {
-        (StringField(&self.0.flags), FromServices(self.0)).are_same(&(
-            StringField(&other.0.flags),
-            FromServices(other.0),
-        ))
-    }
-}
-
-impl DataFields for FromServices<'_> {
-    ghost fields = { λ from. services_on from.0.now };
-
-    fn emit_fields(&self, encoder: &mut BinEncoder<'_>) -> Result<(), ProtoError> {
-        emit_pair(encoder, StringField(&self.0.services), FromRegexp(self.0))
-    }
-
-    fn are_same(&self, other: &Self) -> bool {
-        (StringField(&self.0.services), FromRegexp(self.0)).are_same(&(
-            StringField(&other.0.services),
-            FromRegexp(other.0),
-        ))
-    }
-}
-
-impl DataFields for FromRegexp<'_> {
-    ghost fields = { λ from. regexp_on from.0.now };
-
-    fn emit_fields(&self, encoder: &mut BinEncoder<'_>) -> Result<(), ProtoError> {
-        emit_pair(
-            encoder,
-            StringField(&self.0.regexp),
-            (&self.0.replacement, ()),
+        let regexp = (StringField(&self.regexp), (&self.replacement, ()));
+        let services = (StringField(&self.services), regexp);
+        (
+            self.order,
+            (self.preference, (StringField(&self.flags), services)),
         )
     }
+}
 
-    fn are_same(&self, other: &Self) -> bool {
-        (StringField(&self.0.regexp), (&self.0.replacement, ())).are_same(&(
-            StringField(&other.0.regexp),
-            (&other.0.replacement, ()),
-        ))
-    }
+// Writes the fields, which borrow from several places.
+fn emit_parts<A: DataField, B: DataField, C: DataField, D: DataField>(
+    encoder: &mut BinEncoder<'_>,
+    fields: &(u16, (u16, (A, (B, (C, (D, ())))))),
+) -> Result<(), ProtoError>
+    ensures same_reference { encoder.new.buffer.ghost_name ≡ encoder.old.buffer.ghost_name }
+    ensures writes { Writes (state encoder.old) (state encoder.new) }
+    ensures ok { OnOk result (EmitsData Canonical (short fields.now.0 ∷ short fields.now.1.0 ∷ A.field fields.now.1.1.0 ∷ B.field fields.now.1.1.1.0
+        ∷ C.field fields.now.1.1.1.1.0 ∷ D.field fields.now.1.1.1.1.1.0 ∷ []) (state encoder.old) (state encoder.new)) }
+    ensures cause { IfErr result (RefusesFields (short fields.now.0 ∷ short fields.now.1.0 ∷ A.field fields.now.1.1.0 ∷ B.field fields.now.1.1.1.0
+        ∷ C.field fields.now.1.1.1.1.0 ∷ D.field fields.now.1.1.1.1.1.0 ∷ []) (state encoder.old)) }
+{
+    emit_data(encoder, RDataEncoding::Canonical, fields)
 }
 
 // The fields, whatever the flags are.
@@ -229,13 +207,63 @@ impl BinDecodable for NAPTR {
     }
 }
 
+// The fields of so many octets, whatever the flags are.
+fn read_exact_parts(
+    alloc: Global,
+    decoder: &mut BinDecoder<'_>,
+    len: u16,
+) -> Result<NAPTR, DecodeError>
+    ensures ok { IfOk result (λ naptr. FieldsAt decoder.old.octets decoder.old.index (naptr_fields naptr) (decoder.old.index + len)) }
+    ensures end { OnOk result (decoder.new.index ≡ decoder.old.index + len) }
+    ensures same { decoder.new.octets ≡ decoder.old.octets }
+    ensures forward { decoder.old.index ≤ decoder.new.index }
+    ensures within { decoder.new.index ≤ length decoder.new.octets }
+    ensures refused { IfErr result (λ e. Misses decoder.old.octets (decoder.old.index + len) naptr_kinds decoder.old.index e decoder.new.index) }
+    ensures none { IfErr result (λ e. IsWantOfMemory e
+        ⊎ ((fs : List Field) → kinds_of fs ≡ naptr_kinds → FieldsAt decoder.old.octets decoder.old.index fs (decoder.old.index + len) → ⊥)) }
+{
+    let (order, (preference, (flags, (services, (regexp, (replacement, ())))))) =
+        match read_exactly::<Parts>(alloc, decoder, len) {
+            Ok(found) => found,
+            Err(refused) => return Err(refused),
+        };
+    let (CharacterString(letters), CharacterString(services)) = (flags, services);
+    let CharacterString(regexp) = regexp;
+    Ok(NAPTR::new(order, preference, letters, services, regexp, replacement))
+}
+
+impl RecordDataDecodable for NAPTR {
+    ghost reads = { λ message place naptr end. FieldsAt message place (naptr_fields naptr) end
+        × (are_alphanumeric naptr.flags.items ≡ true) };
+
+    ghost refuses = { MissesNaptr };
+
+    /// The rule in so many octets. Refused are other octets in the flags than letters and digits.
+    fn read_data(
+        alloc: Global,
+        decoder: &mut BinDecoder<'_>,
+        length: Restrict<u16>,
+    ) -> Result<NAPTR, DecodeError> {
+        match read_exact_parts(alloc, decoder, length.unverified()) {
+            Ok(rule) => {
+                if verify_flags(&rule.flags) {
+                    Ok(rule)
+                } else {
+                    Err(DecodeError::Utf8)
+                }
+            }
+            Err(refused) => Err(refused),
+        }
+    }
+}
+
 impl BinEncodable for NAPTR {
     ghost emits = { λ naptr. EmitsData Canonical (naptr_fields naptr) };
 
     ghost refuses = { λ naptr old e new. RefusesFields (naptr_fields naptr) old e };
 
     fn emit(&self, encoder: &mut BinEncoder<'_>) -> Result<(), ProtoError> {
-        emit_data(encoder, RDataEncoding::Canonical, &self.fields())
+        emit_parts(encoder, &self.fields())
     }
 }
 

@@ -75,7 +75,7 @@ impl TXT {
     }
 
     // The fields of the data.
-    fn fields(&self) -> StringFields<'_>
+    pub(crate) fn fields(&self) -> StringFields<'_>
         ensures { strings (map (λ s. s.items) result.0.now) ∷ [] ≡ txt_fields self.now }
     {
         StringFields(&self.txt_data)

@@ -1,3 +1,9 @@
 pub mod Fields
 pub mod Reading
+pub mod Escapes
+pub mod Hashing
+pub mod ParamsHashing
+pub mod ParamsHashingLaws
+pub mod Texts
+pub mod Writing
 pub mod Print

@@ -1,29 +1,58 @@
 //! HTTPS (RFC 9460 9).
-ghost use Rattle.std.specs.Prelude.{◌≡◌, ◌⊎◌, Some};
+ghost use Rattle.std.specs.Prelude.{◌≡◌, ◌⊎◌, List, Some, map, IfOk, IfErr};
+ghost use Rattle.std.specs.Iterator.{Drains, IsFinite};
+ghost use Rattle.std.specs.Option.{option_copied};
+ghost use Rattle.drd_words.specs.Word.{IsOutOfMemory};
+ghost use Rattle.drd_svcb.specs.Texts.{IsSvcbText};
 ghost use Rattle.std.specs.Cmp.{partial_equiv_from_equiv};
 ghost use Rattle.dnw_encoder.specs.declared.modes.RDataEncoding.TheVariants.{Other};
 ghost use Rattle.drd_fields.specs.Fields.{FieldsAt};
 ghost use Rattle.drd_fields.specs.Equality.{AreFull, Tells, fields_eq};
 ghost use Rattle.drd_fields.specs.EqualityLaws.{data_equiv};
-ghost use Rattle.drd_fields.specs.Writing.{EmitsData, RefusesFields, canonical_octets};
+ghost use Rattle.drd_fields.specs.Writing.{EmitsData, canonical_octets};
 ghost use Rattle.drd_params.specs.Params.{AreParams};
-ghost use Rattle.drd_params.specs.Writing.{RefusesWriting};
 ghost use Rattle.drd_svcb.specs.Fields.{svcb_code, svcb_fields};
 ghost use Rattle.drd_svcb.specs.Print.{svcb_print};
 ghost use Rattle.drd_svcb.specs.Reading.{RefusesSvcb};
+ghost use Rattle.drd_svcb.specs.Writing.{RefusesEmit};
 
 use crate::svcb::SVCB;
-use dnw_codes::{DecodeError, ProtoError, Restrict};
+use dnw_codes::{DecodeError, ParseError, ProtoError, Restrict};
 use dnw_decoder::BinDecoder;
 use dnw_encoder::{BinEncodable, BinEncoder};
+use dnw_name::Name;
 use drd_fields::RecordDataDecodable;
 use std::alloc::Global;
+use std::convert::AsStr;
 use std::fmt;
 use std::ops::Deref;
 
 /// Where a web service is, and how it is reached, in the form of SVCB.
 #[derive(Clone, Debug, Drop)]
 pub struct HTTPS(pub SVCB);
+
+impl HTTPS {
+    /// The data that words write, as those of SVCB.
+    pub fn from_tokens<I: Iterator + Drop>(
+        alloc: Global,
+        tokens: I,
+        origin: Option<&Name>,
+    ) -> Result<HTTPS, ParseError>
+    where
+        I::Item: AsStr + Drop,
+        requires can { I.can_next tokens }
+        requires ends { IsFinite (I.remaining tokens) }
+        ensures ok { IfOk result (λ https. (words : List I.Item) × Drains I.next_gives tokens words
+            × IsSvcbText (map I.Item.text words) (option_copied origin.entry) https.0) }
+        ensures refused { IfErr result (λ e. IsOutOfMemory e ⊎ ((words : List I.Item) × Drains I.next_gives tokens words
+            × ((https : HTTPS) → IsSvcbText (map I.Item.text words) (option_copied origin.entry) https.0 → ⊥))) }
+    {
+        match SVCB::from_tokens(alloc, tokens, origin) {
+            Ok(written) => Ok(HTTPS(written)),
+            Err(refused) => Err(refused),
+        }
+    }
+}
 
 impl Deref for HTTPS {
     type Target = SVCB;
@@ -57,8 +86,7 @@ impl RecordDataDecodable for HTTPS {
 impl BinEncodable for HTTPS {
     ghost emits = { λ https. EmitsData Other (svcb_fields https.0) };
 
-    ghost refuses = { λ https old e new. RefusesFields (svcb_fields https.0) old e
-        ⊎ RefusesWriting https.0.svc_params.items e };
+    ghost refuses = { λ https old e new. RefusesEmit https.0 old e };
 
     /// Writes the data of SVCB.
     fn emit(&self, encoder: &mut BinEncoder<'_>) -> Result<(), ProtoError> {

@@ -2,8 +2,14 @@
 #![tactic(auto)]
 
 mod emit;
+mod escape;
 mod https;
+mod order;
+mod params_hash;
+mod params_order;
 mod svcb;
+mod value;
+mod words;
 
 pub use https::HTTPS;
 pub use svcb::SVCB;

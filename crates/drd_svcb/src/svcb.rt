@@ -1,23 +1,28 @@
 //! SVCB (RFC 9460 2).
-ghost use Rattle.std.specs.Prelude.{◌≡◌, ◌∷◌, [], ℕ, List, ◌⊎◌, ◌+◌, ◌≤◌, Some, length, IfOk, IfErr, OnOk};
+ghost use Rattle.std.specs.Prelude.{◌≡◌, ◌∷◌, [], ℕ, List, ◌⊎◌, ◌+◌, ◌≤◌, Some, length, map, IfOk, IfErr, OnOk};
 ghost use Rattle.dnw_decoder.specs.Reading.{IsWantOfMemory};
 ghost use Rattle.dnw_encoder.specs.declared.modes.RDataEncoding.TheVariants.{Other};
 ghost use Rattle.drd_fields.specs.Fields.{Field, FieldsAt, kinds_of};
 ghost use Rattle.drd_fields.specs.Reading.{Stops};
 ghost use Rattle.drd_fields.specs.Equality.{AreFull, Tells, fields_eq};
 ghost use Rattle.drd_fields.specs.EqualityLaws.{data_equiv};
-ghost use Rattle.drd_fields.specs.Writing.{EmitsData, RefusesFields, canonical_octets};
+ghost use Rattle.drd_fields.specs.Writing.{EmitsData, canonical_octets};
 ghost use Rattle.drd_params.specs.Params.{AreParams};
-ghost use Rattle.drd_params.specs.Writing.{RefusesWriting};
 ghost use Rattle.std.specs.Cmp.{partial_equiv_from_equiv};
 ghost use Rattle.drd_svcb.specs.Fields.{svcb_code, svcb_fields, svcb_kinds, svcb_parts};
 ghost use Rattle.std.specs.Fmt.{WritesOnOk};
 ghost use Rattle.drd_params.specs.Print.{param_print};
 ghost use Rattle.drd_svcb.specs.Print.{params_print, svcb_print};
 ghost use Rattle.drd_svcb.specs.Reading.{RefusesSvcb};
+ghost use Rattle.drd_svcb.specs.Writing.{RefusesEmit};
+ghost use Rattle.std.specs.Iterator.{Drains, IsFinite};
+ghost use Rattle.std.specs.Option.{option_copied};
+ghost use Rattle.drd_words.specs.Word.{IsOutOfMemory};
+ghost use Rattle.drd_svcb.specs.Texts.{IsSvcbText};
 
 use crate::emit::emit_three;
-use dnw_codes::{DecodeError, ProtoError, Restrict};
+use crate::words::ParamWords;
+use dnw_codes::{DecodeError, ParseError, ProtoError, Restrict};
 use dnw_decoder::BinDecoder;
 use dnw_encoder::{BinEncodable, BinEncoder};
 use dnw_name::Name;
@@ -25,7 +30,9 @@ use drd_fields::{DataField, RecordDataDecodable, Rest, RestField, read_data_with
 use drd_params::{
     SvcParamKey, SvcParamValue, are_same_params, fmt_param, read_params, write_params,
 };
+use drd_words::read_tokens;
 use std::alloc::Global;
+use std::convert::AsStr;
 use std::fmt;
 
 /// Where a service is, and how it is reached.
@@ -55,6 +62,35 @@ impl SVCB {
             target_name,
             svc_params,
         }
+    }
+
+    /// The data that words write: the priority, the target, which the origin completes if it is relative, and for each
+    /// parameter a key, alone or with `=` and a value behind it, by rising keys (RFC 9460 2.1). Lists stand between
+    /// commas without escapes, configurations in base64, and octets of other keys with escapes of octal digits; a value
+    /// between quotes loses both. Refused are words that are missing or unfit.
+    pub fn from_tokens<I: Iterator + Drop>(
+        alloc: Global,
+        tokens: I,
+        origin: Option<&Name>,
+    ) -> Result<SVCB, ParseError>
+    where
+        I::Item: AsStr + Drop,
+        requires can { I.can_next tokens }
+        requires ends { IsFinite (I.remaining tokens) }
+        ensures ok { IfOk result (λ svcb. (words : List I.Item) × Drains I.next_gives tokens words
+            × IsSvcbText (map I.Item.text words) (option_copied origin.entry) svcb) }
+        ensures refused { IfErr result (λ e. IsOutOfMemory e ⊎ ((words : List I.Item) × Drains I.next_gives tokens words
+            × ((svcb : SVCB) → IsSvcbText (map I.Item.text words) (option_copied origin.entry) svcb → ⊥))) }
+    {
+        let (svc_priority, (target_name, ParamWords(svc_params))) = match read_tokens::<
+            (u16, (Name, ParamWords)),
+            I,
+        >(alloc, tokens, origin)
+        {
+            Ok(words) => words,
+            Err(refused) => return Err(refused),
+        };
+        Ok(SVCB::new(svc_priority, target_name, svc_params))
     }
 }
 
@@ -134,10 +170,10 @@ impl RecordDataDecodable for SVCB {
 impl BinEncodable for SVCB {
     ghost emits = { λ svcb. EmitsData Other (svcb_fields svcb) };
 
-    ghost refuses = { λ svcb old e new. RefusesFields (svcb_fields svcb) old e
-        ⊎ RefusesWriting svcb.svc_params.items e };
+    ghost refuses = { λ svcb old e new. RefusesEmit svcb old e };
 
-    /// Writes the priority, the target in full, and the parameters.
+    /// Writes the priority, the target in full, and the parameters. Data that were read are refused only for want of memory
+    /// or of space.
     fn emit(&self, encoder: &mut BinEncoder<'_>) -> Result<(), ProtoError> {
         let _start = encoder.offset();
         let octets = match write_params(*self.svc_params.allocator(), &self.svc_params) {

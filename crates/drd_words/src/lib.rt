@@ -14,7 +14,7 @@ mod words;
 
 pub use data::{Base64Data, HEX, HexData};
 pub use print::{fmt_base64, fmt_escaped, fmt_hex};
-pub use text::read_text;
+pub use text::{read_text, words_of_text};
 pub use tokens::read_tokens;
 pub use word::{CharacterString, TimeInterval, TimeToLive, Word};
 pub use words::Words;

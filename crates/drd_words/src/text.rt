@@ -36,8 +36,9 @@ pub fn read_text<T: Words>(alloc: Global, text: &str) -> Result<T, ParseError>
     T::from_words(alloc, parts.as_slice(), None)
 }
 
-// The words of a text, or the first token that has no place there.
-fn words_of_text(alloc: Global, text: &str) -> Result<Vec<String>, ParseError>
+/// The words of a text, those of a list in its place. Blanks at a line's front and line ends are passed over. Refused are
+/// another token, and a text that can't be told into words (RFC 1035 5.1).
+pub fn words_of_text(alloc: Global, text: &str) -> Result<Vec<String>, ParseError>
     ensures ok { IfOk result (λ words. TextWords text.now (map string_bytes words.items)) }
     ensures refused { IfErr result (λ e. IsOutOfMemory e ⊎ TextRefused text.now e) }
 {

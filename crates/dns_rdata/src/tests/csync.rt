@@ -9,6 +9,8 @@ use drd_csync::CSYNC;
 use drd_fields::RecordDataDecodable;
 use rows::{LOOSE, REFUSED, ROWS};
 use std::alloc::Global;
+use std::cmp::Ordering;
+use std::hash::{DefaultHasher, Hash, Hasher};
 use std::process::Abort;
 use std::test::Fail;
 
@@ -19,6 +21,12 @@ fn whole(alloc: Global, octets: &[u8]) -> Result<CSYNC, DecodeError> {
         Ok(length) => CSYNC::read_data(alloc, &mut decoder, Restrict::new(length)),
         Err(_) => Err(DecodeError::Memory),
     }
+}
+
+fn hash_of(csync: &CSYNC) -> u64 {
+    let mut state = DefaultHasher::new();
+    csync.hash(&mut state);
+    state.finish()
 }
 
 fn from_words(alloc: Global, words: &str) -> Option<CSYNC> {
@@ -49,6 +57,29 @@ fn octets_and_words(rt: HostRuntime) -> Result<(), Fail> {
     }
     for octets in REFUSED {
         assert!(rt; whole(alloc, *octets).is_err());
+    }
+    Ok(())
+}
+
+// The order is that of the octets from the left (RFC 4034 6.3).
+#[test]
+fn order(rt: HostRuntime) -> Result<(), Fail> {
+    let alloc = rt.alloc();
+    for i in 0..ROWS.len() {
+        let left = whole(alloc, ROWS[i].1)?;
+        for j in 0..ROWS.len() {
+            let right = whole(alloc, ROWS[j].1)?;
+            let order = ROWS[i].1.cmp(ROWS[j].1);
+            assert!(rt; left.cmp(&right) == order);
+            assert!(rt; left.partial_cmp(&right) == Some(order));
+            assert!(rt; (hash_of(&left) == hash_of(&right)) == (i == j));
+        }
+    }
+    for row in LOOSE {
+        let (loose, tight) = *row;
+        let (left, right) = (whole(alloc, loose)?, whole(alloc, tight)?);
+        assert!(rt; left.cmp(&right) == Ordering::Equal);
+        assert!(rt; hash_of(&left) == hash_of(&right));
     }
     Ok(())
 }

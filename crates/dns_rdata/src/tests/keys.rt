@@ -1,14 +1,14 @@
 //! Data by dnspython, lengths that don't fit, numbers without a name, and each public call once.
 mod rows;
 
-use dnw_codes::{DecodeError, RecordType, Restrict};
+use dnw_codes::{DecodeError, Restrict};
 use dnw_decoder::BinDecoder;
 use dnw_encoder::BinEncodable;
 use drd_fields::RecordDataDecodable;
 use drd_keys::cert::{self, CertType};
 use drd_keys::sshfp::{self, FingerprintType};
 use drd_keys::tlsa::{CertUsage, Matching, Selector};
-use drd_keys::{CERT, NULL, OPENPGPKEY, SMIMEA, SSHFP, TLSA, Unknown};
+use drd_keys::{CERT, NULL, OPENPGPKEY, SMIMEA, SSHFP, TLSA};
 use rows::{CERT_ROWS, OPENPGPKEY_ROWS, SMIMEA_ROWS, SSHFP_ROWS, TLSA_ROWS};
 use std::alloc::Global;
 use std::fmt;
@@ -145,25 +145,7 @@ fn octets_alone(rt: HostRuntime) -> Result<(), Fail> {
     assert_eq!(rt; key.to_string(alloc)?.as_str(), "QVFJRA==");
     assert_eq!(rt; NULL::new(alloc).to_bytes(alloc)?.len(), 0);
     let null = NULL::with(Vec::from_slice(alloc, b"AQID")?);
-    let unknown = Unknown::new(RecordType::from(65280), null);
-    assert_eq!(rt; unknown.to_string(alloc)?.as_str(), "QVFJRA==");
-    let octets = unknown.to_bytes(alloc)?;
-    let mut decoder = BinDecoder::new(octets.as_slice());
-    let same = Unknown::read_data(
-        alloc,
-        RecordType::from(65280),
-        &mut decoder,
-        Restrict::new(4),
-    )?;
-    assert!(rt; same == unknown.clone()?);
-    let mut decoder = BinDecoder::new(octets.as_slice());
-    let other = Unknown::read_data(
-        alloc,
-        RecordType::from(65281),
-        &mut decoder,
-        Restrict::new(4),
-    )?;
-    assert!(rt; other != unknown);
+    assert_eq!(rt; null.to_string(alloc)?.as_str(), "QVFJRA==");
     Ok(())
 }
 

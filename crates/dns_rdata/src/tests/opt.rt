@@ -1,4 +1,4 @@
-//! OPT: octets by dnspython, octets that end too early, and each public call once.
+//! OPT: octets by dnspython, octets that end too early, orders by a program of a few lines, and each public call once.
 use dnw_codes::{DecodeError, Restrict};
 use dnw_decoder::BinDecoder;
 use dnw_encoder::BinEncodable;
@@ -31,6 +31,40 @@ const ROWS: [(&str, &str); 8] = [
         "65001:6162 5:080a0d0f 12:0000000000 10:0102030405060708 3: 8:00011800c00002",
     ),
     ("", ""),
+];
+
+// Options in hex, and where they stand among all of these: a program in Python sorts the octets of the options, joins them,
+// and sorts what it has joined.
+const ORDERED: [(&str, u8); 29] = [
+    ("", 0),
+    ("00030000", 4),
+    ("0003000000030000", 5),
+    ("0003000161", 10),
+    ("000300000003000161", 6),
+    ("000300016100030000", 6),
+    ("0003000161000300000003000161", 7),
+    ("0003000161000300016100030000", 7),
+    ("000a00080102030405060708", 17),
+    ("000c00020000000a00080102030405060708000c00020000", 20),
+    ("000a00080102030405060708000c00020000000c00020000", 20),
+    ("000c00020000000a00080102030405060708", 19),
+    ("000c000100000c00020000000a00080102030405060708", 18),
+    ("000c0001ff", 21),
+    ("000c00020000", 22),
+    ("000c000200fe", 23),
+    ("0100000000020002ffff", 3),
+    ("00020002ffff00ff0000", 1),
+    ("00020002ffff0100000000ff0000", 2),
+    ("0008000700011800c00002", 15),
+    ("0008000700011801c00002", 16),
+    ("0008000400020000", 14),
+    ("00080001ff", 13),
+    ("0008000700011800c0000200030000", 9),
+    ("ffff0000ffff000100", 25),
+    ("ffff000100fffe000100", 24),
+    ("00050004080a0d0f", 11),
+    ("00050004080a0d0f000500040d0f080a", 12),
+    ("000500040d0f080a00050004080a0d0f00030000", 8),
 ];
 
 // The data of so many of these octets.
@@ -141,5 +175,29 @@ fn entries(rt: HostRuntime) -> Result<(), Fail> {
     long.resize(65536, 0u8)?;
     opt.insert(EdnsOption::Unknown(9, long))?;
     assert!(rt; opt.to_bytes(alloc).is_err());
+    Ok(())
+}
+
+#[test]
+fn ordered(rt: HostRuntime) -> Result<(), Fail> {
+    let alloc = rt.alloc();
+    for row in &ORDERED {
+        let opt = read_all(alloc, hex::decode(alloc, row.0)?.as_slice())?;
+        for other in &ORDERED {
+            let other_opt = read_all(alloc, hex::decode(alloc, other.0)?.as_slice())?;
+            assert!(rt; opt.cmp(&other_opt) == row.1.cmp(&other.1));
+            assert!(rt; opt.partial_cmp(&other_opt) == Some(row.1.cmp(&other.1)));
+            assert_eq!(rt; opt == other_opt, row.1 == other.1);
+        }
+    }
+    // Options that can't be written have an order too: 65,536 octets stand behind two.
+    let mut long = Vec::new(alloc);
+    long.resize(65536, 0u8)?;
+    let mut opt = OPT::new(Vec::new(alloc));
+    opt.insert(EdnsOption::Unknown(9, long))?;
+    let mut short = OPT::new(Vec::new(alloc));
+    short.insert(EdnsOption::Unknown(9, Vec::from_slice(alloc, &[255, 255])?))?;
+    assert!(rt; short < opt);
+    assert!(rt; opt > short);
     Ok(())
 }

@@ -164,6 +164,43 @@ fn identifiers(rt: HostRuntime) -> Result<(), Fail> {
     Ok(())
 }
 
+// Codes and octets in hex, in the order of the code in two octets, the number of the octets in two, and the octets.
+const RISING: [(u16, &str); 10] = [
+    (2, "ffff"),
+    (3, ""),
+    (3, "ff"),
+    (3, "0000"),
+    (3, "0001"),
+    (5, "0d"),
+    (8, "ff"),
+    (8, "00020000"),
+    (8, "00011800c00002"),
+    (256, ""),
+];
+
+#[test]
+fn ordered(rt: HostRuntime) -> Result<(), Fail> {
+    let alloc = rt.alloc();
+    for i in 0..RISING.len() {
+        let (code, octets) = RISING[i];
+        let octets = hex::decode(alloc, octets)?;
+        let option = EdnsOption::new(alloc, EdnsCode::from(code), octets.as_slice())?;
+        for j in 0..RISING.len() {
+            let (other_code, octets) = RISING[j];
+            let octets = hex::decode(alloc, octets)?;
+            let other = EdnsOption::new(alloc, EdnsCode::from(other_code), octets.as_slice())?;
+            assert!(rt; option.cmp(&other) == i.cmp(&j));
+            assert!(rt; option.partial_cmp(&other) == Some(i.cmp(&j)));
+            assert!(rt; option.code().cmp(&other.code()) == code.cmp(&other_code));
+            assert!(rt; option.code().partial_cmp(&other.code()) == Some(code.cmp(&other_code)));
+            if code == other_code {
+                assert!(rt; option.cmp_octets_of(&other) == i.cmp(&j));
+            }
+        }
+    }
+    Ok(())
+}
+
 #[test]
 fn codes(rt: HostRuntime) {
     assert!(rt; EdnsCode::from(8) == EdnsCode::Subnet);

@@ -1,10 +1,23 @@
-//! The order of octets from the left (RFC 4034 6.3), each field at a type of its own.
+//! The order of octets from the left (RFC 4034 6.3): each field at a type of its own, and data of each type as dnspython
+//! has them; `order/rows.rt` holds what it gave.
+mod rows;
+
+use dnw_codes::{DecodeError, Restrict};
+use dnw_decoder::{BinDecodable, BinDecoder};
 use dnw_name::Name;
-use drd_fields::{RestField, StringField, StringFields};
+use drd_caa::CAA;
+use drd_fields::{RecordDataDecodable, RestField, StringField, StringFields};
+use drd_keys::{CERT, NULL, OPENPGPKEY, SMIMEA, SSHFP, TLSA};
+use drd_names::{ANAME, CNAME, MX, NS, PTR, SOA, SRV};
 use drd_order::{OrderField, OrderFields};
+use drd_plain::{A, AAAA, HINFO, NAPTR, TXT};
+use rows::{
+    A_ROWS, AAAA_ROWS, CAA_ROWS, CERT_ROWS, HINFO_ROWS, MX_ROWS, NAPTR_ROWS, ONE_NAME_ROWS,
+    OPENPGPKEY_ROWS, Row, SOA_ROWS, SRV_ROWS, SSHFP_ROWS, TLSA_ROWS, TXT_ROWS,
+};
 use std::alloc::Global;
 use std::cmp::Ordering;
-use std::hash::{DefaultHasher, Hasher};
+use std::hash::{DefaultHasher, Hash, Hasher};
 use std::process::Abort;
 use std::test::Fail;
 
@@ -75,4 +88,92 @@ fn hashes(rt: HostRuntime) -> Result<(), Fail> {
     assert!(&rt; hash_of(alloc, 10, "mail2.example.", b"s")? != hash);
     assert!(&rt; hash_of(alloc, 10, "mail.example.", b"t")? != hash);
     Ok(())
+}
+
+fn hash<T: Hash>(value: &T) -> u64 {
+    let mut state = DefaultHasher::new();
+    value.hash(&mut state);
+    state.finish()
+}
+
+// Values of two lists stand to one another as their places do, and those of one place hash alike.
+fn stand_by_place<T: Ord + Hash>(rt: &impl Abort, sent: &[T], canonical: &[T]) {
+    for i in 0..sent.len() {
+        for j in 0..canonical.len() {
+            assert!(rt; sent[i].cmp(&canonical[j]) == i.cmp(&j));
+            assert!(rt; (sent[i] < canonical[j]) == (i < j));
+            assert!(rt; (hash(&sent[i]) == hash(&canonical[j])) == (i == j));
+        }
+    }
+}
+
+fn in_order<T: BinDecodable + Ord + Hash + Drop>(
+    rt: &impl Abort,
+    alloc: Global,
+    rows: &[Row],
+) -> Result<(), Fail> {
+    let (mut sent, mut canonical) = (Vec::new(alloc), Vec::new(alloc));
+    for row in rows {
+        sent.push(T::from_bytes(alloc, row.0)?)?;
+        canonical.push(T::from_bytes(alloc, row.1)?)?;
+    }
+    stand_by_place::<T>(rt, &sent, &canonical);
+    Ok(())
+}
+
+// The data that take all of these octets.
+fn whole<T: RecordDataDecodable>(alloc: Global, octets: &[u8]) -> Result<T, DecodeError> {
+    let mut decoder = BinDecoder::new(octets);
+    match u16::try_from(octets.len()) {
+        Ok(length) => T::read_data(alloc, &mut decoder, Restrict::new(length)),
+        Err(_) => Err(DecodeError::InsufficientBytes),
+    }
+}
+
+fn in_order_to_the_end<T: RecordDataDecodable + Ord + Hash + Drop>(
+    rt: &impl Abort,
+    alloc: Global,
+    rows: &[Row],
+) -> Result<(), Fail> {
+    let (mut sent, mut canonical) = (Vec::new(alloc), Vec::new(alloc));
+    for row in rows {
+        sent.push(whole::<T>(alloc, row.0)?)?;
+        canonical.push(whole::<T>(alloc, row.1)?)?;
+    }
+    stand_by_place::<T>(rt, &sent, &canonical);
+    Ok(())
+}
+
+#[test]
+fn addresses_and_strings(rt: HostRuntime) -> Result<(), Fail> {
+    let alloc = rt.alloc();
+    in_order::<A>(&rt, alloc, A_ROWS)?;
+    in_order::<AAAA>(&rt, alloc, AAAA_ROWS)?;
+    in_order::<HINFO>(&rt, alloc, HINFO_ROWS)?;
+    in_order::<NAPTR>(&rt, alloc, NAPTR_ROWS)?;
+    in_order_to_the_end::<TXT>(&rt, alloc, TXT_ROWS)?;
+    in_order_to_the_end::<CAA>(&rt, alloc, CAA_ROWS)
+}
+
+#[test]
+fn names_and_numbers(rt: HostRuntime) -> Result<(), Fail> {
+    let alloc = rt.alloc();
+    in_order::<ANAME>(&rt, alloc, ONE_NAME_ROWS)?;
+    in_order::<CNAME>(&rt, alloc, ONE_NAME_ROWS)?;
+    in_order::<NS>(&rt, alloc, ONE_NAME_ROWS)?;
+    in_order::<PTR>(&rt, alloc, ONE_NAME_ROWS)?;
+    in_order::<MX>(&rt, alloc, MX_ROWS)?;
+    in_order::<SOA>(&rt, alloc, SOA_ROWS)?;
+    in_order::<SRV>(&rt, alloc, SRV_ROWS)
+}
+
+#[test]
+fn keys(rt: HostRuntime) -> Result<(), Fail> {
+    let alloc = rt.alloc();
+    in_order_to_the_end::<CERT>(&rt, alloc, CERT_ROWS)?;
+    in_order_to_the_end::<NULL>(&rt, alloc, OPENPGPKEY_ROWS)?;
+    in_order_to_the_end::<OPENPGPKEY>(&rt, alloc, OPENPGPKEY_ROWS)?;
+    in_order_to_the_end::<SMIMEA>(&rt, alloc, TLSA_ROWS)?;
+    in_order_to_the_end::<SSHFP>(&rt, alloc, SSHFP_ROWS)?;
+    in_order_to_the_end::<TLSA>(&rt, alloc, TLSA_ROWS)
 }

@@ -4,7 +4,7 @@ mod rows;
 use dnw_codes::{DecodeError, Restrict};
 use dnw_decoder::{BinDecodable, BinDecoder};
 use dnw_encoder::BinEncodable;
-use drd_fields::RecordDataDecodable;
+use drd_fields::{CharacterString, RecordDataDecodable, read_exactly};
 use drd_plain::{A, AAAA, HINFO, NAPTR, TXT, verify_flags};
 use rows::{
     A_REFUSED, A_ROWS, AAAA_REFUSED, AAAA_ROWS, HINFO_REFUSED, HINFO_ROWS, NAPTR_REFUSED,
@@ -160,6 +160,38 @@ fn hinfo(rt: HostRuntime) -> Result<(), Fail> {
         let hinfo = HINFO::from_bytes(cpu, os);
         assert_eq!(&rt; hinfo.to_string(alloc)?.as_str(), text);
     }
+    Ok(())
+}
+
+// Data that end before their octets do, or behind them, are refused by their number; where a field is cut the decoder is at
+// it.
+#[test]
+fn exactly(rt: HostRuntime) -> Result<(), Fail> {
+    let alloc = rt.alloc();
+    let octets = b"\x02PC\x05Linux".as_slice();
+    for length in [0u16, 4, 8, 9, 10, 65_535] {
+        let mut decoder = BinDecoder::new(octets);
+        let read = read_exactly::<(CharacterString, (CharacterString, ()))>(
+            alloc,
+            &mut decoder,
+            length,
+        );
+        assert_eq!(&rt; decoder.index(), 9);
+        if length == 9 {
+            assert!(&rt; read.is_ok());
+        } else {
+            assert!(&rt;
+                matches!(
+                    &read,
+                    Err(DecodeError::IncorrectRDataLengthRead { read: 9, .. })
+                )
+            );
+        }
+    }
+    let mut cut = BinDecoder::new(b"\x02PC\x05Lin");
+    let refused = read_exactly::<(CharacterString, (CharacterString, ()))>(alloc, &mut cut, 7);
+    assert!(&rt; matches!(&refused, Err(DecodeError::InsufficientBytes)));
+    assert_eq!(&rt; cut.index(), 3);
     Ok(())
 }
 

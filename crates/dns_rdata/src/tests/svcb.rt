@@ -1,5 +1,8 @@
 //! Record data as RFC 9460 writes them.
+mod alone;
+mod order;
 mod params;
+mod words;
 
 use dnw_codes::{DecodeError, Restrict};
 use dnw_decoder::BinDecoder;

@@ -5,7 +5,7 @@ use Rattle.drd_opt.specs.Entries.{RawOption, raw_of, entries_octets}
 use Rattle.drd_opt.specs.Equality.{same_counts}
 use Rattle.drd_opt.specs.EqualityLaws.{permutation_tells}
 use Rattle.drd_opt.specs.Reading.{HoldsEntries}
-use Rattle.drd_opt.proofs.BackLemmas.{read_back}
+use Rattle.drd_opt.specs.BackLaws.{read_back}
 use Rattle.drd_opt.proofs.back.is_read_back.Goals as goal
 
 pub returns-clause-back : goal.returns-clause-back

@@ -2,7 +2,7 @@ use Rattle.std.proofs.Common.{◌≡◌, ℕ, List, [], ◌∷◌, ◌++◌, sub
 use Rattle.dnw_decoder.specs.Octets.{Stands}
 use Rattle.drd_opt.specs.Entries.{Fits, raw, raw_octets}
 use Rattle.drd_opt.specs.Reading.{HasRead}
-use Rattle.drd_opt.proofs.ReadLemmas.{one_more}
+use Rattle.drd_opt.specs.ReadingLaws.{one_more}
 use Rattle.drd_opt.proofs.read.entries_of.Goals as goal
 
 pub options-preserved : goal.options-preserved

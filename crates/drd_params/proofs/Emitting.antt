@@ -1,0 +1,66 @@
+-- Entries that are written one behind the other.
+use Rattle.std.proofs.Common.{◌≡◌, ◌<◌, ◌≤◌, ◌+◌, ℕ, ◌⊎◌, inl, inr, List, [], ◌∷◌, ◌++◌, length, take, get_or, sym, ap, subst, ◌∙◌, arith, append-nil}
+use Rattle.std.specs.List.{Contains, flat_map}
+use Rattle.std.proofs.lemmas.Grind.{flat_map-append}
+use Rattle.std.proofs.lemmas.List.{take_more}
+use Rattle.std.proofs.lemmas.List.Concat.{flat_map-cons}
+use Rattle.std.proofs.lemmas.List.Elements.{Contains-get_or}
+use Rattle.std.proofs.lemmas.List.Folds.{length-flat_map-take}
+use Rattle.dnw_codes.specs.declared.error.ProtoError.{ProtoError}
+use Rattle.dnw_codes.specs.declared.error.ProtoError.TheVariants.{MaxBufferSizeExceeded}
+use Rattle.dnw_encoder.specs.Effects.{IsRefusal, Puts, Writes}
+use Rattle.dnw_encoder.specs.Laws.{writes_then, writes_same}
+use Rattle.dnw_encoder.specs.State.{State}
+use Rattle.std.specs.Prelude.{String, Result, Ok, Err, IfErr, OnOk}
+use Rattle.std.specs.String.{string_bytes}
+use Rattle.std.specs.declared.alloc.Global.{Global}
+use Rattle.dnw_decoder.specs.Octets.{octets_16}
+use Rattle.drd_fields.specs.Writing.{IsTooLong}
+use Rattle.drd_fields.specs.WritingLaws.{puts_then, puts_none}
+use Rattle.drd_params.specs.Writing.{RefusesValueWriting}
+use Rattle.drd_params.specs.declared.value.Alpn.{Alpn}
+use Rattle.drd_params.specs.declared.value.SvcParamValue.TheVariants as value
+use Rattle.drd_params.proofs.NoValues.{spelled_text}
+
+-- A write behind what was put is refused as one of all would be.
+pub refused-behind : (old mid : State) (first size whole : ℕ) (e : ProtoError) → mid.offset ≡ old.offset + first → mid.maximum ≡ old.maximum → first + size ≤ whole → IsRefusal mid size e → IsRefusal old whole e
+refused-behind old mid first size whole e at same within (inl m) = inl m
+refused-behind old mid first size whole e at same within (inr (is, past)) =
+    inr (subst (λ (n : ℕ). e ≡ MaxBufferSizeExceeded n) same is, omega (arith, at, same, within, past))
+
+module _ {T : Type 0} (spelled : T → List ℕ) where
+  -- The first entries were put.
+  pub record Put (entries : List T) (i : ℕ) (old new : State) : Type 0 where
+    pub writes : Writes old new
+    pub puts : Puts (flat_map spelled (take i entries)) old new
+
+  pub put-none : (entries : List T) (s : State) → s.offset ≤ length s.octets → Put entries 0 s s
+  put-none entries s le = record { writes = writes_same s; puts = puts_none s le }
+
+  pub put-more : (entries : List T) (i : ℕ) (d : T) (x : T) (old mid new : State) → i < length entries → old.offset ≤ length old.octets → x ≡ get_or entries i d → Put entries i old mid → Puts (spelled x) mid new → Writes mid new → Put entries (i + 1) old new
+  put-more entries i d x old mid new small le is put one writes = record {
+    writes = writes_then old mid new put.writes writes;
+    puts = subst (λ (o : List ℕ). Puts o old new) (sym whole) (puts_then (flat_map spelled (take i entries)) (spelled x) old mid new le put.puts one);
+  }
+    where
+      whole : flat_map spelled (take (i + 1) entries) ≡ flat_map spelled (take i entries) ++ spelled x
+      whole =
+          ap (flat_map spelled) (take_more entries i d small ∙ ap (λ (y : T). take i entries ++ y ∷ []) (sym is))
+          ∙ flat_map-append spelled (take i entries) (x ∷ [])
+          ∙ ap (λ (o : List ℕ). flat_map spelled (take i entries) ++ o) (flat_map-cons spelled x [] ∙ append-nil (spelled x))
+
+  pub put-refused : (long : T → ProtoError → Type 0) (entries : List T) (i : ℕ) (x : T) (old mid : State) (e : ProtoError) → i < length entries → x ≡ get_or entries i x → Put entries i old mid → IsRefusal mid (length (spelled x)) e ⊎ long x e → IsRefusal old (length (flat_map spelled entries)) e ⊎ ((y : T) × Contains entries y × long y e)
+  put-refused long entries i x old mid e small is put (inl refused) =
+      inl (refused-behind old mid (length (flat_map spelled (take i entries))) (length (spelled x)) (length (flat_map spelled entries)) e put.puts.offset put.puts.modes.maximum
+      (omega (arith, length-flat_map-take spelled entries i x small, ap (λ (y : T). length (spelled y)) is)) refused)
+  put-refused long entries i x old mid e small is put (inr why) =
+      inr (x, subst (λ (y : T). Contains entries y) (sym is) (Contains-get_or entries i x small), why)
+
+pub alpn-refused : {V : Type 0} (r : Result V ProtoError) (alpn : Alpn) (texts : List (String Global)) (old : State) → texts ≡ alpn.0.items → IfErr r (λ e. IsRefusal old (length (flat_map spelled_text texts)) e ⊎ ((text : String Global) × Contains texts text × IsTooLong (string_bytes text) e)) → IfErr r (RefusesValueWriting (value.Alpn alpn) old)
+alpn-refused r alpn texts old same why =
+    subst (λ (ts : List (String Global)). IfErr r (λ e. IsRefusal old (length (flat_map spelled_text ts)) e ⊎ ((text : String Global) × Contains ts text × IsTooLong (string_bytes text) e))) same why
+
+-- A value was put behind its length.
+pub value-put : {V E : Type 0} (r : Result V E) (n : ℕ) (octets : List ℕ) (old mid new : State) → n ≡ length octets → old.offset ≤ length old.octets → Puts (octets_16 n) old mid → OnOk r (Puts octets mid new) → OnOk r (Puts (octets_16 (length octets) ++ octets) old new)
+value-put (Ok v) n octets old mid new same le first put = puts_then (octets_16 (length octets)) octets old mid new le (subst (λ (k : ℕ). Puts (octets_16 k) old mid) same first) put
+value-put (Err e) n octets old mid new same le first put = tt

@@ -1,0 +1,7 @@
+use Rattle.drd_params.specs.Keys.{key_of_text}
+use Rattle.dnw_codes.specs.declared.error.ParseError.TheVariants.{UnexpectedToken}
+use Rattle.drd_params.proofs.KeyTexts.{key-found}
+use Rattle.drd_params.proofs.entry.SvcParamKeyEntry.from_text.Goals as goal
+
+pub returns-in-Ok-clause-ok : goal.returns-in-Ok-clause-ok
+returns-in-Ok-clause-ok c = key-found (key_of_text c.args.text.now) c.in-Ok.key UnexpectedToken c.in-Ok.ensures.value

@@ -1,0 +1,10 @@
+use Rattle.std.proofs.Common.{ℕ, inr, refl, arith}
+use Rattle.dnw_decoder.specs.Octets.{octets_16}
+use Rattle.dnw_decoder.specs.Standing.{cut_none}
+use Rattle.drd_params.specs.Keys.{key_number}
+use Rattle.drd_params.specs.declared.key.SvcParamKey.{SvcParamKey}
+use Rattle.drd_params.proofs.read.SvcParamKeyBinDecodable.read.Goals as goal
+
+pub returns-in-Err-clause-none : goal.returns-in-Err-clause-none
+returns-in-Err-clause-none c =
+    inr (λ (key : SvcParamKey) (end : ℕ) there. cut_none c.args.decoder.now.octets c.args.decoder.now.index 2 (octets_16 (key_number key)) end refl (omega arith) c.in-Err.ensures.err.short there.there)

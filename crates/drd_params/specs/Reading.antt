@@ -1,0 +1,30 @@
+-- Values that stand in a message alone, up to its end.
+use Rattle.std.specs.Prelude.{ℕ, ◌≡◌, ◌<◌, List, length}
+use Rattle.std.proofs.Common.{◌⊎◌}
+use Rattle.dnw_codes.specs.declared.error.DecodeError.{DecodeError}
+use Rattle.dnw_decoder.specs.Octets.{Stands, octets_16}
+use Rattle.dnw_decoder.specs.Reading.{IsWantOfMemory}
+use Rattle.drd_params.specs.Keys.{key_number, key_of}
+use Rattle.drd_params.specs.Refusals.{RefusesValue}
+use Rattle.drd_params.specs.Values.{IsValueOf, value_octets}
+use Rattle.drd_params.specs.declared.key.SvcParamKey.{SvcParamKey}
+use Rattle.drd_params.specs.declared.value.SvcParamValue.{SvcParamValue}
+
+-- The octets fill a message from a place on.
+abbrev pub Fills : List ℕ → ℕ → List ℕ → ℕ → Type 0
+Fills message place octets end = Stands message place octets end × (end ≡ length message)
+
+-- A value of a key fills it.
+abbrev pub ValueAt : SvcParamKey → List ℕ → ℕ → SvcParamValue → ℕ → Type 0
+ValueAt key message place value end = IsValueOf key value × Fills message place (value_octets value) end
+
+-- A growth was refused, or the octets are as a value of a key.
+abbrev pub RefusesAt : SvcParamKey → List ℕ → ℕ → DecodeError → Type 0
+RefusesAt key message place e =
+    IsWantOfMemory e ⊎ ((octets : List ℕ) × Fills message place octets (length message) × RefusesValue key octets e)
+
+-- The key whose number stands there.
+pub record KeyAt (message : List ℕ) (place : ℕ) (key : SvcParamKey) (end : ℕ) : Type 0 where
+  pub there : Stands message place (octets_16 (key_number key)) end
+  pub small : key_number key < 65536
+  pub one : key ≡ key_of (key_number key)

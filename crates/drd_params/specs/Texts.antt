@@ -1,0 +1,23 @@
+-- The texts of keys, protocols and addresses (RFC 9460 2.1, 7).
+use Rattle.std.specs.Prelude.{ℕ, ◌≡◌, ◌<◌, ◌≤◌, List, length, Some, String}
+use Rattle.std.specs.Net.Grammar.{IsIpv4Text, IsIpv6Text}
+use Rattle.std.specs.String.{string_bytes}
+use Rattle.std.specs.declared.alloc.Global.{Global}
+use Rattle.drd_plain.specs.declared.a.A.{A}
+use Rattle.drd_plain.specs.declared.aaaa.AAAA.{AAAA}
+use Rattle.drd_params.specs.Keys.{key_of_text}
+use Rattle.drd_params.specs.declared.key.SvcParamKey.{SvcParamKey}
+
+-- A key's name, or `key` and its number.
+abbrev pub IsKeyText : SvcParamKey → List ℕ → Type 0
+IsKeyText k text = key_of_text text ≡ Some k
+
+-- A protocol's octets as they are, 1 to 255 of them (RFC 9460 7.1).
+abbrev pub IsProtocolText : String Global → List ℕ → Type 0
+IsProtocolText protocol text = (string_bytes protocol ≡ text) × (0 < length text) × (length text ≤ 255)
+
+abbrev pub IsAEntry : A → List ℕ → Type 0
+IsAEntry a text = IsIpv4Text text a.0
+
+abbrev pub IsAaaaEntry : AAAA → List ℕ → Type 0
+IsAaaaEntry aaaa text = IsIpv6Text text aaaa.0

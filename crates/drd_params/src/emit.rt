@@ -1,0 +1,165 @@
+//! Values and keys that are written, each alone.
+ghost use Rattle.std.specs.Prelude.{◌≡◌, ◌++◌, ◌⊎◌, length, IfErr, OnOk, List};
+ghost use Rattle.std.specs.List.{Contains, flat_map};
+ghost use Rattle.dnw_decoder.specs.Octets.{octets_16};
+ghost use Rattle.dnw_encoder.specs.Encoders.{state};
+ghost use Rattle.dnw_encoder.specs.Effects.{IsRefusal, Puts, Writes};
+ghost use Rattle.drd_params.specs.Keys.{key_number};
+ghost use Rattle.drd_params.specs.Writing.{RefusesEmit, RefusesValueWriting};
+ghost use Rattle.drd_params.specs.declared.value.SvcParamValue.TheVariants as value;
+ghost use Rattle.drd_params.specs.Values.{value_octets};
+
+use crate::entry::Entry;
+use crate::key::SvcParamKey;
+use crate::value::{Alpn, EchConfigList, IpHint, Mandatory, SvcParamValue, Unknown};
+use dnw_codes::ProtoError;
+use dnw_encoder::{BinEncodable, BinEncoder};
+
+// Writes entries, one behind the other.
+fn emit_entries<T: Entry>(encoder: &mut BinEncoder<'_>, entries: &[T]) -> Result<(), ProtoError>
+    ensures same_reference { encoder.new.buffer.ghost_name ≡ encoder.old.buffer.ghost_name }
+    ensures writes { Writes (state encoder.old) (state encoder.new) }
+    ensures ok { OnOk result (Puts (flat_map T.spelled entries.now) (state encoder.old) (state encoder.new)) }
+    ensures refused { IfErr result (λ e. IsRefusal (state encoder.old) (length (flat_map T.spelled entries.now)) e
+        ⊎ ((entry : T) × Contains entries.now entry × T.too_long entry e)) }
+{
+    let _start = encoder.offset();
+    'entries: for entry in entries {
+        match entry.emit_entry(encoder) {
+            Ok(()) => {}
+            Err(refused) => return Err(refused),
+        }
+    }
+    Ok(())
+}
+
+impl BinEncodable for SvcParamKey {
+    ghost emits = { λ key. Puts (octets_16 (key_number key)) };
+
+    ghost refuses = { λ key old e new. IsRefusal old 2 e };
+
+    /// Writes the key's number.
+    fn emit(&self, encoder: &mut BinEncoder<'_>) -> Result<(), ProtoError> {
+        match encoder.emit_u16(u16::from(*self)) {
+            Ok(()) => Ok(()),
+            Err(refused) => Err(refused),
+        }
+    }
+}
+
+impl BinEncodable for Mandatory {
+    ghost emits = { λ mandatory. Puts (value_octets (value.Mandatory mandatory)) };
+
+    ghost refuses = { λ mandatory old e new. RefusesValueWriting (value.Mandatory mandatory) old e };
+
+    /// Writes the keys' numbers.
+    fn emit(&self, encoder: &mut BinEncoder<'_>) -> Result<(), ProtoError> {
+        let keys = &self.0;
+        emit_entries(encoder, keys)
+    }
+}
+
+impl BinEncodable for Alpn {
+    ghost emits = { λ alpn. Puts (value_octets (value.Alpn alpn)) };
+
+    ghost refuses = { λ alpn old e new. RefusesValueWriting (value.Alpn alpn) old e };
+
+    /// Writes the protocols, each behind its length.
+    fn emit(&self, encoder: &mut BinEncoder<'_>) -> Result<(), ProtoError> {
+        let protocols = &self.0;
+        emit_entries(encoder, protocols)
+    }
+}
+
+impl<T: Entry> BinEncodable for IpHint<T> {
+    ghost emits = { λ hint. Puts (flat_map T.spelled hint.0.items) };
+
+    ghost refuses = { λ hint old e new. IsRefusal old (length (flat_map T.spelled hint.0.items)) e
+        ⊎ ((entry : T) × Contains hint.0.items entry × T.too_long entry e) };
+
+    /// Writes the addresses.
+    fn emit(&self, encoder: &mut BinEncoder<'_>) -> Result<(), ProtoError> {
+        let addresses = &self.0;
+        emit_entries(encoder, addresses)
+    }
+}
+
+impl BinEncodable for EchConfigList {
+    ghost emits = { λ ech. Puts ech.0.items };
+
+    ghost refuses = { λ ech old e new. IsRefusal old (length ech.0.items) e };
+
+    /// Writes the octets.
+    fn emit(&self, encoder: &mut BinEncoder<'_>) -> Result<(), ProtoError> {
+        let configurations = &self.0;
+        match encoder.emit_vec(configurations) {
+            Ok(()) => Ok(()),
+            Err(refused) => Err(refused),
+        }
+    }
+}
+
+impl BinEncodable for Unknown {
+    ghost emits = { λ unknown. Puts unknown.0.items };
+
+    ghost refuses = { λ unknown old e new. IsRefusal old (length unknown.0.items) e };
+
+    /// Writes the octets.
+    fn emit(&self, encoder: &mut BinEncoder<'_>) -> Result<(), ProtoError> {
+        match encoder.emit_vec(&self.0) {
+            Ok(()) => Ok(()),
+            Err(refused) => Err(refused),
+        }
+    }
+}
+
+// Writes the octets of a value.
+fn emit_octets(encoder: &mut BinEncoder<'_>, value: &SvcParamValue) -> Result<(), ProtoError>
+    ensures same_reference { encoder.new.buffer.ghost_name ≡ encoder.old.buffer.ghost_name }
+    ensures writes { Writes (state encoder.old) (state encoder.new) }
+    ensures ok { OnOk result (Puts (value_octets value.now) (state encoder.old) (state encoder.new)) }
+    ensures refused { IfErr result (RefusesValueWriting value.now (state encoder.old)) }
+{
+    match value {
+        SvcParamValue::Mandatory(mandatory) => emit_entries(encoder, &mandatory.0),
+        SvcParamValue::Alpn(alpn) => emit_entries(encoder, &alpn.0),
+        SvcParamValue::NoDefaultAlpn => match encoder.emit_vec(&[]) {
+            Ok(()) => Ok(()),
+            Err(refused) => Err(refused),
+        },
+        SvcParamValue::Port(port) => match encoder.emit_u16(*port) {
+            Ok(()) => Ok(()),
+            Err(refused) => Err(refused),
+        },
+        SvcParamValue::Ipv4Hint(hint) => emit_entries(encoder, &hint.0),
+        SvcParamValue::EchConfigList(ech) => match encoder.emit_vec(&ech.0) {
+            Ok(()) => Ok(()),
+            Err(refused) => Err(refused),
+        },
+        SvcParamValue::Ipv6Hint(hint) => emit_entries(encoder, &hint.0),
+        SvcParamValue::Unknown(unknown) => match encoder.emit_vec(&unknown.0) {
+            Ok(()) => Ok(()),
+            Err(refused) => Err(refused),
+        },
+    }
+}
+
+impl BinEncodable for SvcParamValue {
+    ghost emits = { λ value. Puts (octets_16 (length (value_octets value)) ++ value_octets value) };
+
+    ghost refuses = { λ value old e new. RefusesEmit value old e };
+
+    /// Writes the value behind its length (RFC 9460 2.2). Refused are more than 65,535 octets, and a protocol of more than
+    /// 255.
+    fn emit(&self, encoder: &mut BinEncoder<'_>) -> Result<(), ProtoError> {
+        let _start = encoder.offset();
+        let Some(len) = self.octet_len() else {
+            return Err(ProtoError::MaxBufferSizeExceeded(65_535));
+        };
+        match encoder.emit_u16(len) {
+            Ok(()) => {}
+            Err(refused) => return Err(refused),
+        }
+        emit_octets(encoder, self)
+    }
+}

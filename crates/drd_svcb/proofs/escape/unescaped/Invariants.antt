@@ -1,0 +1,9 @@
+use Rattle.std.proofs.Common.{length}
+use Rattle.drd_svcb.proofs.Escaped.{SoFar}
+use Rattle.drd_svcb.proofs.escape.unescaped.Given as goal
+
+abbrev pub invariant-octets : goal.invariant-octets
+invariant-octets l = SoFar l.text l.octets.items l.rest
+
+abbrev pub decreases-octets : goal.decreases-octets
+decreases-octets l = length l.rest

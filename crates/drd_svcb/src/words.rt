@@ -1,0 +1,91 @@
+//! Parameters in words (RFC 9460 2.1).
+ghost use Rattle.std.specs.Prelude.{◌≡◌, ◌⊎◌, IfOk, IfErr};
+ghost use Rattle.std.specs.List.{before_first, after_first};
+ghost use Rattle.drd_params.specs.Params.{Param, IsParam};
+ghost use Rattle.drd_words.specs.Word.{IsOutOfMemory};
+ghost use Rattle.drd_svcb.specs.Texts.{is_equals, IsUnquoted, IsParamText, AreParamTexts};
+
+use crate::value::value_of;
+use dnw_codes::ParseError;
+use dnw_name::Name;
+use drd_params::{SvcParamKey, SvcParamValue};
+use drd_words::Words;
+use std::alloc::{AllocError, Global};
+
+/// The parameters that words write, each one of them.
+#[derive(Drop)]
+pub(crate) struct ParamWords(pub(crate) Vec<(SvcParamKey, SvcParamValue)>);
+
+impl Words for ParamWords {
+    ghost written = { λ words origin params. AreParamTexts params.0.items words };
+
+    fn from_words(
+        alloc: Global,
+        words: &[&str],
+        _origin: Option<&Name>,
+    ) -> Result<ParamWords, ParseError> {
+        let mut params = Vec::new(alloc);
+        let mut least = 0;
+        'words: for word in words {
+            let param = match param_of(alloc, *word) {
+                Ok(param) => param,
+                Err(refused) => return Err(refused),
+            };
+            let number = u32::from(u16::from(param.0));
+            if number < least {
+                return Err(ParseError::Message("the keys of parameters rise"));
+            }
+            match params.push(param) {
+                Ok(()) => {}
+                Err(_) => return Err(ParseError::Memory(AllocError)),
+            }
+            least = number + 1;
+        }
+        Ok(ParamWords(params))
+    }
+}
+
+// The parameter of a word.
+fn param_of(alloc: Global, word: &str) -> Result<(SvcParamKey, SvcParamValue), ParseError>
+    ensures ok { IfOk result (λ param. IsParamText param word.now × IsParam param) }
+    ensures refused { IfErr result (λ e. IsOutOfMemory e
+        ⊎ ((param : Param) → IsParamText param word.now → IsParam param → ⊥)) }
+{
+    let (key, value) = parts_of(word);
+    let key: SvcParamKey = match key.parse() {
+        Ok(key) => key,
+        Err(refused) => return Err(refused),
+    };
+    let value = match value_of(alloc, key, unquoted(value)) {
+        Ok(value) => value,
+        Err(refused) => return Err(refused),
+    };
+    match value.octet_len() {
+        Some(_len) => Ok((key, value)),
+        None => Err(ParseError::Message("a value has at most 65,535 octets")),
+    }
+}
+
+// What stands before the first `=`, and behind it.
+fn parts_of(word: &str) -> (&str, &str)
+    ensures key { result.0.now ≡ before_first is_equals word.now }
+    ensures value { result.1.now ≡ after_first is_equals word.now }
+{
+    match word.split_once('=') {
+        Some(parts) => parts,
+        None => (word, ""),
+    }
+}
+
+// Without the quotes that the text stands between.
+fn unquoted(text: &str) -> &str
+    ensures { IsUnquoted text.now result.now }
+{
+    match text.strip_prefix('"') {
+        None => text,
+        Some(behind) => match behind.strip_suffix('"') {
+            Some(inner) => inner,
+            None => text,
+        },
+    }
+}
