@@ -16,6 +16,7 @@ pub use drd_keys::{CERT, NULL, OPENPGPKEY, SMIMEA, SSHFP, TLSA, cert, sshfp, tls
 pub use drd_names::{ANAME, CNAME, MX, NS, PTR, SOA, SRV};
 pub use drd_opt::OPT;
 pub use drd_plain::{A, AAAA, HINFO, NAPTR, TXT};
+pub use drd_rdata::{RData, RecordData};
 pub use drd_svcb::{HTTPS, SVCB};
 pub use drd_words::HEX;
 

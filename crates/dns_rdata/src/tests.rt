@@ -7,5 +7,6 @@ mod opt;
 mod option;
 mod order;
 mod plain;
+mod rdata;
 mod svcb;
 mod words;

@@ -1,0 +1,5 @@
+use Rattle.drd_rdata.specs.WritingLaws.{ok_room}
+use Rattle.drd_rdata.proofs.rdata.RData.read.Goals as goal
+
+pub returns-clause-written : goal.returns-clause-written
+returns-clause-written c = ok_room c.args.record_type c.args.decoder.now.octets c.args.decoder.now.index c.args.length c.read_some.result c.read_some.ensures.ok

@@ -1,0 +1,74 @@
+-- Record data of every type in words (RFC 1035 5.1).
+use Rattle.std.specs.Prelude.{ℕ, List, [], codes, Option}
+use Rattle.dnw_name.specs.DomainName.{DomainName}
+use Rattle.dnw_codes.specs.declared.record_type.RecordType.{RecordType}
+use Rattle.dnw_codes.specs.declared.record_type.RecordType.TheVariants as kind
+use Rattle.dnw_name.specs.NamePrint.{name_print}
+use Rattle.drd_caa.specs.Print.{caa_print}
+use Rattle.drd_caa.specs.Words.{IsCaaText}
+use Rattle.drd_csync.specs.Texts.{IsCsyncText, csync_print}
+use Rattle.drd_keys.specs.Print.{cert_print, null_print, openpgpkey_print, smimea_print, sshfp_print, tlsa_print}
+use Rattle.drd_keys.specs.Texts.{IsCertText, IsOpenpgpkeyText, IsSmimeaText, IsSshfpText, IsTlsaText}
+use Rattle.drd_names.specs.Texts.{IsAnameText, IsCnameText, IsMxText, IsNsText, IsPtrText, IsSoaText, IsSrvText, mx_print, soa_print, srv_print}
+use Rattle.drd_opt.specs.Entries.{entries_print}
+use Rattle.drd_plain.specs.Print.{a_print, aaaa_print, hinfo_print, naptr_print, txt_print}
+use Rattle.drd_plain.specs.Words.{IsAText, IsAaaaText, IsHinfoText, IsNaptrText, IsTxtText}
+use Rattle.drd_svcb.specs.Print.{svcb_print}
+use Rattle.drd_svcb.specs.Texts.{IsSvcbText}
+use Rattle.drd_rdata.specs.Reading.{Is}
+use Rattle.drd_rdata.specs.declared.rdata.RData.{RData}
+use Rattle.drd_rdata.specs.declared.rdata.RData.TheVariants as rdata
+
+-- The words write these data of a record of this type; an origin completes relative names. Other types have no text.
+abbrev pub IsTextOf : RecordType → List (List ℕ) → Option DomainName → RData → Type 0
+IsTextOf kind.A words origin value = Is rdata.A (λ a. IsAText words a) value
+IsTextOf kind.AAAA words origin value = Is rdata.AAAA (λ aaaa. IsAaaaText words aaaa) value
+IsTextOf kind.ANAME words origin value = Is rdata.ANAME (λ aname. IsAnameText words origin aname) value
+IsTextOf kind.CAA words origin value = Is rdata.CAA (λ caa. IsCaaText words caa) value
+IsTextOf kind.CERT words origin value = Is rdata.CERT (λ cert. IsCertText words cert) value
+IsTextOf kind.CNAME words origin value = Is rdata.CNAME (λ cname. IsCnameText words origin cname) value
+IsTextOf kind.CSYNC words origin value = Is rdata.CSYNC (λ csync. IsCsyncText words csync) value
+IsTextOf kind.HINFO words origin value = Is rdata.HINFO (λ hinfo. IsHinfoText words hinfo) value
+IsTextOf kind.HTTPS words origin value = Is rdata.HTTPS (λ https. IsSvcbText words origin https.0) value
+IsTextOf kind.MX words origin value = Is rdata.MX (λ mx. IsMxText words origin mx) value
+IsTextOf kind.NAPTR words origin value = Is rdata.NAPTR (λ naptr. IsNaptrText words origin naptr) value
+IsTextOf kind.NS words origin value = Is rdata.NS (λ ns. IsNsText words origin ns) value
+IsTextOf kind.OPENPGPKEY words origin value = Is rdata.OPENPGPKEY (λ openpgpkey. IsOpenpgpkeyText words openpgpkey) value
+IsTextOf kind.PTR words origin value = Is rdata.PTR (λ ptr. IsPtrText words origin ptr) value
+IsTextOf kind.SMIMEA words origin value = Is rdata.SMIMEA (λ smimea. IsSmimeaText words smimea) value
+IsTextOf kind.SOA words origin value = Is rdata.SOA (λ soa. IsSoaText words origin soa) value
+IsTextOf kind.SRV words origin value = Is rdata.SRV (λ srv. IsSrvText words origin srv) value
+IsTextOf kind.SSHFP words origin value = Is rdata.SSHFP (λ sshfp. IsSshfpText words sshfp) value
+IsTextOf kind.SVCB words origin value = Is rdata.SVCB (λ svcb. IsSvcbText words origin svcb) value
+IsTextOf kind.TLSA words origin value = Is rdata.TLSA (λ tlsa. IsTlsaText words tlsa) value
+IsTextOf kind.TXT words origin value = Is rdata.TXT (λ txt. IsTxtText words txt) value
+IsTextOf other words origin value = ⊥
+
+-- What is printed of the data. Those of an update that has none are a word of their own, those of type 0 nothing.
+abbrev pub rdata_print : RData → List ℕ
+rdata_print (rdata.A a) = a_print a
+rdata_print (rdata.AAAA aaaa) = aaaa_print aaaa
+rdata_print (rdata.ANAME aname) = name_print aname.0
+rdata_print (rdata.CAA caa) = caa_print caa
+rdata_print (rdata.CERT cert) = cert_print cert
+rdata_print (rdata.CNAME cname) = name_print cname.0
+rdata_print (rdata.CSYNC csync) = csync_print csync
+rdata_print (rdata.HINFO hinfo) = hinfo_print hinfo
+rdata_print (rdata.HTTPS https) = svcb_print https.0
+rdata_print (rdata.MX mx) = mx_print mx
+rdata_print (rdata.NAPTR naptr) = naptr_print naptr
+rdata_print (rdata.NULL null) = null_print null
+rdata_print (rdata.NS ns) = name_print ns.0
+rdata_print (rdata.OPENPGPKEY openpgpkey) = openpgpkey_print openpgpkey
+rdata_print (rdata.OPT opt) = entries_print opt.options.items
+rdata_print (rdata.PTR ptr) = name_print ptr.0
+rdata_print (rdata.SMIMEA smimea) = smimea_print smimea
+rdata_print (rdata.SOA soa) = soa_print soa
+rdata_print (rdata.SRV srv) = srv_print srv
+rdata_print (rdata.SSHFP sshfp) = sshfp_print sshfp
+rdata_print (rdata.SVCB svcb) = svcb_print svcb
+rdata_print (rdata.TLSA tlsa) = tlsa_print tlsa
+rdata_print (rdata.TXT txt) = txt_print txt
+rdata_print (rdata.Unknown code null) = null_print null
+rdata_print (rdata.Update0 code) = codes "UPDATE"
+rdata_print rdata.ZERO = []

@@ -1,0 +1,24 @@
+//! What was written reads back.
+ghost use Rattle.std.specs.Prelude.{◌≡◌, ℕ, List, true};
+ghost use Rattle.dnw_codes.specs.declared.record_type.RecordType.{RecordType as Kind};
+ghost use Rattle.dnw_encoder.specs.Effects.{Sound, Holds};
+ghost use Rattle.dnw_encoder.specs.State.{State};
+ghost use Rattle.drd_rdata.specs.Order.{rdata_eq};
+ghost use Rattle.drd_rdata.specs.Reading.{HoldsAs};
+ghost use Rattle.drd_rdata.specs.Writing.{EmitsRData};
+
+use crate::rdata::RData;
+
+/// Whether record data that were read are equal to data that were written. Where the others had been read for a type
+/// themselves, and were then written, what is read for that type where they stand, in the finished message too, is equal
+/// to them.
+pub fn is_read_back(written: &RData, read: &RData) -> bool
+    ensures value { result ≡ rdata_eq written.now read.now }
+    ensures back { (record_type : Kind) (source : List ℕ) (start stop : ℕ) (old new : State)
+        → HoldsAs record_type source start written.now stop
+        → Sound old
+        → EmitsRData written.now old new
+        → Holds new new.offset (λ message. HoldsAs record_type message old.offset read.now new.offset → result ≡ true) }
+{
+    *written == *read
+}

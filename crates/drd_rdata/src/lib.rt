@@ -1,0 +1,16 @@
+//! Record data of every type as one (RFC 1035 3.2.1): read from messages and texts, written, compared and printed by the
+//! type of their record.
+#![tactic(auto)]
+
+mod back;
+mod emit;
+mod order;
+mod print;
+mod rdata;
+mod read;
+mod record_data;
+mod text;
+
+pub use back::is_read_back;
+pub use rdata::RData;
+pub use record_data::RecordData;

@@ -1,0 +1,214 @@
+//! Record data in messages.
+ghost use Rattle.std.specs.Prelude.{◌≡◌, ◌+◌, ◌<◌, ◌≤◌, ◌⊎◌, ℕ, List, length as size, MatchBool, IfOk, IfErr, OnOk};
+ghost use Rattle.dnw_codes.specs.RecordType.{record_type_number};
+ghost use Rattle.dnw_codes.specs.declared.error.DecodeError.TheVariants.{UnknownRecordTypeValue};
+ghost use Rattle.dnw_codes.specs.declared.error.DecodeError.{DecodeError as Error};
+ghost use Rattle.dnw_decoder.specs.Reading.{IsWantOfMemory};
+ghost use Rattle.drd_rdata.specs.declared.rdata.RData.{RData as Rdata};
+ghost use Rattle.drd_fields.specs.Fields.{FieldsAt};
+ghost use Rattle.drd_fields.specs.Reading.{Stops};
+ghost use Rattle.drd_keys.specs.Fields.{null_fields, null_kinds};
+ghost use Rattle.drd_rdata.specs.declared.rdata.RData.TheVariants.{Unknown};
+ghost use Rattle.dnw_codes.specs.declared.error.ProtoError.{ProtoError as WritingError};
+ghost use Rattle.dnw_encoder.specs.State.{State};
+ghost use Rattle.drd_rdata.specs.Writing.{RefusesRData, WantsRoom};
+ghost use Rattle.drd_rdata.specs.Types.{type_of};
+ghost use Rattle.drd_rdata.specs.Reading.{Is, IsEmptyOf, HoldsAs, ReadsAs, StopsAs, RefusesAs, Shows};
+
+use crate::rdata::RData;
+use crate::record_data::RecordData;
+use dnw_codes::{DecodeError, RecordType, Restrict};
+use dnw_decoder::BinDecoder;
+use drd_caa::CAA;
+use drd_csync::CSYNC;
+use drd_fields::RecordDataDecodable;
+use drd_keys::{CERT, NULL, OPENPGPKEY, SMIMEA, SSHFP, TLSA};
+use drd_names::{ANAME, CNAME, MX, NS, PTR, SOA, SRV};
+use drd_opt::OPT;
+use drd_plain::{A, AAAA, HINFO, NAPTR, TXT};
+use drd_svcb::{HTTPS, SVCB};
+use std::alloc::Global;
+
+impl RData {
+    /// The data of a record of this type, so many octets at the decoder's index, which moves behind them. No octets are
+    /// `Update0`, for OPT no options. Refused are octets that aren't data of the type: by their number, where reading
+    /// stopped before their end or behind it, else by the cause. On an error the decoder is where reading stopped.
+    #[tactic(auto, using(crate::specs::WritingLaws::read_room))]
+    pub fn read(
+        alloc: Global,
+        decoder: &mut BinDecoder<'_>,
+        record_type: RecordType,
+        length: Restrict<u16>,
+    ) -> Result<RData, DecodeError>
+        ensures ok { IfOk result (λ value. ReadsAs record_type decoder.old.octets decoder.old.index length value) }
+        ensures kind { IfOk result (λ value. type_of value ≡ record_type) }
+
+        // It is written wherever there are memory and room.
+        ensures written { IfOk result (λ value. (old : State) (e : WritingError) → RefusesRData value old e → WantsRoom old e) }
+        ensures end { OnOk result (decoder.new.index ≡ decoder.old.index + length) }
+        ensures same { decoder.new.octets ≡ decoder.old.octets }
+        ensures forward { decoder.old.index ≤ decoder.new.index }
+        ensures within { decoder.new.index ≤ size decoder.new.octets }
+        ensures refused { IfErr result (λ e. IsWantOfMemory e
+            ⊎ ((0 < length) × RefusesAs record_type decoder.old.octets decoder.old.index length e)) }
+        ensures none { IfErr result (λ e. IsWantOfMemory e
+            ⊎ ((value : Rdata) → ReadsAs record_type decoder.old.octets decoder.old.index length value → ⊥)) }
+    {
+        let _start = decoder.index();
+        if length.unverified() == 0 {
+            return Ok(RData::empty(alloc, record_type));
+        }
+        RData::read_some(alloc, decoder, record_type, length)
+    }
+
+    // The data of a record of this type without octets.
+    fn empty(alloc: Global, record_type: RecordType) -> RData
+        ensures value { IsEmptyOf record_type result }
+        ensures kind { type_of result ≡ record_type }
+    {
+        match record_type {
+            RecordType::OPT => RData::OPT(OPT::new(Vec::new(alloc))),
+            other => RData::Update0(other),
+        }
+    }
+
+    // The data of a record of this type with octets.
+    fn read_some(
+        alloc: Global,
+        decoder: &mut BinDecoder<'_>,
+        record_type: RecordType,
+        length: Restrict<u16>,
+    ) -> Result<RData, DecodeError>
+        ensures ok { IfOk result (λ value. HoldsAs record_type decoder.old.octets decoder.old.index value (decoder.old.index + length)) }
+        ensures kind { IfOk result (λ value. type_of value ≡ record_type) }
+        ensures end { OnOk result (decoder.new.index ≡ decoder.old.index + length) }
+        ensures same { decoder.new.octets ≡ decoder.old.octets }
+        ensures forward { decoder.old.index ≤ decoder.new.index }
+        ensures within { decoder.new.index ≤ size decoder.new.octets }
+        ensures refused { IfErr result (λ e. IsWantOfMemory e
+            ⊎ RefusesAs record_type decoder.old.octets decoder.old.index length e) }
+        ensures none { IfErr result (λ e. IsWantOfMemory e
+            ⊎ ((value : Rdata) → HoldsAs record_type decoder.old.octets decoder.old.index value (decoder.old.index + length) → ⊥)) }
+    {
+        match record_type {
+            RecordType::A => read_as::<A>(alloc, decoder, length),
+            RecordType::AAAA => read_as::<AAAA>(alloc, decoder, length),
+            RecordType::ANAME => read_as::<ANAME>(alloc, decoder, length),
+            RecordType::CAA => read_as::<CAA>(alloc, decoder, length),
+            RecordType::CERT => read_as::<CERT>(alloc, decoder, length),
+            RecordType::CNAME => read_as::<CNAME>(alloc, decoder, length),
+            RecordType::CSYNC => read_as::<CSYNC>(alloc, decoder, length),
+            RecordType::HINFO => read_as::<HINFO>(alloc, decoder, length),
+            RecordType::HTTPS => read_as::<HTTPS>(alloc, decoder, length),
+            RecordType::MX => read_as::<MX>(alloc, decoder, length),
+            RecordType::NAPTR => read_as::<NAPTR>(alloc, decoder, length),
+            RecordType::NULL => read_as::<NULL>(alloc, decoder, length),
+            RecordType::NS => read_as::<NS>(alloc, decoder, length),
+            RecordType::OPENPGPKEY => read_as::<OPENPGPKEY>(alloc, decoder, length),
+            RecordType::OPT => read_as::<OPT>(alloc, decoder, length),
+            RecordType::PTR => read_as::<PTR>(alloc, decoder, length),
+            RecordType::SMIMEA => read_as::<SMIMEA>(alloc, decoder, length),
+            RecordType::SOA => read_as::<SOA>(alloc, decoder, length),
+            RecordType::SRV => read_as::<SRV>(alloc, decoder, length),
+            RecordType::SSHFP => read_as::<SSHFP>(alloc, decoder, length),
+            RecordType::SVCB => read_as::<SVCB>(alloc, decoder, length),
+            RecordType::TLSA => read_as::<TLSA>(alloc, decoder, length),
+            RecordType::TXT => read_as::<TXT>(alloc, decoder, length),
+            RecordType::ZERO | RecordType::ANY | RecordType::AXFR | RecordType::IXFR => {
+                read_none(decoder, record_type, length)
+            }
+            other => read_unknown(alloc, decoder, other, length),
+        }
+    }
+}
+
+// The data of one type, as data of all types.
+fn read_as<T: RecordDataDecodable + RecordData + Drop>(
+    alloc: Global,
+    decoder: &mut BinDecoder<'_>,
+    length: Restrict<u16>,
+) -> Result<RData, DecodeError>
+    ensures ok { IfOk result (λ value. Is T.rdata (λ x. T.reads decoder.old.octets decoder.old.index x (decoder.old.index + length)) value) }
+    ensures end { OnOk result (decoder.new.index ≡ decoder.old.index + length) }
+    ensures same { decoder.new.octets ≡ decoder.old.octets }
+    ensures forward { decoder.old.index ≤ decoder.new.index }
+    ensures within { decoder.new.index ≤ size decoder.new.octets }
+    ensures refused { IfErr result (λ e. IsWantOfMemory e ⊎ ((cause : Error) × (at : ℕ)
+        × T.refuses decoder.old.octets decoder.old.index (decoder.old.index + length) cause at × Shows decoder.old.index length cause at e)) }
+    ensures none { IfErr result (λ e. IsWantOfMemory e ⊎ ((value : Rdata)
+        → Is T.rdata (λ x. T.reads decoder.old.octets decoder.old.index x (decoder.old.index + length)) value → ⊥)) }
+{
+    let start = decoder.index();
+    match T::read_data(alloc, decoder, length) {
+        Ok(data) => Ok(data.into_rdata()),
+        Err(cause) => Err(shown(
+            start,
+            usize::from(length.unverified()),
+            decoder.index(),
+            cause,
+        )),
+    }
+}
+
+// The error of data that stopped at an index.
+fn shown(start: usize, len: usize, stop: usize, cause: DecodeError) -> DecodeError
+    requires { start ≤ stop }
+    ensures memory { IsWantOfMemory cause → result ≡ cause }
+    ensures shown { IsWantOfMemory cause ⊎ Shows start len cause stop result }
+{
+    let read = stop - start;
+    match cause {
+        DecodeError::Memory => DecodeError::Memory,
+        _ => {
+            if read == len {
+                cause
+            } else {
+                DecodeError::IncorrectRDataLengthRead { read, len }
+            }
+        }
+    }
+}
+
+// The refusal of a type that has no data.
+fn read_none(
+    decoder: &BinDecoder<'_>,
+    record_type: RecordType,
+    length: Restrict<u16>,
+) -> Result<RData, DecodeError>
+    ensures refused { IfErr result (λ e. Shows decoder.now.index length (UnknownRecordTypeValue (record_type_number record_type)) decoder.now.index e) }
+    ensures none { IfOk result (λ value. ⊥) }
+    ensures within { decoder.now.index ≤ size decoder.now.octets }
+{
+    let start = decoder.index();
+    let cause = DecodeError::UnknownRecordTypeValue(u16::from(record_type));
+    Err(shown(start, usize::from(length.unverified()), start, cause))
+}
+
+// The octets of a type without a form of its own.
+fn read_unknown(
+    alloc: Global,
+    decoder: &mut BinDecoder<'_>,
+    code: RecordType,
+    length: Restrict<u16>,
+) -> Result<RData, DecodeError>
+    ensures ok { IfOk result (λ value. Is (Unknown code) (λ null. FieldsAt decoder.old.octets decoder.old.index (null_fields null) (decoder.old.index + length)) value) }
+    ensures end { OnOk result (decoder.new.index ≡ decoder.old.index + length) }
+    ensures same { decoder.new.octets ≡ decoder.old.octets }
+    ensures forward { decoder.old.index ≤ decoder.new.index }
+    ensures within { decoder.new.index ≤ size decoder.new.octets }
+    ensures refused { IfErr result (λ e. IsWantOfMemory e ⊎ ((cause : Error) × (at : ℕ)
+        × Stops decoder.old.octets (decoder.old.index + length) null_kinds decoder.old.index cause at × Shows decoder.old.index length cause at e)) }
+    ensures none { IfErr result (λ e. IsWantOfMemory e ⊎ ((value : Rdata)
+        → Is (Unknown code) (λ null. FieldsAt decoder.old.octets decoder.old.index (null_fields null) (decoder.old.index + length)) value → ⊥)) }
+{
+    let start = decoder.index();
+    match NULL::read_data(alloc, decoder, length) {
+        Ok(rdata) => Ok(RData::Unknown { code, rdata }),
+        Err(cause) => Err(shown(
+            start,
+            usize::from(length.unverified()),
+            decoder.index(),
+            cause,
+        )),
+    }
+}
