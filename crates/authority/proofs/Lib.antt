@@ -1,10 +1,6 @@
 pub mod Asked
-pub mod Causes
-pub mod DataTexts
-pub mod Loads
-pub mod Numbers
+pub mod Encoded
 pub mod ServedRuns
 pub mod StreamFaults
 pub mod StreamRuns
-pub mod Words
 pub mod WorkedRows

@@ -3,7 +3,7 @@ use Rattle.std.proofs.Common.{◌≡◌, ℕ, Bool, true, false, List, [], ◌�
 use Rattle.std.specs.Prelude.{codes, pos, None}
 use Rattle.dnw_codes.specs.declared.record_type.RecordType.TheVariants as types
 use Rattle.dnw_codes.specs.declared.dns_class.DNSClass.TheVariants as classes
-use Rattle.zst_record.specs.declared.record_data.RData.TheVariants as rdata
+use Rattle.drd_rdata.specs.declared.rdata.RData.TheVariants as rdata
 use Rattle.zst_record.specs.declared.records.Record.{Record}
 use Rattle.zst_zone.specs.declared.settings.ZoneType.TheVariants as kinds
 use Rattle.zst_zone.specs.declared.settings.AxfrPolicy.TheVariants as policies
@@ -18,9 +18,11 @@ use Rattle.std.specs.Cmp.Lexicographic.{slice_cmp}
 use Rattle.std.specs.Ordering.{nat_cmp}
 use Rattle.std.specs.declared.cmp.Ordering.TheVariants.{Less}
 use Rattle.dnw_name.specs.NameKey.{rank, name_key}
+use Rattle.std.specs.Net.Addr.{ipv4_bits}
 use Rattle.dnw_decoder.specs.Octets.{octets_32}
 use Rattle.zsv_message.specs.Headers.{header_of}
-use Rattle.zst_record.specs.Records.{record_octets}
+use Rattle.drd_rdata.specs.Writing.{written_octets}
+use Rattle.zst_record.specs.Records.{fixed_octets, plain}
 use Rattle.dnw_decoder.specs.Spelling.{NameAt, at_end, at_label}
 use Rattle.zsv_message.specs.Requests.{Request, QuestionAt}
 use Rattle.zst_zone.specs.Zones.{View, lookup_result, answered, name_exists, name_error, out_of_zone}
@@ -118,17 +120,17 @@ a_missing_name = refl
 outside : lookup_result zone elsewhere types.A ≡ out_of_zone
 outside = refl
 
--- The address record takes 31 octets.
-address_octets : record_octets address ≡ name_octets (below (codes "www")) ++ (0 ∷ 1 ∷ 0 ∷ 1 ∷ 0 ∷ 0 ∷ 14 ∷ 16 ∷ 0 ∷ 4 ∷ 192 ∷ 0 ∷ 2 ∷ 1 ∷ [])
-unfolding octets_32
+-- The address record takes 31 octets, four of them data.
+address_octets : name_octets address.name ++ fixed_octets address 4 ++ written_octets address.rdata ≡ name_octets (below (codes "www")) ++ (0 ∷ 1 ∷ 0 ∷ 1 ∷ 0 ∷ 0 ∷ 14 ∷ 16 ∷ 0 ∷ 4 ∷ 192 ∷ 0 ∷ 2 ∷ 1 ∷ [])
+unfolding octets_32 ipv4_bits
 address_octets = refl
 
-address_size : length (record_octets address) ≡ 31
+address_size : plain address ≡ 31
 unfolding octets_32
 address_size = refl
 
 -- The start of authority takes 78 octets, 55 of them data.
-start_size : length (record_octets start) ≡ 78
+start_size : plain start ≡ 78
 unfolding octets_32
 start_size = refl
 

@@ -7,6 +7,7 @@ use Rattle.std.specs.Int.{w16, to_be_bytes}
 use Rattle.std.specs.Io.KnownBytes.{Appends, Consumes, IsAtEnd}
 use Rattle.authority.specs.declared.stream.StreamError.{StreamError}
 use Rattle.authority.specs.declared.stream.StreamError.TheVariants as errors
+use Rattle.zsv_message.specs.Requests.{OpensRequest}
 use Rattle.authority.specs.Serving.{World, Received, Serves, ServesAll}
 
 -- A message behind its length.
@@ -49,12 +50,12 @@ abbrev pub WritesFront : Option (List ℕ) → Option (List ℕ) → List ℕ �
 WritesFront before after octets = (count : ℕ) × Appends before after (take count octets)
 
 -- What serving a frame may answer instead. At a fault of the writer the message has taken effect, and a front of its
--- reply's frame stands; for want of memory nothing has.
+-- reply's frame stands; for want of memory nothing has, and the message has a request's header.
 abbrev pub IsServeFault : World → Received → Option (List ℕ) → Option (List ℕ) → World → StreamError → Type 0
 IsServeFault old received before after new errors.Read = ⊥
 IsServeFault old received before after new errors.Write = (reply : List ℕ) × Serves old received (Some reply) new × WritesFront before after (framed reply)
 IsServeFault old received before after new errors.CutFrame = ⊥
-IsServeFault old received before after new (errors.OutOfMemory applied) = (applied ≡ false) × (after ≡ before) × (new ≡ old)
+IsServeFault old received before after new (errors.OutOfMemory applied) = (applied ≡ false) × OpensRequest received.message × (after ≡ before) × (new ≡ old)
 IsServeFault old received before after new errors.TooLong = ⊥
 
 -- One message served, and its answer's frame written behind what was written before.

@@ -3,4 +3,3 @@ pub mod Programs
 pub mod Runs
 pub mod Servers
 pub mod Serving
-pub mod ZoneText

@@ -2,9 +2,8 @@
 use Rattle.std.specs.Prelude.{◌≡◌, ℕ, ◌⊎◌, false, List, [], ◌∷◌, Option, Some, None, Result, Ok, Err}
 use Rattle.std.specs.Io.KnownBytes.{IsAtEnd}
 use Rattle.std.specs.declared.net.SocketAddr.{SocketAddr}
-use Rattle.authority.specs.declared.loader.LoadCause.TheVariants as causes
-use Rattle.authority.specs.declared.loader.text.TextError.{TextError}
-use Rattle.authority.specs.declared.loader.text.TextError.TheVariants as texts
+use Rattle.authority_text.specs.declared.text.TextError.{TextError}
+use Rattle.authority_text.specs.declared.text.TextError.TheVariants as texts
 use Rattle.authority.specs.declared.program.Fault.{Fault}
 use Rattle.authority.specs.declared.program.Fault.TheVariants as faults
 use Rattle.authority.specs.declared.stream.StreamError.{StreamError}
@@ -13,7 +12,7 @@ use Rattle.zst_zone.specs.declared.settings.ZoneType.TheVariants as kinds
 use Rattle.zst_zone.specs.declared.settings.AxfrPolicy.TheVariants as policies
 use Rattle.dnw_name.specs.DomainName.{DomainName}
 use Rattle.zst_zone.specs.Zones.{View}
-use Rattle.authority.specs.ZoneText.{IsOwnerText, IsNumberText, IsZoneText, IsRefusedAt}
+use Rattle.authority_text.specs.ZoneText.{IsOwnerText, IsNumberText, IsZoneText, IsLoadFault}
 use Rattle.authority.specs.Frames.{ServesFrames, ServesUntil}
 
 -- Three words: an origin that ends at the root, a file, and a moment of 64 bits.
@@ -60,7 +59,7 @@ FaultStands words file faults.Words = (origin : DomainName) (now : ℕ) → AreW
 FaultStands words file faults.ZoneFile = (origin : DomainName) × (now : ℕ) × AreWords words origin now × (file ≡ None)
 FaultStands words file (faults.Zone error) =
     (origin : DomainName) × (now : ℕ) × (text : List ℕ) × AreWords words origin now × (file ≡ Some text)
-    × ((error.cause ≡ causes.OutOfMemory → ⊥) → IsRefusedAt (first_zone origin) text error.line error.cause)
+    × IsLoadFault (first_zone origin) text error
 FaultStands words file (faults.Stream error) = error ≡ streams.OutOfMemory false
 
 -- The program ends before it serves, and leaves input and output alone, or it leaves the stream.
@@ -105,7 +104,7 @@ abbrev pub TextGives : DomainName → List ℕ → Result View Fault → Type 0
 TextGives origin text (Ok zone) = IsZoneText (first_zone origin) text zone × (zone.zone_type ≡ kinds.Primary)
 TextGives origin text (Err faults.Words) = ⊥
 TextGives origin text (Err faults.ZoneFile) = ⊥
-TextGives origin text (Err (faults.Zone error)) = (error.cause ≡ causes.OutOfMemory → ⊥) → IsRefusedAt (first_zone origin) text error.line error.cause
+TextGives origin text (Err (faults.Zone error)) = IsLoadFault (first_zone origin) text error
 TextGives origin text (Err (faults.Stream error)) = ⊥
 
 -- A status that stands for some words, file and streams: those of a process have no value in a clause.

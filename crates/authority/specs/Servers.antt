@@ -1,14 +1,13 @@
 -- The server's own values, as the definitions of serving see them.
 use Rattle.std.specs.Prelude.{◌≡◌, ◌<◌, Bool, true, false}
 use Rattle.std.specs.List.{AllByRecursion}
-use Rattle.zst_record.specs.declared.records.Record.{Record}
 use Rattle.zsv_message.specs.declared.encode.MessageResponse.{MessageResponse}
 use Rattle.zst_zone.specs.declared.settings.ZoneType.{ZoneType}
 use Rattle.zst_zone.specs.declared.settings.ZoneType.TheVariants as zones
 use Rattle.zsv_message.specs.declared.header.ResponseCode.{ResponseCode}
 use Rattle.zsv_message.specs.Headers.{FitsHeader, response_code_of, response_code_number}
 use Rattle.zsv_message.specs.Requests.{Request}
-use Rattle.zst_record.specs.Records.{has_only_full_names}
+use Rattle.zst_record.specs.Records.{ReadsBackAlone}
 use Rattle.zsv_message.specs.Replies.{ReplyParts}
 use Rattle.zst_zone.specs.Zones.{View}
 
@@ -21,15 +20,11 @@ serves_kind zones.External = false
 abbrev pub parts_of : MessageResponse → ReplyParts
 parts_of r = record { metadata = r.metadata; answers = r.answers.now; authorities = r.authorities.now }
 
--- Every name of the record ends at the root.
-abbrev pub IsFull : Record → Type 0
-IsFull r = has_only_full_names r ≡ true
-
 -- A response that can be written and read back.
 pub record IsSound (r : MessageResponse) : Type 0 where
   pub metadata : FitsHeader r.metadata
-  pub answers : AllByRecursion IsFull r.answers.now
-  pub authorities : AllByRecursion IsFull r.authorities.now
+  pub answers : AllByRecursion ReadsBackAlone r.answers.now
+  pub authorities : AllByRecursion ReadsBackAlone r.authorities.now
 
 -- A response code with a name of its own in four bits.
 pub record IsKnown (code : ResponseCode) : Type 0 where

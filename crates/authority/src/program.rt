@@ -4,10 +4,9 @@ ghost use Rattle.std.specs.Prelude.{◌≡◌, true, map, option_copied};
 ghost use Rattle.std.specs.String.{string_bytes};
 ghost use Rattle.authority.specs.Programs.{Answers, StatusIs, TextGives, WordsGive, read_or_usage, status_of};
 
-use crate::loader::text::{TextError, parse_owner};
-use crate::loader::{LoadError, load_zone, parse_u64};
 use crate::server::{Authority, NoSuite};
 use crate::stream::StreamError;
+use authority_text::{LoadError, TextError, load_zone, parse_owner, parse_u64};
 use std::alloc::Global;
 use std::io::{Read, Write};
 use std::net::{Ipv4Addr, SocketAddr, SocketAddrV4};
@@ -58,7 +57,8 @@ pub fn run<R: Read, W: Write, F: Write>(
     writer: &mut W,
     faults: &mut F,
 ) -> u8
-    ensures { StatusIs (map string_bytes words.now) (option_copied zone.entry) (R.remaining reader.old) (R.remaining reader.new) (W.contents writer.old) (W.contents writer.new) result }
+    ensures status { StatusIs (map string_bytes words.now) (option_copied zone.entry) (R.remaining reader.old) (R.remaining reader.new) (W.contents writer.old) (W.contents writer.new) result }
+    ensures quiet { result ≡ 0 → F.contents faults.new ≡ F.contents faults.old }
 {
     match serve(alloc, words, zone, reader, writer) {
         Ok(()) => 0,

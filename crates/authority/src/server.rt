@@ -2,6 +2,7 @@
 
 ghost use Rattle.std.specs.Prelude.{◌≡◌, ◌+◌, ◌<◌, vec_len, vec_capacity, length, map, IfOk, IfErr, OnOk, false};
 ghost use Rattle.authority.specs.Serving.{limit_of, Serves};
+ghost use Rattle.zsv_message.specs.Requests.{OpensRequest};
 ghost use Rattle.authority.specs.Runs.{octets_of, received, ServesNext, ServesFront};
 
 use crate::server::answer::reply_to;
@@ -108,7 +109,7 @@ impl<S, K> Authority<S, K> {
         now: u64,
     ) -> Result<Option<Vec<u8>>, ServeError>
         ensures served { IfOk result (λ answer. Serves self.old (record { message = message.now; source = src; transport = protocol; now = now }) (octets_of answer) self.new) }
-        ensures refused { IfErr result (λ e. (e ≡ ServeError.OutOfMemory false) × (self.new ≡ self.old)) }
+        ensures refused { IfErr result (λ e. (e ≡ ServeError.OutOfMemory false) × OpensRequest message.now × (self.new ≡ self.old)) }
     {
         let request = match MessageRequest::read(self.alloc, message) {
             Ok(request) => request,

@@ -17,6 +17,7 @@ pub use drd_names::{ANAME, CNAME, MX, NS, PTR, SOA, SRV};
 pub use drd_opt::OPT;
 pub use drd_plain::{A, AAAA, HINFO, NAPTR, TXT};
 pub use drd_rdata::{RData, RecordData};
+pub use drd_readable::is_readable;
 pub use drd_svcb::{HTTPS, SVCB};
 pub use drd_words::HEX;
 

@@ -6,9 +6,11 @@ mod digits;
 mod dns_class;
 pub mod error;
 mod record_type;
+mod record_type_text;
 mod restrict;
 mod serial_number;
 
+pub use digits::number_behind;
 pub use dns_class::DNSClass;
 pub use error::{DecodeError, LexerError, ParseError, ParseResult, ProtoError};
 pub use record_type::RecordType;

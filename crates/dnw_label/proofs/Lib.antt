@@ -1,3 +1,4 @@
+pub mod EscapeLemmas
 pub mod LabelRoundTrip
 pub mod LabelTextLemmas
 pub mod Orders

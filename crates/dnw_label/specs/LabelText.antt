@@ -26,15 +26,22 @@ is_octal c = nat_le 48 c && nat_le c 55
 abbrev pub octal_value : ℕ → ℕ → ℕ → ℕ
 octal_value a b c = 64 * (a - 48) + 8 * (b - 48) + (c - 48)
 
--- The text begins with this octet: a character other than `.` and `\` that stands for itself, `\` before a
--- character that is no digit, or `\` before three octal digits of an octet.
-pub data OctetText : List ℕ → ℕ → List ℕ → Type 0 where
-  plain : (c : ℕ) (behind : List ℕ) → c ≢ 46 → c ≢ 92 → OctetText (c ∷ behind) c behind
-  quoted : (slash c : ℕ) (behind : List ℕ) → slash ≡ 92 → is_ascii_digit c ≡ false → OctetText (slash ∷ c ∷ behind) c behind
-  octal : (slash a b c octet : ℕ) (behind : List ℕ) → slash ≡ 92 → (is_octal a && is_octal b && is_octal c) ≡ true → octet ≡ octal_value a b c → octet < 256 → OctetText (slash ∷ a ∷ b ∷ c ∷ behind) octet behind
+-- What stands behind a backslash: a character that is no digit and stands for itself, or three octal digits of an octet.
+pub data EscapeText : List ℕ → ℕ → List ℕ → Type 0 where
+  quoted : (c : ℕ) (behind : List ℕ) → is_ascii_digit c ≡ false → EscapeText (c ∷ behind) c behind
+  octal : (a b c octet : ℕ) (behind : List ℕ) → (is_octal a && is_octal b && is_octal c) ≡ true → octet ≡ octal_value a b c → octet < 256 → EscapeText (a ∷ b ∷ c ∷ behind) octet behind
 
--- The text begins with the octets of a label, up to its end or to a dot.
+-- The text begins with this octet: one other than `\` stands for itself, and behind a backslash stands what it escapes.
+pub data OctetText : List ℕ → ℕ → List ℕ → Type 0 where
+  plain : (c : ℕ) (behind : List ℕ) → c ≢ 92 → OctetText (c ∷ behind) c behind
+  escaped : (slash : ℕ) (text : List ℕ) (c : ℕ) (behind : List ℕ) → slash ≡ 92 → EscapeText text c behind → OctetText (slash ∷ text) c behind
+
+abbrev pub at_dot : List ℕ → Bool
+at_dot [] = false
+at_dot (c ∷ rest) = c == 46
+
+-- The text begins with the octets of a label, up to its end or to a dot without a backslash.
 pub data LabelText : List ℕ → List ℕ → List ℕ → Type 0 where
   ends : LabelText [] [] []
   dot : (c : ℕ) (rest : List ℕ) → c ≡ 46 → LabelText (c ∷ rest) [] (c ∷ rest)
-  octet : (text : List ℕ) (c : ℕ) (rest label behind : List ℕ) → OctetText text c rest → LabelText rest label behind → LabelText text (c ∷ label) behind
+  octet : (text : List ℕ) (c : ℕ) (rest label behind : List ℕ) → at_dot text ≡ false → OctetText text c rest → LabelText rest label behind → LabelText text (c ∷ label) behind

@@ -2,3 +2,4 @@ pub mod Label
 pub mod LabelHash
 pub mod LabelPrint
 pub mod LabelText
+pub mod EscapeLaws

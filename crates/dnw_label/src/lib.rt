@@ -6,11 +6,13 @@
 //! `fmt_label` writes its text, each exactly by its definition.
 #![tactic(auto)]
 
+mod escape;
 mod label;
 mod label_iter;
 mod label_print;
 mod label_text;
 
+pub use escape::octet_at;
 pub use label::{CaseInsensitive, CaseSensitive, IntoLabel, Label, LabelCmp};
 pub use label_iter::LabelIter;
 pub use label_print::fmt_label;

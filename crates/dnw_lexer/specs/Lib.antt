@@ -1,3 +1,4 @@
+pub mod LeftLaws
 pub mod Lexer
 pub mod Tokens
 pub mod Ttl

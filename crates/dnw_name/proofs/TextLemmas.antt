@@ -9,7 +9,8 @@ use Rattle.std.specs.Cmp.Lexicographic.{pointwise, same_text}
 use Rattle.std.proofs.lemmas.Bool.Decides.{nat_tests}
 use Rattle.std.proofs.lemmas.List.{append_assoc}
 use Rattle.dnw_label.specs.LabelText.{OctetText, LabelText, ends, dot, octet, IsTextLabel}
-use Rattle.dnw_label.proofs.LabelTextLemmas.{octet-no_dot, no_octet_in_nothing, label-same}
+use Rattle.dnw_label.specs.EscapeLaws.{no_octet_in_nothing}
+use Rattle.dnw_label.proofs.LabelTextLemmas.{no_dot, label-same}
 use Rattle.dnw_name.specs.NameText.{LabelsText, last, closed, more, NameText, empty, root, labels as labels_text, completed}
 
 -- What was read of a name's labels, and what is left of its text.
@@ -136,7 +137,7 @@ no_empty_label is = absurd (omega (arith, is.few.some))
 nothing_is_empty : (text label behind : List ℕ) → text ≡ [] → LabelText text label behind → label ≡ []
 nothing_is_empty text label behind e ends = refl
 nothing_is_empty text label behind e (dot c r d) = refl
-nothing_is_empty text label behind e (octet _ c r l b first later) =
+nothing_is_empty text label behind e (octet _ c r l b _ first later) =
     absurd (no_octet_in_nothing c r (subst (λ (x : List ℕ). OctetText x c r) e first))
 
 no_labels_in_nothing : (text : List ℕ) (f : Bool) (ls : List (List ℕ)) → text ≡ [] → LabelsText text f ls → ⊥
@@ -146,7 +147,7 @@ no_labels_in_nothing text f ls e (more _ l c r _ ms t is later) = no_empty_label
 
 dot_is_empty : (c : ℕ) (rest label behind : List ℕ) → c ≡ 46 → LabelText (c ∷ rest) label behind → label ≡ []
 dot_is_empty c rest label behind e (dot _ _ d) = refl
-dot_is_empty c rest label behind e (octet _ o r l b first later) = absurd (octet-no_dot c rest o r first e)
+dot_is_empty c rest label behind e (octet _ o r l b here first later) = absurd (no_dot c rest here e)
 
 no_labels_in_dot : (c : ℕ) (f : Bool) (ls : List (List ℕ)) → c ≡ 46 → LabelsText (c ∷ []) f ls → ⊥
 no_labels_in_dot c f ls e (last _ l t is) = no_empty_label (subst IsTextLabel (dot_is_empty c [] l [] e t) is)

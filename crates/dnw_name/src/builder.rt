@@ -40,6 +40,19 @@ impl NameBuilder {
         }
     }
 
+    // The name of these labels, which take so many octets.
+    pub(crate) fn of_labels(is_fqdn: bool, labels: Vec<Label>, octets: usize) -> NameBuilder
+        requires name { IsDomainName (domain_name is_fqdn labels.items) }
+        requires octets { octets ≡ labels_len labels.items }
+        ensures { result ≡ domain_name is_fqdn labels.items }
+    {
+        NameBuilder {
+            is_fqdn,
+            labels,
+            octets,
+        }
+    }
+
     /// The name with a label more at its end, refused as by `Name::append_label`.
     pub fn append_label<L: IntoLabel>(self, label: L) -> Result<NameBuilder, ProtoError>
         ensures ok { IfOk result (λ name. (name ≡ domain_name self.fqdn (self.labels ++ L.octets label ∷ [])) × IsDomainName name) }

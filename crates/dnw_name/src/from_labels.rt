@@ -4,6 +4,7 @@ ghost use Rattle.std.specs.Iterator.{Drains, Yields};
 ghost use Rattle.dnw_codes.specs.ProtoError.{IsMemory};
 ghost use Rattle.dnw_name.specs.DomainName.{domain_name, IsDomainName};
 
+use crate::builder::NameBuilder;
 use crate::name::Name;
 use dnw_codes::{DecodeError, ProtoError};
 use dnw_label::IntoLabel;
@@ -23,17 +24,18 @@ impl Name {
             × (All L.accepts items → IsDomainName (domain_name true (map L.octets items)) → ⊥))) }
     {
         let mut left = labels;
-        let mut name = Name::root(alloc);
+        let mut name = NameBuilder::new(alloc, true);
         'labels: for _taken in 0..128u8 {
             let Some(label) = next_of(&mut left) else {
-                return Ok(name);
+                return Ok(name.finish());
             };
             name = match name.append_label(label) {
                 Ok(longer) => longer,
                 Err(refused) => return Err(refused),
             };
         }
-        Err(ProtoError::Decode(DecodeError::DomainNameTooLong(name.len() + 1)))
+        let octets = name.finish().len() + 1;
+        Err(ProtoError::Decode(DecodeError::DomainNameTooLong(octets)))
     }
 }
 

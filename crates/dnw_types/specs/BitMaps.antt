@@ -66,16 +66,17 @@ pub record TypesAt (message : List ℕ) (place len : ℕ) (types : List ℕ) (en
   pub long : length octets ≡ len
   pub maps : BitMaps IsMap 0 octets types
 
--- A set of types was written: bit maps without zero octets at a window's end, which read back at their place, in the
--- finished message too.
+-- A set of types was written, within the maximum: bit maps without zero octets at a window's end, which read back at their
+-- place, in the finished message too.
 pub record EmitsTypes (types : List ℕ) (old new : State) : Type 0 where
   pub octets : List ℕ
   pub maps : BitMaps IsTightMap 0 octets types
   pub small : AreOctets octets
   pub puts : Puts octets old new
   pub stays : Sound old → Holds new new.offset (λ message. TypesAt message old.offset (length octets) types new.offset)
+  pub fits : new.offset ≤ old.maximum
 
 -- It was refused: a growth was, or the bit maps would pass the maximum.
 pub record RefusesTypes (types : List ℕ) (old : State) (e : ProtoError) (new : State) : Type 0 where
   pub same : new ≡ old
-  pub cause : IsMemory e ⊎ ((octets : List ℕ) × BitMaps IsTightMap 0 octets types × IsRefusal old (length octets) e)
+  pub cause : IsMemory e ⊎ ((octets : List ℕ) × AreTightMaps octets types × IsRefusal old (length octets) e)

@@ -84,6 +84,14 @@ impl RecordTypeSet {
         self.codes.contains(&u16::from(record_type))
     }
 
+    /// Whether no type is in the set.
+    pub fn is_empty(&self) -> bool
+        ensures value { result ≡ (length self.now == 0) }
+        ensures rise { Rises 0 self.now 65536 }
+    {
+        self.codes.is_empty()
+    }
+
     /// The types by rising number.
     pub fn iter(&self) -> RecordTypeIter<'_>
         ensures { result ≡ self.now }

@@ -12,3 +12,4 @@ pub use caa::CAA;
 pub use issuer::read_issuer;
 pub use key_value::KeyValue;
 pub use value::read_iodef;
+pub use words::is_tag;

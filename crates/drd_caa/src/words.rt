@@ -17,8 +17,8 @@ pub(crate) struct Tag(pub(crate) Vec<u8>);
 #[derive(Debug, Drop)]
 pub(crate) struct Value(pub(crate) Vec<u8>);
 
-/// Whether a tag is 1 to 15 letters and digits.
-pub(crate) fn is_tag(tag: &[u8]) -> bool
+/// Whether a tag is 1 to 15 letters and digits (RFC 8659 4.1).
+pub fn is_tag(tag: &[u8]) -> bool
     ensures { result ≡ is_caa_tag tag.now }
 {
     !tag.is_empty() && tag.len() <= 15 && verify_flags(tag)

@@ -49,6 +49,7 @@ emitted csync old mid new within front types =
           holds_map new.offset new (λ message. Stands message old.offset (fields_octets (csync_fields csync types.octets)) new.offset) (λ message. CsyncAt message old.offset csync new.offset)
           (λ message there. record { octets = types.octets; maps = tight_reads 0 types.octets csync.type_bit_maps types.maps; there = fields_stand message old.offset csync types.octets new.offset there })
           (puts_stands (fields_octets (csync_fields csync types.octets)) old new sound all);
+      fits = omega (arith, types.fits, front.modes.maximum);
     }
 
 -- Why the front is refused.

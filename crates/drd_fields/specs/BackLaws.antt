@@ -35,7 +35,7 @@ canonical_encoded Compressed n = refl
 canonical_encoded Uncompressed n = refl
 canonical_encoded UncompressedLowercase n = ap (λ (ls : List (List ℕ)). name_octets (domain_name true ls)) (lower_twice n.labels)
 
-strings_once : (message : List ℕ) (place : ℕ) (ss ts : List (List ℕ)) (end : ℕ) → StringsAt message place ss end → StringsAt message place ts end → ss ≡ ts
+pub strings_once : (message : List ℕ) (place : ℕ) (ss ts : List (List ℕ)) (end : ℕ) → StringsAt message place ss end → StringsAt message place ts end → ss ≡ ts
 strings_once message place [] [] end s t = refl
 strings_once message place [] (t ∷ ts) end s there =
     absurd (omega (arith, s, there.1.there.behind, strings_forward message there.0 ts end there.2))

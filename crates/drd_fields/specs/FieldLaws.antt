@@ -104,7 +104,7 @@ kind_none message end place (rest octets) e stop le refused to_end there =
       | inr cut ↦ omega (arith, cut, to_end refl, rest_within message place octets stop le there)
     ]
 
-no_fields : (message : List ℕ) (place : ℕ) (fs : List Field) (stop : ℕ) → kinds_of fs ≡ [] → FieldsAt message place fs stop → stop ≡ place
+pub no_fields : (message : List ℕ) (place : ℕ) (fs : List Field) (stop : ℕ) → kinds_of fs ≡ [] → FieldsAt message place fs stop → stop ≡ place
 no_fields message place [] stop e there = there
 no_fields message place (f ∷ fs) stop e there = absurd (cc e)
 

@@ -1,4 +1,5 @@
 pub mod Fields
+pub mod OnceLaws
 pub mod Reading
 pub mod FieldLaws
 pub mod Writing

@@ -76,9 +76,14 @@ HaveLongString (f ∷ fs) e = HasLongString f e ⊎ HaveLongString fs e
 abbrev pub RefusesFields : List Field → State → ProtoError → Type 0
 RefusesFields fs old e = IsRefusal old (length (fields_octets fs)) e ⊎ HaveLongString fs e
 
--- The data of a record were written, in the mode of their kind: they read back at their place, in the finished message
--- too, and take at most their plain size.
+-- Octets that were written end within the maximum. Where none were, the offset may be behind it.
+abbrev pub EndsWithin : State → State → Type 0
+EndsWithin old new = old.offset < new.offset → new.offset ≤ old.maximum
+
+-- The data of a record were written, in the mode of their kind and within the maximum: they read back at their place, in the
+-- finished message too, and take at most their plain size.
 pub record EmitsData (kind : RDataEncoding) (fs : List Field) (old new : State) : Type 0 where
   pub stays : Sound old → Holds new new.offset (λ message. FieldsAt message old.offset (encoded_fields (rdata_encoding kind old.canonical old.encoding) fs) new.offset)
   pub size : new.offset ≤ old.offset + length (fields_octets fs)
   pub exact : writes_pointers (rdata_encoding kind old.canonical old.encoding) ≡ false → Puts (fields_octets (encoded_fields (rdata_encoding kind old.canonical old.encoding) fs)) old new
+  pub within : EndsWithin old new

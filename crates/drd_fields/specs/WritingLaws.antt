@@ -1,7 +1,8 @@
 -- Laws of writing: what puts octets emits their field, fields go one behind the other, and a mode may change between.
 use Rattle.std.proofs.Common.{◌≡◌, ℕ, ◌+◌, ◌≤◌, inl, inr, List, [], ◌∷◌, ◌++◌, length, take, drop, refl, sym, ap, subst, ◌∙◌, arith, append_assoc, append-nil, ◌⊎◌}
+use Rattle.std.proofs.Math.Nat.{eq-or-lt_of_le}
 use Rattle.std.proofs.lemmas.List.{length-take, length-append, drop-drop, take_at, drop_at, take-append-drop}
-use Rattle.std.specs.Prelude.{Result, Ok, Err, OnOk, IfErr}
+use Rattle.std.specs.Prelude.{Result, Ok, Err, OnOk, OnErr, IfErr}
 use Rattle.dnw_codes.specs.declared.error.ProtoError.{ProtoError}
 use Rattle.dnw_codes.specs.declared.error.ProtoError.TheVariants.{MaxBufferSizeExceeded}
 use Rattle.dnw_decoder.specs.Octets.{Stands, octets_16, octets_32}
@@ -17,7 +18,7 @@ use Rattle.drd_fields.specs.Fields.{Field, octet, short, long, name, string, str
 use Rattle.drd_fields.specs.FieldLaws.{strings_joined}
 use Rattle.std.specs.List.{flat_map}
 use Rattle.std.proofs.lemmas.Grind.{flat_map-append}
-use Rattle.drd_fields.specs.Writing.{encoded_field, encoded_fields, string_octets, field_octets, fields_octets, EmitsField, EmitsFields, EmitsData, IsTooLong, SomeTooLong}
+use Rattle.drd_fields.specs.Writing.{encoded_field, encoded_fields, string_octets, field_octets, fields_octets, EmitsField, EmitsFields, EmitsData, EndsWithin, IsTooLong, SomeTooLong}
 
 -- Octets written behind others that were written.
 written_then : (o : List ℕ) (place : ℕ) (a b : List ℕ) → place ≤ length o → written_at (written_at o place a) (place + length a) b ≡ written_at o place (a ++ b)
@@ -49,6 +50,19 @@ puts_none s le = record {
   places = refl;
   modes = record { maximum = refl; encoding = refl; canonical = refl; points = refl };
 }
+
+-- What was put within the maximum ends there; what was refused moved nothing.
+pub puts_within : {T E : Type 0} (r : Result T E) (more : List ℕ) (size : ℕ) (old new : State) → length more ≡ size → OnOk r (Puts more old new) → OnOk r (old.offset + size ≤ old.maximum) → OnErr r (new ≡ old) → EndsWithin old new
+puts_within (Ok v) more size old new same puts fits stays = λ written. omega (arith, same, puts.offset, fits)
+puts_within (Err e) more size old new same puts fits stays = λ written. omega (arith, written, ap (λ (s : State). s.offset) stays)
+
+-- One write behind another: each ends within the maximum.
+pub within_then : (old mid new : State) → mid.maximum ≡ old.maximum → mid.offset ≤ new.offset → EndsWithin old mid → EndsWithin mid new → EndsWithin old new
+within_then old mid new same forward first later =
+    λ written. elim (eq-or-lt_of_le forward) [
+      | inl is ↦ omega (arith, first (omega (arith, written, is)), is)
+      | inr lt ↦ omega (arith, later lt, same)
+    ]
 
 -- A number that is put is its field.
 pub puts_octet : (n : ℕ) (old new : State) → Puts (n ∷ []) old new → EmitsField (octet n) old new
@@ -147,8 +161,8 @@ mode_writes m old mid points w = record {
   modes = record { maximum = w.modes.maximum; encoding = refl; canonical = w.modes.canonical; points = sym points };
 }
 
-pub mode_emits : (kind : RDataEncoding) (fs : List Field) (old mid : State) → old.points ≡ writes_pointers old.encoding → EmitsFields fs (with_encoding old (rdata_encoding kind old.canonical old.encoding)) mid → EmitsData kind fs old (with_encoding mid old.encoding)
-mode_emits kind fs old mid points e =
+pub mode_emits : (kind : RDataEncoding) (fs : List Field) (old mid : State) → old.points ≡ writes_pointers old.encoding → EmitsFields fs (with_encoding old (rdata_encoding kind old.canonical old.encoding)) mid → EndsWithin old mid → EmitsData kind fs old (with_encoding mid old.encoding)
+mode_emits kind fs old mid points e within =
     let m = rdata_encoding kind old.canonical old.encoding in
     record {
       stays = λ sound. holds_mode mid old.encoding mid.offset _ (e.stays (sound_mode old m sound));
@@ -162,6 +176,7 @@ mode_emits kind fs old mid points e =
             places = p.places;
             modes = record { maximum = p.modes.maximum; encoding = refl; canonical = p.modes.canonical; points = sym points };
           };
+      within = within;
     }
 
 -- A number of four octets is refused as four octets are.

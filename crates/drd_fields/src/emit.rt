@@ -4,7 +4,7 @@ ghost use Rattle.std.specs.Int.{w32, cast_unsigned};
 ghost use Rattle.dnw_encoder.specs.Encoders.{state};
 ghost use Rattle.dnw_encoder.specs.Effects.{Writes, IsRefusal};
 ghost use Rattle.drd_fields.specs.Fields.{octet, short, long, name, string, strings, rest};
-ghost use Rattle.drd_fields.specs.Writing.{EmitsData, EmitsField, RefusesFields, SomeTooLong, string_octets};
+ghost use Rattle.drd_fields.specs.Writing.{EmitsData, EmitsField, EndsWithin, RefusesFields, SomeTooLong, string_octets};
 
 use dnw_codes::ProtoError;
 use dnw_encoder::{BinEncodable, BinEncoder, RDataEncoding};
@@ -16,7 +16,7 @@ pub trait DataField {
     ghost use Rattle.dnw_encoder.specs.Encoders.{state};
     ghost use Rattle.dnw_encoder.specs.Effects.{Writes, IsRefusal};
     ghost use Rattle.drd_fields.specs.Fields.{Field};
-    ghost use Rattle.drd_fields.specs.Writing.{EmitsField, HasLongString, field_octets};
+    ghost use Rattle.drd_fields.specs.Writing.{EmitsField, EndsWithin, HasLongString, field_octets};
     ghost use Rattle.drd_fields.specs.Equality.{IsFull, TellsApart, canonical_field, field_eq};
 
     ghost field: { Self → Field };
@@ -25,6 +25,7 @@ pub trait DataField {
     fn emit_field(&self, encoder: &mut BinEncoder<'_>) -> Result<(), ProtoError>
         ensures same_reference { encoder.new.buffer.ghost_name ≡ encoder.old.buffer.ghost_name }
         ensures writes { Writes (state encoder.old) (state encoder.new) }
+        ensures within { EndsWithin (state encoder.old) (state encoder.new) }
         ensures ok { OnOk result (EmitsField (field self.now) (state encoder.old) (state encoder.new)) }
         ensures cause { IfErr result (λ e. IsRefusal (state encoder.old) (length (field_octets (field self.now))) e
             ⊎ HasLongString (field self.now) e) };
@@ -43,7 +44,7 @@ pub trait DataFields {
     ghost use Rattle.dnw_encoder.specs.Encoders.{state};
     ghost use Rattle.dnw_encoder.specs.Effects.{Writes};
     ghost use Rattle.drd_fields.specs.Fields.{Field};
-    ghost use Rattle.drd_fields.specs.Writing.{EmitsFields, RefusesFields, canonical_octets};
+    ghost use Rattle.drd_fields.specs.Writing.{EmitsFields, EndsWithin, RefusesFields, canonical_octets};
     ghost use Rattle.drd_fields.specs.Equality.{AreFull, Tells, fields_eq};
 
     ghost fields: { Self → List Field };
@@ -52,6 +53,7 @@ pub trait DataFields {
     fn emit_fields(&self, encoder: &mut BinEncoder<'_>) -> Result<(), ProtoError>
         ensures same_reference { encoder.new.buffer.ghost_name ≡ encoder.old.buffer.ghost_name }
         ensures writes { Writes (state encoder.old) (state encoder.new) }
+        ensures within { EndsWithin (state encoder.old) (state encoder.new) }
         ensures ok { OnOk result (EmitsFields (fields self.now) (state encoder.old) (state encoder.new)) }
         ensures cause { IfErr result (RefusesFields (fields self.now) (state encoder.old)) };
 
@@ -208,6 +210,7 @@ impl DataFields for RestField<'_> {
 fn emit_strings(encoder: &mut BinEncoder<'_>, texts: &[Vec<u8>]) -> Result<(), ProtoError>
     ensures same_reference { encoder.new.buffer.ghost_name ≡ encoder.old.buffer.ghost_name }
     ensures writes { Writes (state encoder.old) (state encoder.new) }
+    ensures within { EndsWithin (state encoder.old) (state encoder.new) }
     ensures ok { OnOk result (EmitsField (strings (map (λ s. s.items) texts.now)) (state encoder.old) (state encoder.new)) }
     ensures cause { IfErr result (λ e. IsRefusal (state encoder.old) (length (flat_map string_octets (map (λ s. s.items) texts.now))) e
         ⊎ SomeTooLong (map (λ s. s.items) texts.now) e) }
@@ -245,6 +248,7 @@ pub fn emit_data<D: DataFields>(
 ) -> Result<(), ProtoError>
     ensures same_reference { encoder.new.buffer.ghost_name ≡ encoder.old.buffer.ghost_name }
     ensures writes { Writes (state encoder.old) (state encoder.new) }
+    ensures within { EndsWithin (state encoder.old) (state encoder.new) }
     ensures ok { OnOk result (EmitsData kind (D.fields fields.now) (state encoder.old) (state encoder.new)) }
     ensures cause { IfErr result (RefusesFields (D.fields fields.now) (state encoder.old)) }
 {
@@ -264,6 +268,7 @@ pub fn emit_three<A: DataField, B: DataField, C: DataFields>(
 ) -> Result<(), ProtoError>
     ensures same_reference { encoder.new.buffer.ghost_name ≡ encoder.old.buffer.ghost_name }
     ensures writes { Writes (state encoder.old) (state encoder.new) }
+    ensures within { EndsWithin (state encoder.old) (state encoder.new) }
     ensures ok { OnOk result (EmitsData kind (A.field fields.now.0 ∷ B.field fields.now.1.0 ∷ C.fields fields.now.1.1) (state encoder.old) (state encoder.new)) }
     ensures cause { IfErr result (RefusesFields (A.field fields.now.0 ∷ B.field fields.now.1.0 ∷ C.fields fields.now.1.1) (state encoder.old)) }
 {

@@ -6,6 +6,7 @@ use Rattle.drd_keys.specs.declared.cert.CertType.{CertType}
 use Rattle.drd_keys.specs.declared.cert.CertType.TheVariants as cert_type
 use Rattle.drd_keys.specs.declared.cert.Algorithm.{Algorithm}
 use Rattle.drd_keys.specs.declared.cert.Algorithm.TheVariants as algorithm
+use Rattle.drd_keys.specs.declared.cert.CERT.{CERT}
 
 -- The number of the kind of a certificate.
 abbrev pub cert_type_number : CertType → ℕ
@@ -90,3 +91,8 @@ pub record CertAlgorithmAt (message : List ℕ) (place : ℕ) (of_key : Algorith
   pub small : number < 2 ^ 8
   pub there : Stands message place (number ∷ []) end
   pub means : of_key ≡ cert_algorithm_of number
+
+-- The kind and the algorithm are those that their numbers stand for.
+pub record IsNamedCert (cert : CERT) : Type 0 where
+  pub kind : cert.cert_type ≡ cert_type_of (cert_type_number cert.cert_type)
+  pub algorithm : cert.algorithm ≡ cert_algorithm_of (cert_algorithm_number cert.algorithm)

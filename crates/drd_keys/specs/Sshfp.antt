@@ -1,10 +1,11 @@
 -- The numbers of SSHFP data (RFC 4255 3.1, RFC 6594, RFC 7479, RFC 8709).
-use Rattle.std.specs.Prelude.{ℕ, ◌==◌, Bool, List, [], ◌∷◌, unwrap_or, find}
+use Rattle.std.specs.Prelude.{ℕ, ◌≡◌, ◌==◌, Bool, List, [], ◌∷◌, unwrap_or, find}
 use Rattle.std.specs.Ordering.{on}
 use Rattle.drd_keys.specs.declared.sshfp.Algorithm.{Algorithm}
 use Rattle.drd_keys.specs.declared.sshfp.Algorithm.TheVariants as algorithm
 use Rattle.drd_keys.specs.declared.sshfp.FingerprintType.{FingerprintType}
 use Rattle.drd_keys.specs.declared.sshfp.FingerprintType.TheVariants as fingerprint_type
+use Rattle.drd_keys.specs.declared.sshfp.SSHFP.{SSHFP}
 
 -- The number of a key's algorithm.
 abbrev pub sshfp_algorithm_number : Algorithm → ℕ
@@ -49,3 +50,8 @@ fingerprint_type_of number =
 -- Two hashes are the same where their numbers are.
 abbrev pub same_fingerprint_type : FingerprintType → FingerprintType → Bool
 same_fingerprint_type = on fingerprint_type_number ◌==◌
+
+-- The algorithm and the hash are those that their numbers stand for.
+pub record IsNamedSshfp (sshfp : SSHFP) : Type 0 where
+  pub algorithm : sshfp.algorithm ≡ sshfp_algorithm_of (sshfp_algorithm_number sshfp.algorithm)
+  pub hash : sshfp.fingerprint_type ≡ fingerprint_type_of (fingerprint_type_number sshfp.fingerprint_type)

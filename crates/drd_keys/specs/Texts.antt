@@ -1,24 +1,28 @@
 -- The words of record data of keys, certificates and fingerprints: decimal numbers, and octets in base64 or in hex, in
 -- one word or several, which are joined.
-use Rattle.std.specs.Prelude.{ℕ, List}
+use Rattle.std.specs.Prelude.{ℕ, ◌≡◌, List}
 use Rattle.drd_words.specs.Data.{IsBase64Words, IsHexWords}
 use Rattle.drd_words.specs.Word.{IsNumberWord}
 use Rattle.drd_words.specs.Words.{OneThen}
-use Rattle.drd_keys.specs.Cert.{cert_type_number, cert_algorithm_number}
-use Rattle.drd_keys.specs.Sshfp.{sshfp_algorithm_number, fingerprint_type_number}
-use Rattle.drd_keys.specs.Tlsa.{cert_usage_number, selector_number, matching_number}
+use Rattle.drd_keys.specs.Cert.{cert_type_of, cert_algorithm_of}
+use Rattle.drd_keys.specs.Sshfp.{sshfp_algorithm_of, fingerprint_type_of}
+use Rattle.drd_keys.specs.Tlsa.{cert_usage_of, selector_of, matching_of}
 use Rattle.drd_keys.specs.declared.cert.CERT.{CERT}
 use Rattle.drd_keys.specs.declared.openpgpkey.OPENPGPKEY.{OPENPGPKEY}
 use Rattle.drd_keys.specs.declared.smimea.SMIMEA.{SMIMEA}
 use Rattle.drd_keys.specs.declared.sshfp.SSHFP.{SSHFP}
 use Rattle.drd_keys.specs.declared.tlsa.TLSA.{TLSA}
 
+-- A word writes a number of so many bits, and this is what the number stands for.
+abbrev pub IsCodeWord : {X : Type 0} → ℕ → (ℕ → X) → X → List ℕ → Type 0
+IsCodeWord bits code_of code word = (number : ℕ) × IsNumberWord bits number word × (code ≡ code_of number)
+
 -- RFC 4398 2.2: the certificate's kind, the key tag, the key's algorithm, and the certificate in base64.
 abbrev pub IsCertText : List (List ℕ) → CERT → Type 0
 IsCertText words cert =
-    OneThen (IsNumberWord 16 (cert_type_number cert.cert_type))
+    OneThen (IsCodeWord 16 cert_type_of cert.cert_type)
     (OneThen (IsNumberWord 16 cert.key_tag)
-    (OneThen (IsNumberWord 8 (cert_algorithm_number cert.algorithm)) (IsBase64Words cert.cert_data.items))) words
+    (OneThen (IsCodeWord 8 cert_algorithm_of cert.algorithm) (IsBase64Words cert.cert_data.items))) words
 
 -- RFC 7929 2.3: the key in base64.
 abbrev pub IsOpenpgpkeyText : List (List ℕ) → OPENPGPKEY → Type 0
@@ -27,15 +31,15 @@ IsOpenpgpkeyText words key = IsBase64Words key.public_key.items words
 -- RFC 4255 3.2: the key's algorithm, the fingerprint's hash, and the fingerprint in hex.
 abbrev pub IsSshfpText : List (List ℕ) → SSHFP → Type 0
 IsSshfpText words sshfp =
-    OneThen (IsNumberWord 8 (sshfp_algorithm_number sshfp.algorithm))
-    (OneThen (IsNumberWord 8 (fingerprint_type_number sshfp.fingerprint_type)) (IsHexWords sshfp.fingerprint.items)) words
+    OneThen (IsCodeWord 8 sshfp_algorithm_of sshfp.algorithm)
+    (OneThen (IsCodeWord 8 fingerprint_type_of sshfp.fingerprint_type) (IsHexWords sshfp.fingerprint.items)) words
 
 -- RFC 6698 2.2: the certificate's use, the part that is meant, its form, and the octets in hex.
 abbrev pub IsTlsaText : List (List ℕ) → TLSA → Type 0
 IsTlsaText words tlsa =
-    OneThen (IsNumberWord 8 (cert_usage_number tlsa.cert_usage))
-    (OneThen (IsNumberWord 8 (selector_number tlsa.selector))
-    (OneThen (IsNumberWord 8 (matching_number tlsa.matching)) (IsHexWords tlsa.cert_data.items))) words
+    OneThen (IsCodeWord 8 cert_usage_of tlsa.cert_usage)
+    (OneThen (IsCodeWord 8 selector_of tlsa.selector)
+    (OneThen (IsCodeWord 8 matching_of tlsa.matching) (IsHexWords tlsa.cert_data.items))) words
 
 -- RFC 8162 2: those of TLSA.
 abbrev pub IsSmimeaText : List (List ℕ) → SMIMEA → Type 0

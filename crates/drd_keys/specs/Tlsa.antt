@@ -1,5 +1,5 @@
 -- The numbers of TLSA data (RFC 6698 2.1, RFC 7218 2).
-use Rattle.std.specs.Prelude.{ℕ, ◌==◌, Bool, List, [], ◌∷◌, unwrap_or, find}
+use Rattle.std.specs.Prelude.{ℕ, ◌≡◌, ◌==◌, Bool, List, [], ◌∷◌, unwrap_or, find}
 use Rattle.std.specs.Ordering.{on}
 use Rattle.drd_keys.specs.declared.tlsa.CertUsage.{CertUsage}
 use Rattle.drd_keys.specs.declared.tlsa.CertUsage.TheVariants as usage
@@ -7,6 +7,7 @@ use Rattle.drd_keys.specs.declared.tlsa.Selector.{Selector}
 use Rattle.drd_keys.specs.declared.tlsa.Selector.TheVariants as selector
 use Rattle.drd_keys.specs.declared.tlsa.Matching.{Matching}
 use Rattle.drd_keys.specs.declared.tlsa.Matching.TheVariants as matching
+use Rattle.drd_keys.specs.declared.tlsa.TLSA.{TLSA}
 
 -- The number of the use of a certificate.
 abbrev pub cert_usage_number : CertUsage → ℕ
@@ -73,3 +74,9 @@ matching_of number =
 -- Two are the same where their numbers are.
 abbrev pub same_matching : Matching → Matching → Bool
 same_matching = on matching_number ◌==◌
+
+-- Use, part and form are those that their numbers stand for.
+pub record IsNamedTlsa (tlsa : TLSA) : Type 0 where
+  pub usage : tlsa.cert_usage ≡ cert_usage_of (cert_usage_number tlsa.cert_usage)
+  pub part : tlsa.selector ≡ selector_of (selector_number tlsa.selector)
+  pub form : tlsa.matching ≡ matching_of (matching_number tlsa.matching)

@@ -72,7 +72,11 @@ impl Deref for SMIMEA {
 }
 
 impl RecordDataDecodable for SMIMEA {
-    ghost reads = { λ message place smimea end. FieldsAt message place (smimea_fields smimea) end };
+    ghost use Rattle.std.specs.Prelude.{◌+◌, ◌≤◌, length as size, OnOk};
+    ghost use Rattle.dnw_decoder.specs.Reading.{IsWantOfMemory};
+    ghost use Rattle.drd_keys.specs.Tlsa.{IsNamedTlsa};
+
+    ghost reads = { λ message place smimea end. FieldsAt message place (smimea_fields smimea) end × IsNamedTlsa smimea.0 };
 
     ghost refuses = { λ message place end e at. Stops message end smimea_kinds place e at };
 
@@ -80,7 +84,17 @@ impl RecordDataDecodable for SMIMEA {
         alloc: Global,
         decoder: &mut BinDecoder<'_>,
         length: Restrict<u16>,
-    ) -> Result<SMIMEA, DecodeError> {
+    ) -> Result<SMIMEA, DecodeError>
+        ensures ok { IfOk result (λ smimea. FieldsAt decoder.old.octets decoder.old.index (smimea_fields smimea) (decoder.old.index + length)
+            × IsNamedTlsa smimea.0) }
+        ensures end { OnOk result (decoder.new.index ≡ decoder.old.index + length) }
+        ensures same { decoder.new.octets ≡ decoder.old.octets }
+        ensures forward { decoder.old.index ≤ decoder.new.index }
+        ensures within { decoder.new.index ≤ size decoder.new.octets }
+        ensures refused { IfErr result (λ e. Stops decoder.old.octets (decoder.old.index + length) smimea_kinds decoder.old.index e decoder.new.index) }
+        ensures none { IfErr result (λ e. IsWantOfMemory e
+            ⊎ ((smimea : SMIMEA) → FieldsAt decoder.old.octets decoder.old.index (smimea_fields smimea) (decoder.old.index + length) → ⊥)) }
+    {
         Ok(SMIMEA(TLSA::read_data(alloc, decoder, length)?))
     }
 }

@@ -205,7 +205,11 @@ impl SSHFP {
 }
 
 impl RecordDataDecodable for SSHFP {
-    ghost reads = { λ message place sshfp end. FieldsAt message place (sshfp_fields sshfp) end };
+    ghost use Rattle.std.specs.Prelude.{◌+◌, ◌≤◌, length as size, OnOk};
+    ghost use Rattle.dnw_decoder.specs.Reading.{IsWantOfMemory};
+    ghost use Rattle.drd_keys.specs.Sshfp.{IsNamedSshfp};
+
+    ghost reads = { λ message place sshfp end. FieldsAt message place (sshfp_fields sshfp) end × IsNamedSshfp sshfp };
 
     ghost refuses = { λ message place end e at. Stops message end sshfp_kinds place e at };
 
@@ -213,7 +217,17 @@ impl RecordDataDecodable for SSHFP {
         alloc: Global,
         decoder: &mut BinDecoder<'_>,
         length: Restrict<u16>,
-    ) -> Result<SSHFP, DecodeError> {
+    ) -> Result<SSHFP, DecodeError>
+        ensures ok { IfOk result (λ sshfp. FieldsAt decoder.old.octets decoder.old.index (sshfp_fields sshfp) (decoder.old.index + length)
+            × IsNamedSshfp sshfp) }
+        ensures end { OnOk result (decoder.new.index ≡ decoder.old.index + length) }
+        ensures same { decoder.new.octets ≡ decoder.old.octets }
+        ensures forward { decoder.old.index ≤ decoder.new.index }
+        ensures within { decoder.new.index ≤ size decoder.new.octets }
+        ensures refused { IfErr result (λ e. Stops decoder.old.octets (decoder.old.index + length) sshfp_kinds decoder.old.index e decoder.new.index) }
+        ensures none { IfErr result (λ e. IsWantOfMemory e
+            ⊎ ((sshfp : SSHFP) → FieldsAt decoder.old.octets decoder.old.index (sshfp_fields sshfp) (decoder.old.index + length) → ⊥)) }
+    {
         let (algorithm, (fingerprint_type, Rest(fingerprint))) = read_data_within::<
             (u8, (u8, Rest)),
         >(alloc, decoder, length.unverified())?;

@@ -277,7 +277,11 @@ impl TLSA {
 }
 
 impl RecordDataDecodable for TLSA {
-    ghost reads = { λ message place tlsa end. FieldsAt message place (tlsa_fields tlsa) end };
+    ghost use Rattle.std.specs.Prelude.{◌+◌, ◌≤◌, length as size, OnOk};
+    ghost use Rattle.dnw_decoder.specs.Reading.{IsWantOfMemory};
+    ghost use Rattle.drd_keys.specs.Tlsa.{IsNamedTlsa};
+
+    ghost reads = { λ message place tlsa end. FieldsAt message place (tlsa_fields tlsa) end × IsNamedTlsa tlsa };
 
     ghost refuses = { λ message place end e at. Stops message end tlsa_kinds place e at };
 
@@ -285,7 +289,17 @@ impl RecordDataDecodable for TLSA {
         alloc: Global,
         decoder: &mut BinDecoder<'_>,
         length: Restrict<u16>,
-    ) -> Result<TLSA, DecodeError> {
+    ) -> Result<TLSA, DecodeError>
+        ensures ok { IfOk result (λ tlsa. FieldsAt decoder.old.octets decoder.old.index (tlsa_fields tlsa) (decoder.old.index + length)
+            × IsNamedTlsa tlsa) }
+        ensures end { OnOk result (decoder.new.index ≡ decoder.old.index + length) }
+        ensures same { decoder.new.octets ≡ decoder.old.octets }
+        ensures forward { decoder.old.index ≤ decoder.new.index }
+        ensures within { decoder.new.index ≤ size decoder.new.octets }
+        ensures refused { IfErr result (λ e. Stops decoder.old.octets (decoder.old.index + length) tlsa_kinds decoder.old.index e decoder.new.index) }
+        ensures none { IfErr result (λ e. IsWantOfMemory e
+            ⊎ ((tlsa : TLSA) → FieldsAt decoder.old.octets decoder.old.index (tlsa_fields tlsa) (decoder.old.index + length) → ⊥)) }
+    {
         let (cert_usage, (selector, (matching, Rest(cert_data)))) = read_data_within::<
             (u8, (u8, (u8, Rest))),
         >(alloc, decoder, length.unverified())?;

@@ -9,7 +9,7 @@ use Rattle.dnw_encoder.specs.State.{State, writes_pointers}
 use Rattle.dnw_encoder.specs.declared.modes.NameEncoding.TheVariants.{Uncompressed}
 use Rattle.dnw_encoder.specs.declared.modes.RDataEncoding.TheVariants.{Other}
 use Rattle.drd_fields.specs.Fields.{rest}
-use Rattle.drd_fields.specs.Writing.{EmitsData, EmitsFields, RefusesFields}
+use Rattle.drd_fields.specs.Writing.{EmitsData, EmitsFields, EndsWithin, RefusesFields}
 use Rattle.drd_fields.specs.WritingLaws.{puts_then, puts_rest, emits_one, refused_front, refused_later}
 use Rattle.drd_option.specs.Options.{option_octets, IsLong}
 use Rattle.drd_opt.specs.Entries.{Entry, raw, raw_of, raw_octets, joined, entries_octets, HasLong}
@@ -19,13 +19,14 @@ unfolding writes_pointers
 in_full = refl
 
 -- Octets that are put are the data of one field.
-pub puts_data : (octets : List ℕ) (old new : State) → Puts octets old new → EmitsData Other (rest octets ∷ []) old new
-puts_data octets old new p =
+pub puts_data : (octets : List ℕ) (old new : State) → Puts octets old new → EndsWithin old new → EmitsData Other (rest octets ∷ []) old new
+puts_data octets old new p within =
     let one : EmitsFields (rest octets ∷ []) old new = emits_one (rest octets) old new (puts_rest octets old new p) in
     record {
       stays = one.stays;
       size = one.size;
       exact = λ plain. subst (λ (o : List ℕ). Puts o old new) (sym (append-nil octets)) p;
+      within = within;
     }
 
 data_puts : (octets : List ℕ) (old new : State) → EmitsData Other (rest octets ∷ []) old new → Puts octets old new

@@ -4,6 +4,7 @@ pub mod Equality
 pub mod EqualityLaws
 pub mod FitLaws
 pub mod Lending
+pub mod OnceLaws
 pub mod Order
 pub mod OrderLaws
 pub mod Reading

@@ -19,6 +19,7 @@ pub(crate) fn emit_entry(
     ensures same_reference { encoder.new.buffer.ghost_name ≡ encoder.old.buffer.ghost_name }
     ensures writes { Writes (state encoder.old) (state encoder.new) }
     ensures ok { OnOk result (Puts (raw_octets (raw_of entry.now)) (state encoder.old) (state encoder.new)) }
+    ensures fits { OnOk result ((state encoder.new).offset ≤ (state encoder.old).maximum) }
     ensures few { OnOk result (length (option_octets entry.now.1) ≤ 65535) }
     ensures cause { IfErr result (λ e. IsRefusal (state encoder.old) (length (raw_octets (raw_of entry.now))) e
         ⊎ IsLong (option_octets entry.now.1) e) }

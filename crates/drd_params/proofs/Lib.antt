@@ -1,5 +1,4 @@
 pub mod Canonical
-mod DigitsLemmas
 mod Emitting
 mod Entries
 mod Filling

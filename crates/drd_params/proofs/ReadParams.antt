@@ -1,5 +1,5 @@
 -- Parameters that are read one behind the other.
-use Rattle.std.proofs.Common.{◌≡◌, ℕ, ◌+◌, ◌/◌, ◌%◌, ◌<◌, ◌≤◌, ◌⊎◌, inl, inr, List, [], ◌∷◌, ◌++◌, length, length-append, refl, sym, ap, subst, ◌∙◌, arith, append-nil}
+use Rattle.std.proofs.Common.{◌≡◌, ℕ, ◌+◌, ◌/◌, ◌%◌, ◌<◌, ◌≤◌, inl, inr, List, [], ◌∷◌, ◌++◌, length, length-append, refl, sym, ap, subst, ◌∙◌, arith, append-nil}
 use Rattle.std.proofs.lemmas.List.Concat.{flat_map-cons}
 use Rattle.dnw_codes.specs.declared.error.DecodeError.{DecodeError}
 use Rattle.dnw_codes.specs.declared.error.DecodeError.TheVariants.{InsufficientBytes, SvcParamsOutOfOrder}
@@ -41,19 +41,20 @@ no-part-cut octets rest n len small at short number value behind few is =
     let tails : rest ≡ value ++ behind = cc whole in
     omega (arith, c, d, small, few, short, ap length tails, length-append value behind)
 
-pub no-param-part : (octets : List ℕ) (e : DecodeError) → (e ≡ InsufficientBytes) × BeginsNoPart octets → NoParam octets e
-no-param-part octets e cut = (inl cut, λ param behind is_param is. cut.1 (key_number param.0) (value_octets param.1) behind is_param.few is)
+pub no-param-part : (octets : List ℕ) (e : DecodeError) → (e ≡ InsufficientBytes) × BeginsNoPart octets → NoParam octets e octets
+no-param-part octets e cut = (
+  inl (cut.0, cut.1, refl),
+  λ param after is_param is. cut.1 (key_number param.0) (value_octets param.1) after is_param.few is,
+)
 
-pub no-param-value : {M : Type 0} (octets : List ℕ) (e : DecodeError) (number : ℕ) (value behind : List ℕ) (key : SvcParamKey) → number < 65536 → length value < 65536 → octets ≡ part_octets number value ++ behind → key ≡ key_of number → key_number key ≡ number → M ⊎ NoValue key value e → M ⊎ NoParam octets e
-no-param-value octets e number value behind key small few at of is_number (inl m) = inl m
-no-param-value octets e number value behind key small few at of is_number (inr why) =
-    inr (
-      inr (key, value, behind, subst (λ (n : ℕ). octets ≡ part_octets n value ++ behind) (sym is_number) at, why.0),
-      λ param after is_param is.
-          let same = part_same number (key_number param.0) value (value_octets param.1) behind after small is_param.number few is_param.few (sym at ∙ is) in
-          let same_key : param.0 ≡ key = is_param.key ∙ ap key_of (sym same.0) ∙ sym of in
-          why.1 param.1 (subst (λ (k : SvcParamKey). IsValueOf k param.1) same_key is_param.value) (sym same.1),
-    )
+pub no-param-value : (octets : List ℕ) (e : DecodeError) (number : ℕ) (value behind : List ℕ) (key : SvcParamKey) → number < 65536 → length value < 65536 → octets ≡ part_octets number value ++ behind → key ≡ key_of number → key_number key ≡ number → NoValue key value e → NoParam octets e behind
+no-param-value octets e number value behind key small few at of is_number why = (
+  inr (key, value, subst (λ (n : ℕ). octets ≡ part_octets n value ++ behind) (sym is_number) at, why.0),
+  λ param after is_param is.
+      let same = part_same number (key_number param.0) value (value_octets param.1) behind after small is_param.number few is_param.few (sym at ∙ is) in
+      let same_key : param.0 ≡ key = is_param.key ∙ ap key_of (sym same.0) ∙ sym of in
+      why.1 param.1 (subst (λ (k : SvcParamKey). IsValueOf k param.1) same_key is_param.value) (sym same.1),
+)
 
 pub param-is : (number : ℕ) (octets : List ℕ) (key : SvcParamKey) (value : SvcParamValue) → number < 65536 → length octets < 65536 → key ≡ key_of number → key_number key ≡ number → IsValueOf key value → value_octets value ≡ octets → IsParam (key, value)
 param-is number octets key value small few of is_number is_value is = record {
@@ -100,20 +101,22 @@ read-more octets found longer least above left p behind read some is at le pushe
     subst (λ (xs : List Param). Read octets xs above behind) (sym pushed)
     (subst (λ (n : ℕ). Read octets (found ++ p ∷ []) n behind) (sym up) more)
 
-pub no-params : {M : Type 0} (octets : List ℕ) (found : List Param) (least : ℕ) (left : List ℕ) (e : DecodeError) → Read octets found least left → 0 < length left → M ⊎ NoParam left e → M ⊎ NoParams octets e
-no-params octets found least left e read some (inl m) = inl m
-no-params octets found least left e read some (inr why) =
-    inr (
-      record { front = found; left = left; least = least; rise = read.rise; parts = read.parts; cause = inl why.0 },
-      λ params are whole.
-          let later = read.ahead params are.0 are.1 whole in
-          let first = begins later.0 least are.0 left some later.1 later.2 in
-          why.1 first.0 (params_octets first.1) first.2 first.5,
-    )
+-- What is left is no more than what there was.
+pub left-fits : (octets : List ℕ) (found : List Param) (least : ℕ) (left : List ℕ) → Read octets found least left → length left ≤ length octets
+left-fits octets found least left read = omega (arith, length-append (params_octets found) left, ap length read.parts)
 
-pub no-order : (octets : List ℕ) (found : List Param) (least : ℕ) (left : List ℕ) (p : Param) (behind : List ℕ) → Read octets found least left → 0 < length left → IsParam p → left ≡ param_octets p ++ behind → key_number p.0 < least → NoParams octets SvcParamsOutOfOrder
+pub no-params : (octets : List ℕ) (found : List Param) (least : ℕ) (left : List ℕ) (e : DecodeError) (behind : List ℕ) → Read octets found least left → 0 < length left → NoParam left e behind → NoParams octets e behind
+no-params octets found least left e behind read some why = (
+  record { front = found; rest = left; least = least; rise = read.rise; parts = read.parts; cause = inl why.0 },
+  λ params are whole.
+      let later = read.ahead params are.0 are.1 whole in
+      let first = begins later.0 least are.0 left some later.1 later.2 in
+      why.1 first.0 (params_octets first.1) first.2 first.5,
+)
+
+pub no-order : (octets : List ℕ) (found : List Param) (least : ℕ) (left : List ℕ) (p : Param) (behind : List ℕ) → Read octets found least left → 0 < length left → IsParam p → left ≡ param_octets p ++ behind → key_number p.0 < least → NoParams octets SvcParamsOutOfOrder behind
 no-order octets found least left p behind read some is at lt = (
-  record { front = found; left = left; least = least; rise = read.rise; parts = read.parts; cause = inr (refl, p, behind, is, at, lt) },
+  record { front = found; rest = left; least = least; rise = read.rise; parts = read.parts; cause = inr (refl, p, is, at, lt) },
   λ params are whole.
       let later = read.ahead params are.0 are.1 whole in
       let first = begins later.0 least are.0 left some later.1 later.2 in

@@ -46,33 +46,33 @@ abbrev pub BeginsNoPart : List ℕ → Type 0
 BeginsNoPart octets =
     (number : ℕ) (value behind : List ℕ) → length value < 65536 → octets ≡ part_octets number value ++ behind → ⊥
 
--- The first parameter is cut, or its value is refused.
-abbrev pub RefusesParam : List ℕ → DecodeError → Type 0
-RefusesParam octets e =
-    ((e ≡ InsufficientBytes) × BeginsNoPart octets)
-    ⊎ ((key : SvcParamKey) × (value behind : List ℕ) × (octets ≡ part_octets (key_number key) value ++ behind) × RefusesValue key value e)
+-- The first parameter is cut, and all octets are left, or its value is refused, and those behind it are left.
+abbrev pub RefusesParam : List ℕ → DecodeError → List ℕ → Type 0
+RefusesParam octets e behind =
+    ((e ≡ InsufficientBytes) × BeginsNoPart octets × (behind ≡ octets))
+    ⊎ ((key : SvcParamKey) × (value : List ℕ) × (octets ≡ part_octets (key_number key) value ++ behind) × RefusesValue key value e)
 
 -- The first parameter is refused, and octets begin with none.
-abbrev pub NoParam : List ℕ → DecodeError → Type 0
-NoParam octets e =
-    RefusesParam octets e × ((param : Param) (behind : List ℕ) → IsParam param → octets ≡ param_octets param ++ behind → ⊥)
+abbrev pub NoParam : List ℕ → DecodeError → List ℕ → Type 0
+NoParam octets e behind =
+    RefusesParam octets e behind × ((param : Param) (after : List ℕ) → IsParam param → octets ≡ param_octets param ++ after → ⊥)
 
--- A key is below the least one that may stand there.
-abbrev pub IsOutOfOrder : ℕ → List ℕ → DecodeError → Type 0
-IsOutOfOrder least octets e =
+-- A key is below the least one that may stand there; the octets behind its value are left.
+abbrev pub IsOutOfOrder : ℕ → List ℕ → DecodeError → List ℕ → Type 0
+IsOutOfOrder least octets e behind =
     (e ≡ SvcParamsOutOfOrder)
-    × (param : Param) × (behind : List ℕ) × IsParam param × (octets ≡ param_octets param ++ behind) × (key_number param.0 < least)
+    × (param : Param) × IsParam param × (octets ≡ param_octets param ++ behind) × (key_number param.0 < least)
 
 -- Behind parameters whose keys rise, one is refused, or its key is out of order.
-pub record RefusesParams (octets : List ℕ) (e : DecodeError) : Type 0 where
+pub record RefusesParams (octets : List ℕ) (e : DecodeError) (behind : List ℕ) : Type 0 where
   pub front : List Param
-  pub left : List ℕ
+  pub rest : List ℕ
   pub least : ℕ
   pub rise : Rise 0 front least
-  pub parts : params_octets front ++ left ≡ octets
-  pub cause : RefusesParam left e ⊎ IsOutOfOrder least left e
+  pub parts : params_octets front ++ rest ≡ octets
+  pub cause : RefusesParam rest e behind ⊎ IsOutOfOrder least rest e behind
 
 -- The octets are refused as parameters, and are none.
-abbrev pub NoParams : List ℕ → DecodeError → Type 0
-NoParams octets e =
-    RefusesParams octets e × ((params : List Param) → AreParams params → params_octets params ≡ octets → ⊥)
+abbrev pub NoParams : List ℕ → DecodeError → List ℕ → Type 0
+NoParams octets e behind =
+    RefusesParams octets e behind × ((params : List Param) → AreParams params → params_octets params ≡ octets → ⊥)

@@ -1,5 +1,5 @@
 //! Keys of parameters (RFC 9460 14.3.2).
-ghost use Rattle.std.specs.Prelude.{◌≡◌, Some, codes, find};
+ghost use Rattle.std.specs.Prelude.{◌≡◌, Some, find};
 ghost use Rattle.std.specs.Cmp.{partial_order_from_own_ties};
 ghost use Rattle.std.specs.Cmp.Rules.{comparing};
 ghost use Rattle.std.specs.Option.{ok_or};
@@ -7,10 +7,9 @@ ghost use Rattle.std.specs.Ordering.{as_partial_cmp};
 ghost use Rattle.std.specs.Str.{bytes_eq};
 ghost use Rattle.std.proofs.Common.{rules};
 ghost use Rattle.dnw_codes.specs.declared.error.ParseError.TheVariants.{UnexpectedToken};
-ghost use Rattle.dnw_codes.specs.Digits.{number_of_digits, number_behind as number_behind_of};
 ghost use Rattle.drd_params.specs.Keys.{key_name, named_keys};
 
-use dnw_codes::ParseError;
+use dnw_codes::{ParseError, number_behind};
 use std::cmp::Ordering;
 use std::fmt;
 use std::str::FromStr;
@@ -182,23 +181,6 @@ fn named(text: &str) -> Option<SvcParamKey>
     })
 }
 
-// The number that a text of decimal digits alone writes, if 16 bits hold it.
-fn number_of_digits(digits: &str) -> Option<u16>
-    ensures { result ≡ number_of_digits digits.now }
-{
-    if digits.starts_with('+') {
-        return None;
-    }
-    digits.parse().ok()
-}
-
-// The number of the decimal digits behind `key`.
-fn number_behind_key(text: &str) -> Option<u16>
-    ensures { result ≡ number_behind_of (codes "key") text.now }
-{
-    number_of_digits(text.strip_prefix("key")?)
-}
-
 impl FromStr for SvcParamKey {
     ghost use Rattle.drd_params.specs.Keys.{key_of_text};
 
@@ -212,7 +194,7 @@ impl FromStr for SvcParamKey {
         if let Some(key) = named(text) {
             return Ok(key);
         }
-        match number_behind_key(text) {
+        match number_behind("key", text) {
             Some(number) => Ok(SvcParamKey::from(number)),
             None => Err(ParseError::UnexpectedToken),
         }

@@ -15,7 +15,7 @@ mod write;
 
 pub use entry::Entry;
 pub use key::SvcParamKey;
-pub use params::read_params;
+pub use params::{Stopped, read_params, read_params_until};
 pub use print::fmt_param;
 pub use same::are_same_params;
 pub use value::{Alpn, EchConfigList, IpHint, Mandatory, SvcParamValue, Unknown};

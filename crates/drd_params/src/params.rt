@@ -1,5 +1,5 @@
 //! Parameters, one behind the other.
-ghost use Rattle.std.specs.Prelude.{◌≡◌, ◌<◌, ◌⊎◌, ◌++◌, length, IfOk, IfErr, MatchOption};
+ghost use Rattle.std.specs.Prelude.{◌≡◌, ◌<◌, ◌≤◌, ◌⊎◌, ◌++◌, ℕ, List, length, IfOk, IfErr, MatchOption};
 ghost use Rattle.dnw_codes.specs.declared.error.DecodeError.TheVariants.{InsufficientBytes};
 ghost use Rattle.dnw_decoder.specs.Octets.{octets_16};
 ghost use Rattle.dnw_decoder.specs.Reading.{IsWantOfMemory};
@@ -10,6 +10,13 @@ use crate::key::SvcParamKey;
 use crate::value::SvcParamValue;
 use dnw_codes::DecodeError;
 use std::alloc::Global;
+
+/// Why octets are no parameters, and how many of them are left behind those that were read.
+#[derive(Debug, Drop)]
+pub struct Stopped {
+    pub cause: DecodeError,
+    pub left: usize,
+}
 
 // The number that octets begin with, and those behind it.
 fn split_number(octets: &[u8]) -> Option<(u16, &[u8])>
@@ -38,23 +45,32 @@ fn split_part(octets: &[u8]) -> Result<(u16, &[u8], &[u8]), DecodeError>
     Ok((number, value, behind))
 }
 
-// The parameter that octets begin with, and those behind it.
+// The parameter that octets begin with, and those behind it. Of one that is cut no octet is read; one whose value is refused is
+// read as a whole.
 fn split_param(
     alloc: Global,
     octets: &[u8],
-) -> Result<((SvcParamKey, SvcParamValue), &[u8]), DecodeError>
+) -> Result<((SvcParamKey, SvcParamValue), &[u8]), Stopped>
     ensures param { IfOk result (λ found. IsParam found.0) }
     ensures ok { IfOk result (λ found. octets.now ≡ param_octets found.0 ++ found.1.now) }
-    ensures refused { IfErr result (λ e. IsWantOfMemory e ⊎ NoParam octets.now e) }
+    ensures refused { IfErr result (λ stopped. IsWantOfMemory stopped.cause
+        ⊎ ((behind : List ℕ) × NoParam octets.now stopped.cause behind × (length behind ≡ stopped.left))) }
+    ensures within { IfErr result (λ stopped. stopped.left ≤ length octets.now) }
 {
     let (number, value, behind) = match split_part(octets) {
         Ok(part) => part,
-        Err(refused) => return Err(refused),
+        Err(cause) => {
+            let left = octets.len();
+            return Err(Stopped { cause, left });
+        }
     };
     let key = SvcParamKey::from(number);
     match SvcParamValue::read(alloc, key, value) {
         Ok(value) => Ok(((key, value), behind)),
-        Err(refused) => Err(refused),
+        Err(cause) => {
+            let left = behind.len();
+            Err(Stopped { cause, left })
+        }
     }
 }
 
@@ -66,26 +82,49 @@ pub fn read_params(
 ) -> Result<Vec<(SvcParamKey, SvcParamValue)>, DecodeError>
     ensures params { IfOk result (λ params. AreParams params.items) }
     ensures ok { IfOk result (λ params. params_octets params.items ≡ octets.now) }
-    ensures refused { IfErr result (λ e. IsWantOfMemory e ⊎ NoParams octets.now e) }
+    ensures refused { IfErr result (λ e. IsWantOfMemory e ⊎ ((behind : List ℕ) × NoParams octets.now e behind)) }
+{
+    match read_params_until(alloc, octets) {
+        Ok(params) => Ok(params),
+        Err(stopped) => Err(stopped.cause),
+    }
+}
+
+/// The parameters that fill these octets, as by `read_params`. Where they don't, reading stops before a parameter that is cut,
+/// and behind one whose value is refused or whose key is out of order.
+pub fn read_params_until(
+    alloc: Global,
+    octets: &[u8],
+) -> Result<Vec<(SvcParamKey, SvcParamValue)>, Stopped>
+    ensures params { IfOk result (λ params. AreParams params.items) }
+    ensures ok { IfOk result (λ params. params_octets params.items ≡ octets.now) }
+    ensures refused { IfErr result (λ stopped. IsWantOfMemory stopped.cause
+        ⊎ ((behind : List ℕ) × NoParams octets.now stopped.cause behind × (length behind ≡ stopped.left))) }
+    ensures within { IfErr result (λ stopped. stopped.left ≤ length octets.now) }
 {
     let mut found = Vec::new(alloc);
     let mut least = 0;
-    let mut left = octets;
-    'params: while !left.is_empty() {
-        let (param, behind) = match split_param(alloc, left) {
+    let mut rest = octets;
+    'params: while !rest.is_empty() {
+        let (param, behind) = match split_param(alloc, rest) {
             Ok(split) => split,
-            Err(refused) => return Err(refused),
+            Err(stopped) => return Err(stopped),
         };
+        let left = behind.len();
         let number = u32::from(u16::from(param.0));
         if number < least {
-            return Err(DecodeError::SvcParamsOutOfOrder);
+            let cause = DecodeError::SvcParamsOutOfOrder;
+            return Err(Stopped { cause, left });
         }
         match found.push(param) {
             Ok(()) => {}
-            Err(_) => return Err(DecodeError::Memory),
+            Err(_) => {
+                let cause = DecodeError::Memory;
+                return Err(Stopped { cause, left });
+            }
         }
         least = number + 1;
-        left = behind;
+        rest = behind;
     }
     Ok(found)
 }

@@ -160,11 +160,11 @@ alike kind.CAA source start stop v w encoding message place end held written fou
       own = refl;
     }))
 alike kind.CERT source start stop v w encoding message place end held written found =
-    let same = fields_back message place encoding (cert_fields held.0) (cert_fields found.0) end refl ((λ o. absurd (cc o)), ((λ o. absurd (cc o)), ((λ o. absurd (cc o)), ((λ o. refl), tt)))) (rw held.1 at written) found.2 in
+    let same = fields_back message place encoding (cert_fields held.0) (cert_fields found.0) end refl ((λ o. absurd (cc o)), ((λ o. absurd (cc o)), ((λ o. absurd (cc o)), ((λ o. refl), tt)))) (rw held.1 at written) found.2.0 in
     subst (λ (x : RData). Alike x w) (sym held.1) (subst (λ (x : RData). Alike (rdata.CERT held.0) x) (sym found.1) (record {
       octets = canonical_octets (cert_fields found.0);
-      first = (fields_full source start (cert_fields held.0) stop held.2, sym same);
-      second = (fields_full message place (cert_fields found.0) end found.2, refl);
+      first = (fields_full source start (cert_fields held.0) stop held.2.0, sym same);
+      second = (fields_full message place (cert_fields found.0) end found.2.0, refl);
       number = refl;
       own = refl;
     }))
@@ -254,11 +254,11 @@ alike kind.PTR source start stop v w encoding message place end held written fou
       own = refl;
     }))
 alike kind.SMIMEA source start stop v w encoding message place end held written found =
-    let same = fields_back message place encoding (smimea_fields held.0) (smimea_fields found.0) end refl ((λ o. absurd (cc o)), ((λ o. absurd (cc o)), ((λ o. absurd (cc o)), ((λ o. refl), tt)))) (rw held.1 at written) found.2 in
+    let same = fields_back message place encoding (smimea_fields held.0) (smimea_fields found.0) end refl ((λ o. absurd (cc o)), ((λ o. absurd (cc o)), ((λ o. absurd (cc o)), ((λ o. refl), tt)))) (rw held.1 at written) found.2.0 in
     subst (λ (x : RData). Alike x w) (sym held.1) (subst (λ (x : RData). Alike (rdata.SMIMEA held.0) x) (sym found.1) (record {
       octets = canonical_octets (smimea_fields found.0);
-      first = (fields_full source start (smimea_fields held.0) stop held.2, sym same);
-      second = (fields_full message place (smimea_fields found.0) end found.2, refl);
+      first = (fields_full source start (smimea_fields held.0) stop held.2.0, sym same);
+      second = (fields_full message place (smimea_fields found.0) end found.2.0, refl);
       number = refl;
       own = refl;
     }))
@@ -281,11 +281,11 @@ alike kind.SRV source start stop v w encoding message place end held written fou
       own = refl;
     }))
 alike kind.SSHFP source start stop v w encoding message place end held written found =
-    let same = fields_back message place encoding (sshfp_fields held.0) (sshfp_fields found.0) end refl ((λ o. absurd (cc o)), ((λ o. absurd (cc o)), ((λ o. refl), tt))) (rw held.1 at written) found.2 in
+    let same = fields_back message place encoding (sshfp_fields held.0) (sshfp_fields found.0) end refl ((λ o. absurd (cc o)), ((λ o. absurd (cc o)), ((λ o. refl), tt))) (rw held.1 at written) found.2.0 in
     subst (λ (x : RData). Alike x w) (sym held.1) (subst (λ (x : RData). Alike (rdata.SSHFP held.0) x) (sym found.1) (record {
       octets = canonical_octets (sshfp_fields found.0);
-      first = (fields_full source start (sshfp_fields held.0) stop held.2, sym same);
-      second = (fields_full message place (sshfp_fields found.0) end found.2, refl);
+      first = (fields_full source start (sshfp_fields held.0) stop held.2.0, sym same);
+      second = (fields_full message place (sshfp_fields found.0) end found.2.0, refl);
       number = refl;
       own = refl;
     }))
@@ -299,11 +299,11 @@ alike kind.SVCB source start stop v w encoding message place end held written fo
       own = refl;
     }))
 alike kind.TLSA source start stop v w encoding message place end held written found =
-    let same = fields_back message place encoding (tlsa_fields held.0) (tlsa_fields found.0) end refl ((λ o. absurd (cc o)), ((λ o. absurd (cc o)), ((λ o. absurd (cc o)), ((λ o. refl), tt)))) (rw held.1 at written) found.2 in
+    let same = fields_back message place encoding (tlsa_fields held.0) (tlsa_fields found.0) end refl ((λ o. absurd (cc o)), ((λ o. absurd (cc o)), ((λ o. absurd (cc o)), ((λ o. refl), tt)))) (rw held.1 at written) found.2.0 in
     subst (λ (x : RData). Alike x w) (sym held.1) (subst (λ (x : RData). Alike (rdata.TLSA held.0) x) (sym found.1) (record {
       octets = canonical_octets (tlsa_fields found.0);
-      first = (fields_full source start (tlsa_fields held.0) stop held.2, sym same);
-      second = (fields_full message place (tlsa_fields found.0) end found.2, refl);
+      first = (fields_full source start (tlsa_fields held.0) stop held.2.0, sym same);
+      second = (fields_full message place (tlsa_fields found.0) end found.2.0, refl);
       number = refl;
       own = refl;
     }))

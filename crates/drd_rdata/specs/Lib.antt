@@ -3,6 +3,9 @@ pub mod Reading
 pub mod Writing
 pub mod WritingLaws
 pub mod Texts
+pub mod Once
+pub mod OnceLaws
 pub mod Order
 pub mod OrderLaws
 pub mod BackLaws
+pub mod WrittenLaws

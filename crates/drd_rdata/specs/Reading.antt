@@ -10,7 +10,10 @@ use Rattle.drd_fields.specs.Fields.{FieldsAt}
 use Rattle.drd_fields.specs.Reading.{Misses, Stops}
 use Rattle.drd_plain.specs.Fields.{a_fields, a_kinds, aaaa_fields, aaaa_kinds, are_alphanumeric, hinfo_fields, hinfo_kinds, naptr_fields, txt_fields, txt_kinds}
 use Rattle.drd_names.specs.Fields.{aname_fields, cname_fields, mx_fields, mx_kinds, ns_fields, one_name, ptr_fields, soa_fields, soa_kinds, srv_fields, srv_kinds}
+use Rattle.drd_keys.specs.Cert.{IsNamedCert}
 use Rattle.drd_keys.specs.Fields.{cert_fields, cert_kinds, null_fields, null_kinds, openpgpkey_fields, openpgpkey_kinds, smimea_fields, smimea_kinds, sshfp_fields, sshfp_kinds, tlsa_fields, tlsa_kinds}
+use Rattle.drd_keys.specs.Sshfp.{IsNamedSshfp}
+use Rattle.drd_keys.specs.Tlsa.{IsNamedTlsa}
 use Rattle.drd_caa.specs.Fields.{caa_fields, is_caa_tag}
 use Rattle.drd_svcb.specs.Fields.{svcb_fields}
 use Rattle.drd_plain.specs.Reading.{MissesNaptr}
@@ -20,6 +23,7 @@ use Rattle.drd_csync.specs.Reading.{RefusesCsync}
 use Rattle.drd_opt.specs.Reading.{EntriesAt, RefusesEntries}
 use Rattle.drd_params.specs.Params.{AreParams}
 use Rattle.drd_svcb.specs.Reading.{RefusesSvcb}
+use Rattle.drd_rdata.specs.Types.{type_of}
 use Rattle.drd_rdata.specs.declared.rdata.RData.{RData}
 use Rattle.drd_rdata.specs.declared.rdata.RData.TheVariants as rdata
 
@@ -34,7 +38,7 @@ HoldsAs kind.A message place value end = Is rdata.A (λ a. FieldsAt message plac
 HoldsAs kind.AAAA message place value end = Is rdata.AAAA (λ aaaa. FieldsAt message place (aaaa_fields aaaa) end) value
 HoldsAs kind.ANAME message place value end = Is rdata.ANAME (λ aname. FieldsAt message place (aname_fields aname) end) value
 HoldsAs kind.CAA message place value end = Is rdata.CAA (λ caa. FieldsAt message place (caa_fields caa) end × (is_caa_tag caa.tag.items ≡ true)) value
-HoldsAs kind.CERT message place value end = Is rdata.CERT (λ cert. FieldsAt message place (cert_fields cert) end) value
+HoldsAs kind.CERT message place value end = Is rdata.CERT (λ cert. FieldsAt message place (cert_fields cert) end × IsNamedCert cert) value
 HoldsAs kind.CNAME message place value end = Is rdata.CNAME (λ cname. FieldsAt message place (cname_fields cname) end) value
 HoldsAs kind.CSYNC message place value end = Is rdata.CSYNC (λ csync. CsyncAt message place csync end) value
 HoldsAs kind.HINFO message place value end = Is rdata.HINFO (λ hinfo. FieldsAt message place (hinfo_fields hinfo) end) value
@@ -46,18 +50,26 @@ HoldsAs kind.NS message place value end = Is rdata.NS (λ ns. FieldsAt message p
 HoldsAs kind.OPENPGPKEY message place value end = Is rdata.OPENPGPKEY (λ openpgpkey. FieldsAt message place (openpgpkey_fields openpgpkey) end) value
 HoldsAs kind.OPT message place value end = Is rdata.OPT (λ opt. EntriesAt message place opt.options.items end) value
 HoldsAs kind.PTR message place value end = Is rdata.PTR (λ ptr. FieldsAt message place (ptr_fields ptr) end) value
-HoldsAs kind.SMIMEA message place value end = Is rdata.SMIMEA (λ smimea. FieldsAt message place (smimea_fields smimea) end) value
+HoldsAs kind.SMIMEA message place value end = Is rdata.SMIMEA (λ smimea. FieldsAt message place (smimea_fields smimea) end × IsNamedTlsa smimea.0) value
 HoldsAs kind.SOA message place value end = Is rdata.SOA (λ soa. FieldsAt message place (soa_fields soa) end) value
 HoldsAs kind.SRV message place value end = Is rdata.SRV (λ srv. FieldsAt message place (srv_fields srv) end) value
-HoldsAs kind.SSHFP message place value end = Is rdata.SSHFP (λ sshfp. FieldsAt message place (sshfp_fields sshfp) end) value
+HoldsAs kind.SSHFP message place value end = Is rdata.SSHFP (λ sshfp. FieldsAt message place (sshfp_fields sshfp) end × IsNamedSshfp sshfp) value
 HoldsAs kind.SVCB message place value end = Is rdata.SVCB (λ svcb. FieldsAt message place (svcb_fields svcb) end × AreParams svcb.svc_params.items) value
-HoldsAs kind.TLSA message place value end = Is rdata.TLSA (λ tlsa. FieldsAt message place (tlsa_fields tlsa) end) value
+HoldsAs kind.TLSA message place value end = Is rdata.TLSA (λ tlsa. FieldsAt message place (tlsa_fields tlsa) end × IsNamedTlsa tlsa) value
 HoldsAs kind.TXT message place value end = Is rdata.TXT (λ txt. FieldsAt message place (txt_fields txt) end) value
 HoldsAs kind.ZERO message place value end = ⊥
 HoldsAs kind.ANY message place value end = ⊥
 HoldsAs kind.AXFR message place value end = ⊥
 HoldsAs kind.IXFR message place value end = ⊥
 HoldsAs other message place value end = Is (rdata.Unknown other) (λ null. FieldsAt message place (null_fields null) end) value
+
+-- Data of a record that can be read: in some message they stand, and take octets.
+pub record IsReadable (value : RData) : Type 0 where
+  pub message : List ℕ
+  pub place : ℕ
+  pub end : ℕ
+  pub some : place < end
+  pub holds : HoldsAs (type_of value) message place value end
 
 -- No octets: the data of an update, or no options (RFC 2136 2.4; RFC 6891 6.1.2).
 abbrev pub IsEmptyOf : RecordType → RData → Type 0

@@ -1,5 +1,5 @@
 -- Record data of every type in words (RFC 1035 5.1).
-use Rattle.std.specs.Prelude.{ℕ, List, [], codes, Option}
+use Rattle.std.specs.Prelude.{ℕ, Bool, true, false, List, [], codes, Option}
 use Rattle.dnw_name.specs.DomainName.{DomainName}
 use Rattle.dnw_codes.specs.declared.record_type.RecordType.{RecordType}
 use Rattle.dnw_codes.specs.declared.record_type.RecordType.TheVariants as kind
@@ -43,6 +43,31 @@ IsTextOf kind.SVCB words origin value = Is rdata.SVCB (λ svcb. IsSvcbText words
 IsTextOf kind.TLSA words origin value = Is rdata.TLSA (λ tlsa. IsTlsaText words tlsa) value
 IsTextOf kind.TXT words origin value = Is rdata.TXT (λ txt. IsTxtText words txt) value
 IsTextOf other words origin value = ⊥
+
+-- The types whose data have a text.
+abbrev pub has_text : RecordType → Bool
+has_text kind.A = true
+has_text kind.AAAA = true
+has_text kind.ANAME = true
+has_text kind.CAA = true
+has_text kind.CERT = true
+has_text kind.CNAME = true
+has_text kind.CSYNC = true
+has_text kind.HINFO = true
+has_text kind.HTTPS = true
+has_text kind.MX = true
+has_text kind.NAPTR = true
+has_text kind.NS = true
+has_text kind.OPENPGPKEY = true
+has_text kind.PTR = true
+has_text kind.SMIMEA = true
+has_text kind.SOA = true
+has_text kind.SRV = true
+has_text kind.SSHFP = true
+has_text kind.SVCB = true
+has_text kind.TLSA = true
+has_text kind.TXT = true
+has_text other = false
 
 -- What is printed of the data. Those of an update that has none are a word of their own, those of type 0 nothing.
 abbrev pub rdata_print : RData → List ℕ

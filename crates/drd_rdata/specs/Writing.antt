@@ -1,11 +1,12 @@
 -- Record data of every type as an encoder writes them.
-use Rattle.std.specs.Prelude.{ℕ, ◌≡◌, List, [], ◌∷◌}
+use Rattle.std.specs.Prelude.{ℕ, ◌≡◌, false, List, [], ◌∷◌}
 use Rattle.std.proofs.Common.{◌⊎◌}
 use Rattle.dnw_codes.specs.declared.error.ProtoError.{ProtoError}
-use Rattle.dnw_encoder.specs.State.{State}
+use Rattle.dnw_encoder.specs.State.{State, is_lower}
 use Rattle.dnw_encoder.specs.declared.modes.RDataEncoding.TheVariants.{StandardRecord, Canonical, Other}
-use Rattle.drd_fields.specs.Fields.{rest, FieldsAt}
-use Rattle.drd_fields.specs.Writing.{EmitsData, RefusesFields, encoded_fields}
+use Rattle.dnw_types.specs.MapOrder.{tight_maps}
+use Rattle.drd_fields.specs.Fields.{Field, rest, FieldsAt}
+use Rattle.drd_fields.specs.Writing.{EmitsData, RefusesFields, encoded_fields, fields_octets}
 use Rattle.drd_plain.specs.Fields.{a_fields, aaaa_fields, hinfo_fields, naptr_fields, txt_fields}
 use Rattle.drd_names.specs.Fields.{aname_fields, cname_fields, mx_fields, ns_fields, ptr_fields, soa_fields, srv_fields}
 use Rattle.drd_keys.specs.Fields.{cert_fields, null_fields, openpgpkey_fields, smimea_fields, sshfp_fields, tlsa_fields}
@@ -13,16 +14,16 @@ use Rattle.drd_caa.specs.Fields.{caa_fields}
 use Rattle.drd_svcb.specs.Fields.{svcb_fields}
 use Rattle.dnw_encoder.specs.declared.modes.NameEncoding.{NameEncoding}
 use Rattle.drd_rdata.specs.Order.{rdata_fields}
-use Rattle.drd_csync.specs.Data.{CsyncAt}
+use Rattle.drd_csync.specs.Data.{CsyncAt, csync_fields}
 use Rattle.drd_csync.specs.Writing.{EmitsCsync, RefusesEmit}
 use Rattle.drd_opt.specs.Entries.{entries_octets, AreCountable, HasLong}
 use Rattle.drd_svcb.specs.Writing.{RefusesEmit as RefusesService}
-use Rattle.dnw_encoder.specs.Effects.{IsRefusal}
+use Rattle.dnw_encoder.specs.Effects.{IsRefusal, Sound}
 use Rattle.drd_rdata.specs.declared.rdata.RData.{RData}
 use Rattle.drd_rdata.specs.declared.rdata.RData.TheVariants as rdata
 
--- The data were written: they read back at their place, in the finished message too. Pointers stand in names of the types
--- of RFC 1035 alone (RFC 3597 4). Data without octets write none.
+-- The data were written, within the maximum: they read back at their place, in the finished message too. Pointers stand in
+-- names of the types of RFC 1035 alone (RFC 3597 4). Data without octets write none.
 abbrev pub EmitsRData : RData → State → State → Type 0
 EmitsRData (rdata.A a) old new = EmitsData Other (a_fields a) old new
 EmitsRData (rdata.AAAA aaaa) old new = EmitsData Other (aaaa_fields aaaa) old new
@@ -91,3 +92,21 @@ StandsWritten (rdata.OPT opt) encoding message place end = FieldsAt message plac
 StandsWritten (rdata.SVCB svcb) encoding message place end = FieldsAt message place (encoded_fields encoding (svcb_fields svcb)) end
 StandsWritten (rdata.HTTPS https) encoding message place end = FieldsAt message place (encoded_fields encoding (svcb_fields https.0)) end
 StandsWritten other encoding message place end = FieldsAt message place (encoded_fields encoding (rdata_fields other)) end
+
+-- The data field by field, as they are written.
+abbrev pub written_fields : RData → List Field
+written_fields (rdata.CSYNC csync) = csync_fields csync (tight_maps csync.type_bit_maps)
+written_fields (rdata.HTTPS https) = svcb_fields https.0
+written_fields (rdata.OPT opt) = rest (entries_octets opt.options.items) ∷ []
+written_fields (rdata.SVCB svcb) = svcb_fields svcb
+written_fields other = rdata_fields other
+
+-- Their octets, names in full.
+abbrev pub written_octets : RData → List ℕ
+written_octets value = fields_octets (written_fields value)
+
+-- An encoder at its end that leaves the case of names as it is.
+pub record WritesInFull (s : State) : Type 0 where
+  pub sound : Sound s
+  pub own : s.canonical ≡ false
+  pub same_case : is_lower s.encoding ≡ false

@@ -38,7 +38,7 @@ short_field message place (string s) end there e big = omega (arith, there.few, 
 short_field message place (strings ss) end there e big = short_strings message place ss end there e big
 short_field message place (rest octets) end there e big = big
 
-short_fields : (message : List ℕ) (place : ℕ) (fs : List Field) (end : ℕ) → FieldsAt message place fs end → (e : ProtoError) → HaveLongString fs e → ⊥
+pub short_fields : (message : List ℕ) (place : ℕ) (fs : List Field) (end : ℕ) → FieldsAt message place fs end → (e : ProtoError) → HaveLongString fs e → ⊥
 short_fields message place [] end there e big = big
 short_fields message place (f ∷ fs) end there e (inl big) = short_field message place f there.0 there.1 e big
 short_fields message place (f ∷ fs) end there e (inr big) = short_fields message there.0 fs end there.2 e big
@@ -66,7 +66,7 @@ holds_room kind.A message place value end holds old e refused = room message pla
 holds_room kind.AAAA message place value end holds old e refused = room message place (aaaa_fields holds.0) end holds.2 old e (rw holds.1 at refused)
 holds_room kind.ANAME message place value end holds old e refused = room message place (aname_fields holds.0) end holds.2 old e (rw holds.1 at refused)
 holds_room kind.CAA message place value end holds old e refused = room message place (caa_fields holds.0) end holds.2.0 old e (rw holds.1 at refused)
-holds_room kind.CERT message place value end holds old e refused = room message place (cert_fields holds.0) end holds.2 old e (rw holds.1 at refused)
+holds_room kind.CERT message place value end holds old e refused = room message place (cert_fields holds.0) end holds.2.0 old e (rw holds.1 at refused)
 holds_room kind.CNAME message place value end holds old e refused = room message place (cname_fields holds.0) end holds.2 old e (rw holds.1 at refused)
 holds_room kind.CSYNC message place value end holds old e refused =
     elim (rw holds.1 at refused) [
@@ -86,12 +86,12 @@ holds_room kind.OPT message place value end holds old e refused =
       | inr big ↦ absurd (none_long holds.0.options.items e (read_fit holds.2.octets holds.0.options.items holds.2.holds) big)
     ]
 holds_room kind.PTR message place value end holds old e refused = room message place (ptr_fields holds.0) end holds.2 old e (rw holds.1 at refused)
-holds_room kind.SMIMEA message place value end holds old e refused = room message place (smimea_fields holds.0) end holds.2 old e (rw holds.1 at refused)
+holds_room kind.SMIMEA message place value end holds old e refused = room message place (smimea_fields holds.0) end holds.2.0 old e (rw holds.1 at refused)
 holds_room kind.SOA message place value end holds old e refused = room message place (soa_fields holds.0) end holds.2 old e (rw holds.1 at refused)
 holds_room kind.SRV message place value end holds old e refused = room message place (srv_fields holds.0) end holds.2 old e (rw holds.1 at refused)
-holds_room kind.SSHFP message place value end holds old e refused = room message place (sshfp_fields holds.0) end holds.2 old e (rw holds.1 at refused)
+holds_room kind.SSHFP message place value end holds old e refused = room message place (sshfp_fields holds.0) end holds.2.0 old e (rw holds.1 at refused)
 holds_room kind.SVCB message place value end holds old e refused = (length (fields_octets (svcb_fields holds.0)), (rw holds.1 at refused).read holds.2.1)
-holds_room kind.TLSA message place value end holds old e refused = room message place (tlsa_fields holds.0) end holds.2 old e (rw holds.1 at refused)
+holds_room kind.TLSA message place value end holds old e refused = room message place (tlsa_fields holds.0) end holds.2.0 old e (rw holds.1 at refused)
 holds_room kind.TXT message place value end holds old e refused = room message place (txt_fields holds.0) end holds.2 old e (rw holds.1 at refused)
 holds_room kind.ZERO message place value end holds old e refused = absurd holds
 holds_room kind.ANY message place value end holds old e refused = absurd holds

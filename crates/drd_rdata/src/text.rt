@@ -1,5 +1,5 @@
 //! Record data in words.
-ghost use Rattle.std.specs.Prelude.{◌≡◌, ◌⊎◌, ℕ, List, None, IfOk, IfErr, map};
+ghost use Rattle.std.specs.Prelude.{◌≡◌, ◌⊎◌, ℕ, List, None, Ok, Err, false, IfOk, IfErr, MatchResult, map};
 ghost use Rattle.std.specs.Iterator.{Drains, IsFinite};
 ghost use Rattle.std.specs.Option.{option_copied};
 ghost use Rattle.dnw_codes.specs.declared.error.ParseError.TheVariants.{UnsupportedRecordType};
@@ -7,9 +7,10 @@ ghost use Rattle.drd_words.specs.Text.{TextWords, TextRefused};
 ghost use Rattle.drd_words.specs.Word.{IsOutOfMemory};
 ghost use Rattle.drd_rdata.specs.declared.rdata.RData.{RData as Rdata};
 ghost use Rattle.drd_rdata.specs.Types.{type_of};
-ghost use Rattle.drd_rdata.specs.Texts.{IsTextOf};
+ghost use Rattle.drd_rdata.specs.Texts.{IsTextOf, has_text};
 
 use crate::rdata::RData;
+use crate::record_data::RecordData;
 use dnw_codes::{ParseError, RecordType};
 use dnw_name::Name;
 use drd_caa::CAA;
@@ -42,92 +43,30 @@ impl RData {
             × ((value : Rdata) → IsTextOf record_type (map I.Item.text words) (option_copied origin.entry) value → ⊥))
             ⊎ ((e ≡ UnsupportedRecordType record_type)
             × ((words : List (List ℕ)) (value : Rdata) → IsTextOf record_type words (option_copied origin.entry) value → ⊥))) }
+        ensures unsupported { has_text record_type ≡ false → result ≡ Err (UnsupportedRecordType record_type) }
     {
         match record_type {
-            RecordType::A => match A::from_tokens(alloc, tokens, origin) {
-                Ok(a) => Ok(RData::A(a)),
-                Err(refused) => Err(refused),
-            },
-            RecordType::AAAA => match AAAA::from_tokens(alloc, tokens, origin) {
-                Ok(aaaa) => Ok(RData::AAAA(aaaa)),
-                Err(refused) => Err(refused),
-            },
-            RecordType::ANAME => match ANAME::from_tokens(alloc, tokens, origin) {
-                Ok(aname) => Ok(RData::ANAME(aname)),
-                Err(refused) => Err(refused),
-            },
-            RecordType::CAA => match CAA::from_tokens(alloc, tokens, origin) {
-                Ok(caa) => Ok(RData::CAA(caa)),
-                Err(refused) => Err(refused),
-            },
-            RecordType::CERT => match CERT::from_tokens(alloc, tokens, origin) {
-                Ok(cert) => Ok(RData::CERT(cert)),
-                Err(refused) => Err(refused),
-            },
-            RecordType::CNAME => match CNAME::from_tokens(alloc, tokens, origin) {
-                Ok(cname) => Ok(RData::CNAME(cname)),
-                Err(refused) => Err(refused),
-            },
-            RecordType::CSYNC => match CSYNC::from_tokens(alloc, tokens, origin) {
-                Ok(csync) => Ok(RData::CSYNC(csync)),
-                Err(refused) => Err(refused),
-            },
-            RecordType::HINFO => match HINFO::from_tokens(alloc, tokens, origin) {
-                Ok(hinfo) => Ok(RData::HINFO(hinfo)),
-                Err(refused) => Err(refused),
-            },
-            RecordType::HTTPS => match HTTPS::from_tokens(alloc, tokens, origin) {
-                Ok(https) => Ok(RData::HTTPS(https)),
-                Err(refused) => Err(refused),
-            },
-            RecordType::MX => match MX::from_tokens(alloc, tokens, origin) {
-                Ok(mx) => Ok(RData::MX(mx)),
-                Err(refused) => Err(refused),
-            },
-            RecordType::NAPTR => match NAPTR::from_tokens(alloc, tokens, origin) {
-                Ok(naptr) => Ok(RData::NAPTR(naptr)),
-                Err(refused) => Err(refused),
-            },
-            RecordType::NS => match NS::from_tokens(alloc, tokens, origin) {
-                Ok(ns) => Ok(RData::NS(ns)),
-                Err(refused) => Err(refused),
-            },
-            RecordType::OPENPGPKEY => match OPENPGPKEY::from_tokens(alloc, tokens, origin) {
-                Ok(openpgpkey) => Ok(RData::OPENPGPKEY(openpgpkey)),
-                Err(refused) => Err(refused),
-            },
-            RecordType::PTR => match PTR::from_tokens(alloc, tokens, origin) {
-                Ok(ptr) => Ok(RData::PTR(ptr)),
-                Err(refused) => Err(refused),
-            },
-            RecordType::SMIMEA => match SMIMEA::from_tokens(alloc, tokens, origin) {
-                Ok(smimea) => Ok(RData::SMIMEA(smimea)),
-                Err(refused) => Err(refused),
-            },
-            RecordType::SOA => match SOA::from_tokens(alloc, tokens, origin) {
-                Ok(soa) => Ok(RData::SOA(soa)),
-                Err(refused) => Err(refused),
-            },
-            RecordType::SRV => match SRV::from_tokens(alloc, tokens, origin) {
-                Ok(srv) => Ok(RData::SRV(srv)),
-                Err(refused) => Err(refused),
-            },
-            RecordType::SSHFP => match SSHFP::from_tokens(alloc, tokens, origin) {
-                Ok(sshfp) => Ok(RData::SSHFP(sshfp)),
-                Err(refused) => Err(refused),
-            },
-            RecordType::SVCB => match SVCB::from_tokens(alloc, tokens, origin) {
-                Ok(svcb) => Ok(RData::SVCB(svcb)),
-                Err(refused) => Err(refused),
-            },
-            RecordType::TLSA => match TLSA::from_tokens(alloc, tokens, origin) {
-                Ok(tlsa) => Ok(RData::TLSA(tlsa)),
-                Err(refused) => Err(refused),
-            },
-            RecordType::TXT => match TXT::from_tokens(alloc, tokens, origin) {
-                Ok(txt) => Ok(RData::TXT(txt)),
-                Err(refused) => Err(refused),
-            },
+            RecordType::A => as_rdata(A::from_tokens(alloc, tokens, origin)),
+            RecordType::AAAA => as_rdata(AAAA::from_tokens(alloc, tokens, origin)),
+            RecordType::ANAME => as_rdata(ANAME::from_tokens(alloc, tokens, origin)),
+            RecordType::CAA => as_rdata(CAA::from_tokens(alloc, tokens, origin)),
+            RecordType::CERT => as_rdata(CERT::from_tokens(alloc, tokens, origin)),
+            RecordType::CNAME => as_rdata(CNAME::from_tokens(alloc, tokens, origin)),
+            RecordType::CSYNC => as_rdata(CSYNC::from_tokens(alloc, tokens, origin)),
+            RecordType::HINFO => as_rdata(HINFO::from_tokens(alloc, tokens, origin)),
+            RecordType::HTTPS => as_rdata(HTTPS::from_tokens(alloc, tokens, origin)),
+            RecordType::MX => as_rdata(MX::from_tokens(alloc, tokens, origin)),
+            RecordType::NAPTR => as_rdata(NAPTR::from_tokens(alloc, tokens, origin)),
+            RecordType::NS => as_rdata(NS::from_tokens(alloc, tokens, origin)),
+            RecordType::OPENPGPKEY => as_rdata(OPENPGPKEY::from_tokens(alloc, tokens, origin)),
+            RecordType::PTR => as_rdata(PTR::from_tokens(alloc, tokens, origin)),
+            RecordType::SMIMEA => as_rdata(SMIMEA::from_tokens(alloc, tokens, origin)),
+            RecordType::SOA => as_rdata(SOA::from_tokens(alloc, tokens, origin)),
+            RecordType::SRV => as_rdata(SRV::from_tokens(alloc, tokens, origin)),
+            RecordType::SSHFP => as_rdata(SSHFP::from_tokens(alloc, tokens, origin)),
+            RecordType::SVCB => as_rdata(SVCB::from_tokens(alloc, tokens, origin)),
+            RecordType::TLSA => as_rdata(TLSA::from_tokens(alloc, tokens, origin)),
+            RecordType::TXT => as_rdata(TXT::from_tokens(alloc, tokens, origin)),
             other => Err(ParseError::UnsupportedRecordType(other)),
         }
     }
@@ -143,11 +82,30 @@ impl RData {
         ensures kind { IfOk result (λ value. type_of value ≡ record_type) }
         ensures refused { IfErr result (λ e. IsOutOfMemory e ⊎ TextRefused text.now e
             ⊎ ((words : List (List ℕ)) × TextWords text.now words × ((value : Rdata) → IsTextOf record_type words None value → ⊥))) }
+
+        // The words are those of the text and no others; where it has none, the error is that of the text.
+        ensures only { (words : List (List ℕ)) → TextWords text.now words
+            → MatchResult result (λ value. IsTextOf record_type words None value)
+            (λ e. IsOutOfMemory e ⊎ ((value : Rdata) → IsTextOf record_type words None value → ⊥)) }
+        ensures cause { (e : ParseError) → TextRefused text.now e → MatchResult result (λ value. ⊥) (λ given. IsOutOfMemory given ⊎ (given ≡ e)) }
+        ensures unsupported { has_text record_type ≡ false → MatchResult result (λ value. ⊥)
+            (λ e. IsOutOfMemory e ⊎ TextRefused text.now e ⊎ (e ≡ UnsupportedRecordType record_type)) }
     {
         let words = match words_of_text(alloc, text) {
             Ok(words) => words,
             Err(refused) => return Err(refused),
         };
         RData::from_tokens(alloc, record_type, words.iter(), None)
+    }
+}
+
+// Data of one type as data of all types.
+fn as_rdata<T: RecordData>(written: Result<T, ParseError>) -> Result<RData, ParseError>
+    ensures ok { IfOk result (λ value. (x : T) × (value ≡ T.rdata x) × (written ≡ Ok x)) }
+    ensures refused { IfErr result (λ e. written ≡ Err e) }
+{
+    match written {
+        Ok(value) => Ok(value.into_rdata()),
+        Err(refused) => Err(refused),
     }
 }

@@ -1,5 +1,5 @@
 -- One place holds one rest behind a number and a name.
-use Rattle.std.proofs.Common.{◌≡◌, ℕ, Bool, true, List, [], ◌++◌, ◌⊎◌, inl, inr, append-nil, sym, ap, subst, ◌∙◌, arith}
+use Rattle.std.proofs.Common.{◌≡◌, ℕ, ◌+◌, ◌≤◌, length, Bool, true, List, [], ◌++◌, ◌⊎◌, inl, inr, append-nil, sym, ap, subst, ◌∙◌, arith}
 use Rattle.dnw_codes.specs.declared.error.DecodeError.{DecodeError}
 use Rattle.dnw_codes.specs.declared.error.ProtoError.{ProtoError}
 use Rattle.dnw_codes.specs.ProtoError.{IsMemory}
@@ -9,7 +9,7 @@ use Rattle.drd_svcb.specs.Writing.{RefusesEmit}
 use Rattle.dnw_decoder.specs.Octets.{Stands, octets_16}
 use Rattle.dnw_decoder.specs.Reading.{IsWantOfMemory}
 use Rattle.dnw_decoder.specs.Spelling.{NameAt}
-use Rattle.dnw_decoder.specs.SpellingLaws.{name_once}
+use Rattle.dnw_decoder.specs.SpellingLaws.{name_once, spelled_within}
 use Rattle.dnw_decoder.specs.Standing.{stands_same}
 use Rattle.dnw_name.specs.DomainName.{DomainName}
 use Rattle.drd_fields.specs.Equality.{Tells, TellsApart, canonical_field}
@@ -29,15 +29,21 @@ rest_same message place a b n m s t end p q =
     let last : p.2.2.0 ≡ q.2.2.0 = sym p.2.2.2 ∙ q.2.2.2 in
     (stands_same message p.2.0 s t p.2.2.0 q.2.2.0 (omega (arith, p.2.2.1.behind, there.behind, last)) p.2.2.1 there).0
 
--- Where the rest is refused as parameters, no data stand.
-pub no-svcb : (message : List ℕ) (place priority : ℕ) (target : DomainName) (octets : List ℕ) (end : ℕ) (e : DecodeError) → FieldsAt message place (svcb_parts priority target octets) end → IsWantOfMemory e ⊎ NoParams octets e → IsWantOfMemory e ⊎ ((svcb : SVCB) → FieldsAt message place (svcb_fields svcb) end × AreParams svcb.svc_params.items → ⊥)
-no-svcb message place priority target octets end e there (inl m) = inl m
-no-svcb message place priority target octets end e there (inr why) =
-    inr (λ svcb at. why.1 svcb.svc_params.items at.1 (rest_same message place svcb.svc_priority priority svcb.target_name target (params_octets svcb.svc_params.items) octets end at.0 there))
+-- The octets of the rest are within the data.
+pub rest-fits : (message : List ℕ) (place priority : ℕ) (target : DomainName) (octets : List ℕ) (end : ℕ) → FieldsAt message place (svcb_parts priority target octets) end → place + length octets ≤ end
+rest-fits message place priority target octets end p =
+    omega (arith, p.1.behind, (spelled_within message p.0 (length message) p.0 target.labels p.2.0 p.2.1.spelled).0, p.2.2.1.behind, p.2.2.2)
 
-pub has-none : (message : List ℕ) (place priority : ℕ) (target : DomainName) (octets : List ℕ) (end : ℕ) (e : DecodeError) → FieldsAt message place (svcb_parts priority target octets) end → IsWantOfMemory e ⊎ NoParams octets e → HasNoParams message place end e
-has-none message place priority target octets end e there (inl m) = (priority, target, octets, there, inl m)
-has-none message place priority target octets end e there (inr why) = (priority, target, octets, there, inr why.0)
+-- Where the rest is refused as parameters, no data stand.
+pub no-svcb : (message : List ℕ) (place priority : ℕ) (target : DomainName) (octets : List ℕ) (end left : ℕ) (e : DecodeError) → FieldsAt message place (svcb_parts priority target octets) end → IsWantOfMemory e ⊎ ((behind : List ℕ) × NoParams octets e behind × (length behind ≡ left)) → IsWantOfMemory e ⊎ ((svcb : SVCB) → FieldsAt message place (svcb_fields svcb) end × AreParams svcb.svc_params.items → ⊥)
+no-svcb message place priority target octets end left e there (inl m) = inl m
+no-svcb message place priority target octets end left e there (inr why) =
+    inr (λ svcb at. why.1.1 svcb.svc_params.items at.1 (rest_same message place svcb.svc_priority priority svcb.target_name target (params_octets svcb.svc_params.items) octets end at.0 there))
+
+pub has-none : (message : List ℕ) (place priority : ℕ) (target : DomainName) (octets : List ℕ) (end at left : ℕ) (e : DecodeError) → FieldsAt message place (svcb_parts priority target octets) end → at + left ≡ end → IsWantOfMemory e ⊎ ((behind : List ℕ) × NoParams octets e behind × (length behind ≡ left)) → HasNoParams message place end e at
+has-none message place priority target octets end at left e there stop (inl m) = (priority, target, octets, there, left, stop, inl m)
+has-none message place priority target octets end at left e there stop (inr why) =
+    (priority, target, octets, there, left, stop, inr (why.0, why.1.0, why.2))
 
 pub params-told : (b : Bool) (ps qs ds es : List Param) → ds ≡ ps → es ≡ qs → (AreParams ds → AreParams es → Tells b (params_octets ds) (params_octets es)) → AreParams ps → AreParams qs → Tells b (params_octets ps ++ []) (params_octets qs ++ [])
 params-told b ps qs ds es one two told are others =

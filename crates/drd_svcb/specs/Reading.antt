@@ -1,5 +1,5 @@
 -- Why SVCB data are not read.
-use Rattle.std.specs.Prelude.{ℕ, ◌≡◌, List}
+use Rattle.std.specs.Prelude.{ℕ, ◌≡◌, ◌+◌, List, length}
 use Rattle.std.proofs.Common.{◌⊎◌}
 use Rattle.dnw_codes.specs.declared.error.DecodeError.{DecodeError}
 use Rattle.dnw_decoder.specs.Reading.{IsWantOfMemory}
@@ -9,13 +9,14 @@ use Rattle.drd_fields.specs.Reading.{Stops}
 use Rattle.drd_params.specs.Params.{RefusesParams}
 use Rattle.drd_svcb.specs.Fields.{svcb_kinds, svcb_parts}
 
--- The octets behind the target are refused as parameters, or a growth was refused.
-abbrev pub HasNoParams : List ℕ → ℕ → ℕ → DecodeError → Type 0
-HasNoParams message place end e =
-    (priority : ℕ) × (target : DomainName) × (octets : List ℕ)
-    × FieldsAt message place (svcb_parts priority target octets) end × (IsWantOfMemory e ⊎ RefusesParams octets e)
+-- The octets behind the target are refused as parameters, and reading stops before those that are left, or a growth was
+-- refused.
+abbrev pub HasNoParams : List ℕ → ℕ → ℕ → DecodeError → ℕ → Type 0
+HasNoParams message place end e at =
+    (priority : ℕ) × (target : DomainName) × (octets : List ℕ) × FieldsAt message place (svcb_parts priority target octets) end
+    × (left : ℕ) × (at + left ≡ end)
+    × (IsWantOfMemory e ⊎ ((behind : List ℕ) × RefusesParams octets e behind × (length behind ≡ left)))
 
 -- A field can't be read, or all stand and the last one holds no parameters.
 abbrev pub RefusesSvcb : List ℕ → ℕ → ℕ → DecodeError → ℕ → Type 0
-RefusesSvcb message place end e at =
-    Stops message end svcb_kinds place e at ⊎ ((at ≡ end) × HasNoParams message place end e)
+RefusesSvcb message place end e at = Stops message end svcb_kinds place e at ⊎ HasNoParams message place end e at

@@ -1,7 +1,6 @@
 //! Record data of services: SVCB and HTTPS (RFC 9460).
 #![tactic(auto)]
 
-mod emit;
 mod escape;
 mod https;
 mod order;

@@ -20,15 +20,14 @@ ghost use Rattle.std.specs.Option.{option_copied};
 ghost use Rattle.drd_words.specs.Word.{IsOutOfMemory};
 ghost use Rattle.drd_svcb.specs.Texts.{IsSvcbText};
 
-use crate::emit::emit_three;
 use crate::words::ParamWords;
 use dnw_codes::{DecodeError, ParseError, ProtoError, Restrict};
 use dnw_decoder::BinDecoder;
-use dnw_encoder::{BinEncodable, BinEncoder};
+use dnw_encoder::{BinEncodable, BinEncoder, RDataEncoding};
 use dnw_name::Name;
-use drd_fields::{DataField, RecordDataDecodable, Rest, RestField, read_data_within};
+use drd_fields::{DataField, RecordDataDecodable, Rest, RestField, emit_three, read_data_within};
 use drd_params::{
-    SvcParamKey, SvcParamValue, are_same_params, fmt_param, read_params, write_params,
+    SvcParamKey, SvcParamValue, are_same_params, fmt_param, read_params_until, write_params,
 };
 use drd_words::read_tokens;
 use std::alloc::Global;
@@ -150,7 +149,7 @@ impl RecordDataDecodable for SVCB {
     ghost refuses = { RefusesSvcb };
 
     /// The service in so many octets. Refused are parameters that are cut, whose value isn't one of its key, or whose key
-    /// isn't above those before it.
+    /// isn't above those before it. Reading stops before a parameter that is cut, and behind one that is refused.
     fn read_data(
         alloc: Global,
         decoder: &mut BinDecoder<'_>,
@@ -160,9 +159,12 @@ impl RecordDataDecodable for SVCB {
             Ok(parts) => parts,
             Err(refused) => return Err(refused),
         };
-        match read_params(alloc, &octets) {
+        match read_params_until(alloc, &octets) {
             Ok(params) => Ok(SVCB::new(priority, target, params)),
-            Err(refused) => Err(refused),
+            Err(stopped) => {
+                decoder.set_index(decoder.index() - stopped.left);
+                Err(stopped.cause)
+            }
         }
     }
 }
@@ -182,7 +184,8 @@ impl BinEncodable for SVCB {
         };
         emit_three(
             encoder,
-            (self.svc_priority, (&self.target_name, RestField(&octets))),
+            RDataEncoding::Other,
+            &(self.svc_priority, (&self.target_name, RestField(&octets))),
         )
     }
 }

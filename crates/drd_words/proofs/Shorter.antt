@@ -3,15 +3,7 @@ use Rattle.std.proofs.Common.{◌≡◌, ℕ, ◌<◌, ◌≤◌, suc, ◌&&◌,
 use Rattle.std.specs.Prelude.{Result, Ok, Err, Option, Some, None, MatchBool}
 use Rattle.dnw_codes.specs.declared.error.LexerError.{LexerError}
 use Rattle.dnw_lexer.specs.Lexer.{Reading, before, Words, words_before, gap, is_blank, at_line_end, behind_line_end, begins_blank, without_blanks, line_end, without_comment, ends_word, PlainText, ends, plain, escaped, bracket, cut, StringText, ListText, closes, word, refused, unclosed, Lexeme, blank, end_of_line, Unread, unread, Given, lexeme_given, bare_lexeme, bare_given, string_given, list_given, BareToken, StringToken, ListToken, WordToken, LineToken, IsToken}
-use Rattle.dnw_lexer.proofs.Lists.{list-shorter}
-
-abbrev left : Reading → ℕ
-left (Ok found) = length found.1
-left (Err e) = 0
-
-left-before : (w : List ℕ) (r : Reading) → left (before w r) ≡ left r
-left-before w (Ok found) = refl
-left-before w (Err e) = refl
+use Rattle.dnw_lexer.specs.LeftLaws.{left, plain-shorter, string-left, gap-left, list-shorter}
 
 abbrev words_left : Words → ℕ
 words_left (Ok found) = length found.1
@@ -33,42 +25,7 @@ first (Err e) = None
 abbrev token_then : Lexeme → Unread → Given
 token_then lexeme after = Ok (Some lexeme, after)
 
--- What stands behind a plain word.
-plain-left : (inside : Bool) (text : List ℕ) (r : Reading) → PlainText inside text r → left r ≤ length text
-plain-left inside text r (ends _ e) = omega arith
-plain-left inside text r (plain c rest r' e n m p) = omega (arith, left-before (c ∷ []) r', plain-left inside rest r' p)
-plain-left inside text r (escaped c d rest r' e p) = omega (arith, left-before (c ∷ d ∷ []) r', plain-left inside rest r' p)
-plain-left inside text r (bracket c rest e n) = omega arith
-plain-left inside text r (cut c e) = omega arith
-
-plain-shorter : (inside : Bool) (c : ℕ) (rest : List ℕ) (r : Reading) → ends_word inside (c ∷ rest) ≡ false → PlainText inside (c ∷ rest) r → left r < suc (length rest)
-plain-shorter inside c rest r goes (ends _ e) = absurd (cc)
-plain-shorter inside c rest r goes (plain _ _ r' e n m p) = omega (arith, left-before (c ∷ []) r', plain-left inside rest r' p)
-plain-shorter inside c rest r goes (escaped _ d rest' r' e p) = omega (arith, left-before (c ∷ d ∷ []) r', plain-left inside rest' r' p)
-plain-shorter inside c rest r goes (bracket _ _ e n) = omega arith
-plain-shorter inside c rest r goes (cut _ e) = omega arith
-
--- What stands behind a string, which could stand in a list too.
-quote-solid : (rest : List ℕ) → gap false (34 ∷ rest) ≡ 34 ∷ rest
-quote-solid [] = refl
-quote-solid (d ∷ rest) = refl
-
-string-left : (rest : List ℕ) (r : Reading) → StringText rest r → left r ≤ length rest
-string-left rest (Ok found) p =
-    omega (arith, list-shorter (34 ∷ rest) 34 rest found.0 found.1 (quote-solid rest) (λ e. absurd (omega (arith, e))) p)
-string-left rest (Err e) p = omega arith
-
 -- What stands behind a list.
-gap-left : (comment : Bool) (text : List ℕ) → length (gap comment text) ≤ length text
-gap-left comment [] = omega arith
-gap-left true (c ∷ cs) = omega (arith, gap-left (not (c == 10)) cs)
-gap-left false (c ∷ cs) = by_tests (is_blank c || at_line_end (c ∷ cs)) (c == 59) (gap-left false cs) (gap-left true cs)
-  where
-    by_tests : (s t : Bool) → length (gap false cs) ≤ length cs → length (gap true cs) ≤ length cs → length (cond s (gap false cs) (cond t (gap true cs) (c ∷ cs))) ≤ suc (length cs)
-    by_tests true t h k = omega (arith, h)
-    by_tests false true h k = omega (arith, k)
-    by_tests false false h k = omega arith
-
 list-left : (text : List ℕ) (r : Words) → ListText text r → words_left r ≤ length text
 list-left text r (closes _ c rest at e) = omega (arith, ap length at, gap-left false text)
 list-left text r (word _ c rest w behind r' at other h p) =

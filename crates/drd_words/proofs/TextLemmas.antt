@@ -112,6 +112,11 @@ words-or_error left v e a b = let same = reading-one left (Ok v) (Err e) a b in 
 pub error-one : (left : Unread) (e f : ParseError) → TextReading left (Err e) → TextReading left (Err f) → e ≡ f
 error-one left e f a b = let same = reading-one left (Err e) (Err f) a b in cc
 
+-- What has the words of a text is refused for no fault of the text.
+pub memory-only : {M : Type 0} (left : Unread) (e : ParseError) (words : List (List ℕ)) → M ⊎ TextReading left (Err e) → TextReading left (Ok words) → M
+memory-only left e words (inl m) read = m
+memory-only left e words (inr h) read = absurd (words-or_error left words e read h)
+
 -- The token that the lexer gave, with what it means.
 pub token-at : (left after : Unread) (given : Option Token) (token : Token) → given ≡ Some token → (lexeme : Option Lexeme) × AreLexemes given lexeme × IsToken left (Ok (lexeme, after)) → (l : Lexeme) × IsLexeme token l × IsToken left (Ok (Some l, after))
 token-at left after None token e h = absurd (cc)

@@ -41,6 +41,11 @@ pub fn read_text<T: Words>(alloc: Global, text: &str) -> Result<T, ParseError>
 pub fn words_of_text(alloc: Global, text: &str) -> Result<Vec<String>, ParseError>
     ensures ok { IfOk result (λ words. TextWords text.now (map string_bytes words.items)) }
     ensures refused { IfErr result (λ e. IsOutOfMemory e ⊎ TextRefused text.now e) }
+
+    // The words are those of the text and no others; where it has none, the error is that of the text.
+    ensures only { (parts : List (List ℕ)) → TextWords text.now parts
+        → MatchResult result (λ words. map string_bytes words.items ≡ parts) (λ e. IsOutOfMemory e) }
+    ensures cause { (e : ParseError) → TextRefused text.now e → MatchResult result (λ words. ⊥) (λ given. IsOutOfMemory given ⊎ (given ≡ e)) }
 {
     let mut lexer = Lexer::new(alloc, text);
     let mut words = Vec::new(alloc);

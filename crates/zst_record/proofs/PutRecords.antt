@@ -7,12 +7,13 @@ use Rattle.std.specs.declared.alloc.AllocError.{AllocError}
 use Rattle.std.proofs.lemmas.Bool.{ltb-true, ltb-false, eq-eqb}
 use Rattle.dnw_codes.specs.declared.record_type.RecordType.{RecordType}
 use Rattle.zst_record.specs.declared.records.Record.{Record}
-use Rattle.zst_record.specs.declared.record_data.RData.{RData}
+use Rattle.drd_rdata.specs.declared.rdata.RData.{RData}
 use Rattle.dnw_name.specs.DomainName.{DomainName}
 use Rattle.zst_record.proofs.NameLaws.{name_eq_equiv}
 use Rattle.dnw_codes.specs.RecordType.{record_type_number}
-use Rattle.zst_record.specs.RecordData.{rdata_type, rdata_eq}
-use Rattle.zst_record.specs.Records.{RRset, IsRecordOf, IsRRset, has_only_full_names}
+use Rattle.drd_rdata.specs.Order.{rdata_eq}
+use Rattle.drd_rdata.specs.Types.{type_of}
+use Rattle.zst_record.specs.Records.{RRset, IsRecordOf, IsRRset, ReadsBackAlone}
 use Rattle.zst_record.specs.Records.{put_record}
 
 -- ---- by where the record with equal data stands
@@ -82,14 +83,14 @@ pub IsRRset-put : (set : RRset) (r : Record) → IsRRset set → IsRecordOf set.
 IsRRset-put set r is h =
     record { not_empty = filled set.records r; records = all set.owner set.record_type set.records r h is.records }
 
-pub IsRRset-single : (r : Record) → has_only_full_names r ≡ true
-    → IsRRset (record { owner = r.name; record_type = rdata_type r.rdata; records = r ∷ [] })
-IsRRset-single r full =
-    let h : IsRecordOf r.name (rdata_type r.rdata) r
+pub IsRRset-single : (r : Record) → ReadsBackAlone r
+    → IsRRset (record { owner = r.name; record_type = type_of r.rdata; records = r ∷ [] })
+IsRRset-single r back =
+    let h : IsRecordOf r.name (type_of r.rdata) r
     = record {
       at_owner = name_eq_equiv.refl r.name;
-      of_type = eq-eqb (record_type_number (rdata_type r.rdata)) (record_type_number (rdata_type r.rdata)) refl;
-      full_names = full;
+      of_type = eq-eqb (record_type_number (type_of r.rdata)) (record_type_number (type_of r.rdata)) refl;
+      reads_back = back;
     } in
     record { not_empty = omega arith; records = (h, tt) }
 

@@ -1,2 +1,2 @@
-pub mod RecordData
 pub mod Records
+pub mod Writing

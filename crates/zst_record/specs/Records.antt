@@ -1,32 +1,62 @@
 -- Resource records and their sets: RFC 1035, section 4.1.3; RFC 2181, section 5.
-use Rattle.std.specs.Prelude.{◌≡◌, ℕ, ◌<◌, Bool, true, List, [], ◌∷◌, ◌++◌, length, ◌&&◌, Option, Some, None, if◌then◌else◌}
+use Rattle.std.specs.Prelude.{◌≡◌, ℕ, ◌+◌, ◌<◌, true, List, [], ◌∷◌, ◌++◌, length, Option, Some, None, if◌then◌else◌}
 use Rattle.std.specs.List.{AllByRecursion}
 use Rattle.dnw_codes.specs.declared.record_type.RecordType.{RecordType}
+use Rattle.dnw_codes.specs.declared.record_type.RecordType.TheVariants as kind
+use Rattle.dnw_codes.specs.declared.record_type.RecordType.TheVariants.{OPT}
+use Rattle.dnw_codes.specs.declared.dns_class.DNSClass.{DNSClass}
+use Rattle.dnw_codes.specs.declared.dns_class.DNSClass.TheVariants as class
+use Rattle.dnw_codes.specs.DNSClass.{class_number, class_of}
+use Rattle.dnw_codes.specs.RecordType.{record_type_number, record_type_of, same_record_type}
+use Rattle.dnw_name.specs.DomainName.{DomainName, name_octets, name_eq}
+use Rattle.dnw_decoder.specs.Octets.{octets_16, octets_32, Stands}
+use Rattle.dnw_decoder.specs.Spelling.{NameAt}
+use Rattle.drd_rdata.specs.Order.{rdata_eq}
+use Rattle.drd_rdata.specs.Reading.{ReadsAs, IsReadable}
+use Rattle.drd_rdata.specs.Types.{type_of}
+use Rattle.drd_rdata.specs.Writing.{written_octets}
 use Rattle.zst_record.specs.declared.records.Record.{Record}
-use Rattle.dnw_name.specs.DomainName.{DomainName, IsDomainName, name_octets, name_eq}
-use Rattle.dnw_codes.specs.RecordType.{record_type_number, same_record_type}
-use Rattle.dnw_codes.specs.DNSClass.{class_number}
-use Rattle.dnw_decoder.specs.Octets.{octets_16, octets_32}
-use Rattle.zst_record.specs.RecordData.{rdata_type, rdata_octets, rdata_eq, has_full_names, SoundData}
 
--- Between owner and data: type, class, time to live, and the length of the data.
-abbrev pub fixed_octets : Record → List ℕ
-fixed_octets r =
-    octets_16 (record_type_number (rdata_type r.rdata)) ++ octets_16 (class_number r.dns_class) ++ octets_32 r.ttl
-    ++ octets_16 (length (rdata_octets r.rdata))
+-- Behind the owner: type, class and time to live.
+abbrev pub head_octets : Record → List ℕ
+head_octets r = octets_16 (record_type_number (type_of r.rdata)) ++ octets_16 (class_number r.dns_class) ++ octets_32 r.ttl
 
--- The octets of a record: owner, the fixed part, data.
-abbrev pub record_octets : Record → List ℕ
-record_octets r = name_octets r.name ++ (fixed_octets r ++ rdata_octets r.rdata)
+-- Between owner and data: these, and the number of the data's octets.
+abbrev pub fixed_octets : Record → ℕ → List ℕ
+fixed_octets r len = head_octets r ++ octets_16 len
 
--- Every name of the record ends at the root.
-abbrev pub has_only_full_names : Record → Bool
-has_only_full_names r = r.name.fqdn && has_full_names r.rdata
+-- A record at a place: its owner; its type, class and time to live; its data, which fill the length before them.
+pub record RecordAt (message : List ℕ) (place : ℕ) (r : Record) (end : ℕ) : Type 0 where
+  pub middle : ℕ
+  pub first : ℕ
+  pub len : ℕ
+  pub owner : NameAt message place r.name middle
+  pub fixed : Stands message middle (fixed_octets r len) first
+  pub rdata : ReadsAs (type_of r.rdata) message first len r.rdata
+  pub filled : end ≡ first + len
 
--- Every name of the record is a domain name.
-pub record HasSoundNames (r : Record) : Type 0 where
-  pub owner : IsDomainName r.name
-  pub rdata : SoundData r.rdata
+-- The octets that a record takes, its names in full.
+abbrev pub plain : Record → ℕ
+plain r = length (name_octets r.name) + (10 + length (written_octets r.rdata))
+
+-- A number that has a name is read as that name. A class of options is none of a record.
+abbrev pub IsOwnType : RecordType → Type 0
+IsOwnType (kind.Unknown number) = record_type_of number ≡ kind.Unknown number
+IsOwnType named = Unit {0}
+
+abbrev pub IsOwnClass : DNSClass → Type 0
+IsOwnClass (class.OPT payload) = ⊥
+IsOwnClass (class.Unknown number) = class_of number ≡ class.Unknown number
+IsOwnClass named = Unit {0}
+
+-- Record and data can be read alone: the owner is fully qualified, type and class are those of their numbers, and the data
+-- stand in some message. Options of a message are no record of a zone (RFC 6891 6.1.1).
+pub record ReadsBackAlone (r : Record) : Type 0 where
+  pub owner : r.name.fqdn ≡ true
+  pub own_type : IsOwnType (type_of r.rdata)
+  pub own_class : IsOwnClass r.dns_class
+  pub rdata : IsReadable r.rdata
+  pub no_options : type_of r.rdata ≡ OPT → ⊥
 
 -- A set: the records of one owner and type, in order.
 pub record RRset : Type 0 where
@@ -34,11 +64,11 @@ pub record RRset : Type 0 where
   pub record_type : RecordType
   pub records : List Record
 
--- A record of the set: the set's owner and type; its names end at the root.
+-- A record of the set: the set's owner and type; it reads back alone.
 pub record IsRecordOf (owner : DomainName) (record_type : RecordType) (r : Record) : Type 0 where
   pub at_owner : name_eq r.name owner ≡ true
-  pub of_type : same_record_type (rdata_type r.rdata) record_type ≡ true
-  pub full_names : has_only_full_names r ≡ true
+  pub of_type : same_record_type (type_of r.rdata) record_type ≡ true
+  pub reads_back : ReadsBackAlone r
 
 -- A set has a record, and each of its records is of its owner and type.
 pub record IsRRset (set : RRset) : Type 0 where
@@ -52,5 +82,5 @@ put_record (s ∷ ss) r = if rdata_eq s.rdata r.rdata then r ∷ ss else s ∷ p
 
 -- The set that a record makes, alone or with those stored.
 abbrev pub set_with : Option RRset → Record → RRset
-set_with None r = record { owner = r.name; record_type = rdata_type r.rdata; records = r ∷ [] }
+set_with None r = record { owner = r.name; record_type = type_of r.rdata; records = r ∷ [] }
 set_with (Some set) r = record { owner = set.owner; record_type = set.record_type; records = put_record set.records r }

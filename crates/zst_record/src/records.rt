@@ -1,13 +1,16 @@
 //! Resource records and their sets (RFC 1035 section 4.1.3, RFC 2181 section 5).
 
-ghost use Rattle.std.specs.Prelude.{◌≡◌, None, Some, true, IfOk, OnOk, OnErr, position};
-ghost use Rattle.zst_record.specs.RecordData.{rdata_type, rdata_eq};
-ghost use Rattle.zst_record.specs.Records.{RRset, IsRRset, IsRecordOf, has_only_full_names};
+ghost use Rattle.std.specs.Prelude.{◌≡◌, ◌↔◌, None, Some, true, IsTrue, IfOk, OnOk, OnErr, position};
+ghost use Rattle.dnw_codes.specs.declared.record_type.RecordType.TheVariants.{OPT};
+ghost use Rattle.drd_rdata.specs.Order.{rdata_eq};
+ghost use Rattle.drd_rdata.specs.Types.{type_of};
+ghost use Rattle.zst_record.specs.Records.{RRset, IsRRset, IsRecordOf, IsOwnClass, IsOwnType, ReadsBackAlone};
 ghost use Rattle.zst_record.specs.Records.{put_record as with_record, set_with};
 
-use crate::record_data::RData;
 use dnw_codes::{DNSClass, RecordType};
 use dnw_name::Name;
+use drd_rdata::RData;
+use drd_readable::is_readable;
 use std::alloc::{AllocError, Global};
 use std::marker::Model;
 
@@ -27,9 +30,56 @@ pub struct Record {
 impl Record {
     /// The type of the record.
     pub fn record_type(&self) -> RecordType
-        ensures { result ≡ rdata_type self.now.rdata }
+        ensures { result ≡ type_of self.now.rdata }
     {
         self.rdata.record_type()
+    }
+
+    /// Whether the record can be read alone, as each record of a zone is: its owner ends at the root (RFC 1035 3.1), type and
+    /// class are those of their numbers, some message holds its data (`is_readable`), and these are no options of a message
+    /// (RFC 6891 6.1.1). It takes no memory.
+    pub fn reads_back_alone(&self) -> bool
+        ensures { IsTrue result ↔ ReadsBackAlone self.now }
+    {
+        self.name.is_fqdn()
+            && is_own_type(self.record_type())
+            && is_own_class(self.dns_class)
+            && !self.holds_options()
+            && is_readable(&self.rdata)
+    }
+
+    // Whether the data are options of a message.
+    fn holds_options(&self) -> bool
+        ensures { IsTrue result ↔ (type_of self.now.rdata ≡ OPT) }
+    {
+        matches!(self.record_type(), RecordType::OPT)
+    }
+}
+
+// Whether a type is the one that its number is read as.
+fn is_own_type(record_type: RecordType) -> bool
+    ensures { IsTrue result ↔ IsOwnType record_type }
+{
+    match record_type {
+        RecordType::Unknown(number) => match RecordType::from(number) {
+            RecordType::Unknown(own) => own == number,
+            _ => false,
+        },
+        _ => true,
+    }
+}
+
+// Whether a class is the one that its number is read as.
+fn is_own_class(dns_class: DNSClass) -> bool
+    ensures { IsTrue result ↔ IsOwnClass dns_class }
+{
+    match dns_class {
+        DNSClass::OPT(_) => false,
+        DNSClass::Unknown(number) => match DNSClass::from(number) {
+            DNSClass::Unknown(own) => own == number,
+            _ => false,
+        },
+        _ => true,
     }
 }
 
@@ -54,7 +104,7 @@ impl Model for RecordSet {
 impl RecordSet {
     /// The set of one record.
     pub fn from_record(alloc: Global, first: Record) -> Result<RecordSet, AllocError>
-        requires { has_only_full_names first ≡ true }
+        requires { ReadsBackAlone first }
         ensures { IfOk result (λ set. set ≡ set_with None first) }
     {
         let name = first.name.clone()?;
@@ -116,7 +166,5 @@ fn put_record(records: &mut Vec<Record>, next: Record) -> Result<(), AllocError>
 fn place_of(records: &[Record], rdata: &RData) -> Option<usize>
     ensures { result ≡ position (λ stored. rdata_eq stored.rdata rdata.now) records.now }
 {
-    records
-        .iter()
-        .position(|stored| stored.rdata.same_data(rdata))
+    records.iter().position(|stored| stored.rdata == *rdata)
 }

@@ -17,7 +17,7 @@ use Rattle.zst_record.specs.declared.records.Record.{Record}
 use Rattle.dnw_name.specs.DomainName.{DomainName, name_eq}
 use Rattle.dnw_codes.specs.RecordType.{same_record_type}
 use Rattle.dnw_name.specs.NameKey.{name_key}
-use Rattle.zst_record.specs.RecordData.{rdata_type}
+use Rattle.drd_rdata.specs.Types.{type_of}
 use Rattle.zst_record.specs.Records.{RRset}
 use Rattle.zst_zone.specs.Zones.{stored, Adds}
 use Rattle.zst_record.specs.Records.{set_with}
@@ -158,7 +158,7 @@ module _ {K V : Type 0} (octets : K → List ℕ) (sets : V → List RRset) wher
     where
       by : (name : DomainName) (t : RecordType) (b : Bool) → bytes_eq (name_key name) (name_key r.name) ≡ b
           → set_in octets sets (cond b (Some w) (lookup (at_key (name_key name)) old)) t
-          ≡ cond (name_eq name r.name && same_record_type (rdata_type r.rdata) t)
+          ≡ cond (name_eq name r.name && same_record_type (type_of r.rdata) t)
           (Some (set_with (stored (sets_of octets sets old) name t) r)) (stored (sets_of octets sets old) name t)
       by name t true e =
           let there : List RRset = node_sets (lookup (at_key (name_key r.name)) old) in
@@ -167,7 +167,7 @@ module _ {K V : Type 0} (octets : K → List ℕ) (sets : V → List RRset) wher
           = stored_in octets sets name t old was.nodes was.ordered
           ∙ ap (λ (q : List ℕ). set_in octets sets (lookup (at_key q) old) t) (same_octets (name_key name) (name_key r.name) e)
           ∙ find_in_node (lookup (at_key (name_key r.name)) old) t in
-          let after : find (is_of_type t) (sets w) ≡ cond (same_record_type (rdata_type r.rdata) t) (Some (set_with (find (is_of_type t) there) r)) (find (is_of_type t) there)
+          let after : find (is_of_type t) (sets w) ≡ cond (same_record_type (type_of r.rdata) t) (Some (set_with (find (is_of_type t) there) r)) (find (is_of_type t) there)
           = ap (find (is_of_type t)) holds ∙ find_with t there r (rises (name_key r.name) old was.nodes) in
           rw (named, before) after
       by name t false e =

@@ -4,22 +4,22 @@ use Rattle.std.specs.Prelude.{Bool, true, false, ◌==◌, List, [], ◌∷◌, 
 use Rattle.std.specs.declared.alloc.AllocError.{AllocError}
 use Rattle.std.specs.Str.{bytes_eq}
 use Rattle.std.specs.List.{AllByRecursion, insert}
-use Rattle.std.proofs.lemmas.Bool.{eqb-true, eqb-false, ltb-true, ltb-false, eq-eqb, ne_eqb, and_parts}
+use Rattle.std.proofs.lemmas.Bool.{eqb-true, eqb-false, ltb-true, ltb-false, eq-eqb, ne_eqb}
 use Rattle.dnw_codes.specs.declared.record_type.RecordType.{RecordType}
 use Rattle.zst_record.specs.declared.records.Record.{Record}
 use Rattle.dnw_name.specs.DomainName.{name_eq}
 use Rattle.dnw_codes.specs.RecordType.{record_type_number, same_record_type}
 use Rattle.dnw_name.specs.NameKey.{name_key}
 use Rattle.zst_record.proofs.NameLaws.{name_eq_equiv}
-use Rattle.zst_record.specs.RecordData.{rdata_type, has_full_names}
-use Rattle.zst_record.specs.Records.{RRset, IsRecordOf, has_only_full_names}
+use Rattle.drd_rdata.specs.Types.{type_of}
+use Rattle.zst_record.specs.Records.{RRset, IsRecordOf, ReadsBackAlone}
 use Rattle.zst_record.specs.Records.{set_with}
 use Rattle.zst_zone.specs.ZoneMaps.{with_record, place_from, IsOwnedAt, IsNode, TypesRise}
 use Rattle.zst_zone.proofs.Keys.{same_key}
 use Rattle.zst_zone.proofs.ZoneNodes.{is_of_type, owner_test}
 
 abbrev pub code_of : Record → ℕ
-code_of r = record_type_number (rdata_type r.rdata)
+code_of r = record_type_number (type_of r.rdata)
 
 -- ---- by place
 -- the set of the record's type stands at k, where the sets start at i
@@ -169,7 +169,7 @@ find_parts : (b e : Bool) (t : RecordType) (s : RRset) (sets after : List RRset)
     → find (is_of_type t) (cond b (s ∷ after) (cond e (set_with (Some s) r ∷ sets) (set_with None r ∷ s ∷ sets)))
     ≡ cond b (cond (is_of_type t s) (Some s) (find (is_of_type t) after))
     (cond e (cond (is_of_type t s) (Some (set_with (Some s) r)) (find (is_of_type t) sets))
-    (cond (same_record_type (rdata_type r.rdata) t) (Some (set_with None r)) (cond (is_of_type t s) (Some s) (find (is_of_type t) sets))))
+    (cond (same_record_type (type_of r.rdata) t) (Some (set_with None r)) (cond (is_of_type t s) (Some s) (find (is_of_type t) sets))))
 find_parts true e t s sets after r = refl
 find_parts false true t s sets after r = refl
 find_parts false false t s sets after r = refl
@@ -188,14 +188,14 @@ choose false false st false s r old new h1 h2 h3 h4 ih = refl
 
 pub find_with : (t : RecordType) (sets : List RRset) (r : Record) → TypesRise sets
     → find (is_of_type t) (with_record sets r)
-    ≡ cond (same_record_type (rdata_type r.rdata) t) (Some (set_with (find (is_of_type t) sets) r)) (find (is_of_type t) sets)
+    ≡ cond (same_record_type (type_of r.rdata) t) (Some (set_with (find (is_of_type t) sets) r)) (find (is_of_type t) sets)
 find_with t [] r old = refl
 find_with t (s ∷ sets) r old =
     let n : ℕ = record_type_number s.record_type in
     let b : Bool = nat_lt n (code_of r) in
     let e : Bool = n == code_of r in
     find_parts b e t s sets (with_record sets r) r
-    ∙ choose b e (is_of_type t s) (same_record_type (rdata_type r.rdata) t) s r (find (is_of_type t) sets) (find (is_of_type t) (with_record sets r))
+    ∙ choose b e (is_of_type t s) (same_record_type (type_of r.rdata) t) s r (find (is_of_type t) sets) (find (is_of_type t) (with_record sets r))
     (λ before at. ne_eqb (code_of r) (record_type_number t)
     (λ (h : code_of r ≡ record_type_number t). let g = ltb-true n (code_of r) before in let f = eqb-true n (record_type_number t) at in omega arith))
     (λ same. ap (λ (m : ℕ). m == record_type_number t) (sym (eqb-true n (code_of r) same)))
@@ -211,7 +211,7 @@ pub record FoundHere (k : ℕ) (sets : List RRset) (r : Record) (d : RRset) : Ty
   pub is_record : IsRecordOf (get_or sets k d).owner (get_or sets k d).record_type r
   pub after_is : with_record sets r ≡ set sets k (set_with (Some (get_or sets k d)) r)
 
-pub found_here : (sets : List RRset) (r : Record) (d : RRset) (k : ℕ) → has_only_full_names r ≡ true
+pub found_here : (sets : List RRset) (r : Record) (d : RRset) (k : ℕ) → ReadsBackAlone r
     → AllByRecursion (λ set. name_eq r.name set.owner ≡ true) sets → Ok k ≡ place_from 0 sets (code_of r) → FoundHere k sets r d
 found_here sets r d k full owned e =
     let f : FoundAt 0 k sets r d (with_record sets r) = found_at sets r d 0 k owned (sym e) in
@@ -221,7 +221,7 @@ found_here sets r d k full owned e =
     let h : P k = subst P same (f.below, f.owner, f.of_type, f.after_is) in
     record {
       below = h.0;
-      is_record = record { at_owner = h.1; of_type = eq-eqb (code_of r) (record_type_number (get_or sets k d).record_type) (sym h.2); full_names = full };
+      is_record = record { at_owner = h.1; of_type = eq-eqb (code_of r) (record_type_number (get_or sets k d).record_type) (sym h.2); reads_back = full };
       after_is = h.3;
     }
 
@@ -245,11 +245,11 @@ same_owner key (s ∷ sets) r at all =
     (owner_test r.name key s all.0 ∙ ap (bytes_eq (name_key r.name)) at ∙ same_key r.name r.name ∙ name_eq_equiv.refl r.name, same_owner key sets r at all.1)
 
 pub node_tried : (key : List ℕ) (old new : List RRset) (r : Record) (result : Result (Unit {0}) AllocError) → IsNode key old → key ≡ name_key r.name
-    → has_only_full_names r ≡ true → OnOk result (new ≡ with_record old r) → OnErr result (new ≡ old) → IsNode key new
+    → ReadsBackAlone r → OnOk result (new ≡ with_record old r) → OnErr result (new ≡ old) → IsNode key new
 node_tried key old new r (Ok u) node at full done kept =
-    rw done (IsNode-with key old r (and_parts r.name.fqdn (has_full_names r.rdata) full).0 (sym at) node.owned node.rise)
+    rw done (IsNode-with key old r full.owner (sym at) node.owned node.rise)
 node_tried key old new r (Err e) node at full done kept = rw kept (record { filled = node.filled; owned = node.owned; rise = node.rise })
 
-pub node_alone : (key : List ℕ) (new : List RRset) (r : Record) → key ≡ name_key r.name → has_only_full_names r ≡ true → new ≡ with_record [] r → IsNode key new
+pub node_alone : (key : List ℕ) (new : List RRset) (r : Record) → key ≡ name_key r.name → ReadsBackAlone r → new ≡ with_record [] r → IsNode key new
 node_alone key new r at full is =
-    rw is (IsNode-with key [] r (and_parts r.name.fqdn (has_full_names r.rdata) full).0 (sym at) tt tt)
+    rw is (IsNode-with key [] r full.owner (sym at) tt tt)

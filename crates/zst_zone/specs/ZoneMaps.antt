@@ -9,7 +9,7 @@ use Rattle.dnw_name.specs.DomainName.{DomainName}
 use Rattle.dnw_codes.specs.RecordType.{record_type_number, same_record_type}
 use Rattle.dnw_name.specs.NameKey.{name_key}
 use Rattle.zst_record.specs.declared.records.Record.{Record}
-use Rattle.zst_record.specs.RecordData.{rdata_type}
+use Rattle.drd_rdata.specs.Types.{type_of}
 use Rattle.zst_record.specs.Records.{RRset}
 use Rattle.zst_record.specs.Records.{set_with}
 
@@ -33,8 +33,8 @@ pub record IsNode (key : List ℕ) (sets : List RRset) : Type 0 where
 abbrev pub with_record : List RRset → Record → List RRset
 with_record [] r = set_with None r ∷ []
 with_record (set ∷ sets) r =
-    if nat_lt (record_type_number set.record_type) (record_type_number (rdata_type r.rdata)) then set ∷ with_record sets r
-    else if same_record_type set.record_type (rdata_type r.rdata) then set_with (Some set) r ∷ sets
+    if nat_lt (record_type_number set.record_type) (record_type_number (type_of r.rdata)) then set ∷ with_record sets r
+    else if same_record_type set.record_type (type_of r.rdata) then set_with (Some set) r ∷ sets
     else set_with None r ∷ set ∷ sets
 
 -- The place of the set of a type (Ok), or where it would go (Err), in sets that start at a place.

@@ -9,7 +9,7 @@ use Rattle.zst_zone.specs.declared.settings.NxProofKind.{NxProofKind}
 use Rattle.zst_zone.specs.declared.settings.ZoneSettings.{ZoneSettings}
 use Rattle.dnw_name.specs.DomainName.{DomainName, name_eq, is_at_or_below}
 use Rattle.dnw_codes.specs.RecordType.{same_record_type}
-use Rattle.zst_record.specs.RecordData.{rdata_type}
+use Rattle.drd_rdata.specs.Types.{type_of}
 use Rattle.zst_record.specs.Records.{RRset, set_with}
 
 -- The set of a type at a name.
@@ -24,7 +24,7 @@ exists_in sets name = list_any (λ set. is_at_or_below set.owner name) sets
 abbrev pub Adds : List RRset → Record → List RRset → Type 0
 Adds old r new =
     (name : DomainName) (record_type : RecordType) → stored new name record_type
-    ≡ (if name_eq name r.name && same_record_type (rdata_type r.rdata) record_type then Some (set_with (stored old name record_type) r) else stored old name record_type)
+    ≡ (if name_eq name r.name && same_record_type (type_of r.rdata) record_type then Some (set_with (stored old name record_type) r) else stored old name record_type)
 
 -- What a zone means: where it begins, how it may be used, and its sets.
 pub record View : Type 0 where

@@ -3,7 +3,7 @@
 ghost use Rattle.std.specs.Prelude.{◌≡◌, true, option_copied, IfOk, OnOk, OnErr};
 ghost use Rattle.dnw_name.specs.DomainName.{DomainName, is_at_or_below};
 ghost use Rattle.dnw_name.specs.NameKey.{name_key};
-ghost use Rattle.zst_record.specs.Records.{has_only_full_names};
+ghost use Rattle.zst_record.specs.Records.{ReadsBackAlone};
 ghost use Rattle.zst_zone.specs.Zones.{stored, lookup_result, empty_zone, AddsTo};
 ghost use Rattle.zst_zone.specs.Lookups.{outcome};
 
@@ -153,7 +153,7 @@ impl<K> InMemoryZoneHandler<K> {
     /// Adds a record to the set of its owner and type, in place of the one with equal data; where there is no such set,
     /// one is made. Names of the record end at the root.
     pub fn insert(&mut self, alloc: Global, next: Record) -> Result<(), AllocError>
-        requires { has_only_full_names next ≡ true }
+        requires { ReadsBackAlone next }
         ensures ok { OnOk result (AddsTo self.old next self.new) }
         ensures err { OnErr result (self.new ≡ self.old) }
     {

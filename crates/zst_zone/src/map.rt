@@ -5,7 +5,7 @@ ghost use Rattle.std.specs.List.{AllByRecursion};
 ghost use Rattle.dnw_name.specs.DomainName.{DomainName, name_eq};
 ghost use Rattle.dnw_name.specs.NameKey.{name_key};
 ghost use Rattle.dnw_codes.specs.RecordType.{record_type_number, same_record_type};
-ghost use Rattle.zst_record.specs.Records.{has_only_full_names};
+ghost use Rattle.zst_record.specs.Records.{ReadsBackAlone};
 ghost use Rattle.zst_zone.specs.Zones.{stored, exists_in, Adds};
 ghost use Rattle.zst_record.specs.Records.{set_with};
 ghost use Rattle.zst_zone.specs.ZoneMaps.{with_record, place_from};
@@ -92,7 +92,7 @@ impl ZoneMap {
     /// Adds a record to the set of its owner and type, in place of the one with equal data; where there is no such set,
     /// one is made.
     pub fn add(&mut self, alloc: Global, next: Record) -> Result<(), AllocError>
-        requires { has_only_full_names next ≡ true }
+        requires { ReadsBackAlone next }
         ensures ok { OnOk result (Adds self.old next self.new) }
         ensures err { OnErr result (self.new ≡ self.old) }
     {
@@ -110,7 +110,7 @@ impl ZoneMap {
 
 /// The sets of an owner that has only one record.
 fn node_of(alloc: Global, next: Record) -> Result<Vec<RecordSet>, AllocError>
-    requires { has_only_full_names next ≡ true }
+    requires { ReadsBackAlone next }
     ensures { IfOk result (λ node. node.items ≡ with_record [] next) }
 {
     let mut node = Vec::with_capacity(alloc, 1)?;
@@ -120,7 +120,7 @@ fn node_of(alloc: Global, next: Record) -> Result<Vec<RecordSet>, AllocError>
 
 /// Adds a record to the sets of its owner.
 fn add_to_node(alloc: Global, sets: &mut Vec<RecordSet>, next: Record) -> Result<(), AllocError>
-    requires full { has_only_full_names next ≡ true }
+    requires full { ReadsBackAlone next }
     requires owned { AllByRecursion (λ set. name_eq next.name set.owner ≡ true) sets.old.items }
     ensures ok { OnOk result (sets.new.items ≡ with_record sets.old.items next) }
     ensures err { OnErr result (sets.new.items ≡ sets.old.items) }

@@ -1,6 +1,6 @@
-pub mod Emitted
 pub mod Flags
+pub mod Fronts
 pub mod Pieces
 pub mod Questions
-pub mod Sizes
+pub mod Sections
 pub mod Written

@@ -1,34 +1,10 @@
--- What stands in octets that are made of pieces, and what stands at the same places of two messages.
-use Rattle.std.proofs.Common.{◌≡◌, ℕ, ◌+◌, ◌-◌, ◌<◌, ◌≤◌, List, [], ◌∷◌, ◌++◌, length, drop, refl, sym, ap, ◌∙◌, arith, append_assoc, append-nil}
-use Rattle.std.proofs.lemmas.List.{length-append, drop-drop, drop_at, drop_all, drop-append-le, append_cancel_right}
+-- What stands at the same places of two messages.
+use Rattle.std.proofs.Common.{◌≡◌, ℕ, ◌+◌, ◌-◌, ◌<◌, ◌≤◌, List, [], ◌∷◌, ◌++◌, length, drop, sym, ap, ◌∙◌, arith, append_assoc}
+use Rattle.std.proofs.lemmas.List.{drop-drop, drop-append-le, append_cancel_right}
 use Rattle.dnw_decoder.specs.Octets.{Stands}
 use Rattle.dnw_decoder.specs.Spelling.{pointer_octets, Spelled, at_end, at_label, at_pointer}
 use Rattle.dnw_decoder.specs.SpellingLaws.{spelled_within}
 use Rattle.zsv_message.specs.Wire.{PointsFrom}
-
--- The whole of a message stands at its start.
-pub stands_whole : (message octets : List ℕ) → message ≡ octets → Stands message 0 octets (length message)
-stands_whole message octets e = record {
-  there = e ∙ sym (append-nil octets) ∙ ap (λ (rest : List ℕ). octets ++ rest) (sym (drop_all (length message) message (omega arith)));
-  behind = omega (arith, ap length e);
-}
-
--- Two pieces stand one behind the other.
-pub stands_first : (message : List ℕ) (place : ℕ) (a b : List ℕ) (end : ℕ) → Stands message place (a ++ b) end → Stands message place a (place + length a)
-stands_first message place a b end s =
-    let later : drop (length a) (drop place message) ≡ b ++ drop end message = ap (λ (octets : List ℕ). drop (length a) octets) (s.there ∙ append_assoc a b (drop end message)) ∙ drop_at a (b ++ drop end message) (length a) refl in
-    record {
-      there = s.there ∙ append_assoc a b (drop end message) ∙ ap (λ (rest : List ℕ). a ++ rest) (sym later ∙ drop-drop (length a) place message);
-      behind = refl;
-    }
-
-pub stands_second : (message : List ℕ) (place : ℕ) (a b : List ℕ) (end : ℕ) → Stands message place (a ++ b) end → Stands message (place + length a) b end
-stands_second message place a b end s =
-    let later : drop (length a) (drop place message) ≡ b ++ drop end message = ap (λ (octets : List ℕ). drop (length a) octets) (s.there ∙ append_assoc a b (drop end message)) ∙ drop_at a (b ++ drop end message) (length a) refl in
-    record {
-      there = sym (drop-drop (length a) place message) ∙ later;
-      behind = omega (arith, s.behind, length-append a b);
-    }
 
 -- Between two places, two messages have the same octets.
 pub record SameThere (m n : List ℕ) (from to : ℕ) : Type 0 where

@@ -17,7 +17,7 @@ use Rattle.zsv_message.specs.declared.read.ReadError.{ReadError}
 use Rattle.zsv_message.specs.declared.read.ReadError.TheVariants as errors
 use Rattle.zsv_message.specs.declared.request.Query.{Query}
 use Rattle.zsv_message.specs.Headers.{header_of}
-use Rattle.zsv_message.specs.Requests.{QuestionAt, QuestionsAt, ReadsRequest}
+use Rattle.zsv_message.specs.Requests.{QuestionAt, QuestionsAt, OpensRequest, ReadsRequest}
 use Rattle.zsv_message.specs.Wire.{Entries, Reads, ReadsAs, TellsCause}
 
 -- Two numbers of 16 bits in the same octets are the same.
@@ -121,8 +121,8 @@ questions_err message place count before at end last a more errors.Malformed non
     entries_none (QuestionAt message) place before at a none qs behind there.0 (omega (arith, there.1))
 questions_err message place count before at end last a more errors.Memory none = tt
 
--- A message whose questions can't be read is no request.
-pub request_err : (message : List ℕ) (count end : ℕ) → count ≡ (header_of message).counts.queries → (e : ReadError) → ReadsAs {X = Vec Query Global} (λ qs. qs.items) (QuestionsAt message 12 count) (Err e) end → ReadsRequest message (Err e)
-request_err message count end counted errors.Malformed none = λ request is.
+-- A message whose questions can't be read is no request, or memory is wanted behind its header.
+pub request_err : (message : List ℕ) (count end : ℕ) → OpensRequest message → count ≡ (header_of message).counts.queries → (e : ReadError) → ReadsAs {X = Vec Query Global} (λ qs. qs.items) (QuestionsAt message 12 count) (Err e) end → ReadsRequest message (Err e)
+request_err message count end opens counted errors.Malformed none = λ request is.
     none request.questions is.end (is.questions.0, is.questions.1 ∙ sym counted)
-request_err message count end counted errors.Memory none = tt
+request_err message count end opens counted errors.Memory none = opens

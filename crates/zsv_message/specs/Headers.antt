@@ -1,5 +1,5 @@
 -- The header of a message: RFC 1035, section 4.1.1; RFC 4035, section 3.2 for AD and CD.
-use Rattle.std.specs.Prelude.{◌≡◌, ℕ, ◌+◌, ◌/◌, ◌%◌, ◌^◌, ◌*◌, ◌<◌, ◌==◌, Bool, true, false, List, get_or, if◌then◌else◌}
+use Rattle.std.specs.Prelude.{◌≡◌, ℕ, ◌+◌, ◌/◌, ◌%◌, ◌^◌, ◌*◌, ◌<◌, ◌==◌, ◌++◌, Bool, true, false, List, ◌∷◌, get_or, if◌then◌else◌}
 use Rattle.zsv_message.specs.declared.header.MessageType.{MessageType}
 use Rattle.zsv_message.specs.declared.header.MessageType.TheVariants as types
 use Rattle.zsv_message.specs.declared.header.OpCode.{OpCode}
@@ -9,7 +9,7 @@ use Rattle.zsv_message.specs.declared.header.ResponseCode.TheVariants as respons
 use Rattle.zsv_message.specs.declared.header.Metadata.{Metadata}
 use Rattle.zsv_message.specs.declared.header.HeaderCounts.{HeaderCounts}
 use Rattle.zsv_message.specs.declared.header.Header.{Header}
-use Rattle.dnw_decoder.specs.Octets.{number_16}
+use Rattle.dnw_decoder.specs.Octets.{number_16, octets_16}
 
 -- The number of an operation, and the operation of a number.
 abbrev pub op_code_number : OpCode → ℕ
@@ -43,6 +43,10 @@ response_code_of n =
 -- Whether the bit of weight 2 ^ k is set.
 abbrev pub bit : ℕ → ℕ → Bool
 bit octet k = octet / 2 ^ k % 2 == 1
+
+-- The bit behind RA, which nobody reads and which is written zero (RFC 1035 4.1.1: Z).
+abbrev pub reserved_bit : List ℕ → Bool
+reserved_bit message = bit (get_or message 3 0) 6
 
 -- What the third and the fourth octet say, behind the identifier: QR, four bits of operation, AA, TC, RD;
 -- RA, a bit that nobody reads, AD, CD, four bits of response.
@@ -83,16 +87,22 @@ abbrev pub is_response : MessageType → Bool
 is_response types.Query = false
 is_response types.Response = true
 
--- The third and the fourth octet, with the bit that nobody reads zero.
+-- The third and the fourth octet, with the bit that nobody reads zero. Of operation and response four bits stand there.
 abbrev pub high_octet : Metadata → ℕ
 high_octet m =
-    128 * flag (is_response m.message_type) + 8 * op_code_number m.op_code + 4 * flag m.authoritative
+    128 * flag (is_response m.message_type) + 8 * (op_code_number m.op_code % 16) + 4 * flag m.authoritative
     + 2 * flag m.truncation + flag m.recursion_desired
 
 abbrev pub low_octet : Metadata → ℕ
 low_octet m =
     128 * flag m.recursion_available + 32 * flag m.authentic_data + 16 * flag m.checking_disabled
-    + response_code_number m.response_code
+    + response_code_number m.response_code % 16
+
+-- The twelve octets of a header.
+abbrev pub header_octets : Header → List ℕ
+header_octets h =
+    octets_16 h.metadata.id ++ high_octet h.metadata ∷ low_octet h.metadata ∷ octets_16 h.counts.queries
+    ++ octets_16 h.counts.answers ++ octets_16 h.counts.authorities ++ octets_16 h.counts.additionals
 
 -- An operation and a response that four bits hold.
 pub record FitsHeader (m : Metadata) : Type 0 where

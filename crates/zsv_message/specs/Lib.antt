@@ -1,6 +1,5 @@
-pub mod Emissions
 pub mod Headers
-pub mod Plans
 pub mod Replies
 pub mod Requests
 pub mod Wire
+pub mod Writing

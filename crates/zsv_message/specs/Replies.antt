@@ -2,20 +2,14 @@
 -- RFC 2181, section 9).
 use Rattle.std.specs.Prelude.{◌≡◌, ℕ, ◌+◌, ◌<◌, ◌≤◌, Bool, false, ◌||◌, List, [], ◌∷◌, length, nat_lt}
 use Rattle.zst_record.specs.declared.records.Record.{Record}
-use Rattle.std.specs.Net.Addr.{ipv4_octets}
-use Rattle.zst_record.specs.declared.record_data.SOA.{SOA}
-use Rattle.zst_record.specs.declared.record_data.RData.{RData}
-use Rattle.zst_record.specs.declared.record_data.RData.TheVariants as rdata
 use Rattle.zsv_message.specs.declared.header.Metadata.{Metadata}
 use Rattle.zsv_message.specs.declared.header.Header.{Header}
 use Rattle.zsv_message.specs.declared.header.MessageType.TheVariants as messages
 use Rattle.zsv_message.specs.declared.header.OpCode.TheVariants as operations
 use Rattle.zsv_message.specs.declared.header.ResponseCode.TheVariants as responses
-use Rattle.zsv_message.specs.Headers.{header_of}
+use Rattle.zsv_message.specs.Headers.{header_of, reserved_bit}
 use Rattle.dnw_decoder.specs.Octets.{Stands}
-use Rattle.zst_record.specs.RecordData.{rdata_octets, soa_numbers}
-use Rattle.zst_record.specs.Records.{record_octets, fixed_octets}
-use Rattle.dnw_decoder.specs.Spelling.{NameAt}
+use Rattle.zst_record.specs.Records.{RecordAt, plain}
 use Rattle.zsv_message.specs.Requests.{Request, QuestionAt, QuestionsAt, AvoidsHeader}
 use Rattle.zsv_message.specs.Wire.{Entries}
 
@@ -24,34 +18,6 @@ pub record ReplyParts : Type 0 where
   pub metadata : Metadata
   pub answers : List Record
   pub authorities : List Record
-
--- The data of a start of authority: two names, then five numbers of 32 bits.
-pub record SoaAt (message : List ℕ) (place : ℕ) (soa : SOA) (end : ℕ) : Type 0 where
-  pub middle : ℕ
-  pub last : ℕ
-  pub mname : NameAt message place soa.mname middle
-  pub rname : NameAt message middle soa.rname last
-  pub numbers : Stands message last (soa_numbers soa) end
-
--- Data at a place, by type.
-abbrev pub RDataAt : List ℕ → ℕ → RData → ℕ → Type 0
-RDataAt message place (rdata.A a) end = Stands message place (ipv4_octets a.0) end
-RDataAt message place (rdata.NS ns) end = NameAt message place ns.0 end
-RDataAt message place (rdata.SOA soa) end = SoaAt message place soa end
-
--- A record at a place: its owner; its type, class, time to live and the length of its data; its data,
--- which fill that length.
-pub record RecordAt (message : List ℕ) (place : ℕ) (r : Record) (end : ℕ) : Type 0 where
-  pub middle : ℕ
-  pub first : ℕ
-  pub owner : NameAt message place r.name middle
-  pub fixed : Stands message middle (fixed_octets r) first
-  pub rdata : RDataAt message first r.rdata end
-  pub filled : end ≡ first + length (rdata_octets r.rdata)
-
--- The octets that a record takes, its names uncompressed.
-abbrev pub plain : Record → ℕ
-plain r = length (record_octets r)
 
 -- The front of a list that stands in a reply from a place on: it ends early only at a record that would pass
 -- the limit, even written plainly, and no record takes more than that.
@@ -99,5 +65,6 @@ bare_failure id = record {
 -- A reply of these parts to the request that a message is, within the limit.
 pub record IsReply (message reply : List ℕ) (parts : ReplyParts) (request : Request) (limit : ℕ) : Type 0 where
   pub within : length reply ≤ limit
+  pub reserved : reserved_bit reply ≡ false
   pub whole : 12 + length request.question_octets ≤ limit → IsWholeReply message reply parts request limit
   pub bare : limit < 12 + length request.question_octets → (length reply ≡ 12) × (header_of reply ≡ header_with (bare_failure request.metadata.id) false 0 0 0)

@@ -28,23 +28,27 @@ pub record Request : Type 0 where
   pub questions : List Query
   pub question_octets : List ℕ
 
--- The request grammar: a header, as many questions as it counts, and no records. What stands behind the
--- last question is free.
-pub record IsRequest (message : List ℕ) (request : Request) : Type 0 where
+-- The header of a request: it is whole, and counts no records.
+pub record OpensRequest (message : List ℕ) : Type 0 where
   pub long : 12 ≤ length message
-  pub metadata : request.metadata ≡ (header_of message).metadata
   pub no_answers : (header_of message).counts.answers ≡ 0
   pub no_authorities : (header_of message).counts.authorities ≡ 0
   pub no_additionals : (header_of message).counts.additionals ≡ 0
+
+-- The request grammar: a header, as many questions as it counts, and no records. What stands behind the
+-- last question is free.
+pub record IsRequest (message : List ℕ) (request : Request) : Type 0 where
+  pub opening : OpensRequest message
+  pub metadata : request.metadata ≡ (header_of message).metadata
   pub end : ℕ
   pub questions : QuestionsAt message 12 (header_of message).counts.queries request.questions end
   pub octets : Stands message 12 request.question_octets end
 
--- What reading a request answers, both ways.
+-- What reading a request answers, both ways. Memory is wanted only behind a request's header.
 abbrev pub ReadsRequest : List ℕ → Result Request ReadError → Type 0
 ReadsRequest message (Ok request) = IsRequest message request
 ReadsRequest message (Err errors.Malformed) = (request : Request) → IsRequest message request → ⊥
-ReadsRequest message (Err errors.Memory) = Unit {0}
+ReadsRequest message (Err errors.Memory) = OpensRequest message
 
 -- No pointer that the questions follow has its target in the header.
 abbrev pub AvoidsHeader : (message : List ℕ) (place : ℕ) (questions : List Query) (end : ℕ) → Entries (QuestionAt message) place questions end → Type 0

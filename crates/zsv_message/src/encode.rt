@@ -1,17 +1,16 @@
 //! A reply in octets, cut at its limit (RFC 1035 section 4.1, RFC 2181 section 9).
 
-ghost use Rattle.std.specs.Prelude.{◌≡◌, ◌+◌, ◌^◌, ◌<◌, ◌≤◌, ◌++◌, ◌||◌, nat_lt, length, IfOk, IfErr, OnOk};
-ghost use Rattle.std.specs.List.{flat_map, AllByRecursion};
+ghost use Rattle.std.specs.Prelude.{◌≡◌, ◌+◌, ◌^◌, ◌<◌, ◌≤◌, ◌||◌, false, nat_lt, length, IfOk, IfErr, OnOk};
+ghost use Rattle.std.specs.List.{AllByRecursion};
 ghost use Rattle.dnw_codes.specs.ProtoError.{IsMemory};
+ghost use Rattle.dnw_encoder.specs.Effects.{Writes};
 ghost use Rattle.dnw_encoder.specs.Encoders.{state};
-ghost use Rattle.zsv_message.specs.Emissions.{Extends, IsPlain, HasRoom};
-ghost use Rattle.zsv_message.specs.Headers.{header_of, FitsHeader};
-ghost use Rattle.zst_record.specs.Records.{record_octets, HasSoundNames};
-ghost use Rattle.zsv_message.specs.Plans.{IsWritten};
+ghost use Rattle.drd_rdata.specs.Writing.{WritesInFull};
+ghost use Rattle.zst_record.specs.Records.{ReadsBackAlone};
+ghost use Rattle.zsv_message.specs.Headers.{header_of, reserved_bit, FitsHeader};
+ghost use Rattle.zsv_message.specs.Writing.{counted, EmitsFront, IsWritten};
 
-use crate::emit::{emit_octets, emit_record};
 use crate::header::{Header, HeaderCounts, Metadata};
-use crate::plan::{Plan, fitting};
 use dnw_codes::ProtoError;
 use dnw_encoder::{BinEncoder, NameEncoding};
 use std::alloc::{AllocError, Global};
@@ -28,91 +27,90 @@ pub struct MessageResponse<'a> {
     pub authorities: &'a [Record],
 }
 
-// Writes records, one behind the other.
-fn emit_records(encoder: &mut BinEncoder<'_>, records: &[Record]) -> Result<(), ProtoError>
-    requires plain { IsPlain (state encoder.old) }
-    requires room { HasRoom (length (flat_map record_octets records.now)) (state encoder.old) }
-    ensures same_reference { encoder.new.buffer.ghost_name ≡ encoder.old.buffer.ghost_name }
-    ensures octets { OnOk result (Extends (flat_map record_octets records.now) (state encoder.old) (state encoder.new)) }
-    ensures cause { IfErr result IsMemory }
-    ensures names { OnOk result (AllByRecursion HasSoundNames records.now) }
+// How many records were written: all, or those before one that didn't fit.
+fn count_written(written: Result<usize, ProtoError>) -> Result<usize, ProtoError>
+    ensures { result ≡ counted written }
 {
-    for record in records {
-        emit_record(encoder, record)?;
+    match written {
+        Err(ProtoError::NotAllRecordsWritten { count }) => Ok(count),
+        other => other,
     }
-    Ok(())
 }
 
-// Writes the parts of a reply into an empty buffer. They fit, since they were planned: only memory may be wanting.
-fn emit_parts(
-    out: &mut Vec<u8>,
-    header: &[u8],
-    question_octets: &[u8],
-    answers: &[Record],
-    authorities: &[Record],
-) -> Result<(), ProtoError>
-    requires empty { length out.old.items ≡ 0 }
-    requires room { length header.now + (length question_octets.now
-        + (length (flat_map record_octets answers.now) + length (flat_map record_octets authorities.now))) ≤ 65535 }
-    ensures octets { OnOk result (out.new.items ≡ header.now ++ (question_octets.now ++ (flat_map record_octets answers.now ++ flat_map record_octets authorities.now))) }
-    ensures cause { IfErr result IsMemory }
-    ensures answers { OnOk result (AllByRecursion HasSoundNames answers.now) }
-    ensures authorities { OnOk result (AllByRecursion HasSoundNames authorities.now) }
+// Writes as many records of a list as fit, and says how many.
+fn emit_front(encoder: &mut BinEncoder<'_>, records: &[Record]) -> Result<u16, ProtoError>
+    requires in_full { WritesInFull (state encoder.old) }
+    requires small { (state encoder.old).maximum < 2 ^ 16 }
+    ensures same_reference { encoder.new.buffer.ghost_name ≡ encoder.old.buffer.ghost_name }
+    ensures writes { Writes (state encoder.old) (state encoder.new) }
+    ensures ok { IfOk result (λ count. AllByRecursion ReadsBackAlone records.now → EmitsFront records.now count (state encoder.old) (state encoder.new)) }
+    ensures cause { IfErr result (λ e. AllByRecursion ReadsBackAlone records.now → IsMemory e) }
 {
-    let mut encoder = BinEncoder::with_offset(out, 0, NameEncoding::Uncompressed);
-    emit_octets(&mut encoder, header)?;
-    emit_octets(&mut encoder, question_octets)?;
-    emit_records(&mut encoder, answers)?;
-    emit_records(&mut encoder, authorities)?;
-    encoder.into_bytes();
-    Ok(())
+    let written = count_written(encoder.emit_all(records.iter()))?;
+    match u16::try_from(written) {
+        Ok(count) => Ok(count),
+        Err(_) => Err(ProtoError::Message("more records than 16 bits count")),
+    }
 }
 
 impl MessageResponse<'_> {
     // Whether a list is longer than what is kept of it.
-    fn leaves_out(&self, answers: Plan, authorities: Plan) -> bool
-        ensures { result ≡ (nat_lt answers.kept (length self.now.answers.now) || nat_lt authorities.kept (length self.now.authorities.now)) }
+    fn leaves_out(&self, answers: u16, authorities: u16) -> bool
+        ensures { result ≡ (nat_lt answers (length self.now.answers.now) || nat_lt authorities (length self.now.authorities.now)) }
     {
-        answers.kept < self.answers.len() || authorities.kept < self.authorities.len()
+        usize::from(answers) < self.answers.len()
+            || usize::from(authorities) < self.authorities.len()
     }
 
-    /// The reply: the header, the questions as they were sent, and what fits of each list.
+    // Writes the reply at the front of a message. Its header stands first and is known last.
+    fn emit(
+        &self,
+        encoder: &mut BinEncoder<'_>,
+        questions: u16,
+        question_octets: &[u8],
+    ) -> Result<(), ProtoError>
+        requires metadata { FitsHeader self.now.metadata }
+        requires front { (state encoder.old).offset ≡ 0 }
+        requires in_full { WritesInFull (state encoder.old) }
+        requires small { (state encoder.old).maximum < 2 ^ 16 }
+        requires room { 12 + length question_octets.now ≤ (state encoder.old).maximum }
+        ensures same_reference { encoder.new.buffer.ghost_name ≡ encoder.old.buffer.ghost_name }
+        ensures ok { OnOk result (AllByRecursion ReadsBackAlone self.now.answers.now → AllByRecursion ReadsBackAlone self.now.authorities.now → IsWritten (state encoder.new).octets self.now.metadata self.now.answers.now self.now.authorities.now questions question_octets.now (state encoder.old).maximum) }
+        ensures cause { IfErr result (λ e. AllByRecursion ReadsBackAlone self.now.answers.now → AllByRecursion ReadsBackAlone self.now.authorities.now → IsMemory e) }
+    {
+        let place = encoder.place::<Header>()?;
+        encoder.emit_vec(question_octets)?;
+        let answers = emit_front(encoder, self.answers)?;
+        let authorities = emit_front(encoder, self.authorities)?;
+        let truncated = self.leaves_out(answers, authorities);
+        let header = Header::over(self.metadata, truncated, questions, answers, authorities);
+        place.replace(encoder, header)
+    }
+
+    /// The reply: the header, the questions as they were sent, and what fits of each list. Where all records read back
+    /// alone, only memory may be wanting.
     pub fn encode(
         &self,
         alloc: Global,
         questions: u16,
         question_octets: &[u8],
         limit: usize,
-    ) -> Result<Vec<u8>, AllocError>
+    ) -> Result<Vec<u8>, ProtoError>
         requires metadata { FitsHeader self.now.metadata }
         requires limit { limit < 2 ^ 16 }
         requires room { 12 + length question_octets.now ≤ limit }
-        ensures { IfOk result (λ reply. IsWritten reply.items self.now.metadata self.now.answers.now self.now.authorities.now questions question_octets.now limit) }
+        ensures written { IfOk result (λ reply. AllByRecursion ReadsBackAlone self.now.answers.now → AllByRecursion ReadsBackAlone self.now.authorities.now → IsWritten reply.items self.now.metadata self.now.answers.now self.now.authorities.now questions question_octets.now limit) }
+        ensures cause { IfErr result (λ e. AllByRecursion ReadsBackAlone self.now.answers.now → AllByRecursion ReadsBackAlone self.now.authorities.now → IsMemory e) }
     {
-        let answers = fitting(self.answers, 12 + question_octets.len(), limit);
-        let authorities = fitting(self.authorities, answers.end, limit);
-        let mut metadata = self.metadata;
-        metadata.truncation = self.leaves_out(answers, authorities);
-        let counts = HeaderCounts {
-            queries: questions,
-            answers: answers.kept as u16,
-            authorities: authorities.kept as u16,
-            additionals: 0,
+        let mut reply = match Vec::with_capacity(alloc, 512) {
+            Ok(reply) => reply,
+            Err(refused) => return Err(ProtoError::Memory(refused)),
         };
-        let header = Header { metadata, counts }.octets();
-        let mut out = Vec::with_capacity(alloc, authorities.end)?;
-        let emitted = emit_parts(
-            &mut out,
-            &header,
-            question_octets,
-            &self.answers[..answers.kept],
-            &self.authorities[..authorities.kept],
-        );
-        match emitted {
-            Ok(()) => Ok(out),
-            Err(ProtoError::Memory(refused)) => Err(refused),
-            Err(_) => unreachable!(),
-        }
+        let mut encoder = BinEncoder::with_offset(&mut reply, 0, NameEncoding::Uncompressed);
+        encoder.set_max_size(limit as u16);
+        self.emit(&mut encoder, questions, question_octets)?;
+        encoder.into_bytes();
+        Ok(reply)
     }
 }
 
@@ -120,6 +118,7 @@ impl MessageResponse<'_> {
 pub fn encode_header(alloc: Global, metadata: Metadata) -> Result<Vec<u8>, AllocError>
     requires { FitsHeader metadata }
     ensures long { IfOk result (λ reply. length reply.items ≡ 12) }
+    ensures reserved { IfOk result (λ reply. reserved_bit reply.items ≡ false) }
     ensures header { IfOk result (λ reply. header_of reply.items ≡ record { metadata = metadata; counts = record { queries = 0; answers = 0; authorities = 0; additionals = 0 } }) }
 {
     let counts = HeaderCounts {

@@ -1,8 +1,14 @@
 //! The header of a message (RFC 1035 section 4.1.1).
 
-ghost use Rattle.std.specs.Prelude.{◌≡◌, ◌+◌, ◌<◌, ◌≤◌, ◌%◌, ◌/◌, ◌++◌, ℕ, List, length, get_or};
+ghost use Rattle.std.specs.Prelude.{◌≡◌, ◌+◌, ◌<◌, ◌≤◌, ◌%◌, ◌/◌, ◌++◌, ℕ, List, length, get_or, IfErr, OnOk, OnErr};
 ghost use Rattle.dnw_decoder.specs.Octets.{number_16};
-ghost use Rattle.zsv_message.specs.Headers.{op_code_of, op_code_number, response_code_of, response_code_number, bit, metadata_of, counts_of, header_of, high_octet, low_octet, FitsHeader};
+ghost use Rattle.dnw_encoder.specs.Effects.{Writes, Puts, IsRefusal};
+ghost use Rattle.dnw_encoder.specs.Encoders.{state};
+ghost use Rattle.zsv_message.specs.Headers.{op_code_of, op_code_number, response_code_of, response_code_number, bit, metadata_of, counts_of, header_of, high_octet, low_octet, header_octets, FitsHeader};
+ghost use Rattle.zsv_message.specs.Replies.{header_with};
+
+use dnw_codes::ProtoError;
+use dnw_encoder::{BinEncodable, BinEncoder, EncodedSize};
 
 /// Whether a message asks or answers.
 #[derive(Clone, Copy, Debug, PartialEq, Eq)]
@@ -173,12 +179,11 @@ pub fn u16_at(message: &[u8], place: usize) -> u16
 impl Metadata {
     // QR, the operation, AA, TC and RD.
     fn high_octet(&self) -> u8
-        requires { op_code_number self.now.op_code < 16 }
         ensures { result ≡ high_octet self.now }
     {
         let is_response = self.message_type == MessageType::Response;
         128 * u8::from(is_response)
-            + 8 * self.op_code.code()
+            + 8 * (self.op_code.code() % 16)
             + 4 * u8::from(self.authoritative)
             + 2 * u8::from(self.truncation)
             + u8::from(self.recursion_desired)
@@ -186,13 +191,12 @@ impl Metadata {
 
     // RA, AD, CD and the response code.
     fn low_octet(&self) -> u8
-        requires { response_code_number self.now.response_code < 16 }
         ensures { result ≡ low_octet self.now }
     {
         128 * u8::from(self.recursion_available)
             + 32 * u8::from(self.authentic_data)
             + 16 * u8::from(self.checking_disabled)
-            + self.response_code.code() as u8
+            + (self.response_code.code() % 16) as u8
     }
 
     // What the identifier and the two octets of flags say.
@@ -234,11 +238,32 @@ impl Header {
         Header { metadata, counts }
     }
 
-    /// The twelve octets of the header.
+    // The header over so many questions and records. It says whether records were left out.
+    pub(crate) fn over(
+        metadata: Metadata,
+        truncation: bool,
+        queries: u16,
+        answers: u16,
+        authorities: u16,
+    ) -> Header
+        ensures value { result ≡ header_with metadata truncation queries answers authorities }
+        ensures back { FitsHeader metadata → (rest : List ℕ) → header_of (header_octets result ++ rest) ≡ result }
+    {
+        let mut metadata = metadata;
+        metadata.truncation = truncation;
+        let counts = HeaderCounts {
+            queries,
+            answers,
+            authorities,
+            additionals: 0,
+        };
+        Header { metadata, counts }
+    }
+
+    /// The twelve octets of the header. Of the operation and of the response four bits are written.
     pub fn octets(self) -> [u8; 12]
-        requires { FitsHeader self.metadata }
-        ensures long { length result ≡ 12 }
-        ensures value { (rest : List ℕ) → header_of (result ++ rest) ≡ self }
+        ensures octets { result ≡ header_octets self }
+        ensures value { FitsHeader self.metadata → (rest : List ℕ) → header_of (result ++ rest) ≡ self }
     {
         let metadata = self.metadata;
         let counts = self.counts;
@@ -262,4 +287,34 @@ impl Header {
             additionals_low,
         ]
     }
+}
+
+impl BinEncodable for Header {
+    ghost emits = { λ header old new. Puts (header_octets header) old new };
+
+    ghost refuses = { λ header old e new. (new ≡ old) × IsRefusal old 12 e };
+
+    /// Writes the twelve octets of the header.
+    fn emit(&self, encoder: &mut BinEncoder<'_>) -> Result<(), ProtoError>
+        ensures same_reference { encoder.new.buffer.ghost_name ≡ encoder.old.buffer.ghost_name }
+        ensures writes { Writes (state encoder.old) (state encoder.new) }
+        ensures ok { OnOk result (Puts (header_octets self.now) (state encoder.old) (state encoder.new)) }
+        ensures fits { OnOk result ((state encoder.old).offset + 12 ≤ (state encoder.old).maximum) }
+        ensures err { OnErr result (state encoder.new ≡ state encoder.old) }
+        ensures cause { IfErr result (IsRefusal (state encoder.old) 12) }
+    {
+        encoder.emit_vec(&self.octets())
+    }
+}
+
+impl EncodedSize for Header {
+    ghost use Rattle.std.proofs.Common.{refl, arith};
+
+    ghost LEN = { 12 };
+
+    const LEN: usize = 12;
+
+    ghost octets = { λ header. header_octets header };
+
+    ghost laws = { λ header. (Prim.omega arith, refl, λ old new puts. puts, λ old new e refused. refused.0) };
 }

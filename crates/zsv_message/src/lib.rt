@@ -4,10 +4,8 @@
 //! stands in `IsReply` to what it is to hold, cut at a limit.
 #![tactic(auto)]
 
-mod emit;
 mod encode;
 mod header;
-mod plan;
 mod read;
 mod request;
 

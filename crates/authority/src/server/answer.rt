@@ -1,14 +1,17 @@
 //! What a zone answers to a request (RFC 1034 section 4.3.2).
 
-ghost use Rattle.std.specs.Prelude.{◌≡◌, ◌^◌, ◌<◌, ◌≤◌, true, [], Ok, IfOk, length, option_copied};
+ghost use Rattle.std.specs.Prelude.{◌≡◌, ◌^◌, ◌<◌, ◌≤◌, true, [], Ok, IfOk, IfErr, length, option_copied};
 ghost use Rattle.std.specs.List.{AllByRecursion};
+ghost use Rattle.dnw_codes.specs.ProtoError.{IsMemory};
 ghost use Rattle.zsv_message.specs.Headers.{FitsHeader, response_code_of, response_code_number};
+ghost use Rattle.zst_record.specs.Records.{ReadsBackAlone};
 ghost use Rattle.zst_zone.specs.Lookups.{outcome};
 ghost use Rattle.zsv_message.specs.Replies.{bare_failure, IsReply};
 ghost use Rattle.zsv_message.specs.Requests.{IsRequest};
 ghost use Rattle.authority.specs.Serving.{reply_metadata, error_parts, records_of, apex, beside_answer, outcome_parts, question_parts, query_parts, operation_parts, reply_parts};
-ghost use Rattle.authority.specs.Servers.{parts_of, IsFull, IsSound, IsKnown, AsksFullNames};
+ghost use Rattle.authority.specs.Servers.{parts_of, IsSound, IsKnown, AsksFullNames};
 
+use dnw_codes::ProtoError;
 use std::alloc::{AllocError, Global};
 use zst_record::{Record, RecordSet, RecordType};
 use zst_zone::{InMemoryZoneHandler, Lookup, key_of};
@@ -51,7 +54,7 @@ fn error_response(request: Metadata, response_code: ResponseCode) -> MessageResp
 // The records of a set, if there is one.
 fn records_in(set: Option<&RecordSet>) -> &[Record]
     ensures value { result.now ≡ records_of (option_copied set.entry) }
-    ensures full { AllByRecursion IsFull result.now }
+    ensures full { AllByRecursion ReadsBackAlone result.now }
 {
     match set {
         Some(set) => set.records(),
@@ -62,7 +65,7 @@ fn records_in(set: Option<&RecordSet>) -> &[Record]
 // With an answer for the zone's start come its name servers.
 fn beside<K>(zone: &InMemoryZoneHandler<K>, record_type: RecordType) -> &[Record]
     ensures value { result.now ≡ beside_answer zone.now record_type }
-    ensures full { AllByRecursion IsFull result.now }
+    ensures full { AllByRecursion ReadsBackAlone result.now }
 {
     if record_type == RecordType::SOA {
         records_in(zone.apex(RecordType::NS))
@@ -190,6 +193,18 @@ fn bare_header(id: u16) -> Metadata
     }
 }
 
+// A reply of records that read back alone, for which only memory may be wanting.
+fn or_memory(encoded: Result<Vec<u8>, ProtoError>) -> Result<Vec<u8>, AllocError>
+    requires { IfErr encoded IsMemory }
+    ensures { IfOk result (λ reply. encoded ≡ Ok reply) }
+{
+    match encoded {
+        Ok(reply) => Ok(reply),
+        Err(ProtoError::Memory(refused)) => Err(refused),
+        Err(_) => unreachable!(),
+    }
+}
+
 /// The reply to a request, which a message is, within a limit.
 pub fn reply_to<K>(
     zone: &InMemoryZoneHandler<K>,
@@ -208,11 +223,11 @@ pub fn reply_to<K>(
         return encode_header(alloc, bare_header(request.metadata().id));
     }
     let response = response_to(zone, alloc, request)?;
-    let reply = response.encode(
+    let encoded = response.encode(
         alloc,
         request.questions().len() as u16,
         question_octets,
         limit,
-    )?;
-    Ok(reply)
+    );
+    or_memory(encoded)
 }

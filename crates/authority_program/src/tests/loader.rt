@@ -65,6 +65,14 @@ fn refusals(rt: HostRuntime) -> Result<(), Fail> {
             LoadCause::Data,
         ),
         ("example.com. 60 IN SOA a. b. 1 1 1 1", LoadCause::Data),
+        ("example.com. 60 IN SOA a. b. 1 1x 1 1 1", LoadCause::Data),
+        ("www.example.com. 60 IN A ; 192.0.2.1", LoadCause::Data),
+        ("www.example.com. 60 IN A ( 192.0.2.1", LoadCause::Data),
+        ("www.example.com. 60 IN A @", LoadCause::Data),
+        (
+            "www.example.com. 60 IN A; 192.0.2.1",
+            LoadCause::UnknownType,
+        ),
         ("example.com. 60 IN NS ns", LoadCause::NotReadBack),
         (
             "example.com. 60 IN SOA a. b 1 1 1 1 1",
@@ -99,6 +107,19 @@ fn lines_that_are_passed_over(rt: HostRuntime) -> Result<(), Fail> {
     let set = found.ok_or("no set")?;
     assert_eq!(rt; set.records().len(), 1);
     assert_eq!(rt; set.records()[0].ttl, 61);
+    Ok(())
+}
+
+#[test]
+fn words_of_data(rt: HostRuntime) -> Result<(), Fail> {
+    for line in [
+        "example.com. 60 IN SOA a. b. 1 1h 30m 1w 1d",
+        "example.com. 60 IN SOA a. b. ( 1 1 1 1 1 ) ; the start",
+        "www.example.com. 60 IN A \"192.0.2.1\"",
+        "www.example.com. 60 IN A 192.0.2.1;c",
+    ] {
+        assert_eq!(rt; load(&rt, line).err(), None, "{line}");
+    }
     Ok(())
 }
 

@@ -1,15 +1,12 @@
 //! A small zone, by its public calls.
 
 ghost use Rattle.std.specs.Prelude.{◌≡◌, true, IfOk};
-ghost use Rattle.zst_record.specs.Records.{has_only_full_names};
 
 use authority::{
-    A, AxfrPolicy, DNSClass, InMemoryZoneHandler, Lookup, LowerName, Name, RData, Record,
-    RecordType, RrKey, SOA, ZoneSettings, ZoneType,
+    AxfrPolicy, InMemoryZoneHandler, Lookup, LowerName, Name, RecordType, RrKey, ZoneSettings,
+    ZoneType, load_zone,
 };
 use std::alloc::Global;
-use std::net::Ipv4Addr;
-use std::process::Abort;
 use std::test::Fail;
 
 fn name1(alloc: Global, a: &[u8]) -> Result<Name, Fail>
@@ -30,47 +27,20 @@ fn name3(alloc: Global, a: &[u8], b: &[u8], c: &[u8]) -> Result<Name, Fail>
     Ok(name2(alloc, a, b)?.append_label(c)?)
 }
 
-fn address(name: Name, ttl: u32, last: u8) -> Record
-    requires { name.fqdn ≡ true }
-    ensures { has_only_full_names result ≡ true }
-{
-    Record {
-        name,
-        dns_class: DNSClass::IN,
-        ttl,
-        rdata: RData::A(A(Ipv4Addr::new(192, 0, 2, last))),
-    }
-}
-
 /// The zone example. with its SOA, and addresses at WWW.example. and a.b.example.
-fn zone(alloc: Global, rt: &impl Abort) -> Result<InMemoryZoneHandler<()>, Fail> {
+fn zone(alloc: Global, more: &str) -> Result<InMemoryZoneHandler<()>, Fail> {
     let settings = ZoneSettings {
         zone_type: ZoneType::Primary,
         axfr_policy: AxfrPolicy::AllowAll,
         nx_proof_kind: None,
     };
     let origin = name1(alloc, b"example")?;
-    let mut zone = InMemoryZoneHandler::empty(alloc, origin, settings)?;
-    let soa = Record {
-        name: name1(alloc, b"EXAMPLE")?,
-        dns_class: DNSClass::IN,
-        ttl: 3600,
-        rdata: RData::SOA(SOA {
-            mname: name2(alloc, b"ns", b"example")?,
-            rname: name2(alloc, b"admin", b"example")?,
-            serial: 1,
-            refresh: 3600,
-            retry: 1800,
-            expire: 604800,
-            minimum: 86400,
-        }),
-    };
-    zone.insert(alloc, soa)?;
-    let www = name2(alloc, b"WWW", b"example")?;
-    zone.insert(alloc, address(www, 3600, 1))?;
-    let deep = name3(alloc, b"a", b"b", b"example")?;
-    zone.insert(alloc, address(deep, 3600, 2))?;
-    Ok(zone)
+    let mut text = String::from_str(
+        alloc,
+        "EXAMPLE. 3600 IN SOA ns.example. admin.example. 1 3600 1800 604800 86400\nWWW.example. 3600 IN A 192.0.2.1\na.b.example. 3600 IN A 192.0.2.2\n",
+    )?;
+    text.push_str(more)?;
+    Ok(load_zone(alloc, origin, settings, text.as_str())?)
 }
 
 fn word(found: &Lookup) -> &'static str {
@@ -85,7 +55,7 @@ fn word(found: &Lookup) -> &'static str {
 #[test]
 fn zone_answers(rt: HostRuntime) -> Result<(), Fail> {
     let alloc = rt.alloc();
-    let zone = zone(alloc, &rt)?;
+    let zone = zone(alloc, "")?;
     let www = name2(alloc, b"www", b"Example")?;
     let between = name2(alloc, b"b", b"example")?;
     let absent = name2(alloc, b"z", b"example")?;
@@ -114,11 +84,10 @@ fn zone_answers(rt: HostRuntime) -> Result<(), Fail> {
 #[test]
 fn equal_data_are_replaced(rt: HostRuntime) -> Result<(), Fail> {
     let alloc = rt.alloc();
-    let mut zone = zone(alloc, &rt)?;
-    for (ttl, last) in [(60, 1), (60, 3), (90, 3)] {
-        let www = name2(alloc, b"www", b"example")?;
-        zone.insert(alloc, address(www, ttl, last))?;
-    }
+    let zone = zone(
+        alloc,
+        "www.example. 60 IN A 192.0.2.1\nwww.example. 60 IN A 192.0.2.3\nwww.example. 90 IN A 192.0.2.3",
+    )?;
     let at = RrKey::new(
         LowerName::from(name2(alloc, b"www", b"example")?),
         RecordType::A,

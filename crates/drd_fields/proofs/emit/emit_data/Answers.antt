@@ -2,7 +2,7 @@ use Rattle.std.proofs.Common.{◌≡◌, Bool, refl, sym, subst, ap, ◌∙◌}
 use Rattle.dnw_encoder.specs.Encoders.{state}
 use Rattle.dnw_encoder.specs.Effects.{Writes}
 use Rattle.dnw_encoder.specs.State.{State, with_encoding, rdata_encoding}
-use Rattle.drd_fields.specs.Writing.{EmitsFields, EmitsData}
+use Rattle.drd_fields.specs.Writing.{EmitsFields, EmitsData, EndsWithin}
 use Rattle.drd_fields.specs.WritingLaws.{mode_writes, mode_emits, on_ok}
 use Rattle.drd_fields.proofs.emit.emit_data.Goals as goal
 
@@ -24,4 +24,4 @@ returns-clause-ok g c =
     c.set_name_encoding.ensures.state ∙ ap (with_encoding old) names in
     let ended : with_encoding mid old.encoding ≡ state c.set_name_encoding-2.new.self = ap (with_encoding mid) (sym c.name_encoding-former.ensures) ∙ sym c.set_name_encoding-2.ensures.state in
     on_ok c.emit_fields-written.result (λ emitted. subst (λ (s : State). EmitsData c.args.kind fields old s) ended
-    (mode_emits c.args.kind fields old mid refl (subst (λ (s : State). EmitsFields fields s mid) began emitted))) c.emit_fields-written.ensures.ok
+    (mode_emits c.args.kind fields old mid refl (subst (λ (s : State). EmitsFields fields s mid) began emitted) (subst (λ (s : State). EndsWithin s mid) began c.emit_fields-written.ensures.within))) c.emit_fields-written.ensures.ok

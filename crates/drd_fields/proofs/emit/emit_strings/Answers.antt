@@ -5,7 +5,7 @@ use Rattle.dnw_encoder.specs.Effects.{IsRefusal}
 use Rattle.dnw_encoder.specs.Laws.{writes_then}
 use Rattle.drd_fields.specs.Fields.{string}
 use Rattle.drd_fields.specs.Writing.{EmitsField, IsTooLong, SomeTooLong, string_octets}
-use Rattle.drd_fields.specs.WritingLaws.{emits_string_more, strings_refused, puts_string}
+use Rattle.drd_fields.specs.WritingLaws.{emits_string_more, strings_refused, puts_string, puts_within, within_then}
 use Rattle.drd_fields.proofs.emit.emit_strings.Goals as goal
 
 pub strings-preserved : goal.strings-preserved
@@ -24,6 +24,8 @@ strings-preserved c =
     record {
       same = c.emit_character_data.ensures.same_reference ∙ c.strings.invariant.same;
       writes = writes_then old mid new c.strings.invariant.writes c.emit_character_data.ensures.writes;
+      within = within_then old mid new c.strings.invariant.writes.modes.maximum c.emit_character_data.ensures.writes.forward c.strings.invariant.within
+          (puts_within c.emit_character_data.result _ (length c.deref.result.now + 1) mid new (omega arith) c.emit_character_data.ensures.ok c.emit_character_data.ensures.fits c.emit_character_data.ensures.err);
       front = (
         front.0 ++ s ∷ [],
         front.1 ∙ ap (λ (vs : List (Vec ℕ Global)). front.0 ++ map items vs) left ∙ sym (append_assoc front.0 (s ∷ []) (map items c.in-Some.later.now)),

@@ -3,7 +3,7 @@ use Rattle.dnw_decoder.specs.Octets.{octets_16}
 use Rattle.dnw_encoder.specs.Encoders.{state}
 use Rattle.dnw_encoder.specs.Effects.{Puts}
 use Rattle.dnw_encoder.specs.Laws.{writes_then}
-use Rattle.drd_fields.specs.WritingLaws.{on_ok}
+use Rattle.drd_fields.specs.WritingLaws.{on_ok, within_then}
 use Rattle.drd_option.specs.Codes.{edns_code_number}
 use Rattle.drd_option.specs.Options.{option_octets}
 use Rattle.drd_opt.proofs.WriteLemmas.{entry_puts}
@@ -26,3 +26,17 @@ returns-clause-ok c =
     let first : Puts (octets_16 (edns_code_number c.args.entry.now.0)) a b = subst (λ (n : ℕ). Puts (octets_16 n) a b) c.from.ensures c.in-Ok.ensures.ok in
     let second : Puts (octets_16 (length octets)) b d = subst (λ (n : ℕ). Puts (octets_16 n) b d) c.len-len.ensures c.in-Ok-emit_u16.ensures.ok in
     on_ok c.emit.result (λ emitted. entry_puts (edns_code_number c.args.entry.now.0) octets a b d (state c.emit.new.encoder) within first second emitted) c.emit.ensures.ok
+
+pub returns-clause-fits : goal.returns-clause-fits
+returns-clause-fits c =
+    let b = state c.emit_u16.new.self in
+    let d = state c.emit_u16-2.new.self in
+    let new = state c.emit.new.encoder in
+    let first = c.in-Ok.ensures.ok in
+    let second = c.in-Ok-emit_u16.ensures.ok in
+    let forward = c.emit.ensures.writes.forward in
+    on_ok c.emit.result
+    (λ emitted.
+    let all = within_then b d new second.modes.maximum forward (λ some. omega (arith, second.offset, c.in-Ok-emit_u16.ensures.fits)) emitted.within (omega (arith, second.offset, forward)) in
+    omega (arith, all, first.modes.maximum))
+    c.emit.ensures.ok

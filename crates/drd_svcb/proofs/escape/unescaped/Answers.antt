@@ -1,5 +1,6 @@
 use Rattle.std.proofs.Common.{◌≡◌, List, ℕ, length, sym, subst, arith}
 use Rattle.std.proofs.lemmas.Bool.Decides.{nat_tests}
+use Rattle.dnw_label.specs.EscapeLaws.{octet-shorter}
 use Rattle.drd_svcb.proofs.Escaped.{SoFar, so_far-more, so_far-ends}
 use Rattle.drd_svcb.proofs.escape.unescaped.Goals as goal
 
@@ -12,3 +13,6 @@ pub returns-clause-ok : goal.returns-clause-ok
 returns-clause-ok c =
     let none : length c.octets.rest.now ≡ 0 = grind (arith, nat_tests) in
     so_far-ends c.args.text.now c.octets.octets.items c.octets.rest.now c.octets.invariant none
+
+pub octets-smaller : goal.octets-smaller
+octets-smaller c = octet-shorter c.octets.rest.now c.in-Some.octet c.in-Some.behind.now c.in-Some.ensures

@@ -1,19 +1,22 @@
-use Rattle.std.proofs.Common.{arith}
+use Rattle.std.proofs.Common.{subst, ◌∙◌, arith}
+use Rattle.dnw_name.specs.DomainName.{IsDomainName}
 use Rattle.dnw_name.proofs.Taken.{taken-start, taken-more, taken-done, taken-refused, taken-too_many}
 use Rattle.dnw_name.proofs.name.Name.from_labels.Goals as goal
 
 pub labels-init : goal.labels-init
 labels-init g c =
     taken-start g.I.Iterator.next_gives g.I.Iterator.can_next g.L.IntoLabel.octets g.L.IntoLabel.accepts
-    c.args.labels c.root-name.result c.requires c.root-name.ensures
+    c.args.labels c.new-name.result c.requires c.new-name.ensures
 
 pub next_of-requires : goal.next_of-requires
 next_of-requires g c = c.labels.invariant.ready
 
 pub returns-in_default-clause-ok : goal.returns-in_default-clause-ok
 returns-in_default-clause-ok g c =
+    let taken =
     taken-done g.I.Iterator.next_gives g.I.Iterator.can_next g.L.IntoLabel.octets g.L.IntoLabel.accepts
-    c.args.labels c.labels.left c.next_of.new.items c.labels.name c.labels._taken c.labels.invariant c.in_default.ensures.steps
+    c.args.labels c.labels.left c.next_of.new.items c.labels.name c.labels._taken c.labels.invariant c.in_default.ensures.steps in
+    (taken.0, taken.1, c.finish.ensures.value ∙ taken.2, taken.3)
 
 pub returns-in-Err-clause-refused : goal.returns-in-Err-clause-refused
 returns-in-Err-clause-refused g c =
@@ -30,4 +33,4 @@ labels-preserved g c =
 pub returns-clause-refused : goal.returns-clause-refused
 returns-clause-refused g c =
     absurd (taken-too_many g.I.Iterator.next_gives g.I.Iterator.can_next g.L.IntoLabel.octets g.L.IntoLabel.accepts
-    c.args.labels c.labels.left c.labels.name c.labels._taken c.labels.invariant c.len.ensures.name (omega arith))
+    c.args.labels c.labels.left c.labels.name c.labels._taken c.labels.invariant (subst IsDomainName c.finish-2.ensures.value c.finish-2.ensures.name) (omega arith))

@@ -1,11 +1,16 @@
-use Rattle.std.proofs.Common.{ℕ, List, refl, subst, ◌∙◌}
+use Rattle.std.proofs.Common.{ℕ, ◌+◌, ◌≤◌, List, length, refl, subst, ◌∙◌, arith}
 use Rattle.std.proofs.lemmas.Result.{on_ok_weaker}
+use Rattle.std.specs.Prelude.{Result, Ok, Err, OnOk}
 use Rattle.dnw_encoder.specs.Effects.{Puts}
 use Rattle.dnw_encoder.specs.Encoders.{state}
 use Rattle.dnw_encoder.specs.Laws.{puts_stands, holds_map}
 use Rattle.dnw_types.specs.BitMaps.{AreTightMaps}
 use Rattle.dnw_types.specs.BitMapLaws.{tight_reads}
 use Rattle.dnw_types.proofs.set.RecordTypeSetBinEncodable.emit.Goals as goal
+
+both_ok : {T E : Type 0} (P Q : Type 0) (r : Result T E) → OnOk r P → OnOk r Q → OnOk r (P × Q)
+both_ok P Q (Ok v) p q = (p, q)
+both_ok P Q (Err e) p q = tt
 
 pub returns-in-Ok-clause-ok : goal.returns-in-Ok-clause-ok
 returns-in-Ok-clause-ok c =
@@ -15,11 +20,12 @@ returns-in-Ok-clause-ok c =
     let types = c.args.self.now in
     let tight : AreTightMaps octets types = rw c.as_slice.ensures (subst (λ (ts : List ℕ). AreTightMaps c.in-Ok.octets.items ts) (c.deref.ensures.value ∙ c.self.view_is) c.in-Ok.ensures) in
     on_ok_weaker c.emit_vec.result
-    (λ (puts : Puts octets old new). record {
+    (λ (done : Puts octets old new × (old.offset + length octets ≤ old.maximum)). record {
       octets = octets;
       maps = tight.maps;
       small = tight.small;
-      puts = puts;
-      stays = λ s. holds_map new.offset new _ _ (λ message there. record { octets = octets; there = there; long = refl; maps = tight_reads 0 octets types tight.maps }) (puts_stands octets old new s puts);
+      puts = done.0;
+      stays = λ s. holds_map new.offset new _ _ (λ message there. record { octets = octets; there = there; long = refl; maps = tight_reads 0 octets types tight.maps }) (puts_stands octets old new s done.0);
+      fits = omega (arith, done.0.offset, done.1);
     })
-    c.emit_vec.ensures.ok
+    (both_ok _ _ c.emit_vec.result c.emit_vec.ensures.ok c.emit_vec.ensures.fits)

@@ -26,6 +26,7 @@ options-preserved c =
     record {
       same = c.emit_entry.ensures.same_reference ∙ c.options.invariant.same;
       writes = writes_then old mid new c.options.invariant.writes c.emit_entry.ensures.writes;
+      within = λ some. omega (arith, c.in-Ok.ensures.fits, c.options.invariant.writes.modes.maximum);
       front = (
         front.0 ++ entry ∷ [],
         front.1 ∙ ap (λ (es : List Entry). front.0 ++ es) left ∙ sym (append_assoc front.0 (entry ∷ []) later),
@@ -60,4 +61,4 @@ returns-clause-ok c =
     let new = state c.options.encoder in
     let start : c.as_slice-left.result.now ≡ c.args.self.now.options.items = c.as_slice-left.ensures.value in
     let whole : front.0 ≡ c.args.self.now.options.items = sym (append-nil front.0) ∙ ap (λ (es : List Entry). front.0 ++ es) (sym none) ∙ sym front.1 ∙ start in
-    subst (λ (es : List Entry). EmitsData Other (rest (entries_octets es) ∷ []) old new × AreCountable es) whole (puts_data (entries_octets front.0) old new front.2, front.3)
+    subst (λ (es : List Entry). EmitsData Other (rest (entries_octets es) ∷ []) old new × AreCountable es) whole (puts_data (entries_octets front.0) old new front.2 c.options.invariant.within, front.3)

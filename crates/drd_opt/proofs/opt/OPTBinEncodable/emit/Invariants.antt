@@ -1,6 +1,7 @@
 use Rattle.std.proofs.Common.{◌≡◌, List, ◌++◌, length}
 use Rattle.dnw_encoder.specs.Encoders.{state}
 use Rattle.dnw_encoder.specs.Effects.{Writes, Puts}
+use Rattle.drd_fields.specs.Writing.{EndsWithin}
 use Rattle.drd_opt.specs.Entries.{Entry, entries_octets, AreCountable}
 use Rattle.drd_opt.proofs.opt.OPTBinEncodable.emit.Given as goal
 
@@ -8,6 +9,7 @@ abbrev pub invariant-options : goal.invariant-options
 invariant-options l = record {
   same : l.encoder.buffer.ghost_name ≡ l.initial.encoder.buffer.ghost_name;
   writes : Writes (state l.initial.encoder) (state l.encoder);
+  within : EndsWithin (state l.initial.encoder) (state l.encoder);
   front : (front : List Entry) × (l.initial.left ≡ front ++ l.left) × Puts (entries_octets front) (state l.initial.encoder) (state l.encoder) × AreCountable front;
 }
 

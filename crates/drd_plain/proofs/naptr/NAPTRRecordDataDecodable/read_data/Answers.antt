@@ -1,5 +1,4 @@
-use Rattle.std.proofs.Common.{◌≡◌, ℕ, ◌+◌, inl, inr, refl, ap, sym, ◌∙◌, arith}
-use Rattle.drd_fields.specs.Fields.{FieldsAt}
+use Rattle.std.proofs.Common.{◌+◌, inl, inr, refl, ap, sym, ◌∙◌, arith}
 use Rattle.drd_plain.specs.Fields.{naptr_fields, are_alphanumeric}
 use Rattle.drd_plain.proofs.Texts.{no_naptr}
 use Rattle.drd_plain.proofs.naptr.NAPTRRecordDataDecodable.read_data.Goals as goal

@@ -5,7 +5,7 @@ use Rattle.dnw_codes.specs.declared.error.ParseError.TheVariants.{UnsupportedRec
 use Rattle.drd_words.specs.Text.{TextWords, TextRefused}
 use Rattle.drd_words.specs.Word.{IsOutOfMemory}
 use Rattle.drd_rdata.specs.Texts.{IsTextOf}
-use Rattle.drd_rdata.proofs.Words.{ok_of, refused_of}
+use Rattle.drd_rdata.proofs.Words.{ok_of, refused_of, only_of}
 use Rattle.drd_rdata.proofs.rdata.RData.try_from_str.Goals as goal
 
 pub returns-clause-ok : goal.returns-clause-ok
@@ -13,3 +13,9 @@ returns-clause-ok c = ok_of (TextWords c.args.text.now) (λ ws value. IsTextOf c
 
 pub returns-clause-refused : goal.returns-clause-refused
 returns-clause-refused c = refused_of (TextWords c.args.text.now) (λ ws value. IsTextOf c.args.record_type ws None value) IsOutOfMemory (TextRefused c.args.text.now) (λ e. e ≡ UnsupportedRecordType c.args.record_type) c.iter.result (map string_bytes c.in-Ok.words.items) c.from_tokens.result (ap (map string_bytes) (c.iter.ensures.rest ∙ c.deref.ensures.value)) c.in-Ok.ensures.ok c.from_tokens.ensures.refused
+
+pub returns-clause-only : goal.returns-clause-only
+returns-clause-only c = λ words read.
+    only_of (λ ws value. IsTextOf c.args.record_type ws None value) IsOutOfMemory (λ e. e ≡ UnsupportedRecordType c.args.record_type) c.iter.result words
+    c.from_tokens.result (ap (map string_bytes) (c.iter.ensures.rest ∙ c.deref.ensures.value) ∙ c.in-Ok.ensures.only words read)
+    c.from_tokens.ensures.ok c.from_tokens.ensures.refused

@@ -1,10 +1,10 @@
-use Rattle.std.proofs.Common.{◌≡◌, ℕ, ◌+◌, ◌⊎◌, List, inl, inr, refl, ap, sym, subst, ◌∙◌}
+use Rattle.std.proofs.Common.{◌≡◌, ℕ, ◌+◌, ◌-◌, ◌≤◌, ◌⊎◌, List, length, inl, inr, refl, ap, sym, subst, arith}
 use Rattle.dnw_decoder.specs.Reading.{IsWantOfMemory}
 use Rattle.drd_fields.specs.Fields.{FieldsAt}
 use Rattle.drd_fields.specs.Reading.{Stops}
 use Rattle.drd_params.specs.Params.{NoParams}
 use Rattle.drd_svcb.specs.Fields.{svcb_fields, svcb_kinds, svcb_parts}
-use Rattle.drd_svcb.proofs.Parts.{has-none, no-svcb}
+use Rattle.drd_svcb.proofs.Parts.{has-none, no-svcb, rest-fits}
 use Rattle.drd_svcb.proofs.svcb.SVCBRecordDataDecodable.read_data.Goals as goal
 
 pub returns-in-Err-clause-refused : goal.returns-in-Err-clause-refused
@@ -17,27 +17,41 @@ returns-in-Err-clause-none c = elim (rw c.in-Err.is at c.read_parts.ensures.none
   | inr none ↦ inr (λ value there. none (svcb_fields value) refl (subst (λ (n : ℕ). FieldsAt c.args.decoder.now.octets c.args.decoder.now.index (svcb_fields value) (c.args.decoder.now.index + n)) (sym c.unverified.ensures) there.0))
 ]
 
-pub returns-in-Err-read_params-clause-refused : goal.returns-in-Err-read_params-clause-refused
-returns-in-Err-read_params-clause-refused c =
-    let message = c.args.decoder.now.octets in
-    let place = c.args.decoder.now.index in
+pub returns-in-Err-read_params_until-clause-forward : goal.returns-in-Err-read_params_until-clause-forward
+returns-in-Err-read_params_until-clause-forward c =
     let parts = c.in-Ok.parts in
-    let e = c.in-Err-read_params.refused in
-    let ends : c.read_parts.new.decoder.index ≡ place + c.unverified.result = c.in-Ok.ensures.end in
-    let there : FieldsAt message place (svcb_parts parts.0 parts.1 parts.2.items) (place + c.args.length) =
-    subst (λ (n : ℕ). FieldsAt message place (svcb_parts parts.0 parts.1 parts.2.items) (place + n)) c.unverified.ensures c.in-Ok.ensures.ok in
-    let none : IsWantOfMemory e ⊎ NoParams parts.2.items e =
-    subst (λ (o : List ℕ). IsWantOfMemory e ⊎ NoParams o e) c.deref.ensures.value c.in-Err-read_params.ensures.refused in
-    inr (ends ∙ ap (λ (n : ℕ). place + n) c.unverified.ensures, has-none message place parts.0 parts.1 parts.2.items (place + c.args.length) e there none)
+    let fits = rest-fits c.args.decoder.now.octets c.args.decoder.now.index parts.0 parts.1 parts.2.items (c.args.decoder.now.index + c.unverified.result) c.in-Ok.ensures.ok in
+    let left : c.in-Err-read_params_until.stopped.left ≤ length parts.2.items =
+    subst (λ (o : List ℕ). c.in-Err-read_params_until.stopped.left ≤ length o) c.deref.ensures.value c.in-Err-read_params_until.ensures.within in
+    let at : c.set_index.new.self.index ≡ c.index.result - c.in-Err-read_params_until.stopped.left = ap (λ decoder. decoder.index) c.set_index.ensures in
+    omega (arith, fits, left, at, c.index.ensures.value, c.in-Ok.ensures.end)
 
-pub returns-in-Err-read_params-clause-none : goal.returns-in-Err-read_params-clause-none
-returns-in-Err-read_params-clause-none c =
+pub returns-in-Err-read_params_until-clause-refused : goal.returns-in-Err-read_params_until-clause-refused
+returns-in-Err-read_params_until-clause-refused c =
     let message = c.args.decoder.now.octets in
     let place = c.args.decoder.now.index in
     let parts = c.in-Ok.parts in
-    let e = c.in-Err-read_params.refused in
+    let stopped = c.in-Err-read_params_until.stopped in
     let there : FieldsAt message place (svcb_parts parts.0 parts.1 parts.2.items) (place + c.args.length) =
     subst (λ (n : ℕ). FieldsAt message place (svcb_parts parts.0 parts.1 parts.2.items) (place + n)) c.unverified.ensures c.in-Ok.ensures.ok in
-    let none : IsWantOfMemory e ⊎ NoParams parts.2.items e =
-    subst (λ (o : List ℕ). IsWantOfMemory e ⊎ NoParams o e) c.deref.ensures.value c.in-Err-read_params.ensures.refused in
-    no-svcb message place parts.0 parts.1 parts.2.items (place + c.args.length) e there none
+    let fits = rest-fits message place parts.0 parts.1 parts.2.items (place + c.args.length) there in
+    let left : stopped.left ≤ length parts.2.items =
+    subst (λ (o : List ℕ). stopped.left ≤ length o) c.deref.ensures.value c.in-Err-read_params_until.ensures.within in
+    let at : c.set_index.new.self.index ≡ c.index.result - stopped.left = ap (λ decoder. decoder.index) c.set_index.ensures in
+    let stop : c.set_index.new.self.index + stopped.left ≡ place + c.args.length =
+    omega (arith, fits, left, at, c.index.ensures.value, c.in-Ok.ensures.end, c.unverified.ensures) in
+    let none : IsWantOfMemory stopped.cause ⊎ ((behind : List ℕ) × NoParams parts.2.items stopped.cause behind × (length behind ≡ stopped.left)) =
+    subst (λ (o : List ℕ). IsWantOfMemory stopped.cause ⊎ ((behind : List ℕ) × NoParams o stopped.cause behind × (length behind ≡ stopped.left))) c.deref.ensures.value c.in-Err-read_params_until.ensures.refused in
+    inr (has-none message place parts.0 parts.1 parts.2.items (place + c.args.length) c.set_index.new.self.index stopped.left stopped.cause there stop none)
+
+pub returns-in-Err-read_params_until-clause-none : goal.returns-in-Err-read_params_until-clause-none
+returns-in-Err-read_params_until-clause-none c =
+    let message = c.args.decoder.now.octets in
+    let place = c.args.decoder.now.index in
+    let parts = c.in-Ok.parts in
+    let stopped = c.in-Err-read_params_until.stopped in
+    let there : FieldsAt message place (svcb_parts parts.0 parts.1 parts.2.items) (place + c.args.length) =
+    subst (λ (n : ℕ). FieldsAt message place (svcb_parts parts.0 parts.1 parts.2.items) (place + n)) c.unverified.ensures c.in-Ok.ensures.ok in
+    let none : IsWantOfMemory stopped.cause ⊎ ((behind : List ℕ) × NoParams parts.2.items stopped.cause behind × (length behind ≡ stopped.left)) =
+    subst (λ (o : List ℕ). IsWantOfMemory stopped.cause ⊎ ((behind : List ℕ) × NoParams o stopped.cause behind × (length behind ≡ stopped.left))) c.deref.ensures.value c.in-Err-read_params_until.ensures.refused in
+    no-svcb message place parts.0 parts.1 parts.2.items (place + c.args.length) stopped.left stopped.cause there none

@@ -2,7 +2,18 @@ use Rattle.std.proofs.Common.{◌≡◌, ℕ, ◌+◌, ◌-◌, ◌≤◌, List,
 use Rattle.dnw_decoder.specs.Reading.{Reading, reading}
 use Rattle.dnw_decoder.specs.Standing.{stands_front}
 use Rattle.zsv_message.specs.declared.header.Header.{Header}
+use Rattle.zsv_message.specs.Headers.{header_of}
+use Rattle.zsv_message.specs.Requests.{OpensRequest}
 use Rattle.zsv_message.proofs.request.MessageRequest.read.Goals as goal
+
+-- A whole header that counts no records.
+opens : (message : List ℕ) (h : Header) → h ≡ header_of message → 12 ≤ length message → h.counts.answers ≡ 0 → h.counts.authorities ≡ 0 → h.counts.additionals ≡ 0 → OpensRequest message
+opens message h head long none none_2 none_3 = record {
+  long = long;
+  no_answers = sym (ap (λ (h : Header). h.counts.answers) head) ∙ none;
+  no_authorities = sym (ap (λ (h : Header). h.counts.authorities) head) ∙ none_2;
+  no_additionals = sym (ap (λ (h : Header). h.counts.additionals) head) ∙ none_3;
+}
 
 pub returns : goal.returns
 returns c =
@@ -21,11 +32,8 @@ returns c =
     let sum : 12 + (end - 12) ≡ end = omega (arith, forward, at) in
     let front = stands_front message 12 (end - 12) (omega (arith, within, sum)) in
     record {
-      long = c.if-message-lt12.false;
+      opening = opens message c.read-header.result head c.if-message-lt12.false none none_2 none_3;
       metadata = ap (λ (h : Header). h.metadata) head;
-      no_answers = sym (ap (λ (h : Header). h.counts.answers) head) ∙ none;
-      no_authorities = sym (ap (λ (h : Header). h.counts.authorities) head) ∙ none_2;
-      no_additionals = sym (ap (λ (h : Header). h.counts.additionals) head) ∙ none_3;
       end = end;
       questions = rw at (read.0, read.1 ∙ ap (λ (h : Header). h.counts.queries) head);
       octets = rw sum at front;

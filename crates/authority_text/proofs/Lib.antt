@@ -1,0 +1,5 @@
+pub mod Causes
+pub mod Loads
+pub mod Numbers
+pub mod Readable
+pub mod WordPlaces

@@ -1,0 +1,18 @@
+use Rattle.std.proofs.Common.{length, sym, ◌∙◌}
+use Rattle.std.proofs.lemmas.Bool.{both_ways, leb-true}
+use Rattle.drd_option.specs.Options.{option_octets}
+use Rattle.drd_readable.specs.OptionLaws.{entry_form, entry_stands}
+use Rattle.drd_readable.proofs.options.is_entry.Goals as goal
+use Rattle.drd_readable.proofs.options.is_entry.Goals.{then-has_own_code, else-has_own_code}
+
+pub returns-then-is_countable : goal.returns-then-is_countable
+returns-then-is_countable c =
+    let entry = c.args.entry.now in
+    elim c.if-has_own_code.branch [
+      | then-has_own_code w ↦ (
+        λ yes. entry_stands entry.0 entry.1 c.has_own_code.ensures.small (c.has_own_code.ensures.same.0 w.if-has_own_code.true)
+            (leb-true (length (option_octets entry.1)) 65535 (sym w.is_countable.ensures ∙ sym w.value-is ∙ c.if-is_countable.true)) (c.has_own_form.ensures.0 yes),
+        λ stands. c.has_own_form.ensures.1 (entry_form entry.0 entry.1 stands),
+      )
+      | else-has_own_code w ↦ absurd (both_ways c.if-has_own_code.value (w.value-is ∙ w.if-has_own_code.false) c.if-is_countable.true)
+    ]

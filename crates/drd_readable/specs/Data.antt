@@ -1,0 +1,86 @@
+-- Which record data can be read: what the data of each type must hold.
+use Rattle.std.specs.Prelude.{◌≡◌, ◌<◌, true, length}
+use Rattle.std.specs.List.{All}
+use Rattle.dnw_codes.specs.declared.record_type.RecordType.{RecordType}
+use Rattle.dnw_codes.specs.declared.record_type.RecordType.TheVariants as kind
+use Rattle.dnw_types.specs.BitMaps.{Rises}
+use Rattle.drd_plain.specs.Fields.{are_alphanumeric}
+use Rattle.drd_plain.specs.declared.naptr.NAPTR.{NAPTR}
+use Rattle.drd_keys.specs.Cert.{IsNamedCert}
+use Rattle.drd_keys.specs.Sshfp.{IsNamedSshfp}
+use Rattle.drd_keys.specs.Tlsa.{IsNamedTlsa}
+use Rattle.drd_caa.specs.Fields.{is_caa_tag}
+use Rattle.drd_params.specs.Params.{AreParams}
+use Rattle.drd_svcb.specs.declared.svcb.SVCB.{SVCB}
+use Rattle.drd_rdata.specs.declared.rdata.RData.{RData}
+use Rattle.drd_rdata.specs.declared.rdata.RData.TheVariants as rdata
+use Rattle.drd_readable.specs.Alone.{IsShort, EndsAtRoot}
+use Rattle.drd_readable.specs.Options.{StandsSomewhere}
+
+-- Data of these types have forms of their own, or there are none (RFC 2931 3.1; RFC 1035 3.2.3).
+abbrev pub IsOther : RecordType → Type 0
+IsOther kind.A = ⊥
+IsOther kind.AAAA = ⊥
+IsOther kind.ANAME = ⊥
+IsOther kind.CAA = ⊥
+IsOther kind.CERT = ⊥
+IsOther kind.CNAME = ⊥
+IsOther kind.CSYNC = ⊥
+IsOther kind.HINFO = ⊥
+IsOther kind.HTTPS = ⊥
+IsOther kind.MX = ⊥
+IsOther kind.NAPTR = ⊥
+IsOther kind.NULL = ⊥
+IsOther kind.NS = ⊥
+IsOther kind.OPENPGPKEY = ⊥
+IsOther kind.OPT = ⊥
+IsOther kind.PTR = ⊥
+IsOther kind.SMIMEA = ⊥
+IsOther kind.SOA = ⊥
+IsOther kind.SRV = ⊥
+IsOther kind.SSHFP = ⊥
+IsOther kind.SVCB = ⊥
+IsOther kind.TLSA = ⊥
+IsOther kind.TXT = ⊥
+IsOther kind.ZERO = ⊥
+IsOther kind.ANY = ⊥
+IsOther kind.AXFR = ⊥
+IsOther kind.IXFR = ⊥
+IsOther other = Unit {0}
+
+-- The target ends at the root, and the parameters' keys rise (RFC 9460 2.2).
+abbrev pub IsService : SVCB → Type 0
+IsService svcb = EndsAtRoot svcb.target_name × AreParams svcb.svc_params.items
+
+-- The strings are short, the flags letters and digits, and the replacement ends at the root (RFC 3403 4.1).
+abbrev pub IsRule : NAPTR → Type 0
+IsRule naptr =
+    IsShort naptr.flags.items × IsShort naptr.services.items × IsShort naptr.regexp.items × (are_alphanumeric naptr.flags.items ≡ true) × EndsAtRoot naptr.replacement
+
+-- What data must hold to be read from some message, by their type. Those that may be without octets have some.
+abbrev pub CanBeRead : RData → Type 0
+CanBeRead (rdata.ANAME aname) = EndsAtRoot aname.0
+CanBeRead (rdata.CAA caa) = is_caa_tag caa.tag.items ≡ true
+CanBeRead (rdata.CERT cert) = IsNamedCert cert
+CanBeRead (rdata.CNAME cname) = EndsAtRoot cname.0
+CanBeRead (rdata.CSYNC csync) = Rises 0 csync.type_bit_maps 65536
+CanBeRead (rdata.HINFO hinfo) = IsShort hinfo.cpu.items × IsShort hinfo.os.items
+CanBeRead (rdata.HTTPS https) = IsService https.0
+CanBeRead (rdata.MX mx) = EndsAtRoot mx.exchange
+CanBeRead (rdata.NAPTR naptr) = IsRule naptr
+CanBeRead (rdata.NULL null) = 0 < length null.anything.items
+CanBeRead (rdata.NS ns) = EndsAtRoot ns.0
+CanBeRead (rdata.OPENPGPKEY openpgpkey) = 0 < length openpgpkey.public_key.items
+CanBeRead (rdata.OPT opt) = All StandsSomewhere opt.options.items
+CanBeRead (rdata.PTR ptr) = EndsAtRoot ptr.0
+CanBeRead (rdata.SMIMEA smimea) = IsNamedTlsa smimea.0
+CanBeRead (rdata.SOA soa) = EndsAtRoot soa.mname × EndsAtRoot soa.rname
+CanBeRead (rdata.SRV srv) = EndsAtRoot srv.target
+CanBeRead (rdata.SSHFP sshfp) = IsNamedSshfp sshfp
+CanBeRead (rdata.SVCB svcb) = IsService svcb
+CanBeRead (rdata.TLSA tlsa) = IsNamedTlsa tlsa
+CanBeRead (rdata.TXT txt) = All (λ s. IsShort s.items) txt.txt_data.items × (0 < length txt.txt_data.items)
+CanBeRead (rdata.Unknown code null) = IsOther code × (0 < length null.anything.items)
+CanBeRead (rdata.Update0 code) = ⊥
+CanBeRead rdata.ZERO = ⊥
+CanBeRead other = Unit {0}

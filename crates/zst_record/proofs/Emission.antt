@@ -1,0 +1,149 @@
+-- A record that is written piece by piece.
+use Rattle.std.proofs.Common.{◌≡◌, ℕ, ◌+◌, ◌≤◌, inr, List, [], ◌++◌, length, sym, ap, subst, ◌∙◌, arith}
+use Rattle.std.specs.Prelude.{Result, Ok, Err, OnOk, OnErr}
+use Rattle.dnw_codes.specs.DNSClass.{class_number}
+use Rattle.dnw_codes.specs.RecordType.{record_type_number}
+use Rattle.dnw_codes.specs.declared.error.ProtoError.{ProtoError}
+use Rattle.dnw_codes.specs.declared.record_type.RecordType.TheVariants.{OPT}
+use Rattle.dnw_decoder.specs.Octets.{octets_16, octets_32, Stands}
+use Rattle.dnw_decoder.specs.Spelling.{NameAt}
+use Rattle.dnw_decoder.specs.Standing.{stands_joined, length-octets_32}
+use Rattle.dnw_encoder.specs.Effects.{Holds, Keeps, Writes, Puts, Opens, Fills, IsRefusal, place_of}
+use Rattle.dnw_encoder.specs.Laws.{holds_more, holds_same, holds_written, keeps_then, modes_then, puts_stands, writes_then}
+use Rattle.dnw_encoder.specs.Members.{In}
+use Rattle.dnw_encoder.specs.Names.{EmitsName}
+use Rattle.dnw_encoder.specs.PlaceLaws.{opens_open}
+use Rattle.dnw_encoder.specs.State.{State, is_lower}
+use Rattle.dnw_name.specs.DomainName.{DomainName, name_octets}
+use Rattle.drd_fields.specs.WritingLaws.{refused_front, refused_later, within_then}
+use Rattle.drd_rdata.specs.Reading.{HoldsAs, IsReadable}
+use Rattle.drd_rdata.specs.Types.{type_of}
+use Rattle.drd_rdata.specs.Writing.{EmitsRData, RefusesRData, WritesInFull, written_octets}
+use Rattle.drd_rdata.specs.WrittenLaws.{HoldsSome, data_within, encoded_full, written_holds, written_size, written_refused}
+use Rattle.drd_rdata.specs.declared.rdata.RData.{RData}
+use Rattle.zst_record.specs.Records.{head_octets}
+use Rattle.zst_record.specs.Writing.{HeadAt, EmitsHead, DataAt, EmitsBehindLength, EmitsRecord, RefusesBehindLength, RefusesRecord}
+use Rattle.zst_record.specs.declared.records.Record.{Record}
+
+-- What stands behind one call stands behind a later one.
+later_holds : (bound : ℕ) (a b : State) (P : List ℕ → Type 0) → Writes a b → bound ≤ a.offset → Holds a bound P → Holds b b.offset P
+later_holds bound a b P w le h = holds_more bound b.offset b P (omega (arith, le, w.forward)) (holds_written bound a b P w le h)
+
+-- The encoder goes on writing names in full.
+full_after : (a b : State) → Writes a b → WritesInFull a → WritesInFull b
+full_after a b w full = record {
+  sound = w.sound full.sound;
+  own = w.modes.canonical ∙ full.own;
+  same_case = ap is_lower w.modes.encoding ∙ full.same_case;
+}
+
+-- ---- owner, type, class and time to live
+pub head_emitted : (r : Record) (a b c d e : State) → EmitsName r.name a b → Writes a b → Puts (octets_16 (record_type_number (type_of r.rdata))) b c → Writes b c → Puts (octets_16 (class_number r.dns_class)) c d → Writes c d → Puts (octets_32 r.ttl) d e → Writes d e → EmitsHead r a e
+head_emitted r a b c d e name ab kind bc class cd ttl de = record {
+  stays = λ full_name full.
+      let be = writes_then b c e bc (writes_then c d e cd de) in
+      let named : Holds b b.offset (λ m. NameAt m a.offset r.name b.offset) = subst (λ (n : DomainName). Holds b b.offset (λ m. NameAt m a.offset n b.offset)) (encoded_full a.encoding r.name full.same_case full_name) (name.stays full.sound) in
+      let sound_b = ab.sound full.sound in
+      let sound_c = bc.sound sound_b in
+      let sound_d = cd.sound sound_c in
+      let owner = later_holds b.offset b e (λ m. NameAt m a.offset r.name b.offset) be (omega arith) named in
+      let first = later_holds c.offset c e (λ m. Stands m b.offset (octets_16 (record_type_number (type_of r.rdata))) c.offset) (writes_then c d e cd de) (omega arith) (puts_stands (octets_16 (record_type_number (type_of r.rdata))) b c sound_b kind) in
+      let second = later_holds d.offset d e (λ m. Stands m c.offset (octets_16 (class_number r.dns_class)) d.offset) de (omega arith) (puts_stands (octets_16 (class_number r.dns_class)) c d sound_c class) in
+      let third = puts_stands (octets_32 r.ttl) d e sound_d ttl in
+      record {
+        of = λ later agrees. record {
+          middle = b.offset;
+          owner = owner.of later agrees;
+          head =
+              stands_joined later b.offset (octets_16 (record_type_number (type_of r.rdata))) c.offset (octets_16 (class_number r.dns_class) ++ octets_32 r.ttl) e.offset (first.of later agrees)
+              (stands_joined later c.offset (octets_16 (class_number r.dns_class)) d.offset (octets_32 r.ttl) e.offset (second.of later agrees) (third.of later agrees));
+        };
+      };
+  size = omega (arith, name.size, kind.offset, class.offset, ttl.offset, length-octets_32 r.ttl);
+}
+
+-- ---- data behind their length
+pub still_open : (p size : ℕ) (a b c : State) → Opens p size a b → Writes b c → In (place_of p size) c.places
+still_open p size a b c opens bc = bc.keeps.stay_open (place_of p size) (opens_open p size a b opens) (omega (arith, opens.at, opens.offset))
+
+filled_writes : (p : ℕ) (more : List ℕ) (a b c : State) → p ≡ a.offset → Writes a b → Fills p more b c → Writes a c
+filled_writes p more a b c at w f = record {
+  keeps = keeps_then a.offset a.offset a b c (omega arith) w.keeps (subst (λ (n : ℕ). Keeps n b c) at f.keeps);
+  forward = omega (arith, w.forward, f.offset);
+  sound = λ s. f.sound (w.sound s);
+  modes = modes_then a b c w.modes f.modes;
+}
+
+-- The place is filled, or nothing more is done.
+pub replaced_writes : (p : ℕ) (more : List ℕ) (a b c : State) (r : Result (Unit {0}) ProtoError) → p ≡ a.offset → Writes a b → OnOk r (Fills p more b c) → OnErr r (c ≡ b) → Writes a c
+replaced_writes p more a b c (Ok done) at w fills same = filled_writes p more a b c at w fills
+replaced_writes p more a b c (Err e) at w fills same = subst (λ (s : State). Writes a s) (sym same) w
+
+data_filled : (v : RData) (n : ℕ) (a b c d : State) → Opens a.offset 2 a b → Writes a b → EmitsRData v b c → Writes b c → Fills a.offset (octets_16 n) c d → a.offset + 2 + n ≡ c.offset → IsReadable v → (type_of v ≡ OPT → ⊥) → WritesInFull a → Holds d d.offset (λ message. DataAt message a.offset v d.offset)
+data_filled v n a b c d opens ab emits bc fills long readable none full =
+    let written = written_holds (type_of v) readable.message readable.place v readable.end readable.holds readable.some none b c (full_after a b ab full) emits in
+    let stays = holds_more c.offset d.offset d (λ m. HoldsSome (type_of v) m b.offset v c.offset) (omega (arith, fills.offset)) (holds_same c.offset c.offset c d (λ m. HoldsSome (type_of v) m b.offset v c.offset) (fills.same c.offset) (omega arith) written) in
+    let counted = holds_more (a.offset + 2) d.offset d (λ m. Stands m a.offset (octets_16 n) (a.offset + 2)) (omega (arith, fills.offset, long)) (fills.stays (bc.sound (ab.sound full.sound))) in
+    let from : b.offset ≡ a.offset + 2 = opens.offset in
+    let to : c.offset ≡ a.offset + 2 + n = sym long in
+    record {
+      of = λ later agrees.
+          let found = stays.of later agrees in
+          record {
+            len = n;
+            number = counted.of later agrees;
+            data_there = inr (omega (arith, found.1, from, to), subst (λ (q : ℕ). HoldsAs (type_of v) later (a.offset + 2) v q) to (subst (λ (p : ℕ). HoldsAs (type_of v) later p v c.offset) from found.0));
+            filled = omega (arith, fills.offset, to);
+          };
+    }
+
+pub behind_emitted : (v : RData) (p n : ℕ) (a b c d : State) → Opens p 2 a b → Writes a b → a.offset + 2 ≤ a.maximum → EmitsRData v b c → Writes b c → Fills p (octets_16 n) c d → p + 2 + n ≡ c.offset → EmitsBehindLength v a d
+behind_emitted v p n a b c d opens ab room emits bc fills long =
+    let within = within_then a b c ab.modes.maximum bc.forward (λ more. omega (arith, opens.offset, room)) (data_within v b c emits) (omega (arith, opens.offset, bc.forward)) in
+    record {
+      stays = λ readable none full small.
+          data_filled v n a b c d (subst (λ (q : ℕ). Opens q 2 a b) opens.at opens) ab emits bc (subst (λ (q : ℕ). Fills q (octets_16 n) c d) opens.at fills) (omega (arith, long, opens.at)) readable none full;
+      size = λ readable. omega (arith, fills.offset, opens.offset, written_size (type_of v) readable.message readable.place v readable.end readable.holds b c emits);
+      fits = omega (arith, fills.offset, within);
+    }
+
+-- Why they are refused.
+pub place_refused : (v : RData) (a : State) (e : ProtoError) → IsRefusal a 2 e → RefusesBehindLength v a e
+place_refused v a e refused = λ readable none small. refused_front 2 (length (written_octets v)) a e refused
+
+pub data_refused : (v : RData) (p : ℕ) (a b : State) (e : ProtoError) → Opens p 2 a b → RefusesRData v b e → RefusesBehindLength v a e
+data_refused v p a b e opens refused = λ readable none small.
+    refused_later (length (written_octets v)) 2 a b e opens.modes (omega (arith, opens.offset)) (written_refused (type_of v) readable.message readable.place v readable.end readable.holds none b e refused)
+
+-- ---- the record
+pub record_emitted : (r : Record) (a b c : State) → EmitsHead r a b → Writes a b → EmitsBehindLength r.rdata b c → Writes b c → EmitsRecord r a c
+record_emitted r a b c head ab behind bc = record {
+  stays = λ alone full small.
+      let first = later_holds b.offset b c (λ m. HeadAt m a.offset r b.offset) bc (omega arith) (head.stays alone.owner full) in
+      let second = behind.stays alone.rdata alone.no_options (full_after a b ab full) (omega (arith, small, ab.modes.maximum)) in
+      record {
+        of = λ later agrees.
+            let h = first.of later agrees in
+            let d = second.of later agrees in
+            record {
+              middle = h.middle;
+              first = b.offset + 2;
+              len = d.len;
+              owner = h.owner;
+              fixed = stands_joined later h.middle (head_octets r) b.offset (octets_16 d.len) (b.offset + 2) h.head d.number;
+              rdata = d.data_there;
+              filled = d.filled;
+            };
+      };
+  size = λ alone. omega (arith, head.size, behind.size alone.rdata);
+  fits = omega (arith, behind.fits, ab.modes.maximum);
+}
+
+pub head_refused : (r : Record) (a : State) (e : ProtoError) → IsRefusal a (length (name_octets r.name) + 8) e → RefusesRecord r a e
+head_refused r a e refused = λ alone small.
+    subst (λ (n : ℕ). IsRefusal a n e) (omega arith) (refused_front (length (name_octets r.name) + 8) (2 + length (written_octets r.rdata)) a e refused)
+
+pub rest_refused : (r : Record) (a b : State) (e : ProtoError) → EmitsHead r a b → Writes a b → RefusesBehindLength r.rdata b e → RefusesRecord r a e
+rest_refused r a b e head ab refused = λ alone small.
+    subst (λ (n : ℕ). IsRefusal a n e) (omega arith)
+    (refused_later (2 + length (written_octets r.rdata)) (length (name_octets r.name) + 8) a b e ab.modes (omega (arith, head.size)) (refused alone.rdata alone.no_options (omega (arith, small, ab.modes.maximum))))

@@ -1,0 +1,15 @@
+use Rattle.dnw_encoder.specs.Encoders.{state}
+use Rattle.dnw_encoder.specs.Laws.{writes_then}
+use Rattle.drd_fields.specs.WritingLaws.{on_ok}
+use Rattle.zst_record.proofs.Emission.{record_emitted}
+use Rattle.zst_record.proofs.emit.RecordBinEncodable.emit.Goals as goal
+
+pub returns-clause-writes : goal.returns-clause-writes
+returns-clause-writes c =
+    writes_then (state c.args.encoder.now) (state c.emit_head.new.encoder) (state c.emit_behind_length.new.encoder) c.emit_head.ensures.writes c.emit_behind_length.ensures.writes
+
+pub returns-clause-ok : goal.returns-clause-ok
+returns-clause-ok c =
+    on_ok c.emit_behind_length.result
+    (λ behind. record_emitted c.args.self.now (state c.args.encoder.now) (state c.emit_head.new.encoder) (state c.emit_behind_length.new.encoder) c.in_ok-emit_head.ensures.ok c.emit_head.ensures.writes behind c.emit_behind_length.ensures.writes)
+    c.emit_behind_length.ensures.ok

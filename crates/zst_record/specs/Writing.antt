@@ -1,0 +1,54 @@
+-- Records as an encoder writes them: RFC 1035, section 4.1.3.
+use Rattle.std.specs.Prelude.{◌≡◌, ◌+◌, ◌<◌, ◌≤◌, ◌^◌, ℕ, true, List, length}
+use Rattle.dnw_codes.specs.declared.error.ProtoError.{ProtoError}
+use Rattle.dnw_codes.specs.declared.record_type.RecordType.TheVariants.{OPT}
+use Rattle.dnw_decoder.specs.Octets.{octets_16, Stands}
+use Rattle.dnw_decoder.specs.Spelling.{NameAt}
+use Rattle.dnw_encoder.specs.Effects.{Holds, IsRefusal}
+use Rattle.dnw_encoder.specs.State.{State}
+use Rattle.dnw_name.specs.DomainName.{name_octets}
+use Rattle.drd_rdata.specs.Reading.{ReadsAs, IsReadable}
+use Rattle.drd_rdata.specs.Types.{type_of}
+use Rattle.drd_rdata.specs.Writing.{WritesInFull, written_octets}
+use Rattle.drd_rdata.specs.declared.rdata.RData.{RData}
+use Rattle.zst_record.specs.Records.{RecordAt, ReadsBackAlone, head_octets, plain}
+use Rattle.zst_record.specs.declared.records.Record.{Record}
+
+-- A record was written, within the maximum. One that reads back alone stands there, in the finished message too, and takes its
+-- plain size at most. A maximum that was set is a number of 16 bits.
+pub record EmitsRecord (r : Record) (old new : State) : Type 0 where
+  pub stays : ReadsBackAlone r → WritesInFull old → old.maximum < 2 ^ 16 → Holds new new.offset (λ message. RecordAt message old.offset r new.offset)
+  pub size : ReadsBackAlone r → new.offset ≤ old.offset + plain r
+  pub fits : new.offset ≤ old.maximum
+
+-- A record that reads back alone is refused for want of memory, or where its plain size would pass the maximum.
+abbrev pub RefusesRecord : Record → State → ProtoError → Type 0
+RefusesRecord r old e = ReadsBackAlone r → old.maximum < 2 ^ 16 → IsRefusal old (plain r) e
+
+-- Owner, type, class and time to live at a place.
+pub record HeadAt (message : List ℕ) (place : ℕ) (r : Record) (end : ℕ) : Type 0 where
+  pub middle : ℕ
+  pub owner : NameAt message place r.name middle
+  pub head : Stands message middle (head_octets r) end
+
+-- They were written.
+pub record EmitsHead (r : Record) (old new : State) : Type 0 where
+  pub stays : r.name.fqdn ≡ true → WritesInFull old → Holds new new.offset (λ message. HeadAt message old.offset r new.offset)
+  pub size : new.offset ≤ old.offset + (length (name_octets r.name) + 8)
+
+-- Data at a place, behind the number of their octets.
+pub record DataAt (message : List ℕ) (place : ℕ) (value : RData) (end : ℕ) : Type 0 where
+  pub len : ℕ
+  pub number : Stands message place (octets_16 len) (place + 2)
+  pub data_there : ReadsAs (type_of value) message (place + 2) len value
+  pub filled : end ≡ place + 2 + len
+
+-- Data that can be read, other than options, were written behind their length.
+pub record EmitsBehindLength (value : RData) (old new : State) : Type 0 where
+  pub stays : IsReadable value → (type_of value ≡ OPT → ⊥) → WritesInFull old → old.maximum < 2 ^ 16 → Holds new new.offset (λ message. DataAt message old.offset value new.offset)
+  pub size : IsReadable value → new.offset ≤ old.offset + (2 + length (written_octets value))
+  pub fits : new.offset ≤ old.maximum
+
+-- They were refused.
+abbrev pub RefusesBehindLength : RData → State → ProtoError → Type 0
+RefusesBehindLength value old e = IsReadable value → (type_of value ≡ OPT → ⊥) → old.maximum < 2 ^ 16 → IsRefusal old (2 + length (written_octets value)) e

@@ -1,0 +1,54 @@
+//! Records that are written (RFC 1035 section 4.1.3).
+
+ghost use Rattle.std.specs.Prelude.{◌≡◌, ◌+◌, IfErr, OnOk, length};
+ghost use Rattle.dnw_encoder.specs.Effects.{Writes, IsRefusal};
+ghost use Rattle.dnw_encoder.specs.Encoders.{state};
+ghost use Rattle.dnw_name.specs.DomainName.{name_octets};
+ghost use Rattle.zst_record.specs.Writing.{EmitsHead, EmitsBehindLength, EmitsRecord, RefusesBehindLength, RefusesRecord};
+
+use crate::records::Record;
+use dnw_codes::ProtoError;
+use dnw_encoder::{BinEncodable, BinEncoder};
+use drd_rdata::RData;
+
+impl Record {
+    // Writes owner, type, class and time to live.
+    fn emit_head(&self, encoder: &mut BinEncoder<'_>) -> Result<(), ProtoError>
+        ensures same_reference { encoder.new.buffer.ghost_name ≡ encoder.old.buffer.ghost_name }
+        ensures writes { Writes (state encoder.old) (state encoder.new) }
+        ensures ok { OnOk result (EmitsHead self.now (state encoder.old) (state encoder.new)) }
+        ensures cause { IfErr result (IsRefusal (state encoder.old) (length (name_octets self.now.name) + 8)) }
+    {
+        self.name.emit(encoder)?;
+        self.record_type().emit(encoder)?;
+        self.dns_class.emit(encoder)?;
+        encoder.emit_u32(self.ttl)
+    }
+}
+
+// Writes data behind their length.
+fn emit_behind_length(encoder: &mut BinEncoder<'_>, rdata: &RData) -> Result<(), ProtoError>
+    ensures same_reference { encoder.new.buffer.ghost_name ≡ encoder.old.buffer.ghost_name }
+    ensures writes { Writes (state encoder.old) (state encoder.new) }
+    ensures ok { OnOk result (EmitsBehindLength rdata.now (state encoder.old) (state encoder.new)) }
+    ensures cause { IfErr result (RefusesBehindLength rdata.now (state encoder.old)) }
+{
+    let length = encoder.place::<u16>()?;
+    rdata.emit(encoder)?;
+    match u16::try_from(encoder.len_since_place(&length)) {
+        Ok(octets) => length.replace(encoder, octets),
+        Err(_) => Err(ProtoError::Message("more octets of data than 16 bits count")),
+    }
+}
+
+impl BinEncodable for Record {
+    ghost emits = { EmitsRecord };
+
+    ghost refuses = { λ value old e new. RefusesRecord value old e };
+
+    /// Writes owner, type, class and time to live, then the data behind their length.
+    fn emit(&self, encoder: &mut BinEncoder<'_>) -> Result<(), ProtoError> {
+        self.emit_head(encoder)?;
+        emit_behind_length(encoder, &self.rdata)
+    }
+}

@@ -1,0 +1,76 @@
+-- The sections of a reply, written one behind the other, and the header that is filled in last.
+use Rattle.std.proofs.Common.{◌≡◌, ℕ, ◌+◌, ◌≤◌, ◌||◌, false, List, ◌++◌, length, drop, nat_lt, sym, ap, subst, ◌∙◌, arith}
+use Rattle.dnw_decoder.specs.Octets.{Stands}
+use Rattle.dnw_encoder.specs.Effects.{Holds, Writes, Puts, Fills, Sound, place_of}
+use Rattle.dnw_encoder.specs.Laws.{holds_now, holds_same, holds_written, puts_stands, writes_same, writes_then}
+use Rattle.dnw_encoder.specs.Members.{In}
+use Rattle.dnw_encoder.specs.State.{State}
+use Rattle.zst_record.specs.declared.records.Record.{Record}
+use Rattle.zsv_message.specs.declared.header.Header.{Header}
+use Rattle.zsv_message.specs.declared.header.Metadata.{Metadata}
+use Rattle.zsv_message.specs.Headers.{header_of, header_octets, reserved_bit}
+use Rattle.zsv_message.specs.Replies.{Front, header_with}
+use Rattle.zsv_message.specs.Writing.{EmitsFront, IsWritten}
+use Rattle.zsv_message.proofs.Flags.{reserved_zero}
+
+-- An open place before the offset stays open.
+pub stays_open : (p size : ℕ) (old new : State) → Writes old new → p + size ≤ old.offset → In (place_of p size) old.places → In (place_of p size) new.places
+stays_open p size old new w before is_open = w.keeps.stay_open (place_of p size) is_open before
+
+-- What stood when it was written stands in the octets once the header is filled.
+stands_at_last : (bound : ℕ) (P : List ℕ → Type 0) (more : List ℕ) (s last filled : State) → Writes s last → bound ≤ s.offset → Fills 0 more last filled → Holds s bound P → P filled.octets
+stands_at_last bound P more s last filled w le f h =
+    holds_now bound filled P (holds_same bound bound last filled P (f.same bound) (omega arith) (holds_written bound s last P w le h))
+
+-- The header that was filled in is read back.
+header_at_last : (h : Header) (last filled : State) → Sound last → Fills 0 (header_octets h) last filled → ((rest : List ℕ) → header_of (header_octets h ++ rest) ≡ h) → header_of filled.octets ≡ h
+header_at_last h last filled sound f back =
+    let at = holds_now (0 + length (header_octets h)) filled _ (f.stays sound) in
+    ap header_of at.there ∙ back (drop (0 + length (header_octets h)) filled.octets)
+
+-- Its reserved bit is zero.
+reserved_at_last : (h : Header) (last filled : State) → Sound last → Fills 0 (header_octets h) last filled → reserved_bit filled.octets ≡ false
+reserved_at_last h last filled sound f =
+    let at = holds_now (0 + length (header_octets h)) filled _ (f.stays sound) in
+    ap reserved_bit at.there ∙ reserved_zero h (drop (0 + length (header_octets h)) filled.octets)
+
+-- The steps of a reply: the place of its header, the questions, a front of each list, the header.
+pub record Steps (h : Header) (m n : ℕ) (question_octets : List ℕ) (answers authorities : List Record) (opened asked answered told filled : State) : Type 0 where
+  pub sound : Sound opened
+  pub twelve : opened.offset ≡ 12
+  pub question : Puts question_octets opened asked
+  pub asks : Writes opened asked
+  pub answers_front : EmitsFront answers m asked answered
+  pub answers_writes : Writes asked answered
+  pub authorities_front : EmitsFront authorities n answered told
+  pub authorities_writes : Writes answered told
+  pub header : Fills 0 (header_octets h) told filled
+  pub back : (rest : List ℕ) → header_of (header_octets h ++ rest) ≡ h
+
+-- They write the reply.
+pub steps_write : (metadata : Metadata) (questions limit m n : ℕ) (h : Header) (question_octets : List ℕ) (answers authorities : List Record) (opened asked answered told filled : State) → Steps h m n question_octets answers authorities opened asked answered told filled →
+    opened.maximum ≡ limit → 12 + length question_octets ≤ limit → h ≡ header_with metadata (nat_lt m (length answers) || nat_lt n (length authorities)) questions m n →
+    IsWritten filled.octets metadata answers authorities questions question_octets limit
+steps_write metadata questions limit m n h question_octets answers authorities opened asked answered told filled s maximum room is =
+    let one = s.answers_front in
+    let other = s.authorities_front in
+    let both = writes_then asked answered told s.answers_writes s.authorities_writes in
+    let sound = both.sound (s.asks.sound s.sound) in
+    let asked_maximum : asked.maximum ≡ limit = s.question.modes.maximum ∙ maximum in
+    let answered_maximum : answered.maximum ≡ limit = s.answers_writes.modes.maximum ∙ asked_maximum in
+    let first : asked.offset ≡ 12 + length question_octets = omega (arith, s.question.offset, s.twelve) in
+    let last : length filled.octets ≡ told.offset = sym (s.header.sound sound).at_end ∙ s.header.offset in
+    let question = stands_at_last asked.offset _ _ asked told filled both (omega arith) s.header (puts_stands question_octets opened asked s.sound s.question) in
+    let answered_front = stands_at_last answered.offset _ _ answered told filled s.authorities_writes (omega arith) s.header one.stays in
+    let told_front = stands_at_last told.offset _ _ told told filled (writes_same told) (omega arith) s.header other.stays in
+    record {
+      kept = one.kept;
+      kept_authorities = other.kept;
+      answers_end = answered.offset;
+      asked = rw (sym first) (subst (λ (p : ℕ). Stands filled.octets p question_octets asked.offset) s.twelve question);
+      answers_front = rw (sym first, sym asked_maximum) answered_front;
+      authorities_front = rw last (subst (λ (k : ℕ). Front filled.octets k answered.offset authorities other.kept told.offset) answered_maximum told_front);
+      header = header_at_last h told filled sound s.header s.back ∙ is ∙ (λ i. header_with metadata (nat_lt (sym one.counted i) (length answers) || nat_lt (sym other.counted i) (length authorities)) questions (sym one.counted i) (sym other.counted i));
+      reserved = reserved_at_last h told filled sound s.header;
+      within = omega (arith, last, other.fits (omega (arith, one.fits (omega (arith, first, asked_maximum, room)), answered_maximum, asked_maximum)), answered_maximum);
+    }

@@ -1,0 +1,7 @@
+use Rattle.std.proofs.Common.{rules}
+use Rattle.zsv_message.proofs.Flags.{octets_back}
+use Rattle.zsv_message.proofs.header.Header.over.Goals as goal
+
+pub returns-clause-back : goal.returns-clause-back
+returns-clause-back c fits rest =
+    octets_back _ rest (record { op_code = fits.op_code; small_op_code = fits.small_op_code; response_code = fits.response_code; small_response_code = fits.small_response_code }) (search rules) (search rules) (search rules) (search rules) (search rules)
