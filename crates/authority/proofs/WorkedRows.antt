@@ -1,5 +1,5 @@
 -- The definitions computed on worked rows: a zone with a start of authority and one address, and what it is asked.
-use Rattle.std.proofs.Common.{◌≡◌, ℕ, Bool, true, false, List, [], ◌∷◌, ◌++◌, length, refl, arith}
+use Rattle.std.proofs.Common.{◌≡◌, ℕ, Bool, true, false, List, [], ◌∷◌, ◌++◌, refl, arith}
 use Rattle.std.specs.Prelude.{codes, pos, None}
 use Rattle.dnw_codes.specs.declared.record_type.RecordType.TheVariants as types
 use Rattle.dnw_codes.specs.declared.dns_class.DNSClass.TheVariants as classes

@@ -3,7 +3,7 @@ use Rattle.std.proofs.Common.{◌≡◌, ℕ, List, [], ◌∷◌, ap, sym, subs
 use Rattle.drd_fields.specs.Fields.{Field, octet, string, rest, StringAt, FieldsAt}
 use Rattle.drd_fields.specs.FieldLaws.{string_once}
 use Rattle.drd_caa.specs.declared.caa.CAA.{CAA}
-use Rattle.drd_caa.specs.Fields.{caa_fields, caa_flags, is_caa_tag}
+use Rattle.drd_caa.specs.Fields.{IsCaa, caa_fields, caa_flags, is_caa_tag}
 
 true_or_false : (b c : Bool) → b ≡ c → b ≡ true → c ≡ false → ⊥
 true_or_false b c same e f = cc
@@ -15,7 +15,7 @@ second_string message place a b s t fs gs e f p q =
     (string_once message p.0 s t p.2.0 q.2.0 p.2.1 (subst (λ (n : ℕ). StringAt message n t q.2.0) (sym same) q.2.1)).0
 
 -- Where a property stands whose tag is refused, none stands with another.
-pub no_caa : (message : List ℕ) (place : ℕ) (n : CAA) (e : ℕ) → FieldsAt message place (caa_fields n) e → is_caa_tag n.tag.items ≡ false → (v : CAA) (end : ℕ) → FieldsAt message place (caa_fields v) end × (is_caa_tag v.tag.items ≡ true) → ⊥
+pub no_caa : (message : List ℕ) (place : ℕ) (n : CAA) (e : ℕ) → FieldsAt message place (caa_fields n) e → is_caa_tag n.tag.items ≡ false → (v : CAA) (end : ℕ) → FieldsAt message place (caa_fields v) end × IsCaa v → ⊥
 no_caa message place n e there bad v end p =
     let same = second_string message place (caa_flags n) (caa_flags v) n.tag.items v.tag.items (rest n.value.items ∷ []) (rest v.value.items ∷ []) e end there p.0 in
-    true_or_false (is_caa_tag v.tag.items) (is_caa_tag n.tag.items) (sym (ap is_caa_tag same)) p.1 bad
+    true_or_false (is_caa_tag v.tag.items) (is_caa_tag n.tag.items) (sym (ap is_caa_tag same)) p.1.0 bad

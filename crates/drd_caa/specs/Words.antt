@@ -1,5 +1,5 @@
 -- The words that CAA data are read from (RFC 8659 4.1.1).
-use Rattle.std.specs.Prelude.{ℕ, ◌≡◌, true, List}
+use Rattle.std.specs.Prelude.{ℕ, ◌≡◌, ◌<◌, true, List}
 use Rattle.drd_words.specs.Word.{IsNumberWord}
 use Rattle.drd_words.specs.Words.{NoWords, OneThen}
 use Rattle.drd_caa.specs.declared.caa.CAA.{CAA}
@@ -13,7 +13,8 @@ IsTagWord tag word = (tag ≡ word) × (is_caa_tag word ≡ true)
 abbrev pub IsValueWord : List ℕ → List ℕ → Type 0
 IsValueWord value word = value ≡ word
 
--- The flags as a number, the tag and the value.
+-- The flags as a number, of which seven bits are reserved, the tag and the value.
 abbrev pub IsCaaText : List (List ℕ) → CAA → Type 0
 IsCaaText words caa =
-    OneThen (IsNumberWord 8 (caa_flags caa)) (OneThen (IsTagWord caa.tag.items) (OneThen (IsValueWord caa.value.items) NoWords)) words
+    (caa.reserved_flags < 128)
+    × OneThen (IsNumberWord 8 (caa_flags caa)) (OneThen (IsTagWord caa.tag.items) (OneThen (IsValueWord caa.value.items) NoWords)) words

@@ -1,5 +1,5 @@
 //! CAA (RFC 8659 4).
-ghost use Rattle.std.specs.Prelude.{◌≡◌, ◌∷◌, [], ℕ, List, ◌⊎◌, true, false, Some, Ok, Err, Result, IfOk, IfErr, OnOk, length, map, ◌+◌, ◌≤◌};
+ghost use Rattle.std.specs.Prelude.{◌≡◌, ◌∷◌, [], ℕ, List, ◌⊎◌, true, false, Some, Ok, Err, Result, IfOk, IfErr, OnOk, length, map, ◌+◌, ◌≤◌, ◌<◌};
 ghost use Rattle.std.specs.Iterator.{Drains, IsFinite};
 ghost use Rattle.std.specs.Cmp.{partial_equiv_from_equiv};
 ghost use Rattle.dnw_decoder.specs.Reading.{IsWantOfMemory};
@@ -9,7 +9,7 @@ ghost use Rattle.drd_fields.specs.Reading.{Stops};
 ghost use Rattle.drd_fields.specs.Equality.{AreFull, Tells, fields_eq};
 ghost use Rattle.drd_fields.specs.EqualityLaws.{data_equiv};
 ghost use Rattle.drd_fields.specs.Writing.{EmitsData, RefusesFields, canonical_octets};
-ghost use Rattle.drd_caa.specs.Fields.{caa_fields, caa_flags, caa_kinds, is_caa_tag};
+ghost use Rattle.drd_caa.specs.Fields.{IsCaa, caa_fields, caa_flags, caa_kinds};
 ghost use Rattle.drd_caa.specs.Print.{caa_print};
 ghost use Rattle.drd_caa.specs.Reading.{RefusesCaa};
 ghost use Rattle.drd_caa.specs.Words.{IsCaaText};
@@ -35,7 +35,8 @@ use std::fmt;
 pub struct CAA {
     /// Whether an issuer that doesn't know the property's tag must not issue.
     pub issuer_critical: bool,
-    /// The lower seven bits of the flags, which mean nothing yet.
+    /// The lower seven bits of the flags, which mean nothing yet. A greater number can be written, but never read: the octet
+    /// is that of its lower seven bits.
     pub reserved_flags: u8,
     /// The property's tag: 1 to 15 ASCII letters and digits.
     pub tag: Vec<u8>,
@@ -112,7 +113,8 @@ impl CAA {
 
 // The property of these octets.
 fn property_of(flags: u8, tag: Vec<u8>, value: Vec<u8>) -> CAA
-    ensures { octet flags ∷ string tag.items ∷ rest value.items ∷ [] ≡ caa_fields result }
+    ensures fields { octet flags ∷ string tag.items ∷ rest value.items ∷ [] ≡ caa_fields result }
+    ensures seven { result.reserved_flags < 128 }
 {
     CAA::new(flags >= 128, flags % 128, tag, value)
 }
@@ -120,6 +122,7 @@ fn property_of(flags: u8, tag: Vec<u8>, value: Vec<u8>) -> CAA
 // The fields, whatever the tag is.
 fn read_parts(alloc: Global, decoder: &mut BinDecoder<'_>, len: u16) -> Result<CAA, DecodeError>
     ensures ok { IfOk result (λ caa. FieldsAt decoder.old.octets decoder.old.index (caa_fields caa) (decoder.old.index + len)) }
+    ensures seven { IfOk result (λ caa. caa.reserved_flags < 128) }
     ensures end { OnOk result (decoder.new.index ≡ decoder.old.index + len) }
     ensures same { decoder.new.octets ≡ decoder.old.octets }
     ensures forward { decoder.old.index ≤ decoder.new.index }
@@ -139,8 +142,7 @@ fn read_parts(alloc: Global, decoder: &mut BinDecoder<'_>, len: u16) -> Result<C
 }
 
 impl RecordDataDecodable for CAA {
-    ghost reads = { λ message place caa end. FieldsAt message place (caa_fields caa) end
-        × (is_caa_tag caa.tag.items ≡ true) };
+    ghost reads = { λ message place caa end. FieldsAt message place (caa_fields caa) end × IsCaa caa };
 
     ghost refuses = { RefusesCaa };
 

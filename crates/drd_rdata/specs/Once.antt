@@ -1,5 +1,5 @@
 -- When record data are one value, but for where the octets that they hold lie in memory.
-use Rattle.std.specs.Prelude.{ℕ, ◌≡◌, ◌<◌, ◌^◌, ◌%◌, length, map, get_or, FitsSigned}
+use Rattle.std.specs.Prelude.{ℕ, ◌≡◌, ◌<◌, ◌^◌, length, map, get_or, FitsSigned}
 use Rattle.std.specs.Int.{w32}
 use Rattle.std.specs.Net.Addr.{ipv4_octets, ipv6_segments}
 use Rattle.std.specs.declared.net.ipv4_addr.Ipv4Addr.{Ipv4Addr}
@@ -40,10 +40,10 @@ IsInRange (rdata.AAAA aaaa) = IsIpv6 aaaa.0
 IsInRange (rdata.SOA soa) = IsSoa soa
 IsInRange other = AllFit (written_fields other)
 
--- The same flag and the same seven bits, the same tag and value.
+-- The same flag and the same reserved flags, the same tag and value.
 abbrev pub SameCaa : CAA → CAA → Type 0
 SameCaa a b =
-    (a.issuer_critical ≡ b.issuer_critical) × (a.reserved_flags % 128 ≡ b.reserved_flags % 128)
+    (a.issuer_critical ≡ b.issuer_critical) × (a.reserved_flags ≡ b.reserved_flags)
     × (a.tag.items ≡ b.tag.items) × (a.value.items ≡ b.value.items)
 
 abbrev pub SameTlsa : TLSA → TLSA → Type 0

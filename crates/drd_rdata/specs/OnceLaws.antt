@@ -1,24 +1,23 @@
 -- Octets are data of a type in one way: two values that are read where the same octets stand hold the same.
-use Rattle.std.proofs.Common.{◌≡◌, ℕ, ◌+◌, ◌<◌, ◌≤◌, ◌^◌, ◌%◌, inl, inr, Bool, true, false, List, [], ◌∷◌, ◌++◌, length, take, replicate, map, get_or, cond, zero, suc, ℤ, FitsSigned, refl, sym, ap, subst, ◌∙◌, arith, append-nil}
+use Rattle.std.proofs.Common.{◌≡◌, ℕ, ◌+◌, ◌<◌, ◌^◌, ◌%◌, inl, inr, Bool, true, false, List, [], ◌∷◌, map, get_or, cond, zero, suc, ℤ, FitsSigned, refl, sym, ap, subst, ◌∙◌, arith}
 use Rattle.std.proofs.lemmas.Grind.{same_number_lists}
 use Rattle.std.proofs.lemmas.Int.{to_z-of_z}
 use mir.ValLaws.{of_z_fits}
 use Rattle.std.proofs.lemmas.Nat.{be_bytes_4}
-use Rattle.std.specs.Int.{w32, cast_signed, cast_unsigned, to_be_bytes}
+use Rattle.std.specs.Int.{w32, cast_signed, cast_unsigned}
 use Rattle.std.specs.Net.Addr.{ipv4_octets, ipv4_bits, ipv6_segments}
 use Rattle.std.specs.declared.net.ipv4_addr.Ipv4Addr.{Ipv4Addr}
-use Rattle.std.specs.declared.net.ipv6_addr.Ipv6Addr.{Ipv6Addr}
 use Rattle.dnw_codes.specs.declared.record_type.RecordType.{RecordType}
 use Rattle.dnw_codes.specs.declared.record_type.RecordType.TheVariants as kind
 use Rattle.dnw_decoder.specs.Octets.{octets_32}
 use Rattle.dnw_decoder.specs.Standing.{stands_same, length-octets_32}
 use Rattle.dnw_name.specs.DomainName.{DomainName}
 use Rattle.dnw_types.specs.BitMapLaws.{read_once}
-use Rattle.drd_caa.specs.Fields.{caa_fields, caa_flags, is_caa_tag}
+use Rattle.drd_caa.specs.Fields.{IsCaa, caa_fields, caa_flags}
 use Rattle.drd_caa.specs.declared.caa.CAA.{CAA}
 use Rattle.drd_csync.specs.Data.{csync_fields, csync_flags, CsyncAt}
 use Rattle.drd_csync.specs.declared.csync.CSYNC.{CSYNC}
-use Rattle.drd_fields.specs.Fields.{Field, octet, short, long, name, string, strings, rest, FieldsAt}
+use Rattle.drd_fields.specs.Fields.{octet, long, name, rest, FieldsAt}
 use Rattle.drd_fields.specs.OnceLaws.{AllFit, fields_once}
 use Rattle.drd_keys.specs.Cert.{cert_type_number, cert_type_of, cert_algorithm_number, cert_algorithm_of, IsNamedCert}
 use Rattle.drd_keys.specs.Fields.{cert_fields, null_fields, openpgpkey_fields, smimea_fields, sshfp_fields, tlsa_fields}
@@ -212,12 +211,13 @@ flag_once true true m n small few e = (refl, omega (arith, e))
 flag_once false true m n small few e = absurd (omega (arith, e, small, few))
 flag_once true false m n small few e = absurd (omega (arith, e, small, few))
 
-caa_once : (message : List ℕ) (place : ℕ) (a b : CAA) (end : ℕ) → FieldsAt message place (caa_fields a) end → FieldsAt message place (caa_fields b) end → SameCaa a b
-caa_once message place a b end s t =
+caa_once : (message : List ℕ) (place : ℕ) (a b : CAA) (end : ℕ) → FieldsAt message place (caa_fields a) end × IsCaa a → FieldsAt message place (caa_fields b) end × IsCaa b → SameCaa a b
+caa_once message place a b end (s, own) (t, other) =
     let same = fields_once message place (caa_fields a) (caa_fields b) end refl ((λ o. absurd (cc o)), ((λ o. absurd (cc o)), ((λ o. refl), tt))) (tt, (tt, (tt, tt))) (tt, (tt, (tt, tt))) s t in
     let octet : caa_flags a ≡ caa_flags b = cc same in
     let flags = flag_once a.issuer_critical b.issuer_critical (a.reserved_flags % 128) (b.reserved_flags % 128) (omega arith) (omega arith) octet in
-    (flags.0, flags.1, cc same, cc same)
+    let seven : a.reserved_flags ≡ b.reserved_flags = omega (arith, own.1, other.1, flags.1) in
+    (flags.0, seven, cc same, cc same)
 
 -- Codes that their numbers stand for are the same where these are.
 code_once : {X : Type 0} (number_of : X → ℕ) (code_of : ℕ → X) (x y : X) → x ≡ code_of (number_of x) → y ≡ code_of (number_of y) → number_of x ≡ number_of y → x ≡ y
@@ -280,7 +280,7 @@ pub holds_once : (t : RecordType) (message : List ℕ) (place end : ℕ) (a b : 
 holds_once kind.A message place end = one_of rdata.A (λ a. FieldsAt message place (a_fields a) end) (λ x y f g s t. ap rdata.A (a_once message place x y end f g s t))
 holds_once kind.AAAA message place end = one_of rdata.AAAA (λ a. FieldsAt message place (aaaa_fields a) end) (λ x y f g s t. ap rdata.AAAA (aaaa_once message place x y end f g s t))
 holds_once kind.ANAME message place end = one_of rdata.ANAME (λ a. FieldsAt message place (aname_fields a) end) (λ x y f g s t. ap (λ (n : DomainName). rdata.ANAME (aname_of n)) (one_name message place x.0 y.0 end s t))
-holds_once kind.CAA message place end = one_of rdata.CAA (λ a. FieldsAt message place (caa_fields a) end × (is_caa_tag a.tag.items ≡ true)) (λ x y f g s t. caa_once message place x y end s.0 t.0)
+holds_once kind.CAA message place end = one_of rdata.CAA (λ a. FieldsAt message place (caa_fields a) end × IsCaa a) (λ x y f g s t. caa_once message place x y end s t)
 holds_once kind.CERT message place end = one_of rdata.CERT (λ a. FieldsAt message place (cert_fields a) end × IsNamedCert a) (λ x y f g s t. cert_once message place x y end f g s t)
 holds_once kind.CNAME message place end = one_of rdata.CNAME (λ a. FieldsAt message place (cname_fields a) end) (λ x y f g s t. ap (λ (n : DomainName). rdata.CNAME (cname_of n)) (one_name message place x.0 y.0 end s t))
 holds_once kind.CSYNC message place end = one_of rdata.CSYNC (λ a. CsyncAt message place a end) (λ x y f g s t. ap rdata.CSYNC (csync_once message place x y end f g s t))

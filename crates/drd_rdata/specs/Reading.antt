@@ -14,7 +14,7 @@ use Rattle.drd_keys.specs.Cert.{IsNamedCert}
 use Rattle.drd_keys.specs.Fields.{cert_fields, cert_kinds, null_fields, null_kinds, openpgpkey_fields, openpgpkey_kinds, smimea_fields, smimea_kinds, sshfp_fields, sshfp_kinds, tlsa_fields, tlsa_kinds}
 use Rattle.drd_keys.specs.Sshfp.{IsNamedSshfp}
 use Rattle.drd_keys.specs.Tlsa.{IsNamedTlsa}
-use Rattle.drd_caa.specs.Fields.{caa_fields, is_caa_tag}
+use Rattle.drd_caa.specs.Fields.{IsCaa, caa_fields}
 use Rattle.drd_svcb.specs.Fields.{svcb_fields}
 use Rattle.drd_plain.specs.Reading.{MissesNaptr}
 use Rattle.drd_caa.specs.Reading.{RefusesCaa}
@@ -37,7 +37,7 @@ abbrev pub HoldsAs : RecordType → List ℕ → ℕ → RData → ℕ → Type 
 HoldsAs kind.A message place value end = Is rdata.A (λ a. FieldsAt message place (a_fields a) end) value
 HoldsAs kind.AAAA message place value end = Is rdata.AAAA (λ aaaa. FieldsAt message place (aaaa_fields aaaa) end) value
 HoldsAs kind.ANAME message place value end = Is rdata.ANAME (λ aname. FieldsAt message place (aname_fields aname) end) value
-HoldsAs kind.CAA message place value end = Is rdata.CAA (λ caa. FieldsAt message place (caa_fields caa) end × (is_caa_tag caa.tag.items ≡ true)) value
+HoldsAs kind.CAA message place value end = Is rdata.CAA (λ caa. FieldsAt message place (caa_fields caa) end × IsCaa caa) value
 HoldsAs kind.CERT message place value end = Is rdata.CERT (λ cert. FieldsAt message place (cert_fields cert) end × IsNamedCert cert) value
 HoldsAs kind.CNAME message place value end = Is rdata.CNAME (λ cname. FieldsAt message place (cname_fields cname) end) value
 HoldsAs kind.CSYNC message place value end = Is rdata.CSYNC (λ csync. CsyncAt message place csync end) value

@@ -9,7 +9,7 @@ use Rattle.drd_plain.specs.declared.naptr.NAPTR.{NAPTR}
 use Rattle.drd_keys.specs.Cert.{IsNamedCert}
 use Rattle.drd_keys.specs.Sshfp.{IsNamedSshfp}
 use Rattle.drd_keys.specs.Tlsa.{IsNamedTlsa}
-use Rattle.drd_caa.specs.Fields.{is_caa_tag}
+use Rattle.drd_caa.specs.Fields.{IsCaa}
 use Rattle.drd_params.specs.Params.{AreParams}
 use Rattle.drd_svcb.specs.declared.svcb.SVCB.{SVCB}
 use Rattle.drd_rdata.specs.declared.rdata.RData.{RData}
@@ -60,7 +60,7 @@ IsRule naptr =
 -- What data must hold to be read from some message, by their type. Those that may be without octets have some.
 abbrev pub CanBeRead : RData → Type 0
 CanBeRead (rdata.ANAME aname) = EndsAtRoot aname.0
-CanBeRead (rdata.CAA caa) = is_caa_tag caa.tag.items ≡ true
+CanBeRead (rdata.CAA caa) = IsCaa caa
 CanBeRead (rdata.CERT cert) = IsNamedCert cert
 CanBeRead (rdata.CNAME cname) = EndsAtRoot cname.0
 CanBeRead (rdata.CSYNC csync) = Rises 0 csync.type_bit_maps 65536

@@ -24,7 +24,7 @@ use Rattle.drd_keys.specs.Cert.{IsNamedCert}
 use Rattle.drd_keys.specs.Sshfp.{IsNamedSshfp}
 use Rattle.drd_keys.specs.Tlsa.{IsNamedTlsa}
 use Rattle.drd_keys.specs.declared.null.NULL.{NULL}
-use Rattle.drd_caa.specs.Fields.{caa_fields, is_caa_tag}
+use Rattle.drd_caa.specs.Fields.{IsCaa, caa_fields, is_caa_tag}
 use Rattle.drd_csync.specs.Data.{csync_fields, CsyncAt}
 use Rattle.drd_csync.specs.declared.csync.CSYNC.{CSYNC}
 use Rattle.drd_opt.specs.Reading.{EntriesAt}
@@ -116,7 +116,7 @@ to_read (rdata.AAAA aaaa) can =
     from_fields (rdata.AAAA aaaa) (aaaa_fields aaaa) (λ m p e there. (aaaa, refl, there)) (omega arith) (tt, (tt, (tt, (tt, (tt, (tt, (tt, (tt, tt))))))))
 to_read (rdata.ANAME aname) can = from_fields (rdata.ANAME aname) (aname_fields aname) (λ m p e there. (aname, refl, there)) (some_name aname.0 []) (can, tt)
 to_read (rdata.CAA caa) can =
-    from_fields (rdata.CAA caa) (caa_fields caa) (λ m p e there. (caa, refl, (there, can))) (omega arith) (tt, (short_tag caa.tag.items can, (tt, tt)))
+    from_fields (rdata.CAA caa) (caa_fields caa) (λ m p e there. (caa, refl, (there, can))) (omega arith) (tt, (short_tag caa.tag.items can.0, (tt, tt)))
 to_read (rdata.CERT cert) can = from_fields (rdata.CERT cert) (cert_fields cert) (λ m p e there. (cert, refl, (there, can))) (omega arith) (tt, (tt, (tt, (tt, tt))))
 to_read (rdata.CNAME cname) can = from_fields (rdata.CNAME cname) (cname_fields cname) (λ m p e there. (cname, refl, there)) (some_name cname.0 []) (can, tt)
 to_read (rdata.CSYNC csync) can = csync_read csync can
@@ -256,7 +256,7 @@ from_read (rdata.HINFO hinfo) r =
 from_read (rdata.SOA soa) r =
     let alone = fields_alone r.message r.place (soa_fields soa) r.end (own rdata.SOA (λ y. FieldsAt r.message r.place (soa_fields y) r.end) soa (λ y e. cc) r.holds) in
     (alone.0, alone.1.0)
-from_read (rdata.CAA caa) r = (own rdata.CAA (λ y. FieldsAt r.message r.place (caa_fields y) r.end × (is_caa_tag y.tag.items ≡ true)) caa (λ y e. cc) r.holds).1
+from_read (rdata.CAA caa) r = (own rdata.CAA (λ y. FieldsAt r.message r.place (caa_fields y) r.end × IsCaa y) caa (λ y e. cc) r.holds).1
 from_read (rdata.CERT cert) r = (own rdata.CERT (λ y. FieldsAt r.message r.place (cert_fields y) r.end × IsNamedCert y) cert (λ y e. cc) r.holds).1
 from_read (rdata.SMIMEA smimea) r = (own rdata.SMIMEA (λ y. FieldsAt r.message r.place (smimea_fields y) r.end × IsNamedTlsa y.0) smimea (λ y e. cc) r.holds).1
 from_read (rdata.SSHFP sshfp) r = (own rdata.SSHFP (λ y. FieldsAt r.message r.place (sshfp_fields y) r.end × IsNamedSshfp y) sshfp (λ y e. cc) r.holds).1

@@ -48,9 +48,9 @@ pub(crate) fn can_read_naptr(naptr: &NAPTR) -> bool
         && ends_at_root(&naptr.replacement)
 }
 
-/// Whether the tag is 1 to 15 letters and digits (RFC 8659 4.1).
+/// Whether the tag is 1 to 15 letters and digits, and the reserved flags have seven bits (RFC 8659 4.1).
 pub(crate) fn can_read_caa(caa: &CAA) -> bool
     ensures { IsTrue result ↔ CanBeRead (variant.CAA caa.now) }
 {
-    is_tag(&caa.tag)
+    is_tag(&caa.tag) && caa.reserved_flags < 128
 }

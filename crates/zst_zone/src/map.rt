@@ -120,7 +120,7 @@ fn node_of(alloc: Global, next: Record) -> Result<Vec<RecordSet>, AllocError>
 
 /// Adds a record to the sets of its owner.
 fn add_to_node(alloc: Global, sets: &mut Vec<RecordSet>, next: Record) -> Result<(), AllocError>
-    requires full { ReadsBackAlone next }
+    requires alone { ReadsBackAlone next }
     requires owned { AllByRecursion (λ set. name_eq next.name set.owner ≡ true) sets.old.items }
     ensures ok { OnOk result (sets.new.items ≡ with_record sets.old.items next) }
     ensures err { OnErr result (sets.new.items ≡ sets.old.items) }

@@ -54,7 +54,7 @@ fn error_response(request: Metadata, response_code: ResponseCode) -> MessageResp
 // The records of a set, if there is one.
 fn records_in(set: Option<&RecordSet>) -> &[Record]
     ensures value { result.now ≡ records_of (option_copied set.entry) }
-    ensures full { AllByRecursion ReadsBackAlone result.now }
+    ensures alone { AllByRecursion ReadsBackAlone result.now }
 {
     match set {
         Some(set) => set.records(),
@@ -65,7 +65,7 @@ fn records_in(set: Option<&RecordSet>) -> &[Record]
 // With an answer for the zone's start come its name servers.
 fn beside<K>(zone: &InMemoryZoneHandler<K>, record_type: RecordType) -> &[Record]
     ensures value { result.now ≡ beside_answer zone.now record_type }
-    ensures full { AllByRecursion ReadsBackAlone result.now }
+    ensures alone { AllByRecursion ReadsBackAlone result.now }
 {
     if record_type == RecordType::SOA {
         records_in(zone.apex(RecordType::NS))

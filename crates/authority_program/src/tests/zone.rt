@@ -3,10 +3,11 @@
 ghost use Rattle.std.specs.Prelude.{◌≡◌, true, IfOk};
 
 use authority::{
-    AxfrPolicy, InMemoryZoneHandler, Lookup, LowerName, Name, RecordType, RrKey, ZoneSettings,
-    ZoneType, load_zone,
+    A, AxfrPolicy, DNSClass, InMemoryZoneHandler, Lookup, LowerName, NS, Name, RData, Record,
+    RecordType, RrKey, ZoneSettings, ZoneType, load_zone,
 };
 use std::alloc::Global;
+use std::net::Ipv4Addr;
 use std::test::Fail;
 
 fn name1(alloc: Global, a: &[u8]) -> Result<Name, Fail>
@@ -101,5 +102,53 @@ fn equal_data_are_replaced(rt: HostRuntime) -> Result<(), Fail> {
         }
         None => assert!(rt; false),
     }
+    Ok(())
+}
+
+fn record(name: Name, dns_class: DNSClass, rdata: RData) -> Record {
+    Record {
+        name,
+        dns_class,
+        ttl: 60,
+        rdata,
+    }
+}
+
+#[test]
+fn records_by_hand(rt: HostRuntime) -> Result<(), Fail> {
+    let alloc = rt.alloc();
+    let mut zone = zone(alloc, "")?;
+    let address = || RData::A(A(Ipv4Addr::new(192, 0, 2, 7)));
+    let here = name2(alloc, b"hand", b"example")?;
+    let there = name2(alloc, b"other", b"example")?;
+    let relative = Name::from_ascii(alloc, "hand")?;
+    let rows = [
+        (record(here.clone()?, DNSClass::IN, address()), true),
+        (record(relative.clone()?, DNSClass::IN, address()), false),
+        (
+            record(there.clone()?, DNSClass::Unknown(1), address()),
+            false,
+        ),
+        (
+            record(there.clone()?, DNSClass::IN, RData::NS(NS(relative))),
+            false,
+        ),
+        (
+            record(there.clone()?, DNSClass::IN, RData::Update0(RecordType::A)),
+            false,
+        ),
+        (record(there.clone()?, DNSClass::IN, RData::ZERO), false),
+    ];
+    for (next, want) in rows {
+        let reads_back = next.reads_back_alone();
+        assert_eq!(rt; reads_back, want);
+        if reads_back {
+            zone.insert(alloc, next)?;
+        }
+    }
+    let found = zone.lookup(alloc, &here, RecordType::A)?;
+    assert_eq!(rt; word(&found), "answer");
+    let missed = zone.lookup(alloc, &there, RecordType::A)?;
+    assert_eq!(rt; word(&missed), "name error");
     Ok(())
 }

@@ -72,9 +72,15 @@ fn strings(rt: HostRuntime) -> Result<(), Fail> {
         let naptr = NAPTR::new(1, 2, flags, services, regexp, Name::root(alloc));
         assert_eq!(&rt; is_readable(&RData::NAPTR(naptr)), read);
     }
-    for (tag, read) in [("issue", true), ("", false), ("is-sue", false)] {
+    for (tag, reserved, read) in [
+        ("issue", 0, true),
+        ("issue", 127, true),
+        ("issue", 128, false),
+        ("", 0, false),
+        ("is-sue", 0, false),
+    ] {
         let tag = Vec::from_slice(alloc, tag.as_bytes())?;
-        let caa = CAA::new(false, 0, tag, Vec::new(alloc));
+        let caa = CAA::new(true, reserved, tag, Vec::new(alloc));
         assert_eq!(&rt; is_readable(&RData::CAA(caa)), read);
     }
     Ok(())

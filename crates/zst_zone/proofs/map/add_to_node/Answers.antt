@@ -12,7 +12,7 @@ use Rattle.zst_zone.proofs.map.add_to_node.Goals as goal
 pub index_mut-requires : goal.index_mut-requires
 index_mut-requires c =
     let f : FoundHere c.in-Ok.place c.args.sets.now.items c.args.next (record { owner = c.args.next.name; record_type = c.record_type.result; records = [] })
-    = found_here c.args.sets.now.items c.args.next _ c.in-Ok.place c.requires.full c.requires.owned
+    = found_here c.args.sets.now.items c.args.next _ c.in-Ok.place c.requires.alone c.requires.owned
     (c.in-Ok.ensures ∙ ap (λ (t : List RRset). place_from 0 t (record_type_number c.record_type.result)) c.deref.ensures.value
     ∙ ap (λ (t : RecordType). place_from 0 c.args.sets.now.items (record_type_number t)) c.record_type.ensures) in
     omega (arith, f.below, c.deref.ensures.len, ap length c.deref.ensures.value)
@@ -20,7 +20,7 @@ index_mut-requires c =
 pub put-requires : goal.put-requires
 put-requires c =
     let f : FoundHere c.in-Ok.place c.args.sets.now.items c.args.next c.index_mut.result.now
-    = found_here c.args.sets.now.items c.args.next c.index_mut.result.now c.in-Ok.place c.requires.full c.requires.owned
+    = found_here c.args.sets.now.items c.args.next c.index_mut.result.now c.in-Ok.place c.requires.alone c.requires.owned
     (c.in-Ok.ensures ∙ ap (λ (t : List RRset). place_from 0 t (record_type_number c.record_type.result)) c.deref.ensures.value
     ∙ ap (λ (t : RecordType). place_from 0 c.args.sets.now.items (record_type_number t)) c.record_type.ensures) in
     subst (λ (s : RRset). IsRecordOf s.owner s.record_type c.args.next) (sym c.index_mut.ensures.value) f.is_record
@@ -40,7 +40,7 @@ on_ok (Err e) f h = h
 pub returns-in-Ok-clause-ok : goal.returns-in-Ok-clause-ok
 returns-in-Ok-clause-ok c =
     let f : FoundHere c.in-Ok.place c.args.sets.now.items c.args.next c.index_mut.result.now
-    = found_here c.args.sets.now.items c.args.next c.index_mut.result.now c.in-Ok.place c.requires.full c.requires.owned
+    = found_here c.args.sets.now.items c.args.next c.index_mut.result.now c.in-Ok.place c.requires.alone c.requires.owned
     (c.in-Ok.ensures ∙ ap (λ (t : List RRset). place_from 0 t (record_type_number c.record_type.result)) c.deref.ensures.value
     ∙ ap (λ (t : RecordType). place_from 0 c.args.sets.now.items (record_type_number t)) c.record_type.ensures) in
     on_ok c.put.result
