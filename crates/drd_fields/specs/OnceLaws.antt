@@ -1,8 +1,7 @@
 -- One place holds one list of fields of the same kinds, whose numbers fit their octets.
-use Rattle.std.proofs.Common.{◌≡◌, ℕ, ◌^◌, ◌<◌, Bool, true, false, List, [], ◌∷◌, length, refl, sym, ap, subst, ◌∙◌, arith}
+use Rattle.std.proofs.Common.{◌≡◌, ℕ, ◌^◌, ◌<◌, Bool, true, false, List, [], ◌∷◌, refl, sym, ap, subst, ◌∙◌, arith}
 use Rattle.std.specs.Int.{w16, w32, from_be_bytes}
 use Rattle.std.proofs.lemmas.Nat.{from_be_bytes-to_be_bytes_2, from_be_bytes-to_be_bytes_4}
-use Rattle.dnw_name.specs.DomainName.{DomainName}
 use Rattle.dnw_decoder.specs.Octets.{octets_16, octets_32}
 use Rattle.dnw_decoder.specs.SpellingLaws.{name_once}
 use Rattle.dnw_decoder.specs.Standing.{stands_same, length-octets_32}
