@@ -3,56 +3,49 @@ use super::is_of_text;
 use crate::RData;
 use dnw_name::Name;
 use drd_caa::{CAA, KeyValue, read_iodef, read_issuer};
+use std::alloc::Global;
+use std::fmt::Write;
 use std::test::Fail;
+
+// An issuer's name, or that there is none, and each parameter's key and value.
+fn shown(alloc: Global, octets: &[u8]) -> Result<String, Fail> {
+    let (issuer, parameters) = read_issuer(alloc, octets)?;
+    let mut text = match issuer {
+        Some(name) => name.to_ascii(alloc)?,
+        None => String::from_str(alloc, "-")?,
+    };
+    for parameter in &parameters {
+        write!(text, " {}|{}", parameter.key(), parameter.value())?;
+    }
+    Ok(text)
+}
 
 // The values of RFC 8659 4.2 and 4.3, and others at the edges of the grammar.
 #[test]
+#[rattlefmt::skip]
 fn issuers(rt: HostRuntime) -> Result<(), Fail> {
     let alloc = rt.alloc();
-    for (octets, name, keys, values) in [
-        ("ca1.example.net", "ca1.example.net", "", ""),
-        (
-            "ca1.example.net; account=230123",
-            "ca1.example.net",
-            "account|",
-            "230123|",
-        ),
-        (
-            "ca1.example.net; policy=ev; account=230123",
-            "ca1.example.net",
-            "policy|account|",
-            "ev|230123|",
-        ),
-        (";", "-", "", ""),
-        ("", "-", "", ""),
-        (" \t", "-", "", ""),
-        ("; \t", "-", "", ""),
-        ("\tca.example. ;\t", "ca.example.", "", ""),
-        (
-            " ca.example;a-1\t=\tx=y ; b= ",
-            "ca.example",
-            "a-1|b|",
-            "x=y||",
-        ),
-        (";k=v", "-", "k|", "v|"),
+    for (octets, text) in [
+        ("ca1.example.net", "ca1.example.net"),
+        ("ca1.example.net; account=230123", "ca1.example.net account|230123"),
+        ("ca1.example.net; policy=ev; account=230123", "ca1.example.net policy|ev account|230123"),
+        (";", "-"),
+        ("", "-"),
+        (" \t", "-"),
+        ("; \t", "-"),
+        ("\tca.example. ;\t", "ca.example."),
+        (" ca.example;a-1\t=\tx=y ; b= ", "ca.example a-1|x=y b|"),
+        (";k=v", "- k|v"),
     ] {
-        let (read, parameters) = read_issuer(alloc, octets.as_bytes())?;
-        let shown = match read {
-            Some(name) => name.to_ascii(alloc)?,
-            None => String::from_str(alloc, "-")?,
-        };
-        assert_eq!(&rt; shown.as_str(), name);
-        let mut read_keys = String::new(alloc);
-        let mut read_values = String::new(alloc);
-        for parameter in &parameters {
-            read_keys.push_str(parameter.key())?;
-            read_keys.push('|')?;
-            read_values.push_str(parameter.value())?;
-            read_values.push('|')?;
-        }
-        assert_eq!(&rt; read_keys.as_str(), keys);
-        assert_eq!(&rt; read_values.as_str(), values);
+        assert_eq!(&rt; shown(alloc, octets.as_bytes())?.as_str(), text);
     }
+    Ok(())
+}
+
+// Octets outside that grammar.
+#[test]
+fn refused_issuers(rt: HostRuntime) -> Result<(), Fail> {
+    let alloc = rt.alloc();
     for octets in [
         "%%%%%",
         "a b",
@@ -74,34 +67,48 @@ fn issuers(rt: HostRuntime) -> Result<(), Fail> {
     Ok(())
 }
 
+fn account(alloc: Global) -> Result<KeyValue, Fail> {
+    Ok(KeyValue::new(
+        String::from_str(alloc, "account")?,
+        String::from_str(alloc, "230123")?,
+    ))
+}
+
+// An issuer with an account.
+fn issue(alloc: Global) -> Result<CAA, Fail> {
+    let name = Name::from_ascii(alloc, "ca1.example.net")?;
+    let mut options = Vec::new(alloc);
+    if options.push(account(alloc)?).is_err() {
+        return Err(Fail::from("out of memory"));
+    }
+    Ok(CAA::new_issue(alloc, true, Some(name), options)?)
+}
+
 #[test]
 fn values(rt: HostRuntime) -> Result<(), Fail> {
     let alloc = rt.alloc();
-    let name = Name::from_ascii(alloc, "ca1.example.net")?;
-    let account = KeyValue::new(
-        String::from_str(alloc, "account")?,
-        String::from_str(alloc, "230123")?,
-    );
-    let mut options = Vec::new(alloc);
-    if options.push(account.clone()?).is_err() {
-        return Err(Fail::from("out of memory"));
+    let caa = issue(alloc)?;
+    let (issuer, parameters) = caa.value_as_issue()?;
+    assert!(&rt; issuer == Some(Name::from_ascii(alloc, "ca1.example.net")?));
+    assert!(&rt; parameters.len() == 1);
+    for parameter in &parameters {
+        assert!(&rt; *parameter == account(alloc)?);
     }
-    let mut caa = CAA::new_issue(alloc, true, Some(name.clone()?), options)?;
-    let issue = RData::CAA(caa.clone()?);
+    assert!(&rt; caa.value_as_iodef().is_err());
     is_of_text(
         &rt,
         alloc,
-        issue,
+        RData::CAA(caa),
         "128 issue \"ca1.example.net; account=230123\"",
-    )?;
-    let (issuer, parameters) = caa.value_as_issue()?;
-    assert!(&rt; issuer == Some(name));
-    assert!(&rt; parameters.len() == 1);
-    for parameter in &parameters {
-        assert!(&rt; *parameter == account);
-    }
-    assert!(&rt; caa.value_as_iodef().is_err());
+    )
+}
+
+#[test]
+fn values_set(rt: HostRuntime) -> Result<(), Fail> {
+    let alloc = rt.alloc();
+    let mut caa = issue(alloc)?;
     assert!(&rt; caa.set_iodef_value("mailto:a@b.example").is_err());
+    let (_, parameters) = caa.value_as_issue()?;
     caa.set_issuer_value(None, &parameters)?;
     is_of_text(
         &rt,

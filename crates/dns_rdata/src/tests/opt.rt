@@ -4,6 +4,7 @@ use dnw_codes::DecodeError;
 use dnw_encoder::BinEncodable;
 use drd_opt::OPT;
 use drd_option::{EdnsCode, EdnsOption};
+use std::alloc::Global;
 use std::process::Abort;
 use std::test::Fail;
 
@@ -34,15 +35,34 @@ fn cut(rt: HostRuntime) -> Result<(), Fail> {
     Ok(())
 }
 
+// Two identifiers with padding between them.
+fn three_options(alloc: Global) -> Result<OPT, Fail> {
+    let mut opt = OPT::new(Vec::new(alloc));
+    for (code, octets) in [
+        (EdnsCode::NSID, b"a".as_slice()),
+        (EdnsCode::Padding, b"\x00\x00".as_slice()),
+        (EdnsCode::NSID, b"b".as_slice()),
+    ] {
+        opt.insert(EdnsOption::new(alloc, code, octets)?)?;
+    }
+    Ok(opt)
+}
+
 #[test]
 fn entries(rt: HostRuntime) -> Result<(), Fail> {
     let alloc = rt.alloc();
-    let mut opt = OPT::new(Vec::new(alloc));
-    assert!(rt; opt.get(EdnsCode::NSID).is_none());
-    opt.insert(EdnsOption::new(alloc, EdnsCode::NSID, b"a")?)?;
-    opt.insert(EdnsOption::new(alloc, EdnsCode::Padding, &[0, 0])?)?;
-    opt.insert(EdnsOption::new(alloc, EdnsCode::NSID, b"b")?)?;
+    let mut opt = three_options(alloc)?;
     assert_eq!(rt; opt.to_string(alloc)?.as_str(), "3:61 12:0000 3:62");
+    opt.remove(EdnsCode::NSID);
+    assert_eq!(rt; opt.to_string(alloc)?.as_str(), "12:0000");
+    assert!(rt; opt.get(EdnsCode::NSID).is_none());
+    Ok(())
+}
+
+#[test]
+fn entries_of_a_code(rt: HostRuntime) -> Result<(), Fail> {
+    let alloc = rt.alloc();
+    let opt = three_options(alloc)?;
     let first = EdnsOption::new(alloc, EdnsCode::NSID, b"a")?;
     let second = EdnsOption::new(alloc, EdnsCode::NSID, b"b")?;
     match opt.get(EdnsCode::NSID) {
@@ -53,18 +73,21 @@ fn entries(rt: HostRuntime) -> Result<(), Fail> {
     assert_eq!(rt; found.len(), 2);
     assert!(rt; *found[0] == first);
     assert!(rt; *found[1] == second);
-    drop(found);
-    opt.remove(EdnsCode::NSID);
-    assert_eq!(rt; opt.to_string(alloc)?.as_str(), "12:0000");
-    let mut long = Vec::new(alloc);
-    long.resize(65536, 0u8)?;
-    opt.insert(EdnsOption::Unknown(9, long))?;
-    assert!(rt; opt.to_bytes(alloc).is_err());
-    // Options that can't be written have an order too: 65,536 octets stand behind two.
-    opt.remove(EdnsCode::Padding);
+    Ok(())
+}
+
+// Options that can't be written have an order too: 65,536 octets stand behind two.
+#[test]
+fn long_entries(rt: HostRuntime) -> Result<(), Fail> {
+    let alloc = rt.alloc();
+    let mut octets = Vec::new(alloc);
+    octets.resize(65536, 0u8)?;
+    let mut long = OPT::new(Vec::new(alloc));
+    long.insert(EdnsOption::Unknown(9, octets))?;
+    assert!(rt; long.to_bytes(alloc).is_err());
     let mut short = OPT::new(Vec::new(alloc));
     short.insert(EdnsOption::Unknown(9, Vec::from_slice(alloc, &[255, 255])?))?;
-    assert!(rt; short < opt);
-    assert!(rt; opt > short);
+    assert!(rt; short < long);
+    assert!(rt; long > short);
     Ok(())
 }
