@@ -17,14 +17,10 @@ fn names_in_one_encoder(rt: HostRuntime) -> Result<(), Fail> {
     let texts = ["ra.rb.rc.", "rb.rc.", "rc.", "z.ra.rb.rc."];
     let mut buffer = Vec::new(alloc);
     let mut encoder = BinEncoder::new(&mut buffer);
-    name(alloc, texts[0])?.emit(&mut encoder)?;
-    assert_eq!(&rt; encoder.len(), 10);
-    name(alloc, texts[1])?.emit(&mut encoder)?;
-    assert_eq!(&rt; encoder.len(), 17);
-    name(alloc, texts[2])?.emit(&mut encoder)?;
-    assert_eq!(&rt; encoder.len(), 21);
-    name(alloc, texts[3])?.emit(&mut encoder)?;
-    assert_eq!(&rt; encoder.len(), 33);
+    for (text, len) in texts.iter().zip([10usize, 17, 21, 33]) {
+        name(alloc, text)?.emit(&mut encoder)?;
+        assert_eq!(&rt; encoder.len(), len);
+    }
     let octets = encoder.into_bytes();
     let mut decoder = BinDecoder::new(octets);
     for text in texts {
@@ -47,53 +43,36 @@ fn refusal(alloc: Global, octets: &[u8], index: u16) -> Result<DecodeError, Fail
     }
 }
 
+// A pointer at an index, that doesn't go back to a target.
+fn not_prior(index: usize, target: u16) -> DecodeError {
+    DecodeError::PointerNotPriorToLabel { index, target }
+}
+
 #[test]
+#[rattlefmt::skip]
 fn refused_names(rt: HostRuntime) -> Result<(), Fail> {
     let alloc = rt.alloc();
-    assert!(rt;
-        refusal(alloc, &[0xc0, 0x01], 0)?
-            == DecodeError::PointerNotPriorToLabel {
-                index: 0,
-                target: 1
-            }
-    );
-    assert!(rt;
-        refusal(alloc, &[0xc0, 0x00], 0)?
-            == DecodeError::PointerNotPriorToLabel {
-                index: 0,
-                target: 0
-            }
-    );
-    assert!(rt;
-        refusal(alloc, &[0x01, 0x41, 0xc0, 0x00], 0)?
-            == DecodeError::PointerNotPriorToLabel {
-                index: 2,
-                target: 0
-            }
-    );
-    assert!(rt;
-        refusal(alloc, &[0xc0, 0x02, 0xc0, 0x00], 0)?
-            == DecodeError::PointerNotPriorToLabel {
-                index: 0,
-                target: 2
-            }
-    );
-    assert!(rt;
-        refusal(alloc, &[0xc0, 0x02, 0xc0, 0x00], 2)?
-            == DecodeError::PointerNotPriorToLabel {
-                index: 0,
-                target: 2
-            }
-    );
-    assert!(rt; refusal(alloc, &[0x40], 0)? == DecodeError::UnrecognizedLabelCode(0x40));
-    assert!(rt; refusal(alloc, &[0x80, 0x00], 0)? == DecodeError::UnrecognizedLabelCode(0x80));
-    assert!(rt; refusal(alloc, &[0x00], 1)? == DecodeError::InsufficientBytes);
-    assert!(rt; refusal(alloc, &[0x02, 0x61], 0)? == DecodeError::InsufficientBytes);
-    assert!(rt; refusal(alloc, &[0x00, 0xc0], 1)? == DecodeError::InsufficientBytes);
-    assert!(rt;
-        refusal(alloc, &[5, 120, 120, 120, 2, 100, 0, 0xc0, 0], 4)?
-            == DecodeError::LabelOverlapsWithOther { label: 0, other: 4 }
-    );
+    for (octets, index, cause) in [
+        (b"\xc0\x01".as_slice(), 0u16, not_prior(0, 1)),
+        (b"\xc0\x00".as_slice(), 0, not_prior(0, 0)),
+        (b"\x01A\xc0\x00".as_slice(), 0, not_prior(2, 0)),
+        (b"\xc0\x02\xc0\x00".as_slice(), 0, not_prior(0, 2)),
+        (b"\xc0\x02\xc0\x00".as_slice(), 2, not_prior(0, 2)),
+        (b"\x40".as_slice(), 0, DecodeError::UnrecognizedLabelCode(0x40)),
+        (b"\x80\x00".as_slice(), 0, DecodeError::UnrecognizedLabelCode(0x80)),
+        (b"\x00".as_slice(), 1, DecodeError::InsufficientBytes),
+        (b"\x02a".as_slice(), 0, DecodeError::InsufficientBytes),
+        (b"\x00\xc0".as_slice(), 1, DecodeError::InsufficientBytes),
+        (b"\x05xxx\x02d\x00\xc0\x00".as_slice(), 4, DecodeError::LabelOverlapsWithOther { label: 0, other: 4 }),
+    ] {
+        assert!(rt; refusal(alloc, octets, index)? == cause);
+    }
+    Ok(())
+}
+
+#[test]
+fn name_of_257_octets(rt: HostRuntime) -> Result<(), Fail> {
+    let alloc = rt.alloc();
     let mut long = Vec::new(alloc);
     for _ in 0..256u16 {
         long.push(1)?;
@@ -139,8 +118,11 @@ fn cut_at_each_octet(rt: HostRuntime) -> Result<(), Fail> {
     Ok(())
 }
 
+// Numbers of each width, a string behind its length, and octets.
+const WRITTEN: &[u8] = b"\x07\x12\x34\xde\xad\xbe\xef\xff\xff\xff\xfe\x03abcxyz";
+
 #[test]
-fn numbers_and_strings(rt: HostRuntime) -> Result<(), Fail> {
+fn numbers_and_strings_written(rt: HostRuntime) -> Result<(), Fail> {
     let alloc = rt.alloc();
     let mut buffer = Vec::new(alloc);
     let mut encoder = BinEncoder::new(&mut buffer);
@@ -150,16 +132,14 @@ fn numbers_and_strings(rt: HostRuntime) -> Result<(), Fail> {
     encoder.emit_i32(-2)?;
     encoder.emit_character_data(b"abc")?;
     encoder.emit_vec(b"xyz")?;
-    let octets = encoder.into_bytes();
-    assert_eq!(&rt;
-        octets.as_slice(),
-        [
-            7, 0x12, 0x34, 0xde, 0xad, 0xbe, 0xef, 0xff, 0xff, 0xff, 0xfe, 3, 97, 98, 99, 120, 121,
-            122
-        ]
-        .as_slice()
-    );
-    let mut decoder = BinDecoder::new(octets);
+    assert_eq!(&rt; encoder.into_bytes().as_slice(), WRITTEN);
+    Ok(())
+}
+
+#[test]
+fn numbers_and_strings_read(rt: HostRuntime) -> Result<(), Fail> {
+    let alloc = rt.alloc();
+    let mut decoder = BinDecoder::new(WRITTEN);
     assert_eq!(&rt; decoder.pop()?.unverified(), 7);
     assert_eq!(&rt; decoder.read_u16()?.unverified(), 0x1234);
     assert_eq!(&rt; decoder.read_u32()?.unverified(), 0xdead_beef);
@@ -168,7 +148,7 @@ fn numbers_and_strings(rt: HostRuntime) -> Result<(), Fail> {
         decoder.read_character_data()?.unverified(),
         b"abc".as_slice()
     );
-    assert_eq!(&rt; decoder.slice_from(11)?, [3, 97, 98, 99].as_slice());
+    assert_eq!(&rt; decoder.slice_from(11)?, b"\x03abc".as_slice());
     assert_eq!(&rt;
         decoder.read_vec(alloc, 3)?.unverified().as_slice(),
         b"xyz".as_slice()
