@@ -43,7 +43,7 @@ fn refusal(alloc: Global, octets: &[u8], index: u16) -> Result<DecodeError, Fail
     }
 }
 
-// A pointer at an index, that doesn't go back to a target.
+// The refusal of a pointer in the segment at an index, whose target isn't before that.
 fn not_prior(index: usize, target: u16) -> DecodeError {
     DecodeError::PointerNotPriorToLabel { index, target }
 }

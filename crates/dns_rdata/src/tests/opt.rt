@@ -51,6 +51,7 @@ fn three_options(alloc: Global) -> Result<OPT, Fail> {
 #[test]
 fn entries(rt: HostRuntime) -> Result<(), Fail> {
     let alloc = rt.alloc();
+    assert!(rt; OPT::new(Vec::new(alloc)).get(EdnsCode::NSID).is_none());
     let mut opt = three_options(alloc)?;
     assert_eq!(rt; opt.to_string(alloc)?.as_str(), "3:61 12:0000 3:62");
     opt.remove(EdnsCode::NSID);
