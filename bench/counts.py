@@ -3,7 +3,9 @@
 import collections
 import os
 import re
+import shutil
 import subprocess
+import sys
 
 import generate
 import replies
@@ -12,6 +14,8 @@ HERE = os.path.dirname(os.path.abspath(__file__))
 TOP = os.path.dirname(HERE)
 # Where the generated files and the counts go; never committed.
 FOLDER = os.path.join(HERE, "out")
+# Programs that no gate proves: a folder each, whose sources end in .txt, and uses.txt.
+PROGRAMS = os.path.join(HERE, "programs")
 
 # What takes memory from the C library, and how many callers are told apart behind each.
 ALLOCATORS = ("malloc", "calloc", "realloc", "aligned_alloc", "posix_memalign")
@@ -153,12 +157,71 @@ def each(program, words, count, folder):
     return (some.instructions - none.instructions) / count, (allocations(some) - allocations(none)) / count
 
 
-def built(path, crate, words):
-    """The built program: the one given, else the repository's, which rt proves and builds where it is missing."""
+def uses_of(path):
+    """The libraries that each crate uses, by the lines of a file in the form of crates.txt."""
+    uses = {}
+    with open(path, encoding="utf-8") as lines:
+        for line in lines:
+            name, colon, libraries = line.partition("#")[0].partition(":")
+            if colon:
+                uses[name.strip()] = libraries.split()
+    return uses
+
+
+def below(crate, uses):
+    """A crate and those of the repository that stand below it."""
+    return {crate}.union(*(below(library, uses) for library in uses[crate] if library in uses))
+
+
+def copy_below(name, uses, copy):
+    """Puts a program of PROGRAMS into a new folder, as a crate over links to those below it and to their libraries."""
+    crates = sorted(below(name, uses))
+    for crate in crates:
+        if crate != name:
+            # What checks keep beside a built library plays no part above it.
+            shutil.copytree(
+                os.path.join(TOP, "crates", crate), os.path.join(copy, "crates", crate),
+                ignore=shutil.ignore_patterns("incremental"), copy_function=os.link,
+            )
+    source = os.path.join(copy, "crates", name, "src")
+    os.makedirs(source)
+    for file in os.listdir(os.path.join(PROGRAMS, name)):
+        shutil.copy(os.path.join(PROGRAMS, name, file), os.path.join(source, file[:-len(".txt")]))
+    shutil.copy(os.path.join(TOP, "HANDLES"), copy)
+    with open(os.path.join(copy, "crates.txt"), "w", encoding="utf-8") as lines:
+        lines.writelines(f"{crate}: {' '.join(uses[crate])}\n" for crate in crates)
+
+
+def build(name, words, program):
+    """Proves and builds a program of PROGRAMS: its libraries in the repository, which keeps them, and the rest in a copy."""
+    ours = uses_of(os.path.join(TOP, "crates.txt"))
+    uses = {**ours, **uses_of(os.path.join(PROGRAMS, "uses.txt"))}
+    for library in uses[name]:
+        if library in ours:
+            done = subprocess.run(["rt", "lib"], cwd=os.path.join(TOP, "crates", library), stdout=sys.stderr)
+            if done.returncode != 0:
+                raise Failed(f"the library {library} was not built")
+    copy = f"{program}.copy"
+    shutil.rmtree(copy, ignore_errors=True)
+    try:
+        copy_below(name, uses, copy)
+        crate = os.path.join(copy, "crates", name)
+        # The program is run once it is built.
+        subprocess.run(["rt", "run", "--", *words, "0"], cwd=crate, stdout=subprocess.DEVNULL)
+        shutil.copy(os.path.join(crate, "out", name), program)
+    except FileNotFoundError as missing:
+        raise Failed(f"{name} was not built: {missing}") from None
+    finally:
+        # The gate refuses crates outside crates/, so no copy stays.
+        shutil.rmtree(copy, ignore_errors=True)
+
+
+def built(path, name, words):
+    """The built program: the one given, else that of PROGRAMS, which is proved and built where it is missing."""
     if path:
         return os.path.abspath(path)
-    folder = os.path.join(TOP, "crates", crate)
-    program = os.path.join(folder, "out", crate)
+    program = os.path.join(FOLDER, "programs", name)
     if not os.access(program, os.X_OK):
-        subprocess.run(["rt", "run", "--", *words, "0"], cwd=folder, stdout=subprocess.DEVNULL)
+        os.makedirs(os.path.dirname(program), exist_ok=True)
+        build(name, words, program)
     return program

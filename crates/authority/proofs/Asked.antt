@@ -3,7 +3,7 @@ use Rattle.std.proofs.Common.{◌≡◌, ℕ, ◌/◌, ◌%◌, true, List, [], 
 use Rattle.std.specs.Prelude.{get_or}
 use Rattle.std.specs.List.{AllByRecursion}
 use Rattle.zsv_message.specs.declared.request.Query.{Query}
-use Rattle.dnw_decoder.specs.Octets.{number_16}
+use Rattle.zsv_message.specs.dnw_decoder.Octets.{number_16}
 use Rattle.zsv_message.specs.Headers.{op_code_of, op_code_number, response_code_of, response_code_number, metadata_of, FitsHeader}
 use Rattle.zsv_message.specs.Wire.{Entries}
 use Rattle.zsv_message.specs.Requests.{Request, IsRequest, QuestionAt}

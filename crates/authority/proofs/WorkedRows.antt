@@ -1,31 +1,31 @@
 -- The definitions computed on worked rows: a zone with a start of authority and one address, and what it is asked.
 use Rattle.std.proofs.Common.{◌≡◌, ℕ, Bool, true, false, List, [], ◌∷◌, ◌++◌, refl, arith}
 use Rattle.std.specs.Prelude.{codes, pos, None}
-use Rattle.dnw_codes.specs.declared.record_type.RecordType.TheVariants as types
-use Rattle.dnw_codes.specs.declared.dns_class.DNSClass.TheVariants as classes
-use Rattle.drd_rdata.specs.declared.rdata.RData.TheVariants as rdata
-use Rattle.zst_record.specs.declared.records.Record.{Record}
-use Rattle.zst_zone.specs.declared.settings.ZoneType.TheVariants as kinds
-use Rattle.zst_zone.specs.declared.settings.AxfrPolicy.TheVariants as policies
+use Rattle.authority_text.specs.dnw_codes.declared.record_type.RecordType.TheVariants as types
+use Rattle.authority_text.specs.dnw_codes.declared.dns_class.DNSClass.TheVariants as classes
+use Rattle.zsv_message.specs.drd_rdata.declared.rdata.RData.TheVariants as rdata
+use Rattle.zsv_message.specs.zst_record.declared.records.Record.{Record}
+use Rattle.authority_text.specs.zst_zone.declared.settings.ZoneType.TheVariants as kinds
+use Rattle.authority_text.specs.zst_zone.declared.settings.AxfrPolicy.TheVariants as policies
 use Rattle.zsv_message.specs.declared.header.MessageType.TheVariants as messages
 use Rattle.zsv_message.specs.declared.header.OpCode.TheVariants as operations
 use Rattle.zsv_message.specs.declared.header.ResponseCode.{ResponseCode}
 use Rattle.zsv_message.specs.declared.header.ResponseCode.TheVariants as responses
 use Rattle.zsv_message.specs.declared.header.Metadata.{Metadata}
 use Rattle.zsv_message.specs.declared.request.Query.{Query}
-use Rattle.dnw_name.specs.DomainName.{DomainName, name_octets, name_eq, is_at_or_below}
+use Rattle.zsv_message.specs.dnw_name.DomainName.{DomainName, name_octets, name_eq, is_at_or_below}
 use Rattle.std.specs.Cmp.Lexicographic.{slice_cmp}
 use Rattle.std.specs.Ordering.{nat_cmp}
 use Rattle.std.specs.declared.cmp.Ordering.TheVariants.{Less}
-use Rattle.dnw_name.specs.NameKey.{rank, name_key}
+use Rattle.zsv_message.specs.dnw_name.NameKey.{rank, name_key}
 use Rattle.std.specs.Net.Addr.{ipv4_bits}
-use Rattle.dnw_decoder.specs.Octets.{octets_32}
+use Rattle.zsv_message.specs.dnw_decoder.Octets.{octets_32}
 use Rattle.zsv_message.specs.Headers.{header_of}
-use Rattle.drd_rdata.specs.Writing.{written_octets}
-use Rattle.zst_record.specs.Records.{fixed_octets, plain}
-use Rattle.dnw_decoder.specs.Spelling.{NameAt, at_end, at_label}
+use Rattle.zsv_message.specs.drd_rdata.Writing.{written_octets}
+use Rattle.zsv_message.specs.zst_record.Records.{fixed_octets, plain}
+use Rattle.zsv_message.specs.dnw_decoder.Spelling.{NameAt, at_end, at_label}
 use Rattle.zsv_message.specs.Requests.{Request, QuestionAt}
-use Rattle.zst_zone.specs.Zones.{View, lookup_result, answered, name_exists, name_error, out_of_zone}
+use Rattle.authority_text.specs.zst_zone.Zones.{View, lookup_result, answered, name_exists, name_error, out_of_zone}
 use Rattle.authority.specs.Serving.{reply_parts}
 
 abbrev example : DomainName

@@ -8,10 +8,10 @@ use Rattle.authority.specs.declared.program.Fault.{Fault}
 use Rattle.authority.specs.declared.program.Fault.TheVariants as faults
 use Rattle.authority.specs.declared.stream.StreamError.{StreamError}
 use Rattle.authority.specs.declared.stream.StreamError.TheVariants as streams
-use Rattle.zst_zone.specs.declared.settings.ZoneType.TheVariants as kinds
-use Rattle.zst_zone.specs.declared.settings.AxfrPolicy.TheVariants as policies
-use Rattle.dnw_name.specs.DomainName.{DomainName}
-use Rattle.zst_zone.specs.Zones.{View}
+use Rattle.authority_text.specs.zst_zone.declared.settings.ZoneType.TheVariants as kinds
+use Rattle.authority_text.specs.zst_zone.declared.settings.AxfrPolicy.TheVariants as policies
+use Rattle.zsv_message.specs.dnw_name.DomainName.{DomainName}
+use Rattle.authority_text.specs.zst_zone.Zones.{View}
 use Rattle.authority_text.specs.ZoneText.{IsOwnerText, IsNumberText, IsZoneText, IsLoadFault}
 use Rattle.authority.specs.Frames.{ServesFrames, ServesUntil}
 

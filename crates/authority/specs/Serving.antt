@@ -1,9 +1,9 @@
 -- What a server answers: RFC 1034, section 4.3.2; RFC 2308, section 3. One message, and a list of them.
 use Rattle.std.specs.Prelude.{◌≡◌, ℕ, Bool, true, false, List, [], ◌∷◌, Option, Some, None, if◌then◌else◌}
 use Rattle.std.specs.declared.net.SocketAddr.{SocketAddr}
-use Rattle.dnw_codes.specs.declared.record_type.RecordType.{RecordType}
-use Rattle.dnw_codes.specs.declared.record_type.RecordType.TheVariants as types
-use Rattle.zst_record.specs.declared.records.Record.{Record}
+use Rattle.authority_text.specs.dnw_codes.declared.record_type.RecordType.{RecordType}
+use Rattle.authority_text.specs.dnw_codes.declared.record_type.RecordType.TheVariants as types
+use Rattle.zsv_message.specs.zst_record.declared.records.Record.{Record}
 use Rattle.zsv_message.specs.declared.header.Metadata.{Metadata}
 use Rattle.zsv_message.specs.declared.header.MessageType.{MessageType}
 use Rattle.zsv_message.specs.declared.header.MessageType.TheVariants as messages
@@ -14,10 +14,10 @@ use Rattle.zsv_message.specs.declared.header.ResponseCode.TheVariants as respons
 use Rattle.zsv_message.specs.declared.request.Query.{Query}
 use Rattle.authority.specs.declared.server.Protocol.{Protocol}
 use Rattle.authority.specs.declared.server.Protocol.TheVariants as protocols
-use Rattle.dnw_name.specs.DomainName.{is_at_or_below}
-use Rattle.dnw_codes.specs.RecordType.{same_record_type}
-use Rattle.zst_record.specs.Records.{RRset}
-use Rattle.zst_zone.specs.Zones.{View, Outcome, answered, name_exists, name_error, out_of_zone, stored, lookup_result}
+use Rattle.zsv_message.specs.dnw_name.DomainName.{is_at_or_below}
+use Rattle.authority_text.specs.dnw_codes.RecordType.{same_record_type}
+use Rattle.zsv_message.specs.zst_record.Records.{RRset}
+use Rattle.authority_text.specs.zst_zone.Zones.{View, Outcome, answered, name_exists, name_error, out_of_zone, stored, lookup_result}
 use Rattle.zsv_message.specs.Requests.{Request, IsRequest}
 use Rattle.zsv_message.specs.Replies.{ReplyParts, IsReply}
 

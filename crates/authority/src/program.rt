@@ -6,13 +6,15 @@ ghost use Rattle.authority.specs.Programs.{Answers, StatusIs, TextGives, WordsGi
 
 use crate::server::{Authority, NoSuite};
 use crate::stream::StreamError;
-use authority_text::{LoadError, TextError, load_zone, parse_owner, parse_u64};
+use authority_text::{
+    AxfrPolicy, InMemoryZoneHandler, LoadError, TextError, ZoneSettings, ZoneType, load_zone,
+    parse_owner, parse_u64,
+};
 use std::alloc::Global;
 use std::io::{Read, Write};
 use std::net::{Ipv4Addr, SocketAddr, SocketAddrV4};
 use thiserror::Error;
-use zst_record::Name;
-use zst_zone::{AxfrPolicy, InMemoryZoneHandler, ZoneSettings, ZoneType};
+use zsv_message::Name;
 
 /// The program's zone is signed by nobody.
 #[derive(Clone, Copy, Debug)]

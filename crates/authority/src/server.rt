@@ -6,11 +6,11 @@ ghost use Rattle.zsv_message.specs.Requests.{OpensRequest};
 ghost use Rattle.authority.specs.Runs.{octets_of, received, ServesNext, ServesFront};
 
 use crate::server::answer::reply_to;
+use authority_text::{InMemoryZoneHandler, ZoneType};
 use std::alloc::Global;
 use std::marker::Model;
 use std::net::SocketAddr;
 use thiserror::Error;
-use zst_zone::{InMemoryZoneHandler, ZoneType};
 use zsv_message::{MessageRequest, ReadError};
 
 pub mod answer;

@@ -5,9 +5,6 @@
 ghost use Rattle.std.specs.Prelude.{◌≡◌, ◌≢◌, length, IfOk, None, Ok};
 ghost use Rattle.authority.specs.Programs.{IsExitStatus};
 
-#[cfg(test)]
-mod tests;
-
 use authority::program;
 use std::alloc::{AllocError, Global};
 use std::io::{self, BufReader, BufWriter, ErrorKind, Write};
@@ -40,11 +37,20 @@ fn zone_text(rt: &HostRuntime, words: &[String]) -> Result<Option<String>, Alloc
     }
 }
 
+// The arguments behind the program's name. Where one isn't UTF-8 there are none, which the program answers by its usage.
+fn arguments(rt: &HostRuntime, alloc: Global) -> io::Result<Vec<String>> {
+    match env::args(rt) {
+        Ok(words) => Ok(words.skip(1).collect(alloc)?),
+        Err(error) if error.kind() == ErrorKind::InvalidData => Ok(Vec::new(alloc)),
+        Err(error) => Err(error),
+    }
+}
+
 // Runs the program; the error is want of memory before the zone is served.
 fn run(rt: &HostRuntime, alloc: Global, faults: &mut impl Write) -> io::Result<u8>
     ensures { IfOk result IsExitStatus }
 {
-    let words: Vec<String> = env::args(rt)?.skip(1).collect(alloc)?;
+    let words = arguments(rt, alloc)?;
     let zone = zone_text(rt, &words)?;
     let text = match &zone {
         Some(text) => Some(text.as_str()),

@@ -1,27 +1,27 @@
 -- The causes of a refused line, in their order.
 use Rattle.std.proofs.Common.{◌≡◌, refl, sym, ap, ◌∙◌, subst, ℕ, ◌+◌, ◌<◌, ◌≤◌, Bool, true, false, eqb, if◌then◌else◌, List, [], ◌∷◌, length, get_or, Option, Some, None, IsSome, is_some, Result, Ok, Err, arith}
 use Rattle.std.proofs.lemmas.Bool.{eqb-true, eqb-false, both_ways}
-use Rattle.dnw_codes.specs.declared.record_type.RecordType.{RecordType}
-use Rattle.dnw_codes.specs.declared.record_type.RecordType.TheVariants as types
+use Rattle.zst_zone.specs.dnw_codes.declared.record_type.RecordType.{RecordType}
+use Rattle.zst_zone.specs.dnw_codes.declared.record_type.RecordType.TheVariants as types
 use Rattle.authority_text.specs.declared.loader.LoadCause.{LoadCause}
 use Rattle.authority_text.specs.declared.loader.LoadCause.TheVariants as causes
 use Rattle.authority_text.specs.declared.text.TextError.{TextError}
 use Rattle.authority_text.specs.declared.text.TextError.TheVariants as errors
-use Rattle.drd_rdata.specs.declared.rdata.RData.{RData}
-use Rattle.drd_rdata.specs.Reading.{IsReadable}
-use Rattle.drd_rdata.specs.Texts.{IsTextOf}
-use Rattle.drd_rdata.specs.Types.{type_of}
-use Rattle.drd_words.proofs.TextLemmas.{words-one}
-use Rattle.dnw_name.specs.DomainName.{DomainName, is_at_or_below}
-use Rattle.dnw_codes.specs.ProtoError.{IsMemory}
-use Rattle.dnw_codes.specs.declared.error.ProtoError.{ProtoError}
+use Rattle.zst_zone.specs.drd_rdata.declared.rdata.RData.{RData}
+use Rattle.zst_zone.specs.drd_rdata.Reading.{IsReadable}
+use Rattle.zst_zone.specs.drd_rdata.Texts.{IsTextOf}
+use Rattle.zst_zone.specs.drd_rdata.Types.{type_of}
+use Rattle.zst_zone.proofs.drd_words_lemmas.TextLemmas.{words-one}
+use Rattle.zst_zone.specs.dnw_name.DomainName.{DomainName, is_at_or_below}
+use Rattle.zst_zone.specs.dnw_codes.ProtoError.{IsMemory}
+use Rattle.zst_zone.specs.dnw_codes.declared.error.ProtoError.{ProtoError}
 use Rattle.std.specs.Prelude.{◌⊎◌, IfOk}
 use Rattle.std.proofs.Common.{inl, inr}
 use Rattle.authority_text.specs.ZoneText.{ReadsText, TellsCause}
 use Rattle.zst_zone.specs.Zones.{View, stored}
 use Rattle.authority_text.specs.ZoneText.{words_of, data_text, field, IsOwnerText, IsNumberText, is_internet, type_of_text, AreData, IsDataText, has_full_names, is_start, StandsAt, NoneBefore, turn, with_cause, IsHeading, Heading}
 use Rattle.authority_text.proofs.Readable.{loaded, readable, same_full}
-use Rattle.dnw_name.proofs.TextLemmas.{name-same}
+use Rattle.zst_zone.proofs.dnw_name_lemmas.TextLemmas.{name-same}
 
 cause_at : ℕ → LoadCause
 cause_at n =

@@ -6,7 +6,7 @@ use Rattle.std.specs.Bool.{MatchBool}
 use Rattle.std.proofs.lemmas.Bool.{eqb-false}
 use Rattle.std.proofs.lemmas.List.{take_more, get_or_default}
 use Rattle.std.proofs.lemmas.List.Splits.{join_with_byte-slice_split}
-use Rattle.zst_record.specs.declared.records.Record.{Record}
+use Rattle.zst_zone.specs.zst_record.declared.records.Record.{Record}
 use Rattle.authority_text.specs.declared.loader.LoadCause.{LoadCause}
 use Rattle.zst_zone.specs.Zones.{View, AddsTo}
 use Rattle.authority_text.specs.ZoneText.{Loads, LoadsLine, IsTaken, RefusesLine, IsRefusedAt, is_skipped_line}

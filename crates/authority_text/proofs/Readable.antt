@@ -4,21 +4,21 @@ use Rattle.std.proofs.lemmas.Bool.{and_parts, both_ways}
 use Rattle.std.specs.Cmp.Derive.{both_true}
 use Rattle.std.specs.Str.{str_eq_ignore_ascii_case}
 use Rattle.std.specs.Prelude.{codes}
-use Rattle.dnw_codes.specs.declared.record_type.RecordType.{RecordType}
-use Rattle.dnw_codes.specs.declared.record_type.RecordType.TheVariants as types
-use Rattle.dnw_name.specs.DomainName.{DomainName, IsDomainName}
-use Rattle.dnw_name.proofs.TextLemmas.{name-same}
-use Rattle.drd_names.specs.Texts.{IsSoaText}
-use Rattle.drd_names.specs.declared.soa.SOA.{SOA}
-use Rattle.drd_words.specs.Word.{IsNameWord}
-use Rattle.drd_words.specs.Words.{OneThen}
-use Rattle.drd_rdata.specs.declared.rdata.RData.{RData}
-use Rattle.drd_rdata.specs.declared.rdata.RData.TheVariants as rdata
-use Rattle.drd_rdata.specs.Reading.{IsReadable}
-use Rattle.drd_rdata.specs.Texts.{IsTextOf}
-use Rattle.drd_readable.specs.DataLaws.{from_read, to_read}
+use Rattle.zst_zone.specs.dnw_codes.declared.record_type.RecordType.{RecordType}
+use Rattle.zst_zone.specs.dnw_codes.declared.record_type.RecordType.TheVariants as types
+use Rattle.zst_zone.specs.dnw_name.DomainName.{DomainName, IsDomainName}
+use Rattle.zst_zone.proofs.dnw_name_lemmas.TextLemmas.{name-same}
+use Rattle.zst_zone.specs.drd_names.Texts.{IsSoaText}
+use Rattle.zst_zone.specs.drd_names.declared.soa.SOA.{SOA}
+use Rattle.zst_zone.specs.drd_words.Word.{IsNameWord}
+use Rattle.zst_zone.specs.drd_words.Words.{OneThen}
+use Rattle.zst_zone.specs.drd_rdata.declared.rdata.RData.{RData}
+use Rattle.zst_zone.specs.drd_rdata.declared.rdata.RData.TheVariants as rdata
+use Rattle.zst_zone.specs.drd_rdata.Reading.{IsReadable}
+use Rattle.zst_zone.specs.drd_rdata.Texts.{IsTextOf}
+use Rattle.zst_zone.specs.drd_readable.DataLaws.{from_read, to_read}
 use Rattle.authority_text.specs.ZoneText.{has_full_names, type_of_text}
-use Rattle.zst_record.specs.Records.{IsOwnType}
+use Rattle.zst_zone.specs.zst_record.Records.{IsOwnType}
 
 -- ---- the types that are loaded
 abbrev pub IsLoaded : RecordType → Type 0

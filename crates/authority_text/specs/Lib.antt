@@ -1,1 +1,3 @@
 pub mod ZoneText
+pub use Rattle.zst_zone.specs.dnw_codes
+pub mod zst_zone

@@ -5,26 +5,26 @@ use Rattle.std.specs.Str.{str_eq_ignore_ascii_case}
 use Rattle.std.specs.Str.Lines.{lines}
 use Rattle.std.specs.Bool.{MatchBool}
 use Rattle.std.specs.Net.Grammar.{IsNumber}
-use Rattle.dnw_codes.specs.declared.record_type.RecordType.{RecordType}
-use Rattle.dnw_codes.specs.declared.record_type.RecordType.TheVariants as types
-use Rattle.dnw_codes.specs.declared.dns_class.DNSClass.TheVariants as classes
+use Rattle.zst_zone.specs.dnw_codes.declared.record_type.RecordType.{RecordType}
+use Rattle.zst_zone.specs.dnw_codes.declared.record_type.RecordType.TheVariants as types
+use Rattle.zst_zone.specs.dnw_codes.declared.dns_class.DNSClass.TheVariants as classes
 use Rattle.authority_text.specs.declared.loader.LoadCause.{LoadCause}
 use Rattle.authority_text.specs.declared.loader.LoadCause.TheVariants as causes
 use Rattle.authority_text.specs.declared.loader.LoadError.{LoadError}
 use Rattle.authority_text.specs.declared.text.TextError.{TextError}
 use Rattle.authority_text.specs.declared.text.TextError.TheVariants as errors
-use Rattle.dnw_codes.specs.ProtoError.{IsMemory}
-use Rattle.dnw_codes.specs.declared.error.ProtoError.{ProtoError}
-use Rattle.dnw_name.specs.DomainName.{DomainName, is_at_or_below}
-use Rattle.dnw_name.specs.NameText.{NameText}
-use Rattle.drd_words.specs.Text.{TextWords}
-use Rattle.drd_rdata.specs.declared.rdata.RData.{RData}
-use Rattle.drd_rdata.specs.declared.rdata.RData.TheVariants as rdata
-use Rattle.drd_rdata.specs.Reading.{IsReadable}
-use Rattle.drd_rdata.specs.Texts.{IsTextOf}
-use Rattle.drd_rdata.specs.Types.{type_of}
-use Rattle.zst_record.specs.Records.{ReadsBackAlone}
-use Rattle.zst_record.specs.declared.records.Record.{Record}
+use Rattle.zst_zone.specs.dnw_codes.ProtoError.{IsMemory}
+use Rattle.zst_zone.specs.dnw_codes.declared.error.ProtoError.{ProtoError}
+use Rattle.zst_zone.specs.dnw_name.DomainName.{DomainName, is_at_or_below}
+use Rattle.zst_zone.specs.dnw_name.NameText.{NameText}
+use Rattle.zst_zone.specs.drd_words.Text.{TextWords}
+use Rattle.zst_zone.specs.drd_rdata.declared.rdata.RData.{RData}
+use Rattle.zst_zone.specs.drd_rdata.declared.rdata.RData.TheVariants as rdata
+use Rattle.zst_zone.specs.drd_rdata.Reading.{IsReadable}
+use Rattle.zst_zone.specs.drd_rdata.Texts.{IsTextOf}
+use Rattle.zst_zone.specs.drd_rdata.Types.{type_of}
+use Rattle.zst_zone.specs.zst_record.Records.{ReadsBackAlone}
+use Rattle.zst_zone.specs.zst_record.declared.records.Record.{Record}
 use Rattle.zst_zone.specs.Zones.{View, AddsTo, stored}
 
 -- What a reader of texts answers: a value of the text, or that it has none.

@@ -4,6 +4,11 @@
 //! stands at that line, and no earlier cause does.
 #![tactic(auto)]
 
+pub use zst_zone::{
+    AxfrPolicy, InMemoryZoneHandler, Lookup, LowerName, NxProofKind, ProtoError, RrKey, Salt,
+    ZoneSettings, ZoneType, key_of,
+};
+
 mod line;
 mod loader;
 mod number;

@@ -1,9 +1,9 @@
 //! The record of a line.
 
 ghost use Rattle.std.specs.Prelude.{◌≡◌, ◌<◌, ◌∷◌, length, MatchOption, true, is_some};
-ghost use Rattle.dnw_codes.specs.declared.record_type.RecordType.TheVariants as types;
-ghost use Rattle.dnw_name.specs.DomainName.{DomainName};
-ghost use Rattle.dnw_name.specs.NameKey.{name_key};
+ghost use Rattle.zst_zone.specs.dnw_codes.declared.record_type.RecordType.TheVariants as types;
+ghost use Rattle.zst_zone.specs.dnw_name.DomainName.{DomainName};
+ghost use Rattle.zst_zone.specs.dnw_name.NameKey.{name_key};
 ghost use Rattle.zst_zone.specs.Zones.{stored};
 ghost use Rattle.authority_text.specs.ZoneText.{data_text, has_full_names, words_of, type_of_text, is_internet, is_start, with_cause, HeaderGives, LineGives};
 
@@ -11,12 +11,8 @@ use crate::loader::LoadCause;
 use crate::number::parse_u32;
 use crate::text::{TextError, parse_owner, parse_rdata};
 use crate::words::first_word;
-use dnw_codes::{DNSClass, RecordType};
-use dnw_name::Name;
-use drd_rdata::RData;
 use std::alloc::Global;
-use zst_record::Record;
-use zst_zone::{InMemoryZoneHandler, Lookup, key_of};
+use zst_zone::{DNSClass, InMemoryZoneHandler, Lookup, Name, RData, Record, RecordType, key_of};
 
 /// The first four words of a line, and the text of the data behind them.
 #[derive(Clone, Copy)]

@@ -6,10 +6,9 @@ ghost use Rattle.authority_text.specs.ZoneText.{LoadAnswers, LineLoads};
 
 use crate::line::record_of;
 use crate::words::is_skipped;
-use dnw_name::Name;
 use std::alloc::Global;
 use thiserror::Error;
-use zst_zone::{InMemoryZoneHandler, ZoneSettings};
+use zst_zone::{InMemoryZoneHandler, Name, ZoneSettings};
 
 /// Why a line of a zone's text is refused, in the order in which the causes are tried but for the last.
 #[derive(Clone, Copy, Debug, PartialEq, Eq)]

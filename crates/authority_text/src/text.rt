@@ -1,14 +1,12 @@
 //! Names and record data from their texts.
 
 ghost use Rattle.std.specs.Prelude.{◌≡◌, IfOk};
-ghost use Rattle.dnw_name.specs.NameText.{NameText};
-ghost use Rattle.drd_rdata.specs.Types.{type_of};
+ghost use Rattle.zst_zone.specs.dnw_name.NameText.{NameText};
+ghost use Rattle.zst_zone.specs.drd_rdata.Types.{type_of};
 ghost use Rattle.authority_text.specs.ZoneText.{IsDataText, IsOwnerText, ReadsText};
 
-use dnw_codes::{ParseError, ProtoError, RecordType};
-use dnw_name::Name;
-use drd_rdata::RData;
 use std::alloc::Global;
+use zst_zone::{Name, ParseError, ProtoError, RData, RecordType};
 
 /// Why a text was not read.
 #[derive(Clone, Copy, Debug)]

@@ -5,20 +5,13 @@
 //! writing from `dnw_wire`.
 #![tactic(auto)]
 
-pub use dnw_codes::{
-    DNSClass, DecodeError, LexerError, ParseError, ParseResult, ProtoError, RecordType, Restrict,
-    RestrictedMath, SerialNumber, Verified, error,
+pub use dnw_lexer::{
+    DNSClass, DecodeError, Lexer, LexerError, ParseError, ParseResult, ProtoError, RecordType,
+    Restrict, RestrictedMath, SerialNumber, Token, Verified, error, parse_ttl,
 };
-pub use dnw_lexer::{Lexer, Token, parse_ttl};
-pub use dnw_name::{
-    CaseInsensitive, CaseSensitive, IntoLabel, IntoName, Label, LabelCmp, LabelIter, LowerName,
-    Name, RrKey,
-};
-pub use dnw_net::{IpNet, PrefixLenError};
 pub use dnw_wire::{
-    BinDecodable, BinDecoder, BinEncodable, BinEncoder, EncodedSize, ModalEncoder, NameEncoding,
-    Place, RDataEncoding, RecordTypeIter, RecordTypeSet,
+    BinDecodable, BinDecoder, BinEncodable, BinEncoder, CaseInsensitive, CaseSensitive,
+    EncodedSize, IntoLabel, IntoName, IpNet, Label, LabelCmp, LabelIter, LowerName, ModalEncoder,
+    Name, NameEncoding, Place, PrefixLenError, RDataEncoding, RecordTypeIter, RecordTypeSet, RrKey,
+    base_key, key_of,
 };
-
-#[cfg(test)]
-mod tests;

@@ -4,22 +4,13 @@
 //! own have a module each, as `svcb`.
 #![tactic(auto)]
 
+pub use drd_readable::{
+    A, AAAA, ANAME, CAA, CERT, CNAME, CSYNC, HEX, HINFO, HTTPS, MX, NAPTR, NS, NULL, OPENPGPKEY,
+    OPT, PTR, RData, RecordData, RecordDataDecodable, SMIMEA, SOA, SRV, SSHFP, SVCB, TLSA, TXT,
+    cert, is_readable, sshfp, tlsa,
+};
+
 pub mod caa;
 pub mod naptr;
 pub mod opt;
 pub mod svcb;
-
-pub use drd_caa::CAA;
-pub use drd_csync::CSYNC;
-pub use drd_fields::RecordDataDecodable;
-pub use drd_keys::{CERT, NULL, OPENPGPKEY, SMIMEA, SSHFP, TLSA, cert, sshfp, tlsa};
-pub use drd_names::{ANAME, CNAME, MX, NS, PTR, SOA, SRV};
-pub use drd_opt::OPT;
-pub use drd_plain::{A, AAAA, HINFO, NAPTR, TXT};
-pub use drd_rdata::{RData, RecordData};
-pub use drd_readable::is_readable;
-pub use drd_svcb::{HTTPS, SVCB};
-pub use drd_words::HEX;
-
-#[cfg(test)]
-mod tests;

@@ -1,3 +1,2 @@
 //! Options of EDNS (RFC 6891 6.1.2).
-pub use drd_opt::OPT;
-pub use drd_option::{ClientSubnet, EdnsCode, EdnsOption, NSIDPayload};
+pub use drd_readable::{ClientSubnet, EdnsCode, EdnsOption, NSIDPayload, OPT};

@@ -1,2 +1,3 @@
 pub mod NetworkLemmas
 pub mod SuffixLemmas
+pub mod dnw_label_lemmas

@@ -1,13 +1,12 @@
 //! Networks of the labels below `in-addr.arpa.` and `ip6.arpa.` (RFC 1035 3.5, RFC 3596 2.5).
 ghost use Rattle.std.specs.Prelude.{ℕ, ◌≢◌, ◌↔◌, IsTrue, slice_index, ◌≡◌, ◌+◌, ◌-◌, ◌*◌, ◌<◌, ◌≤◌, ◌∷◌, [], List, true, length, replicate, decimal, codes, All, IfOk, IfErr, OnErr, IfSome, IfNone};
 ghost use Rattle.std.specs.declared.net.ip_addr.IpAddr.{IpAddr as Address};
-ghost use Rattle.dnw_codes.specs.declared.error.ProtoError.TheVariants.{ParseInt};
+ghost use Rattle.dnw_label.specs.dnw_codes.declared.error.ProtoError.TheVariants.{ParseInt};
 ghost use Rattle.dnw_label.specs.Label.{label_eq};
 ghost use Rattle.dnw_arpa.specs.ArpaLabels.{IsBelowSuffix, suffix_label, Writes, digit_label, hex_digits};
 ghost use Rattle.std.specs.Char.{digit_char};
 
-use dnw_codes::ProtoError;
-use dnw_label::LabelIter;
+use dnw_label::{LabelIter, ProtoError};
 use dnw_net::IpNet;
 use std::net::{Ipv4Addr, Ipv6Addr};
 

@@ -1,7 +1,7 @@
 -- What is kept from one element of a name to the next.
 use Rattle.std.proofs.Common.{◌≡◌, ℕ, ◌+◌, ◌≤◌, ◌<◌, List, [], ◌∷◌, ◌++◌, length, true, Option, Some, None, unwrap_or, refl, arith, ap, ◌∙◌, subst, append-nil}
 use Rattle.dnw_name.specs.DomainName.{DomainName, domain_name, labels_len}
-use Rattle.dnw_label.specs.Label.{IsLabel}
+use Rattle.dnw_name.specs.dnw_label.Label.{IsLabel}
 use Rattle.dnw_decoder.specs.Octets.{Stands}
 use Rattle.dnw_decoder.specs.Spelling.{NameAt, Spells, pointer_octets, at_end}
 use Rattle.dnw_decoder.specs.Refusals.{Reaches, at_start, behind_label, at_target}

@@ -2,8 +2,8 @@
 use Rattle.std.proofs.Common.{◌≡◌, ℕ, ◌+◌, ◌/◌, ◌%◌, ◌<◌, ◌≤◌, ◌⊎◌, inl, inr, List, [], ◌∷◌, ◌++◌, length, get_or, arith}
 use Rattle.std.proofs.lemmas.Bool.Decides.{nat_tests}
 use Rattle.std.proofs.lemmas.List.Sums.{sum_by-append, sum_by-cons}
-use Rattle.dnw_codes.specs.declared.error.DecodeError.{DecodeError}
-use Rattle.dnw_codes.specs.declared.error.DecodeError.TheVariants.{InsufficientBytes, LabelOverlapsWithOther, UnrecognizedLabelCode, PointerNotPriorToLabel, DomainNameTooLong, Memory}
+use Rattle.dnw_name.specs.dnw_codes.declared.error.DecodeError.{DecodeError}
+use Rattle.dnw_name.specs.dnw_codes.declared.error.DecodeError.TheVariants.{InsufficientBytes, LabelOverlapsWithOther, UnrecognizedLabelCode, PointerNotPriorToLabel, DomainNameTooLong, Memory}
 use Rattle.dnw_name.specs.DomainName.{DomainName, labels_len}
 use Rattle.dnw_decoder.specs.Reading.{IsWantOfMemory}
 use Rattle.dnw_decoder.specs.Spelling.{pointer_octets, Spelled, at_end, at_label, at_pointer, NameAt}

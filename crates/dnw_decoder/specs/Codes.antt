@@ -1,9 +1,9 @@
 -- Types and classes as they stand in a message (RFC 1035 3.2.2 and 3.2.4), and names in lower case.
 use Rattle.std.specs.Prelude.{◌≡◌, ℕ, ◌^◌, ◌<◌, List}
-use Rattle.dnw_codes.specs.DNSClass.{class_of}
-use Rattle.dnw_codes.specs.RecordType.{record_type_of}
-use Rattle.dnw_codes.specs.declared.dns_class.DNSClass.{DNSClass}
-use Rattle.dnw_codes.specs.declared.record_type.RecordType.{RecordType}
+use Rattle.dnw_name.specs.dnw_codes.DNSClass.{class_of}
+use Rattle.dnw_name.specs.dnw_codes.RecordType.{record_type_of}
+use Rattle.dnw_name.specs.dnw_codes.declared.dns_class.DNSClass.{DNSClass}
+use Rattle.dnw_name.specs.dnw_codes.declared.record_type.RecordType.{RecordType}
 use Rattle.dnw_name.specs.DomainName.{DomainName, lowercased}
 use Rattle.dnw_decoder.specs.Octets.{octets_16, Stands}
 use Rattle.dnw_decoder.specs.Spelling.{NameAt}

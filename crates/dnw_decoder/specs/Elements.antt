@@ -1,6 +1,6 @@
 -- One element of a name.
 use Rattle.std.specs.Prelude.{ℕ, ◌+◌, ◌<◌, List, [], ◌∷◌, length}
-use Rattle.dnw_label.specs.Label.{IsLabel}
+use Rattle.dnw_name.specs.dnw_label.Label.{IsLabel}
 use Rattle.dnw_decoder.specs.Octets.{Stands}
 use Rattle.dnw_decoder.specs.Spelling.{pointer_octets}
 use Rattle.dnw_decoder.specs.declared.name.Element.{Element}

@@ -6,3 +6,5 @@ pub mod Refusals
 pub mod Spelling
 pub mod SpellingLaws
 pub mod Standing
+pub use Rattle.dnw_name.specs.dnw_label
+pub mod dnw_name

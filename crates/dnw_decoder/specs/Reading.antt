@@ -1,7 +1,7 @@
 -- A decoder: the octets of a message, and the place that is read next.
 use Rattle.std.specs.Prelude.{◌≡◌, ℕ, ◌+◌, ◌<◌, ◌≤◌, List, length}
-use Rattle.dnw_codes.specs.declared.error.DecodeError.{DecodeError}
-use Rattle.dnw_codes.specs.declared.error.DecodeError.TheVariants.{InsufficientBytes, Memory}
+use Rattle.dnw_name.specs.dnw_codes.declared.error.DecodeError.{DecodeError}
+use Rattle.dnw_name.specs.dnw_codes.declared.error.DecodeError.TheVariants.{InsufficientBytes, Memory}
 use Rattle.dnw_decoder.specs.Octets.{Stands}
 
 pub record Reading : Type 0 where

@@ -1,9 +1,9 @@
 -- Why no name is read at a place.
 use Rattle.std.specs.Prelude.{◌≡◌, ℕ, ◌+◌, ◌*◌, ◌-◌, ◌<◌, ◌≤◌, List, [], ◌∷◌, ◌++◌, length, get_or, Option, Some, None, unwrap_or, cond, nat_lt}
-use Rattle.dnw_codes.specs.declared.error.DecodeError.{DecodeError}
-use Rattle.dnw_codes.specs.declared.error.DecodeError.TheVariants.{InsufficientBytes, LabelOverlapsWithOther, UnrecognizedLabelCode, PointerNotPriorToLabel, DomainNameTooLong, Memory}
+use Rattle.dnw_name.specs.dnw_codes.declared.error.DecodeError.{DecodeError}
+use Rattle.dnw_name.specs.dnw_codes.declared.error.DecodeError.TheVariants.{InsufficientBytes, LabelOverlapsWithOther, UnrecognizedLabelCode, PointerNotPriorToLabel, DomainNameTooLong, Memory}
 use Rattle.dnw_name.specs.DomainName.{labels_len}
-use Rattle.dnw_label.specs.Label.{IsLabel}
+use Rattle.dnw_name.specs.dnw_label.Label.{IsLabel}
 use Rattle.dnw_decoder.specs.Octets.{Stands}
 use Rattle.dnw_decoder.specs.Spelling.{pointer_octets}
 

@@ -1,7 +1,7 @@
 -- Names as they are spelled in a message (RFC 1035 4.1.4, with pointers strictly backward).
 use Rattle.std.specs.Prelude.{◌≡◌, ℕ, ◌+◌, ◌/◌, ◌%◌, ◌<◌, ◌≤◌, true, List, [], ◌∷◌, length}
 use Rattle.dnw_name.specs.DomainName.{DomainName, labels_len}
-use Rattle.dnw_label.specs.Label.{IsLabel}
+use Rattle.dnw_name.specs.dnw_label.Label.{IsLabel}
 use Rattle.dnw_decoder.specs.Octets.{Stands}
 
 -- The two octets that point to a place: two bits set, and fourteen bits of the place.

@@ -1,7 +1,7 @@
 -- One place spells one name, within the message, by few pointers.
 use Rattle.std.proofs.Common.{◌≡◌, ℕ, ◌<◌, ◌≤◌, Bool, List, [], ◌∷◌, length, drop, min, refl, sym, ap, subst, ◌∙◌, arith}
 use Rattle.dnw_name.specs.DomainName.{DomainName, domain_name}
-use Rattle.dnw_label.specs.Label.{IsLabel}
+use Rattle.dnw_name.specs.dnw_label.Label.{IsLabel}
 use Rattle.dnw_decoder.specs.Octets.{Stands}
 use Rattle.dnw_decoder.specs.Spelling.{pointer_octets, Spelled, at_end, at_label, at_pointer, NameAt, pointers}
 use Rattle.dnw_decoder.specs.Standing.{stands_head, stands_within, stands_same, pointer_once}

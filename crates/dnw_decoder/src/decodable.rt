@@ -10,14 +10,13 @@ ghost use Rattle.dnw_decoder.specs.Spelling.{NameAt, Spells, pointers};
 
 use crate::decoder::BinDecoder;
 use crate::name::read_name;
-use dnw_codes::{DNSClass, DecodeError, RecordType};
-use dnw_name::{LowerName, Name};
+use dnw_name::{DNSClass, DecodeError, LowerName, Name, RecordType};
 use std::alloc::Global;
 
 /// What can be read from the octets of a message.
 pub trait BinDecodable: Sized {
     ghost use Rattle.std.specs.Prelude.{◌≡◌, ◌≤◌, ◌⊎◌, ℕ, List, length, IfOk, IfErr, OnErr};
-    ghost use Rattle.dnw_codes.specs.declared.error.DecodeError.{DecodeError as Error};
+    ghost use Rattle.dnw_name.specs.dnw_codes.declared.error.DecodeError.{DecodeError as Error};
     ghost use Rattle.dnw_decoder.specs.Reading.{reading, IsWantOfMemory};
 
     // The value stands in a message at a place, and ends at another.

@@ -2,11 +2,11 @@
 ghost use Rattle.std.specs.Prelude.{◌≡◌, ◌+◌, ◌-◌, ◌<◌, ◌≤◌, ◌^◌, ◌==◌, ◌∷◌, [], length, get_or, IfOk, IfErr, ◌⊎◌, slice_get, slice_range};
 ghost use Rattle.std.specs.Option.{option_copied};
 ghost use Rattle.std.specs.Int.{w32, cast_unsigned};
-ghost use Rattle.dnw_codes.specs.declared.error.DecodeError.TheVariants.{InvalidPreviousIndex};
+ghost use Rattle.dnw_name.specs.dnw_codes.declared.error.DecodeError.TheVariants.{InvalidPreviousIndex};
 ghost use Rattle.dnw_decoder.specs.Octets.{octets_16, octets_32};
 ghost use Rattle.dnw_decoder.specs.Reading.{reading, Takes, Lacks, IsWantOfMemory};
 
-use dnw_codes::{DecodeError, Restrict};
+use dnw_name::{DecodeError, Restrict};
 use std::alloc::Global;
 use std::marker::Model;
 

@@ -4,6 +4,11 @@
 //! stands there, and the index moves behind it; a refused read leaves it.
 #![tactic(auto)]
 
+pub use dnw_name::{
+    CaseInsensitive, CaseSensitive, IntoLabel, IntoName, IpNet, Label, LabelCmp, LabelIter,
+    LowerName, Name, PrefixLenError, RrKey, base_key, key_of,
+};
+
 mod decodable;
 mod decoder;
 mod name;

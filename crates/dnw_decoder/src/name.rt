@@ -1,16 +1,15 @@
 //! Names as they are spelled in a message (RFC 1035 4.1.4).
 ghost use Rattle.std.specs.Prelude.{◌≡◌, ◌+◌, ◌-◌, ◌<◌, ◌≤◌, ◌∷◌, [], ◌++◌, ◌⊎◌, ℕ, List, length, get_or, IfOk, IfErr};
-ghost use Rattle.dnw_codes.specs.declared.error.DecodeError.TheVariants.{DomainNameTooLong};
+ghost use Rattle.dnw_name.specs.dnw_codes.declared.error.DecodeError.TheVariants.{DomainNameTooLong};
 ghost use Rattle.dnw_name.specs.DomainName.{domain_name, labels_len, IsDomainName};
-ghost use Rattle.dnw_label.specs.Label.{IsLabel};
+ghost use Rattle.dnw_name.specs.dnw_label.Label.{IsLabel};
 ghost use Rattle.dnw_decoder.specs.Elements.{ElementAt};
 ghost use Rattle.dnw_decoder.specs.Octets.{Stands};
 ghost use Rattle.dnw_decoder.specs.Reading.{IsWantOfMemory};
 ghost use Rattle.dnw_decoder.specs.Refusals.{IsCause, Refuses};
 ghost use Rattle.dnw_decoder.specs.Spelling.{NameAt};
 
-use dnw_codes::{DecodeError, ProtoError};
-use dnw_name::{Name, NameBuilder};
+use dnw_name::{DecodeError, Name, NameBuilder, ProtoError};
 use std::alloc::Global;
 
 // One element of a name: its end, a label, or a pointer to where the rest is.

@@ -3,7 +3,7 @@ use Rattle.std.proofs.Common.{◌≡◌, ℕ, Bool, true, List, [], ◌∷◌, �
 use Rattle.std.specs.List.{flat_map}
 use Rattle.std.specs.Str.{str_to_ascii_lowercase}
 use Rattle.std.proofs.lemmas.List.{length-map}
-use Rattle.dnw_name.specs.DomainName.{DomainName}
+use Rattle.dnw_decoder.specs.dnw_name.DomainName.{DomainName}
 use Rattle.dnw_encoder.specs.declared.modes.NameEncoding.{NameEncoding}
 use Rattle.dnw_encoder.specs.declared.modes.NameEncoding.TheVariants.{Compressed, Uncompressed, UncompressedLowercase}
 use Rattle.dnw_encoder.specs.State.{is_lower}

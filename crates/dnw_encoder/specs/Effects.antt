@@ -6,8 +6,8 @@ use Rattle.std.specs.Iterator.{Yields}
 use Rattle.dnw_codes.specs.ProtoError.{IsMemory}
 use Rattle.dnw_codes.specs.declared.error.ProtoError.{ProtoError}
 use Rattle.dnw_codes.specs.declared.error.ProtoError.TheVariants.{MaxBufferSizeExceeded, NotAllRecordsWritten}
-use Rattle.dnw_name.specs.DomainName.{name_octets, domain_name}
-use Rattle.dnw_label.specs.Label.{IsLabel}
+use Rattle.dnw_decoder.specs.dnw_name.DomainName.{name_octets, domain_name}
+use Rattle.dnw_decoder.specs.dnw_label.Label.{IsLabel}
 use Rattle.dnw_decoder.specs.Octets.{Stands}
 use Rattle.dnw_decoder.specs.Spelling.{Spells}
 use Rattle.dnw_encoder.specs.Members.{In}

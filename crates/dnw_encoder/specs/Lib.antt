@@ -7,3 +7,7 @@ pub mod Names
 pub mod PlaceLaws
 pub mod RollbackLaws
 pub mod State
+pub mod dnw_codes
+pub mod dnw_decoder
+pub use Rattle.dnw_decoder.specs.dnw_label
+pub use Rattle.dnw_decoder.specs.dnw_name

@@ -5,8 +5,8 @@ use Rattle.std.specs.Str.{str_to_ascii_lowercase}
 use Rattle.std.proofs.lemmas.List.{length-map}
 use Rattle.std.proofs.lemmas.List.Elements.{All-head, All-tail, All-map, All-weaker}
 use Rattle.std.proofs.lemmas.List.Sums.{sum_by-cons}
-use Rattle.dnw_name.specs.DomainName.{DomainName, domain_name, IsDomainName, labels_len, name_octets}
-use Rattle.dnw_label.specs.Label.{IsLabel}
+use Rattle.dnw_decoder.specs.dnw_name.DomainName.{DomainName, domain_name, IsDomainName, labels_len, name_octets}
+use Rattle.dnw_decoder.specs.dnw_label.Label.{IsLabel}
 use Rattle.dnw_decoder.specs.Octets.{Stands}
 use Rattle.dnw_decoder.specs.Spelling.{Spelled, at_end, at_label, NameAt}
 use Rattle.dnw_decoder.specs.Standing.{stands_within, stands_split}

@@ -1,7 +1,7 @@
 -- Names as an encoder writes them.
 use Rattle.std.specs.Prelude.{◌≡◌, ℕ, ◌+◌, ◌<◌, ◌≤◌, Bool, true, false, List, ◌∷◌, length, map, cond}
 use Rattle.std.specs.Str.{str_to_ascii_lowercase}
-use Rattle.dnw_name.specs.DomainName.{DomainName, domain_name, name_octets}
+use Rattle.dnw_decoder.specs.dnw_name.DomainName.{DomainName, domain_name, name_octets}
 use Rattle.dnw_decoder.specs.Spelling.{NameAt}
 use Rattle.dnw_encoder.specs.declared.modes.NameEncoding.{NameEncoding}
 use Rattle.dnw_encoder.specs.State.{State, is_lower}

@@ -1,6 +1,12 @@
 //! Octets of a DNS message written in order: numbers, strings and names (RFC 1035 2.3.2, 3.3 and 4.1.4).
 #![tactic(auto)]
 
+pub use dnw_codes::{DecodeError, ParseError, ProtoError, Restrict};
+pub use dnw_decoder::{
+    BinDecodable, BinDecoder, CaseInsensitive, CaseSensitive, IntoLabel, IntoName, IpNet, Label,
+    LabelCmp, LabelIter, LowerName, Name, PrefixLenError, RrKey, base_key, key_of,
+};
+
 mod buffer;
 mod encodable;
 mod encoder;

@@ -1,7 +1,7 @@
 //! Names as an encoder writes them (RFC 1035 4.1.4; RFC 4034 6.2 for lower case).
 ghost use Rattle.std.specs.Prelude.{◌≡◌, ◌+◌, ◌<◌, ◌≤◌, ◌++◌, length, vec_len, vec_capacity, IfErr, OnOk, OnErr};
 ghost use Rattle.std.specs.Str.{str_to_ascii_lowercase};
-ghost use Rattle.dnw_name.specs.DomainName.{DomainName, IsDomainName, name_octets};
+ghost use Rattle.dnw_decoder.specs.dnw_name.DomainName.{DomainName, IsDomainName, name_octets};
 ghost use Rattle.dnw_encoder.specs.Encoders.{state};
 ghost use Rattle.dnw_encoder.specs.Effects.{Writes, IsRefusal, written_at};
 ghost use Rattle.dnw_encoder.specs.Names.{EmitsName, encoded_name, piece};
@@ -11,7 +11,7 @@ use crate::encodable::BinEncodable;
 use crate::encoder::BinEncoder;
 use crate::modes::NameEncoding;
 use dnw_codes::ProtoError;
-use dnw_name::{LowerName, Name};
+use dnw_decoder::{LowerName, Name};
 use std::alloc::AllocError;
 
 // How many octets a name takes in full.

@@ -6,6 +6,8 @@
 //! `fmt_label` writes its text, each exactly by its definition.
 #![tactic(auto)]
 
+pub use dnw_codes::{DNSClass, DecodeError, ProtoError, RecordType, Restrict};
+
 mod escape;
 mod label;
 mod label_iter;

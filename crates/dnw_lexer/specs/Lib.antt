@@ -2,3 +2,4 @@ pub mod LeftLaws
 pub mod Lexer
 pub mod Tokens
 pub mod Ttl
+pub mod dnw_codes

@@ -4,6 +4,11 @@
 //! which error and why, for every text: `Lexer::next_token` gives that and nothing else.
 #![tactic(auto)]
 
+pub use dnw_codes::{
+    DNSClass, DecodeError, LexerError, ParseError, ParseResult, ProtoError, RecordType, Restrict,
+    RestrictedMath, SerialNumber, Verified, error, number_behind,
+};
+
 mod character;
 mod gap;
 mod lexer;

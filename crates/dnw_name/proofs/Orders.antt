@@ -4,8 +4,8 @@ use Rattle.std.specs.Cmp.Lexicographic.{slice_cmp, pointwise, same_text}
 use Rattle.std.specs.Char.{to_ascii_lowercase}
 use Rattle.std.specs.Str.{str_to_ascii_lowercase}
 use Rattle.std.specs.Ordering.{nat_cmp, bool_cmp, on, ordering_then}
-use Rattle.dnw_label.specs.Label.{label_cmp}
-use Rattle.dnw_label.proofs.Orders.{slice_cmp-map, slice_cmp-same}
+use Rattle.dnw_arpa.specs.dnw_label.Label.{label_cmp}
+use Rattle.dnw_arpa.proofs.dnw_label_lemmas.Orders.{slice_cmp-map, slice_cmp-same}
 use Rattle.dnw_name.specs.DomainName.{DomainName, domain_name, lowercased, name_cmp, name_cmp_by}
 use Rattle.std.proofs.lemmas.Bool.Decides.{nat_tests}
 use Rattle.std.proofs.lemmas.List.{take_more}

@@ -14,8 +14,8 @@ use Rattle.std.proofs.lemmas.Cmp.{nat_list_eq_equiv}
 use Rattle.std.proofs.lemmas.Grind.{flat_map-append}
 use Rattle.std.proofs.lemmas.List.{reverse-append, append-nil, append_assoc}
 use Rattle.std.proofs.lemmas.List.Concat.{flat_map_single}
-use Rattle.dnw_label.specs.Label.{label_eq}
-use Rattle.dnw_net.specs.Networks.{address_bits}
+use Rattle.dnw_arpa.specs.dnw_label.Label.{label_eq}
+use Rattle.dnw_arpa.specs.dnw_net.Networks.{address_bits}
 use Rattle.dnw_name.specs.DomainName.{DomainName, domain_name, name_eq}
 use Rattle.dnw_name.specs.NameOrder.{pointwise-reverse}
 use Rattle.dnw_arpa.specs.ArpaLabels.{zero_labels, digit_label, hex_digits, v4_labels, v6_labels, numbers, number_label, suffix_label, IsAddress, IsBelowSuffix}

@@ -2,15 +2,15 @@
 use Rattle.std.proofs.Common.{◌≡◌, ◌<◌, ◌++◌, ℕ, Bool, true, false, List, [], ◌∷◌, refl, ap, sym, ◌∙◌, subst, arith, length, ◌⊎◌, inl, inr, All, ◌+◌, ◌==◌}
 use Rattle.std.proofs.lemmas.List.Elements.{All-nil, All-cons, All-head, All-tail}
 use Rattle.std.proofs.lemmas.List.Sums.{sum_by-append, sum_by_push}
-use Rattle.dnw_label.specs.Label.{IsLabel}
+use Rattle.dnw_arpa.specs.dnw_label.Label.{IsLabel}
 use Rattle.dnw_name.specs.DomainName.{DomainName, IsDomainName, domain_name, labels_len}
 use Rattle.std.specs.Prelude.{Result, Ok, Err, IfOk, IfErr, Some, cond, ◌||◌, nat_eq}
 use Rattle.std.specs.Cmp.Lexicographic.{pointwise, same_text}
 use Rattle.std.proofs.lemmas.Bool.Decides.{nat_tests}
 use Rattle.std.proofs.lemmas.List.{append_assoc}
-use Rattle.dnw_label.specs.LabelText.{OctetText, LabelText, ends, dot, octet, IsTextLabel}
-use Rattle.dnw_label.specs.EscapeLaws.{no_octet_in_nothing}
-use Rattle.dnw_label.proofs.LabelTextLemmas.{no_dot, label-same}
+use Rattle.dnw_arpa.specs.dnw_label.LabelText.{OctetText, LabelText, ends, dot, octet, IsTextLabel}
+use Rattle.dnw_arpa.specs.dnw_label.EscapeLaws.{no_octet_in_nothing}
+use Rattle.dnw_arpa.proofs.dnw_label_lemmas.LabelTextLemmas.{no_dot, label-same}
 use Rattle.dnw_name.specs.NameText.{LabelsText, last, closed, more, NameText, empty, root, labels as labels_text, completed}
 
 -- What was read of a name's labels, and what is left of its text.

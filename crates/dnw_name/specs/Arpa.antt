@@ -3,8 +3,8 @@ use Rattle.std.specs.Prelude.{ℕ, ◌≡◌, ◌+◌, ◌*◌, ◌++◌, true, 
 use Rattle.std.specs.Net.Addr.{ipv4_octets, ipv6_octets}
 use Rattle.std.specs.declared.net.ip_addr.IpAddr.{IpAddr}
 use Rattle.std.specs.declared.net.ip_addr.IpAddr.TheVariants.{V4, V6}
-use Rattle.dnw_label.specs.Label.{label_eq}
-use Rattle.dnw_net.specs.Networks.{address_bits}
+use Rattle.dnw_arpa.specs.dnw_label.Label.{label_eq}
+use Rattle.dnw_arpa.specs.dnw_net.Networks.{address_bits}
 use Rattle.dnw_name.specs.DomainName.{DomainName, domain_name, name_eq}
 use Rattle.dnw_arpa.specs.ArpaLabels.{v4_labels, v6_labels, label_bits, IsAddress, zero_labels}
 

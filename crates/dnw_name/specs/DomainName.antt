@@ -8,10 +8,10 @@ use Rattle.std.specs.List.{ends_with, flat_map}
 use Rattle.std.specs.Ordering.{on, then_cmp, eq_of_both, bool_cmp}
 use Rattle.std.specs.declared.cmp.Ordering.{Ordering}
 use Rattle.std.specs.Str.{str_to_ascii_lowercase}
-use Rattle.dnw_codes.specs.declared.error.ProtoError.{ProtoError}
-use Rattle.dnw_codes.specs.declared.error.ProtoError.TheVariants.{Decode}
-use Rattle.dnw_codes.specs.declared.error.DecodeError.TheVariants.{DomainNameTooLong}
-use Rattle.dnw_label.specs.Label.{IsLabel, label_eq, label_cmp, is_wildcard_label, wildcard_label}
+use Rattle.dnw_arpa.specs.dnw_codes.declared.error.ProtoError.{ProtoError}
+use Rattle.dnw_arpa.specs.dnw_codes.declared.error.ProtoError.TheVariants.{Decode}
+use Rattle.dnw_arpa.specs.dnw_codes.declared.error.DecodeError.TheVariants.{DomainNameTooLong}
+use Rattle.dnw_arpa.specs.dnw_label.Label.{IsLabel, label_eq, label_cmp, is_wildcard_label, wildcard_label}
 
 -- A name: whether it ends at the root, and its labels from the left.
 pub record DomainName : Type 0 where

@@ -5,3 +5,6 @@ pub mod NameKey
 pub mod NameOrder
 pub mod NamePrint
 pub mod NameText
+pub use Rattle.dnw_arpa.specs.dnw_codes
+pub use Rattle.dnw_arpa.specs.dnw_label
+pub use Rattle.dnw_arpa.specs.dnw_net

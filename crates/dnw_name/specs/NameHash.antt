@@ -5,8 +5,8 @@ use Rattle.std.specs.Hash.{HashWrites}
 use Rattle.std.specs.Bool.{beq}
 use Rattle.std.specs.Cmp.Lexicographic.{pointwise}
 use Rattle.std.specs.List.{flat_map}
-use Rattle.dnw_label.specs.Label.{label_eq}
-use Rattle.dnw_label.specs.LabelHash.{label_writes, label_writes-alike}
+use Rattle.dnw_arpa.specs.dnw_label.Label.{label_eq}
+use Rattle.dnw_arpa.specs.dnw_label.LabelHash.{label_writes, label_writes-alike}
 use Rattle.dnw_name.specs.DomainName.{DomainName, name_eq}
 
 -- The flag, and each label.

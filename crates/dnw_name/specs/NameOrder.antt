@@ -6,7 +6,7 @@ use Rattle.std.specs.Ordering.{eq_by_cmp, is_eq, bool_cmp, ordering_then}
 use Rattle.std.specs.declared.cmp.Ordering.{Ordering}
 use Rattle.std.specs.Str.{str_to_ascii_lowercase}
 use Rattle.std.proofs.lemmas.List.{reverse-append}
-use Rattle.dnw_label.specs.Label.{label_eq, label_cmp}
+use Rattle.dnw_arpa.specs.dnw_label.Label.{label_eq, label_cmp}
 use Rattle.dnw_name.specs.DomainName.{DomainName, name_eq, name_cmp}
 
 pub reverse-cons : {K : Type 0} (x : K) (xs : List K) → reverse (x ∷ xs) ≡ reverse xs ++ x ∷ []

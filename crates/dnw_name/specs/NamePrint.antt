@@ -1,7 +1,7 @@
 -- Printed names (RFC 1035 5.1).
 use Rattle.std.specs.Prelude.{ℕ, ◌++◌, List, [], ◌∷◌, if◌then◌else◌}
 use Rattle.std.specs.List.{flat_map}
-use Rattle.dnw_label.specs.LabelPrint.{label_print}
+use Rattle.dnw_arpa.specs.dnw_label.LabelPrint.{label_print}
 use Rattle.dnw_name.specs.DomainName.{DomainName}
 
 -- Labels with a dot before each but the first.

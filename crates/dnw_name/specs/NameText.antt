@@ -1,6 +1,6 @@
 -- Texts of names (RFC 1035 5.1).
 use Rattle.std.specs.Prelude.{ℕ, ◌≡◌, ◌==◌, ◌||◌, ◌++◌, Bool, true, false, List, [], ◌∷◌, length, Option, Some, None, if◌then◌else◌}
-use Rattle.dnw_label.specs.LabelText.{LabelText, IsTextLabel}
+use Rattle.dnw_arpa.specs.dnw_label.LabelText.{LabelText, IsTextLabel}
 use Rattle.dnw_name.specs.DomainName.{DomainName, IsDomainName, domain_name}
 
 -- Labels between dots; one behind the last label says that the name is fully qualified.

@@ -7,6 +7,11 @@
 //! print texts, each exactly by its definition.
 #![tactic(auto)]
 
+pub use dnw_arpa::{
+    CaseInsensitive, CaseSensitive, DNSClass, DecodeError, IntoLabel, IpNet, Label, LabelCmp,
+    LabelIter, PrefixLenError, ProtoError, RecordType, Restrict, octet_at,
+};
+
 mod arpa;
 mod builder;
 mod from_labels;
@@ -19,7 +24,6 @@ mod network;
 mod rr_key;
 
 pub use builder::NameBuilder;
-pub use dnw_label::{CaseInsensitive, CaseSensitive, IntoLabel, Label, LabelCmp, LabelIter};
 pub use key::{base_key, key_of};
 pub use lower_name::LowerName;
 pub use name::Name;

@@ -5,12 +5,12 @@ ghost use Rattle.std.specs.Cmp.Rules.{comparing};
 ghost use Rattle.std.specs.Ordering.{as_partial_cmp};
 ghost use Rattle.std.proofs.Common.{rules};
 ghost use Rattle.dnw_name.specs.DomainName.{DomainName, domain_name, IsDomainName, lowercased, name_eq, name_cmp, name_len, num_labels, is_wildcard, is_at_or_below, wildcard_of};
-ghost use Rattle.dnw_codes.specs.ProtoError.{IsMemory};
+ghost use Rattle.dnw_arpa.specs.dnw_codes.ProtoError.{IsMemory};
 ghost use Rattle.dnw_name.specs.NameText.{NameText};
 ghost use Rattle.dnw_name.specs.NameOrder.{name_eq-by_cmp};
 
 use crate::name::Name;
-use dnw_codes::ProtoError;
+use dnw_arpa::ProtoError;
 use std::alloc::{AllocError, Global};
 use std::cmp::Ordering;
 use std::hash::{Hash, Hasher};

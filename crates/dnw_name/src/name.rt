@@ -1,6 +1,6 @@
 //! Names.
 ghost use Rattle.std.specs.Prelude.{◌≡◌, ◌+◌, ◌-◌, ◌<◌, ◌&&◌, ◌==◌, ◌∷◌, [], ◌++◌, drop, true, false, length, IfOk, IfErr, IsErrOf, OnOk, ◌⊎◌};
-ghost use Rattle.dnw_codes.specs.ProtoError.{IsMemory};
+ghost use Rattle.dnw_arpa.specs.dnw_codes.ProtoError.{IsMemory};
 ghost use Rattle.dnw_name.specs.DomainName.{DomainName, domain_name, IsDomainName, labels_len, num_labels, name_len, too_long, lowercased, wildcard_of, is_at_or_below, is_wildcard, localhost};
 
 mod labels;
@@ -10,8 +10,7 @@ use crate::builder::NameBuilder;
 use crate::name::labels::{
     copies_of, labels_behind, lower_all, lower_copies_of, octets_of, push_copies,
 };
-use dnw_codes::{DecodeError, ProtoError};
-use dnw_label::{IntoLabel, Label, LabelIter};
+use dnw_arpa::{DecodeError, IntoLabel, Label, LabelIter, ProtoError};
 use std::alloc::{AllocError, Global};
 use std::marker::Model;
 

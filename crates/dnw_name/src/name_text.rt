@@ -1,15 +1,14 @@
 //! Names in texts.
 ghost use Rattle.std.specs.Prelude.{◌≡◌, ◌⊎◌, ℕ, Bool, List, IfOk, IfErr};
 ghost use Rattle.std.specs.Option.{option_copied};
-ghost use Rattle.dnw_codes.specs.ProtoError.{IsMemory};
+ghost use Rattle.dnw_arpa.specs.dnw_codes.ProtoError.{IsMemory};
 ghost use Rattle.dnw_name.specs.DomainName.{DomainName, domain_name, IsDomainName};
 ghost use Rattle.dnw_name.specs.NameText.{completed, LabelsText, NameText};
 
 use crate::builder::NameBuilder;
 use crate::lower_name::LowerName;
 use crate::name::Name;
-use dnw_codes::ProtoError;
-use dnw_label::label_at;
+use dnw_arpa::{ProtoError, label_at};
 use std::alloc::Global;
 
 impl Name {

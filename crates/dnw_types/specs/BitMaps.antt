@@ -3,7 +3,7 @@ use Rattle.std.specs.Prelude.{◌≡◌, ℕ, zero, suc, ◌+◌, ◌-◌, ◌*�
 use Rattle.std.proofs.Common.{◌⊎◌}
 use Rattle.dnw_codes.specs.ProtoError.{IsMemory}
 use Rattle.dnw_codes.specs.declared.error.ProtoError.{ProtoError}
-use Rattle.dnw_decoder.specs.Octets.{Stands}
+use Rattle.dnw_encoder.specs.dnw_decoder.Octets.{Stands}
 use Rattle.dnw_encoder.specs.Effects.{Holds, Sound, Puts, IsRefusal}
 use Rattle.dnw_encoder.specs.State.{State}
 use Rattle.dnw_types.specs.declared.read.Window.{Window}

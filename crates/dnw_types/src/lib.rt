@@ -5,6 +5,13 @@
 //! 6.3), which is told without writing it.
 #![tactic(auto)]
 
+pub use dnw_codes::{DecodeError, ParseError, ProtoError, RecordType, Restrict};
+pub use dnw_encoder::{
+    BinDecodable, BinDecoder, BinEncodable, BinEncoder, CaseInsensitive, CaseSensitive,
+    EncodedSize, IntoLabel, IntoName, IpNet, Label, LabelCmp, LabelIter, LowerName, ModalEncoder,
+    Name, NameEncoding, Place, PrefixLenError, RDataEncoding, RrKey, base_key, key_of,
+};
+
 mod bits;
 mod order;
 mod read;

@@ -1,7 +1,7 @@
 //! Bit maps that are read.
 ghost use Rattle.std.specs.Prelude.{◌≡◌, ◌≤◌, ◌⊎◌, ◌++◌, ℕ, List, length, MatchBool, IfOk, IfErr};
 ghost use Rattle.dnw_codes.specs.declared.error.DecodeError.TheVariants.{NsecBitmapOutOfBounds};
-ghost use Rattle.dnw_decoder.specs.Reading.{IsWantOfMemory};
+ghost use Rattle.dnw_encoder.specs.dnw_decoder.Reading.{IsWantOfMemory};
 ghost use Rattle.dnw_types.specs.BitMaps.{BitMaps, IsMap, WindowAt};
 ghost use Rattle.dnw_types.specs.BitMapLaws.{Begins};
 

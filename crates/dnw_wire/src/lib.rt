@@ -3,8 +3,9 @@
 //! `BinDecoder` and `BinDecodable` read, `BinEncoder` and `BinEncodable` write, and `RecordTypeSet` does both.
 #![tactic(auto)]
 
-pub use dnw_decoder::{BinDecodable, BinDecoder};
-pub use dnw_encoder::{
-    BinEncodable, BinEncoder, EncodedSize, ModalEncoder, NameEncoding, Place, RDataEncoding,
+pub use dnw_types::{
+    BinDecodable, BinDecoder, BinEncodable, BinEncoder, CaseInsensitive, CaseSensitive,
+    EncodedSize, IntoLabel, IntoName, IpNet, Label, LabelCmp, LabelIter, LowerName, ModalEncoder,
+    Name, NameEncoding, Place, PrefixLenError, RDataEncoding, RecordTypeIter, RecordTypeSet, RrKey,
+    base_key, key_of,
 };
-pub use dnw_types::{RecordTypeIter, RecordTypeSet};

@@ -11,7 +11,7 @@ use Rattle.std.specs.Prelude.{All, ◌<◌}
 use Rattle.std.proofs.lemmas.Str.{IsUtf8-from_ascii}
 use Rattle.std.proofs.lemmas.Str.Ascii.{IsAscii-from_all}
 use Rattle.std.proofs.lemmas.List.Elements.{All-nil, All-cons}
-use Rattle.drd_words.specs.Words.{EachWord}
+use Rattle.drd_plain.specs.drd_words.Words.{EachWord}
 use Rattle.std.specs.Prelude.{MatchOption, Option, None, Some, Result, Ok, Err, IfOk, IfErr}
 use Rattle.std.specs.Borrow.{Bor}
 use Rattle.std.proofs.lemmas.List.Splits.{join_with_byte-slice_split}

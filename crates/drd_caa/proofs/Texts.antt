@@ -1,7 +1,7 @@
 -- One place holds one text.
 use Rattle.std.proofs.Common.{◌≡◌, ℕ, List, [], ◌∷◌, ap, sym, subst, arith, Bool, true, false}
-use Rattle.drd_fields.specs.Fields.{Field, octet, string, rest, StringAt, FieldsAt}
-use Rattle.drd_fields.specs.FieldLaws.{string_once}
+use Rattle.drd_plain.specs.drd_fields.Fields.{Field, octet, string, rest, StringAt, FieldsAt}
+use Rattle.drd_plain.specs.drd_fields.FieldLaws.{string_once}
 use Rattle.drd_caa.specs.declared.caa.CAA.{CAA}
 use Rattle.drd_caa.specs.Fields.{IsCaa, caa_fields, caa_flags, is_caa_tag}
 

@@ -6,10 +6,10 @@ use Rattle.std.specs.Cmp.Lexicographic.{pointwise, on_texts_equal}
 use Rattle.std.specs.Ordering.{on, eq_of_both}
 use Rattle.std.proofs.lemmas.Cmp.{and_equiv}
 use Rattle.std.specs.List.{list_all, flat_map, slice_split}
-use Rattle.dnw_name.specs.DomainName.{DomainName}
-use Rattle.dnw_name.specs.NamePrint.{name_print}
-use Rattle.dnw_name.specs.NameText.{NameText}
-use Rattle.drd_words.specs.Words.{EachWord}
+use Rattle.drd_plain.specs.dnw_name.DomainName.{DomainName}
+use Rattle.drd_plain.specs.dnw_name.NamePrint.{name_print}
+use Rattle.drd_plain.specs.dnw_name.NameText.{NameText}
+use Rattle.drd_plain.specs.drd_words.Words.{EachWord}
 
 -- A parameter: a key and a value.
 pub record Parameter : Type 0 where

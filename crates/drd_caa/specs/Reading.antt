@@ -1,10 +1,10 @@
 -- Why CAA data are not read.
 use Rattle.std.specs.Prelude.{ℕ, ◌≡◌, false, List}
 use Rattle.std.proofs.Common.{◌⊎◌}
-use Rattle.dnw_codes.specs.declared.error.DecodeError.{DecodeError}
-use Rattle.dnw_codes.specs.declared.error.DecodeError.TheVariants.{CaaTagInvalid}
-use Rattle.drd_fields.specs.Fields.{FieldsAt}
-use Rattle.drd_fields.specs.Reading.{Stops}
+use Rattle.drd_plain.specs.dnw_codes.declared.error.DecodeError.{DecodeError}
+use Rattle.drd_plain.specs.dnw_codes.declared.error.DecodeError.TheVariants.{CaaTagInvalid}
+use Rattle.drd_plain.specs.drd_fields.Fields.{FieldsAt}
+use Rattle.drd_plain.specs.drd_fields.Reading.{Stops}
 use Rattle.drd_caa.specs.declared.caa.CAA.{CAA}
 use Rattle.drd_caa.specs.Fields.{caa_fields, caa_kinds, is_caa_tag}
 

@@ -1,7 +1,7 @@
 -- The words that CAA data are read from (RFC 8659 4.1.1).
 use Rattle.std.specs.Prelude.{ℕ, ◌≡◌, ◌<◌, true, List}
-use Rattle.drd_words.specs.Word.{IsNumberWord}
-use Rattle.drd_words.specs.Words.{NoWords, OneThen}
+use Rattle.drd_plain.specs.drd_words.Word.{IsNumberWord}
+use Rattle.drd_plain.specs.drd_words.Words.{NoWords, OneThen}
 use Rattle.drd_caa.specs.declared.caa.CAA.{CAA}
 use Rattle.drd_caa.specs.Fields.{caa_flags, is_caa_tag}
 

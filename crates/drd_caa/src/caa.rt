@@ -2,30 +2,25 @@
 ghost use Rattle.std.specs.Prelude.{◌≡◌, ◌∷◌, [], ℕ, List, ◌⊎◌, true, false, Some, Ok, Err, Result, IfOk, IfErr, OnOk, length, map, ◌+◌, ◌≤◌, ◌<◌};
 ghost use Rattle.std.specs.Iterator.{Drains, IsFinite};
 ghost use Rattle.std.specs.Cmp.{partial_equiv_from_equiv};
-ghost use Rattle.dnw_decoder.specs.Reading.{IsWantOfMemory};
-ghost use Rattle.dnw_encoder.specs.declared.modes.RDataEncoding.TheVariants.{Other};
-ghost use Rattle.drd_fields.specs.Fields.{Field, octet, string, rest, FieldsAt, kinds_of};
-ghost use Rattle.drd_fields.specs.Reading.{Stops};
-ghost use Rattle.drd_fields.specs.Equality.{AreFull, Tells, fields_eq};
-ghost use Rattle.drd_fields.specs.EqualityLaws.{data_equiv};
-ghost use Rattle.drd_fields.specs.Writing.{EmitsData, RefusesFields, canonical_octets};
+ghost use Rattle.drd_plain.specs.dnw_decoder.Reading.{IsWantOfMemory};
+ghost use Rattle.drd_plain.specs.dnw_encoder.declared.modes.RDataEncoding.TheVariants.{Other};
+ghost use Rattle.drd_plain.specs.drd_fields.Fields.{Field, octet, string, rest, FieldsAt, kinds_of};
+ghost use Rattle.drd_plain.specs.drd_fields.Reading.{Stops};
+ghost use Rattle.drd_plain.specs.drd_fields.Equality.{AreFull, Tells, fields_eq};
+ghost use Rattle.drd_plain.specs.drd_fields.EqualityLaws.{data_equiv};
+ghost use Rattle.drd_plain.specs.drd_fields.Writing.{EmitsData, RefusesFields, canonical_octets};
 ghost use Rattle.drd_caa.specs.Fields.{IsCaa, caa_fields, caa_flags, caa_kinds};
 ghost use Rattle.drd_caa.specs.Print.{caa_print};
 ghost use Rattle.drd_caa.specs.Reading.{RefusesCaa};
 ghost use Rattle.drd_caa.specs.Words.{IsCaaText};
-ghost use Rattle.drd_words.specs.Word.{IsOutOfMemory};
+ghost use Rattle.drd_plain.specs.drd_words.Word.{IsOutOfMemory};
 
 use crate::words::{Tag, Value, is_tag};
-use dnw_codes::{DecodeError, ParseError, ProtoError, Restrict};
-use dnw_decoder::BinDecoder;
-use dnw_encoder::{BinEncodable, BinEncoder, RDataEncoding};
-use dnw_name::Name;
-use drd_fields::{
-    CharacterString, DataFields, RecordDataDecodable, Rest, RestField, StringField, emit_three,
-    read_data_within,
+use drd_plain::{
+    BinDecoder, BinEncodable, BinEncoder, CharacterString, DataFields, DecodeError, Name,
+    ParseError, ProtoError, RDataEncoding, RecordDataDecodable, Rest, RestField, Restrict,
+    StringField, emit_three, fmt_escaped, fmt_quoted, read_data_within, read_tokens,
 };
-use drd_plain::fmt_quoted;
-use drd_words::{fmt_escaped, read_tokens};
 use std::alloc::Global;
 use std::convert::AsStr;
 use std::fmt;

@@ -4,14 +4,13 @@ ghost use Rattle.std.specs.Char.{is_ascii_alphanumeric};
 ghost use Rattle.std.specs.List.{list_all, slice_split};
 ghost use Rattle.std.specs.String.{string_bytes};
 ghost use Rattle.std.specs.Str.{IsUtf8};
-ghost use Rattle.dnw_codes.specs.ProtoError.{IsMemory};
-ghost use Rattle.dnw_name.specs.DomainName.{DomainName};
-ghost use Rattle.drd_words.specs.Words.{EachWord};
+ghost use Rattle.drd_plain.specs.dnw_codes.ProtoError.{IsMemory};
+ghost use Rattle.drd_plain.specs.dnw_name.DomainName.{DomainName};
+ghost use Rattle.drd_plain.specs.drd_words.Words.{EachWord};
 ghost use Rattle.drd_caa.specs.Issue.{Parameter, parameter, is_blank, behind_blanks, trimmed, is_key, is_value, IsParameter, AreParameters, IsIssuer, IsIssueValue, issue_value, CanIssue, AreFit};
 
 use crate::key_value::KeyValue;
-use dnw_codes::ProtoError;
-use dnw_name::Name;
+use drd_plain::{Name, ProtoError};
 use std::alloc::{AllocError, Global};
 use std::str;
 

@@ -2,14 +2,14 @@
 ghost use Rattle.std.specs.Prelude.{◌≡◌, Some};
 ghost use Rattle.std.proofs.Common.{refl};
 ghost use Rattle.std.specs.Cmp.{po};
-ghost use Rattle.drd_fields.specs.Equality.{AreFull};
-ghost use Rattle.drd_fields.specs.Writing.{canonical_octets};
-ghost use Rattle.drd_order.specs.Order.{Orders, fields_cmp, fields_input};
-ghost use Rattle.drd_order.specs.OrderLaws.{data_total, data_ties, fields-alike};
+ghost use Rattle.drd_plain.specs.drd_fields.Equality.{AreFull};
+ghost use Rattle.drd_plain.specs.drd_fields.Writing.{canonical_octets};
+ghost use Rattle.drd_plain.specs.drd_order.Order.{Orders, fields_cmp, fields_input};
+ghost use Rattle.drd_plain.specs.drd_order.OrderLaws.{data_total, data_ties, fields-alike};
 ghost use Rattle.drd_caa.specs.Fields.{caa_fields};
 
 use crate::CAA;
-use drd_order::OrderFields;
+use drd_plain::OrderFields;
 use std::cmp::Ordering;
 use std::hash::{Hash, Hasher};
 

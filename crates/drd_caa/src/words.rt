@@ -3,10 +3,7 @@ ghost use Rattle.std.specs.Prelude.{◌≡◌};
 ghost use Rattle.drd_caa.specs.Fields.{is_caa_tag};
 ghost use Rattle.drd_caa.specs.Words.{IsTagWord, IsValueWord};
 
-use dnw_codes::ParseError;
-use dnw_name::Name;
-use drd_plain::verify_flags;
-use drd_words::Word;
+use drd_plain::{Name, ParseError, Word, verify_flags};
 use std::alloc::Global;
 
 /// A word that is a property's tag.

@@ -2,11 +2,11 @@
 use Rattle.std.proofs.Common.{◌≡◌, ℕ, ◌^◌, ◌<◌, ◌==◌, ◌&&◌, nat_eq, Bool, true, false, List, [], ◌++◌, sym, subst, ◌∙◌, arith, append-nil}
 use Rattle.std.specs.Cmp.Lexicographic.{pointwise, same_text}
 use Rattle.std.proofs.lemmas.Cmp.{nat_list_eq_equiv}
-use Rattle.dnw_decoder.specs.Octets.{octets_16, octets_32}
+use Rattle.dnw_types.specs.dnw_decoder.Octets.{octets_16, octets_32}
 use Rattle.dnw_types.specs.BitMapLaws.{tight_reads, written_once, read_once}
-use Rattle.drd_fields.specs.Equality.{Tells}
-use Rattle.drd_fields.specs.EqualityLaws.{front_tells, long_apart, short_apart}
-use Rattle.drd_fields.specs.Writing.{fields_octets}
+use Rattle.drd_order.specs.drd_fields.Equality.{Tells}
+use Rattle.drd_order.specs.drd_fields.EqualityLaws.{front_tells, long_apart, short_apart}
+use Rattle.drd_order.specs.drd_fields.Writing.{fields_octets}
 use Rattle.drd_csync.specs.declared.csync.CSYNC.{CSYNC}
 use Rattle.drd_csync.specs.Data.{csync_fields, csync_flags}
 use Rattle.drd_csync.specs.Equality.{csync_eq, IsWritten}

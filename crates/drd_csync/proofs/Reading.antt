@@ -1,14 +1,14 @@
 -- The data in parts: the front, and the bit maps behind it.
 use Rattle.std.proofs.Common.{◌≡◌, ℕ, ◌+◌, ◌/◌, ◌%◌, ◌<◌, ◌≤◌, ◌⊎◌, inl, inr, List, [], ◌∷◌, length, refl, sym, subst, ◌∙◌, arith}
-use Rattle.dnw_codes.specs.declared.error.DecodeError.{DecodeError}
-use Rattle.dnw_codes.specs.declared.error.DecodeError.TheVariants.{NsecBitmapOutOfBounds}
-use Rattle.dnw_decoder.specs.Octets.{Stands, octets_16}
-use Rattle.dnw_decoder.specs.Reading.{IsWantOfMemory, Lacks, Reading}
-use Rattle.dnw_decoder.specs.Standing.{stands_same, length-octets_32}
+use Rattle.dnw_types.specs.dnw_codes.declared.error.DecodeError.{DecodeError}
+use Rattle.dnw_types.specs.dnw_codes.declared.error.DecodeError.TheVariants.{NsecBitmapOutOfBounds}
+use Rattle.dnw_types.specs.dnw_decoder.Octets.{Stands, octets_16}
+use Rattle.dnw_types.specs.dnw_decoder.Reading.{IsWantOfMemory, Lacks, Reading}
+use Rattle.dnw_types.specs.dnw_decoder.Standing.{stands_same, length-octets_32}
 use Rattle.dnw_types.specs.BitMaps.{TypesAt}
-use Rattle.drd_fields.specs.Fields.{a_long, a_short, AreOrdered, FieldsAt}
-use Rattle.drd_fields.specs.FieldLaws.{ordered_more, stops_none}
-use Rattle.drd_fields.specs.Reading.{Stops}
+use Rattle.drd_order.specs.drd_fields.Fields.{a_long, a_short, AreOrdered, FieldsAt}
+use Rattle.drd_order.specs.drd_fields.FieldLaws.{ordered_more, stops_none}
+use Rattle.drd_order.specs.drd_fields.Reading.{Stops}
 use Rattle.drd_csync.specs.declared.csync.CSYNC.{CSYNC}
 use Rattle.drd_csync.specs.Data.{csync_flags, front_fields, front_kinds, MapsAt, CsyncAt}
 use Rattle.drd_csync.specs.OrderLaws.{few_flags}

@@ -1,17 +1,17 @@
 -- The data as they are written.
 use Rattle.std.proofs.Common.{◌≡◌, ℕ, ◌+◌, ◌≤◌, inl, inr, List, [], ◌++◌, length, refl, sym, ap, subst, ◌∙◌, arith, append_assoc, append-nil}
 use Rattle.std.proofs.lemmas.List.{length-append}
-use Rattle.dnw_codes.specs.declared.error.ProtoError.{ProtoError}
-use Rattle.dnw_decoder.specs.Octets.{Stands, octets_16, octets_32}
-use Rattle.dnw_decoder.specs.Standing.{stands_split, length-octets_32}
-use Rattle.dnw_encoder.specs.Effects.{Puts, IsRefusal}
-use Rattle.dnw_encoder.specs.Laws.{holds_map, puts_stands}
-use Rattle.dnw_encoder.specs.State.{State}
+use Rattle.dnw_types.specs.dnw_codes.declared.error.ProtoError.{ProtoError}
+use Rattle.dnw_types.specs.dnw_decoder.Octets.{Stands, octets_16, octets_32}
+use Rattle.dnw_types.specs.dnw_decoder.Standing.{stands_split, length-octets_32}
+use Rattle.dnw_types.specs.dnw_encoder.Effects.{Puts, IsRefusal}
+use Rattle.dnw_types.specs.dnw_encoder.Laws.{holds_map, puts_stands}
+use Rattle.dnw_types.specs.dnw_encoder.State.{State}
 use Rattle.dnw_types.specs.BitMaps.{EmitsTypes, RefusesTypes}
 use Rattle.dnw_types.specs.BitMapLaws.{tight_reads}
-use Rattle.drd_fields.specs.Fields.{FieldsAt}
-use Rattle.drd_fields.specs.Writing.{fields_octets}
-use Rattle.drd_fields.specs.WritingLaws.{puts_then, refused_front, refused_later}
+use Rattle.drd_order.specs.drd_fields.Fields.{FieldsAt}
+use Rattle.drd_order.specs.drd_fields.Writing.{fields_octets}
+use Rattle.drd_order.specs.drd_fields.WritingLaws.{puts_then, refused_front, refused_later}
 use Rattle.drd_csync.specs.declared.csync.CSYNC.{CSYNC}
 use Rattle.drd_csync.specs.Data.{csync_fields, csync_flags, CsyncAt}
 use Rattle.drd_csync.specs.Writing.{EmitsCsync, RefusesEmit}

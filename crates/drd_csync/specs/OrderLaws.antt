@@ -8,11 +8,11 @@ use Rattle.std.specs.Cmp.Lexicographic.{pointwise}
 use Rattle.std.specs.Ordering.{nat_cmp, ordering_then, eq_by_cmp, is_eq}
 use Rattle.std.specs.declared.cmp.Ordering.{Ordering}
 use Rattle.std.specs.declared.cmp.Ordering.TheVariants.{Less, Equal, Greater}
-use Rattle.dnw_decoder.specs.Octets.{octets_16}
+use Rattle.dnw_types.specs.dnw_decoder.Octets.{octets_16}
 use Rattle.dnw_types.specs.MapOrder.{types_cmp}
 use Rattle.dnw_types.specs.MapOrderLaws.{types_total, types_ties, types_order}
-use Rattle.drd_fields.specs.EqualityLaws.{both_true, from_test, same_octets}
-use Rattle.drd_fields.specs.Writing.{fields_octets}
+use Rattle.drd_order.specs.drd_fields.EqualityLaws.{both_true, from_test, same_octets}
+use Rattle.drd_order.specs.drd_fields.Writing.{fields_octets}
 use Rattle.drd_order.specs.Order.{octets_cmp}
 use Rattle.drd_order.specs.OrderLaws.{long_orders, short_orders}
 use Rattle.drd_csync.specs.declared.csync.CSYNC.{CSYNC}

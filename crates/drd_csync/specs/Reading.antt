@@ -1,11 +1,11 @@
 -- Why the data of a CSYNC record are not read.
 use Rattle.std.specs.Prelude.{◌≡◌, ℕ, ◌<◌, ◌≤◌, List}
 use Rattle.std.proofs.Common.{◌⊎◌}
-use Rattle.dnw_codes.specs.declared.error.DecodeError.{DecodeError}
-use Rattle.dnw_codes.specs.declared.error.DecodeError.TheVariants.{NsecBitmapOutOfBounds, UnrecognizedCsyncFlags}
-use Rattle.dnw_decoder.specs.Reading.{IsWantOfMemory}
-use Rattle.drd_fields.specs.Fields.{FieldsAt}
-use Rattle.drd_fields.specs.Reading.{LacksRest, Stops}
+use Rattle.dnw_types.specs.dnw_codes.declared.error.DecodeError.{DecodeError}
+use Rattle.dnw_types.specs.dnw_codes.declared.error.DecodeError.TheVariants.{NsecBitmapOutOfBounds, UnrecognizedCsyncFlags}
+use Rattle.dnw_types.specs.dnw_decoder.Reading.{IsWantOfMemory}
+use Rattle.drd_order.specs.drd_fields.Fields.{FieldsAt}
+use Rattle.drd_order.specs.drd_fields.Reading.{LacksRest, Stops}
 use Rattle.drd_csync.specs.Data.{front_fields, front_kinds, MapsAt}
 
 -- The octets up to the end of the data are no bit maps (RFC 4034 4.1.2).

@@ -2,8 +2,8 @@
 use Rattle.std.specs.Prelude.{ℕ, ◌≡◌, ◌==◌, List, ◌∷◌, ◌++◌, Some}
 use Rattle.std.specs.Fmt.{decimal}
 use Rattle.std.specs.List.{flat_map, list_any}
-use Rattle.dnw_codes.specs.RecordType.{record_type_number, record_type_of, record_type_of_text, record_type_text}
-use Rattle.dnw_codes.specs.declared.record_type.RecordType.{RecordType}
+use Rattle.dnw_types.specs.dnw_codes.RecordType.{record_type_number, record_type_of, record_type_of_text, record_type_text}
+use Rattle.dnw_types.specs.dnw_codes.declared.record_type.RecordType.{RecordType}
 use Rattle.drd_words.specs.Word.{IsNumberWord}
 use Rattle.drd_words.specs.Words.{OneThen, EachWord}
 use Rattle.drd_csync.specs.declared.csync.CSYNC.{CSYNC}

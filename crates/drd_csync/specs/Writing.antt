@@ -1,11 +1,11 @@
 -- The data of a CSYNC record as an encoder writes them.
 use Rattle.std.specs.Prelude.{ℕ, ◌+◌, ◌≤◌, List, length}
 use Rattle.std.proofs.Common.{◌⊎◌}
-use Rattle.dnw_codes.specs.declared.error.ProtoError.{ProtoError}
-use Rattle.dnw_encoder.specs.Effects.{Sound, Holds, Puts, IsRefusal}
-use Rattle.dnw_encoder.specs.State.{State}
+use Rattle.dnw_types.specs.dnw_codes.declared.error.ProtoError.{ProtoError}
+use Rattle.dnw_types.specs.dnw_encoder.Effects.{Sound, Holds, Puts, IsRefusal}
+use Rattle.dnw_types.specs.dnw_encoder.State.{State}
 use Rattle.dnw_types.specs.BitMaps.{BitMaps, IsTightMap, AreOctets, AreTightMaps}
-use Rattle.drd_fields.specs.Writing.{fields_octets}
+use Rattle.drd_order.specs.drd_fields.Writing.{fields_octets}
 use Rattle.drd_csync.specs.declared.csync.CSYNC.{CSYNC}
 use Rattle.drd_csync.specs.Data.{csync_fields, CsyncAt}
 

@@ -6,11 +6,11 @@ ghost use Rattle.std.specs.Cmp.Rules.{comparing};
 ghost use Rattle.std.specs.Ordering.{as_partial_cmp};
 ghost use Rattle.std.proofs.Common.{rules};
 ghost use Rattle.drd_words.specs.Word.{IsOutOfMemory};
-ghost use Rattle.dnw_decoder.specs.Octets.{octets_16, octets_32};
-ghost use Rattle.dnw_encoder.specs.Encoders.{state};
-ghost use Rattle.dnw_encoder.specs.Effects.{Writes, Puts, IsRefusal};
-ghost use Rattle.drd_fields.specs.Equality.{Tells};
-ghost use Rattle.drd_fields.specs.Writing.{fields_octets};
+ghost use Rattle.dnw_types.specs.dnw_decoder.Octets.{octets_16, octets_32};
+ghost use Rattle.dnw_types.specs.dnw_encoder.Encoders.{state};
+ghost use Rattle.dnw_types.specs.dnw_encoder.Effects.{Writes, Puts, IsRefusal};
+ghost use Rattle.drd_order.specs.drd_fields.Equality.{Tells};
+ghost use Rattle.drd_order.specs.drd_fields.Writing.{fields_octets};
 ghost use Rattle.drd_order.specs.Order.{Orders};
 ghost use Rattle.drd_csync.specs.Data.{csync_fields, csync_flags, CsyncAt};
 ghost use Rattle.drd_csync.specs.Equality.{csync_eq, IsWritten};
@@ -23,13 +23,12 @@ ghost use Rattle.drd_csync.specs.Writing.{EmitsCsync, RefusesEmit};
 
 use crate::read::{read_front, read_maps};
 use crate::types::{TypeWords, fmt_types};
-use dnw_codes::{DecodeError, ParseError, ProtoError, Restrict};
-use dnw_decoder::BinDecoder;
-use dnw_encoder::{BinEncodable, BinEncoder};
-use dnw_name::Name;
-use dnw_types::RecordTypeSet;
-use drd_fields::RecordDataDecodable;
-use drd_words::read_tokens;
+use dnw_types::{
+    BinDecoder, BinEncodable, BinEncoder, DecodeError, ParseError, ProtoError, RecordTypeSet,
+    Restrict,
+};
+use drd_order::RecordDataDecodable;
+use drd_words::{Name, read_tokens};
 use std::alloc::Global;
 use std::cmp::Ordering;
 use std::convert::AsStr;

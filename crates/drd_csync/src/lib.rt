@@ -1,6 +1,8 @@
 //! CSYNC record data (RFC 7477): which data of a child zone its parent is to copy.
 #![tactic(auto)]
 
+pub use dnw_types::{BinDecoder, BinEncodable, BinEncoder};
+
 mod csync;
 mod read;
 mod types;

@@ -1,15 +1,13 @@
 //! The parts of the data that are read.
 ghost use Rattle.std.specs.Prelude.{◌≡◌, ◌+◌, ◌<◌, ◌≤◌, ◌⊎◌, ℕ, List, length, IfOk, IfErr, OnOk, OnErr};
-ghost use Rattle.dnw_decoder.specs.Reading.{IsWantOfMemory};
-ghost use Rattle.drd_fields.specs.Fields.{FieldsAt};
-ghost use Rattle.drd_fields.specs.Reading.{Stops};
+ghost use Rattle.dnw_types.specs.dnw_decoder.Reading.{IsWantOfMemory};
+ghost use Rattle.drd_order.specs.drd_fields.Fields.{FieldsAt};
+ghost use Rattle.drd_order.specs.drd_fields.Reading.{Stops};
 ghost use Rattle.drd_csync.specs.Data.{front_fields, front_kinds, MapsAt};
 ghost use Rattle.drd_csync.specs.Reading.{RefusesMaps};
 
-use dnw_codes::DecodeError;
-use dnw_decoder::BinDecoder;
-use dnw_types::RecordTypeSet;
-use drd_fields::ReadFields;
+use dnw_types::{BinDecoder, DecodeError, RecordTypeSet};
+use drd_order::ReadFields;
 use std::alloc::Global;
 
 /// The serial number and the flags, in data that go to an end.

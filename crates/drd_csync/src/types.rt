@@ -3,10 +3,8 @@ ghost use Rattle.std.specs.Prelude.{IfOk};
 ghost use Rattle.std.specs.Fmt.{WritesOnOk};
 ghost use Rattle.drd_csync.specs.Texts.{AreTypeWords, IsSetOf, types_print};
 
-use dnw_codes::{ParseError, RecordType};
-use dnw_name::Name;
-use dnw_types::RecordTypeSet;
-use drd_words::Words;
+use dnw_types::{ParseError, RecordType, RecordTypeSet};
+use drd_words::{Name, Words};
 use std::alloc::{AllocError, Global};
 use std::fmt;
 

@@ -4,10 +4,10 @@ use Rattle.std.specs.List.{flat_map}
 use Rattle.std.proofs.lemmas.Bool.Decides.{nat_tests}
 use Rattle.std.specs.Char.{to_ascii_lowercase}
 use Rattle.std.specs.Str.{str_to_ascii_lowercase}
-use Rattle.dnw_name.specs.DomainName.{DomainName, domain_name, name_octets}
-use Rattle.dnw_decoder.specs.Octets.{octets_16, octets_32}
-use Rattle.dnw_decoder.specs.SpellingLaws.{name_once}
-use Rattle.dnw_decoder.specs.Standing.{stands_same, length-octets_32}
+use Rattle.dnw_encoder.specs.dnw_name.DomainName.{DomainName, domain_name, name_octets}
+use Rattle.dnw_encoder.specs.dnw_decoder.Octets.{octets_16, octets_32}
+use Rattle.dnw_encoder.specs.dnw_decoder.SpellingLaws.{name_once}
+use Rattle.dnw_encoder.specs.dnw_decoder.Standing.{stands_same, length-octets_32}
 use Rattle.dnw_encoder.specs.Names.{encoded_name}
 use Rattle.dnw_encoder.specs.declared.modes.NameEncoding.{NameEncoding}
 use Rattle.dnw_encoder.specs.declared.modes.NameEncoding.TheVariants.{Compressed, Uncompressed, UncompressedLowercase}

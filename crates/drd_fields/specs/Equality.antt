@@ -1,7 +1,7 @@
 -- When record data are equal, and that this is so exactly where their canonical octets are the same (RFC 4034 6.3).
 use Rattle.std.specs.Prelude.{◌≡◌, ℕ, ◌==◌, nat_eq, Bool, true, false, List, [], ◌∷◌, ◌++◌}
 use Rattle.std.specs.Cmp.Lexicographic.{pointwise}
-use Rattle.dnw_name.specs.DomainName.{name_eq}
+use Rattle.dnw_encoder.specs.dnw_name.DomainName.{name_eq}
 use Rattle.dnw_encoder.specs.declared.modes.NameEncoding.TheVariants.{UncompressedLowercase}
 use Rattle.drd_fields.specs.Fields.{Field, octet, short, long, name, string, strings, rest}
 use Rattle.drd_fields.specs.Writing.{field_octets, encoded_field}

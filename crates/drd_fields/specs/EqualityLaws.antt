@@ -10,9 +10,9 @@ use Rattle.std.specs.Cmp.{IsEquivalence}
 use Rattle.std.specs.Cmp.Rules.{comparing}
 use Rattle.std.specs.List.{flat_map}
 use Rattle.std.specs.Str.{str_to_ascii_lowercase}
-use Rattle.dnw_label.specs.Label.{IsLabel, label_eq}
-use Rattle.dnw_name.specs.DomainName.{DomainName, IsDomainName, domain_name, name_octets, name_eq}
-use Rattle.dnw_decoder.specs.Octets.{octets_16, octets_32}
+use Rattle.dnw_encoder.specs.dnw_label.Label.{IsLabel, label_eq}
+use Rattle.dnw_encoder.specs.dnw_name.DomainName.{DomainName, IsDomainName, domain_name, name_octets, name_eq}
+use Rattle.dnw_encoder.specs.dnw_decoder.Octets.{octets_16, octets_32}
 use Rattle.dnw_encoder.specs.NameLaws.{lower_name}
 use Rattle.drd_fields.specs.Fields.{Field, octet, short, long, name, string, strings, rest}
 use Rattle.drd_fields.specs.Writing.{string_octets}

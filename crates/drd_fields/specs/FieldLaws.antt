@@ -1,11 +1,11 @@
 -- Laws of fields: they go forward, those of one kind end at one place, and where reading stops none stand.
 use Rattle.std.proofs.Common.{◌≡◌, ℕ, ◌+◌, ◌<◌, ◌≤◌, ◌⊎◌, inl, inr, ◌||◌, Bool, true, false, List, [], ◌∷◌, ◌++◌, map, length, get_or, refl, sym, ap, subst, ◌∙◌, arith}
 use Rattle.std.proofs.lemmas.List.{map-append}
-use Rattle.dnw_codes.specs.declared.error.DecodeError.{DecodeError}
-use Rattle.dnw_decoder.specs.Octets.{octets_16, octets_32, Stands}
-use Rattle.dnw_decoder.specs.Reading.{IsWantOfMemory}
-use Rattle.dnw_decoder.specs.SpellingLaws.{name_once, spelled_within}
-use Rattle.dnw_decoder.specs.Standing.{stands_head, stands_within, stands_same, cut_none, length-octets_32}
+use Rattle.dnw_encoder.specs.dnw_codes.declared.error.DecodeError.{DecodeError}
+use Rattle.dnw_encoder.specs.dnw_decoder.Octets.{octets_16, octets_32, Stands}
+use Rattle.dnw_encoder.specs.dnw_decoder.Reading.{IsWantOfMemory}
+use Rattle.dnw_encoder.specs.dnw_decoder.SpellingLaws.{name_once, spelled_within}
+use Rattle.dnw_encoder.specs.dnw_decoder.Standing.{stands_head, stands_within, stands_same, cut_none, length-octets_32}
 use Rattle.drd_fields.specs.Fields.{AreOrdered, Field, octet, short, long, name, string, strings, rest, Kind, kind_of, kinds_of, is_open, are_open, StringAt, StringsAt, FieldAt, FieldsAt}
 use Rattle.drd_fields.specs.Reading.{RefusesKind, Stops}
 

@@ -1,8 +1,8 @@
 -- Fields of record data (RFC 1035 3.3): what the octets of a record's data hold, one behind the other.
 use Rattle.std.specs.Prelude.{◌≡◌, ℕ, ◌≤◌, ◌||◌, Bool, true, false, List, [], ◌∷◌, length}
-use Rattle.dnw_name.specs.DomainName.{DomainName}
-use Rattle.dnw_decoder.specs.Octets.{octets_16, octets_32, Stands}
-use Rattle.dnw_decoder.specs.Spelling.{NameAt}
+use Rattle.dnw_encoder.specs.dnw_name.DomainName.{DomainName}
+use Rattle.dnw_encoder.specs.dnw_decoder.Octets.{octets_16, octets_32, Stands}
+use Rattle.dnw_encoder.specs.dnw_decoder.Spelling.{NameAt}
 
 -- A number of one, two or four octets, a name, a string of at most 255 octets, strings up to the end of the data,
 -- and the octets up to the end.

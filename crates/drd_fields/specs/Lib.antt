@@ -7,3 +7,8 @@ pub mod WritingLaws
 pub mod Equality
 pub mod EqualityLaws
 pub mod BackLaws
+pub use Rattle.dnw_encoder.specs.dnw_codes
+pub use Rattle.dnw_encoder.specs.dnw_decoder
+pub mod dnw_encoder
+pub use Rattle.dnw_encoder.specs.dnw_label
+pub use Rattle.dnw_encoder.specs.dnw_name

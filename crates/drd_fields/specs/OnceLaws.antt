@@ -2,9 +2,9 @@
 use Rattle.std.proofs.Common.{◌≡◌, ℕ, ◌^◌, ◌<◌, Bool, true, false, List, [], ◌∷◌, refl, sym, ap, subst, ◌∙◌, arith}
 use Rattle.std.specs.Int.{w16, w32, from_be_bytes}
 use Rattle.std.proofs.lemmas.Nat.{from_be_bytes-to_be_bytes_2, from_be_bytes-to_be_bytes_4}
-use Rattle.dnw_decoder.specs.Octets.{octets_16, octets_32}
-use Rattle.dnw_decoder.specs.SpellingLaws.{name_once}
-use Rattle.dnw_decoder.specs.Standing.{stands_same, length-octets_32}
+use Rattle.dnw_encoder.specs.dnw_decoder.Octets.{octets_16, octets_32}
+use Rattle.dnw_encoder.specs.dnw_decoder.SpellingLaws.{name_once}
+use Rattle.dnw_encoder.specs.dnw_decoder.Standing.{stands_same, length-octets_32}
 use Rattle.drd_fields.specs.BackLaws.{strings_once}
 use Rattle.drd_fields.specs.FieldLaws.{field_end, string_once, no_fields}
 use Rattle.drd_fields.specs.Fields.{Field, octet, short, long, name, string, strings, rest, kind_of, kinds_of, is_open, AreOrdered, FieldAt, FieldsAt}

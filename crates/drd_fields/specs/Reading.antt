@@ -1,12 +1,12 @@
 -- Why fields are not read.
 use Rattle.std.specs.Prelude.{◌≡◌, ℕ, ◌+◌, ◌-◌, ◌<◌, List, [], ◌∷◌, length, get_or}
 use Rattle.std.proofs.Common.{◌⊎◌}
-use Rattle.dnw_codes.specs.declared.error.DecodeError.{DecodeError}
-use Rattle.dnw_codes.specs.declared.error.DecodeError.TheVariants.{InsufficientBytes, IncorrectRDataLengthRead}
-use Rattle.dnw_decoder.specs.Reading.{IsCut, IsWantOfMemory}
-use Rattle.dnw_decoder.specs.Refusals.{Refuses}
-use Rattle.dnw_decoder.specs.Spelling.{NameAt}
-use Rattle.dnw_name.specs.DomainName.{DomainName}
+use Rattle.dnw_encoder.specs.dnw_codes.declared.error.DecodeError.{DecodeError}
+use Rattle.dnw_encoder.specs.dnw_codes.declared.error.DecodeError.TheVariants.{InsufficientBytes, IncorrectRDataLengthRead}
+use Rattle.dnw_encoder.specs.dnw_decoder.Reading.{IsCut, IsWantOfMemory}
+use Rattle.dnw_encoder.specs.dnw_decoder.Refusals.{Refuses}
+use Rattle.dnw_encoder.specs.dnw_decoder.Spelling.{NameAt}
+use Rattle.dnw_encoder.specs.dnw_name.DomainName.{DomainName}
 use Rattle.drd_fields.specs.Fields.{Field, Kind, an_octet, a_short, a_long, a_name, a_string, all_strings, the_rest, kind_of, kinds_of, StringsAt, FieldAt, FieldsAt}
 
 -- The octets from a place to the end of the data are not there: the place is behind it, or the message ends before.

@@ -2,9 +2,9 @@
 use Rattle.std.specs.Prelude.{◌≡◌, ℕ, ◌+◌, ◌<◌, ◌≤◌, false, List, [], ◌∷◌, ◌++◌, length}
 use Rattle.std.proofs.Common.{◌⊎◌}
 use Rattle.std.specs.List.{flat_map}
-use Rattle.dnw_codes.specs.declared.error.ProtoError.{ProtoError}
-use Rattle.dnw_name.specs.DomainName.{name_octets}
-use Rattle.dnw_decoder.specs.Octets.{octets_16, octets_32}
+use Rattle.dnw_encoder.specs.dnw_codes.declared.error.ProtoError.{ProtoError}
+use Rattle.dnw_encoder.specs.dnw_name.DomainName.{name_octets}
+use Rattle.dnw_encoder.specs.dnw_decoder.Octets.{octets_16, octets_32}
 use Rattle.dnw_encoder.specs.Effects.{Sound, Holds, Puts, IsRefusal}
 use Rattle.dnw_encoder.specs.Names.{encoded_name}
 use Rattle.dnw_encoder.specs.State.{State, string_too_long, writes_pointers, rdata_encoding}

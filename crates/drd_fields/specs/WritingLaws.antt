@@ -3,11 +3,11 @@ use Rattle.std.proofs.Common.{◌≡◌, ℕ, ◌+◌, ◌≤◌, inl, inr, List
 use Rattle.std.proofs.Math.Nat.{eq-or-lt_of_le}
 use Rattle.std.proofs.lemmas.List.{length-take, length-append, drop-drop, take_at, drop_at, take-append-drop}
 use Rattle.std.specs.Prelude.{Result, Ok, Err, OnOk, OnErr, IfErr}
-use Rattle.dnw_codes.specs.declared.error.ProtoError.{ProtoError}
-use Rattle.dnw_codes.specs.declared.error.ProtoError.TheVariants.{MaxBufferSizeExceeded}
-use Rattle.dnw_decoder.specs.Octets.{Stands, octets_16, octets_32}
-use Rattle.dnw_decoder.specs.Standing.{length-octets_32}
-use Rattle.dnw_name.specs.DomainName.{DomainName}
+use Rattle.dnw_encoder.specs.dnw_codes.declared.error.ProtoError.{ProtoError}
+use Rattle.dnw_encoder.specs.dnw_codes.declared.error.ProtoError.TheVariants.{MaxBufferSizeExceeded}
+use Rattle.dnw_encoder.specs.dnw_decoder.Octets.{Stands, octets_16, octets_32}
+use Rattle.dnw_encoder.specs.dnw_decoder.Standing.{length-octets_32}
+use Rattle.dnw_encoder.specs.dnw_name.DomainName.{DomainName}
 use Rattle.dnw_encoder.specs.Effects.{Sound, Holds, Writes, SameModes, Puts, written_at, IsRefusal}
 use Rattle.dnw_encoder.specs.Laws.{holds_map, holds_written, holds_more, modes_then, puts_stands}
 use Rattle.dnw_encoder.specs.Names.{EmitsName}

@@ -1,13 +1,12 @@
 //! Record data whose length the record tells.
-use dnw_codes::{DecodeError, Restrict};
-use dnw_decoder::BinDecoder;
+use dnw_encoder::{BinDecoder, DecodeError, Restrict};
 use std::alloc::Global;
 
 /// Record data that go to the end of so many octets, as the length of their record has it (RFC 1035 3.2.1).
 pub trait RecordDataDecodable: Sized {
     ghost use Rattle.std.specs.Prelude.{◌≡◌, ◌+◌, ◌≤◌, ◌⊎◌, ℕ, List, length as size, IfOk, IfErr, OnOk};
-    ghost use Rattle.dnw_codes.specs.declared.error.DecodeError.{DecodeError as Error};
-    ghost use Rattle.dnw_decoder.specs.Reading.{IsWantOfMemory};
+    ghost use Rattle.dnw_encoder.specs.dnw_codes.declared.error.DecodeError.{DecodeError as Error};
+    ghost use Rattle.dnw_encoder.specs.dnw_decoder.Reading.{IsWantOfMemory};
 
     // The value stands in a message from a place to an end.
     ghost reads: { List ℕ → ℕ → Self → ℕ → Type 0 };

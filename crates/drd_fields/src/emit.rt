@@ -6,9 +6,7 @@ ghost use Rattle.dnw_encoder.specs.Effects.{Writes, IsRefusal};
 ghost use Rattle.drd_fields.specs.Fields.{octet, short, long, name, string, strings, rest};
 ghost use Rattle.drd_fields.specs.Writing.{EmitsData, EmitsField, EndsWithin, RefusesFields, SomeTooLong, string_octets};
 
-use dnw_codes::ProtoError;
-use dnw_encoder::{BinEncodable, BinEncoder, RDataEncoding};
-use dnw_name::Name;
+use dnw_encoder::{BinEncodable, BinEncoder, Name, ProtoError, RDataEncoding};
 
 /// A value that is written as one field.
 pub trait DataField {

@@ -1,12 +1,11 @@
 //! Data that fill their octets exactly.
 ghost use Rattle.std.specs.Prelude.{◌≡◌, ◌+◌, ◌≤◌, ◌⊎◌, List, false, length, IfOk, IfErr, OnOk};
-ghost use Rattle.dnw_decoder.specs.Reading.{IsWantOfMemory};
+ghost use Rattle.dnw_encoder.specs.dnw_decoder.Reading.{IsWantOfMemory};
 ghost use Rattle.drd_fields.specs.Fields.{Field, kinds_of, are_open, FieldsAt};
 ghost use Rattle.drd_fields.specs.Reading.{Misses};
 
 use crate::read::ReadFields;
-use dnw_codes::DecodeError;
-use dnw_decoder::BinDecoder;
+use dnw_encoder::{BinDecoder, DecodeError};
 use std::alloc::Global;
 
 /// The data of so many octets at the decoder's index, none of whose fields goes to their end. Refused are data that end

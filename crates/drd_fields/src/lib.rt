@@ -5,6 +5,11 @@
 //! calls carry it: `read_data`, exactly where the fields stand, and `emit_data`, which writes what reads back.
 #![tactic(auto)]
 
+pub use dnw_encoder::{
+    BinDecodable, BinDecoder, BinEncodable, BinEncoder, DecodeError, EncodedSize, LabelIter, Name,
+    NameEncoding, ParseError, ProtoError, RDataEncoding, Restrict,
+};
+
 mod back;
 mod decodable;
 mod emit;

@@ -1,21 +1,19 @@
 //! Fields that are read.
 ghost use Rattle.std.specs.Prelude.{◌≡◌, ◌+◌, ◌<◌, ◌≤◌, ◌⊎◌, ℕ, List, [], ◌∷◌, true, false, length, map, IfOk, IfErr, OnOk, OnErr};
 ghost use Rattle.std.specs.Int.{w32, cast_unsigned};
-ghost use Rattle.dnw_decoder.specs.Reading.{IsWantOfMemory};
+ghost use Rattle.dnw_encoder.specs.dnw_decoder.Reading.{IsWantOfMemory};
 ghost use Rattle.drd_fields.specs.Fields.{Field, octet, short, long, name, string, strings, rest, an_octet, a_short, a_long, a_name, a_string, all_strings, the_rest, kinds_of, are_open, FieldsAt};
 ghost use Rattle.drd_fields.specs.Reading.{Stops};
 
 use crate::fields::{CharacterString, CharacterStrings, Rest};
 use crate::strings::read_strings;
-use dnw_codes::DecodeError;
-use dnw_decoder::{BinDecodable, BinDecoder};
-use dnw_name::Name;
+use dnw_encoder::{BinDecodable, BinDecoder, DecodeError, Name};
 use std::alloc::Global;
 
 /// A value that is one field, whose end its octets tell.
 pub trait ReadField: Sized {
     ghost use Rattle.std.specs.Prelude.{◌≡◌, ◌≤◌, ◌⊎◌, ℕ, false, length, IfOk, IfErr, OnErr};
-    ghost use Rattle.dnw_decoder.specs.Reading.{IsWantOfMemory};
+    ghost use Rattle.dnw_encoder.specs.dnw_decoder.Reading.{IsWantOfMemory};
     ghost use Rattle.drd_fields.specs.Fields.{Field, Kind, kind_of, is_open, FieldAt};
     ghost use Rattle.drd_fields.specs.Reading.{RefusesKind};
 

@@ -1,12 +1,11 @@
 //! Strings up to the end of the data.
 ghost use Rattle.std.specs.Prelude.{◌≡◌, ◌+◌, ◌<◌, ◌≤◌, ◌⊎◌, List, ℕ, length, get_or, map, IfOk, IfErr, OnOk, OnErr};
-ghost use Rattle.dnw_codes.specs.declared.error.DecodeError.TheVariants.{InsufficientBytes};
-ghost use Rattle.dnw_decoder.specs.Reading.{IsWantOfMemory};
+ghost use Rattle.dnw_encoder.specs.dnw_codes.declared.error.DecodeError.TheVariants.{InsufficientBytes};
+ghost use Rattle.dnw_encoder.specs.dnw_decoder.Reading.{IsWantOfMemory};
 ghost use Rattle.drd_fields.specs.Fields.{StringAt, StringsAt};
 ghost use Rattle.drd_fields.specs.Reading.{LacksStrings};
 
-use dnw_codes::DecodeError;
-use dnw_decoder::BinDecoder;
+use dnw_encoder::{BinDecoder, DecodeError};
 use std::alloc::Global;
 
 // The string at the index, which begins before the end of the data and may not go past it.

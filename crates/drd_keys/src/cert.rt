@@ -2,12 +2,12 @@
 ghost use Rattle.std.specs.Prelude.{◌≡◌, ◌∷◌, [], Some, IfOk, ◌⊎◌, List, IfErr, map};
 ghost use Rattle.std.specs.Iterator.{Drains, IsFinite};
 ghost use Rattle.std.specs.Cmp.{partial_equiv_from_equiv};
-ghost use Rattle.dnw_encoder.specs.declared.modes.RDataEncoding.TheVariants.{Other};
-ghost use Rattle.drd_fields.specs.Fields.{octet, short, rest, FieldsAt};
-ghost use Rattle.drd_fields.specs.Equality.{Tells, fields_eq};
-ghost use Rattle.drd_fields.specs.EqualityLaws.{data_equiv};
-ghost use Rattle.drd_fields.specs.Reading.{Stops};
-ghost use Rattle.drd_fields.specs.Writing.{EmitsData, RefusesFields, canonical_octets};
+ghost use Rattle.drd_order.specs.dnw_encoder.declared.modes.RDataEncoding.TheVariants.{Other};
+ghost use Rattle.drd_order.specs.drd_fields.Fields.{octet, short, rest, FieldsAt};
+ghost use Rattle.drd_order.specs.drd_fields.Equality.{Tells, fields_eq};
+ghost use Rattle.drd_order.specs.drd_fields.EqualityLaws.{data_equiv};
+ghost use Rattle.drd_order.specs.drd_fields.Reading.{Stops};
+ghost use Rattle.drd_order.specs.drd_fields.Writing.{EmitsData, RefusesFields, canonical_octets};
 ghost use Rattle.base64.specs.Engines.{standard};
 ghost use Rattle.base64.specs.GeneralPurpose.{encode_of};
 ghost use Rattle.std.specs.String.{string_bytes};
@@ -19,12 +19,13 @@ ghost use Rattle.drd_keys.specs.Texts.{IsCertText};
 mod codes;
 
 use base64::engine::general_purpose::STANDARD;
-use dnw_codes::{DecodeError, ParseError, ProtoError, Restrict};
-use dnw_decoder::BinDecoder;
-use dnw_encoder::{BinEncodable, BinEncoder, RDataEncoding};
-use dnw_name::Name;
-use drd_fields::{DataFields, RecordDataDecodable, Rest, RestField, emit_data, read_data_within};
-use drd_words::{Base64Data, fmt_base64, read_tokens};
+use drd_order::{
+    BinDecoder, BinEncodable, BinEncoder, DataFields, RDataEncoding, RecordDataDecodable, Rest,
+    RestField, emit_data, read_data_within,
+};
+use drd_words::{
+    Base64Data, DecodeError, Name, ParseError, ProtoError, Restrict, fmt_base64, read_tokens,
+};
 use std::alloc::{AllocError, Global};
 use std::convert::AsStr;
 use std::fmt;
@@ -155,7 +156,7 @@ impl CERT {
 
 impl RecordDataDecodable for CERT {
     ghost use Rattle.std.specs.Prelude.{◌+◌, ◌≤◌, length as size, OnOk};
-    ghost use Rattle.dnw_decoder.specs.Reading.{IsWantOfMemory};
+    ghost use Rattle.drd_order.specs.dnw_decoder.Reading.{IsWantOfMemory};
     ghost use Rattle.drd_keys.specs.Cert.{IsNamedCert};
 
     ghost reads = { λ message place cert end. FieldsAt message place (cert_fields cert) end × IsNamedCert cert };

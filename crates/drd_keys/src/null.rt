@@ -1,20 +1,20 @@
 //! NULL (RFC 1035 3.3.10).
 ghost use Rattle.std.specs.Prelude.{◌≡◌, ◌∷◌, [], ℕ, Some, IfOk};
 ghost use Rattle.std.specs.Cmp.{partial_equiv_from_equiv};
-ghost use Rattle.dnw_encoder.specs.declared.modes.RDataEncoding.TheVariants.{Other};
-ghost use Rattle.drd_fields.specs.Fields.{rest, FieldsAt};
-ghost use Rattle.drd_fields.specs.Equality.{Tells, fields_eq};
-ghost use Rattle.drd_fields.specs.EqualityLaws.{data_equiv};
-ghost use Rattle.drd_fields.specs.Reading.{Stops};
-ghost use Rattle.drd_fields.specs.Writing.{EmitsData, RefusesFields, canonical_octets};
+ghost use Rattle.drd_order.specs.dnw_encoder.declared.modes.RDataEncoding.TheVariants.{Other};
+ghost use Rattle.drd_order.specs.drd_fields.Fields.{rest, FieldsAt};
+ghost use Rattle.drd_order.specs.drd_fields.Equality.{Tells, fields_eq};
+ghost use Rattle.drd_order.specs.drd_fields.EqualityLaws.{data_equiv};
+ghost use Rattle.drd_order.specs.drd_fields.Reading.{Stops};
+ghost use Rattle.drd_order.specs.drd_fields.Writing.{EmitsData, RefusesFields, canonical_octets};
 ghost use Rattle.drd_keys.specs.Fields.{null_fields, null_kinds};
 ghost use Rattle.drd_keys.specs.Print.{null_print};
 
-use dnw_codes::{DecodeError, ProtoError, Restrict};
-use dnw_decoder::BinDecoder;
-use dnw_encoder::{BinEncodable, BinEncoder, RDataEncoding};
-use drd_fields::{DataFields, RecordDataDecodable, Rest, RestField, emit_data, read_data_within};
-use drd_words::fmt_base64;
+use drd_order::{
+    BinDecoder, BinEncodable, BinEncoder, DataFields, RDataEncoding, RecordDataDecodable, Rest,
+    RestField, emit_data, read_data_within,
+};
+use drd_words::{DecodeError, ProtoError, Restrict, fmt_base64};
 use std::alloc::Global;
 use std::fmt;
 

@@ -2,23 +2,20 @@
 ghost use Rattle.std.specs.Prelude.{◌≡◌, Some, ◌⊎◌, List, IfOk, IfErr, map};
 ghost use Rattle.std.specs.Iterator.{Drains, IsFinite};
 ghost use Rattle.std.specs.Cmp.{partial_equiv_from_equiv};
-ghost use Rattle.dnw_encoder.specs.declared.modes.RDataEncoding.TheVariants.{Other};
-ghost use Rattle.drd_fields.specs.Equality.{Tells, fields_eq};
-ghost use Rattle.drd_fields.specs.EqualityLaws.{data_equiv};
-ghost use Rattle.drd_fields.specs.Fields.{FieldsAt};
-ghost use Rattle.drd_fields.specs.Reading.{Stops};
-ghost use Rattle.drd_fields.specs.Writing.{EmitsData, RefusesFields, canonical_octets};
+ghost use Rattle.drd_order.specs.dnw_encoder.declared.modes.RDataEncoding.TheVariants.{Other};
+ghost use Rattle.drd_order.specs.drd_fields.Equality.{Tells, fields_eq};
+ghost use Rattle.drd_order.specs.drd_fields.EqualityLaws.{data_equiv};
+ghost use Rattle.drd_order.specs.drd_fields.Fields.{FieldsAt};
+ghost use Rattle.drd_order.specs.drd_fields.Reading.{Stops};
+ghost use Rattle.drd_order.specs.drd_fields.Writing.{EmitsData, RefusesFields, canonical_octets};
 ghost use Rattle.drd_keys.specs.Fields.{smimea_fields, smimea_kinds};
 ghost use Rattle.drd_keys.specs.Print.{smimea_print};
 ghost use Rattle.drd_words.specs.Word.{IsOutOfMemory};
 ghost use Rattle.drd_keys.specs.Texts.{IsSmimeaText};
 
 use crate::tlsa::{CertUsage, Matching, Selector, TLSA};
-use dnw_codes::{DecodeError, ParseError, ProtoError, Restrict};
-use dnw_decoder::BinDecoder;
-use dnw_encoder::{BinEncodable, BinEncoder};
-use dnw_name::Name;
-use drd_fields::RecordDataDecodable;
+use drd_order::{BinDecoder, BinEncodable, BinEncoder, RecordDataDecodable};
+use drd_words::{DecodeError, Name, ParseError, ProtoError, Restrict};
 use std::alloc::Global;
 use std::convert::AsStr;
 use std::fmt;
@@ -73,7 +70,7 @@ impl Deref for SMIMEA {
 
 impl RecordDataDecodable for SMIMEA {
     ghost use Rattle.std.specs.Prelude.{◌+◌, ◌≤◌, length as size, OnOk};
-    ghost use Rattle.dnw_decoder.specs.Reading.{IsWantOfMemory};
+    ghost use Rattle.drd_order.specs.dnw_decoder.Reading.{IsWantOfMemory};
     ghost use Rattle.drd_keys.specs.Tlsa.{IsNamedTlsa};
 
     ghost reads = { λ message place smimea end. FieldsAt message place (smimea_fields smimea) end × IsNamedTlsa smimea.0 };

@@ -4,23 +4,24 @@ ghost use Rattle.std.specs.Iterator.{Drains, IsFinite};
 ghost use Rattle.std.specs.Cmp.Rules.{comparing};
 ghost use Rattle.std.proofs.Common.{rules};
 ghost use Rattle.std.specs.Cmp.{partial_equiv_from_equiv};
-ghost use Rattle.dnw_encoder.specs.declared.modes.RDataEncoding.TheVariants.{Other};
-ghost use Rattle.drd_fields.specs.Fields.{octet, rest, FieldsAt};
-ghost use Rattle.drd_fields.specs.Equality.{Tells, fields_eq};
-ghost use Rattle.drd_fields.specs.EqualityLaws.{data_equiv};
-ghost use Rattle.drd_fields.specs.Reading.{Stops};
-ghost use Rattle.drd_fields.specs.Writing.{EmitsData, RefusesFields, canonical_octets};
+ghost use Rattle.drd_order.specs.dnw_encoder.declared.modes.RDataEncoding.TheVariants.{Other};
+ghost use Rattle.drd_order.specs.drd_fields.Fields.{octet, rest, FieldsAt};
+ghost use Rattle.drd_order.specs.drd_fields.Equality.{Tells, fields_eq};
+ghost use Rattle.drd_order.specs.drd_fields.EqualityLaws.{data_equiv};
+ghost use Rattle.drd_order.specs.drd_fields.Reading.{Stops};
+ghost use Rattle.drd_order.specs.drd_fields.Writing.{EmitsData, RefusesFields, canonical_octets};
 ghost use Rattle.drd_keys.specs.Fields.{sshfp_fields, sshfp_kinds};
 ghost use Rattle.drd_keys.specs.Print.{sshfp_print};
 ghost use Rattle.drd_words.specs.Word.{IsOutOfMemory};
 ghost use Rattle.drd_keys.specs.Texts.{IsSshfpText};
 
-use dnw_codes::{DecodeError, ParseError, ProtoError, Restrict};
-use dnw_decoder::BinDecoder;
-use dnw_encoder::{BinEncodable, BinEncoder, RDataEncoding};
-use dnw_name::Name;
-use drd_fields::{DataFields, RecordDataDecodable, Rest, RestField, emit_data, read_data_within};
-use drd_words::{HexData, fmt_hex, read_tokens};
+use drd_order::{
+    BinDecoder, BinEncodable, BinEncoder, DataFields, RDataEncoding, RecordDataDecodable, Rest,
+    RestField, emit_data, read_data_within,
+};
+use drd_words::{
+    DecodeError, HexData, Name, ParseError, ProtoError, Restrict, fmt_hex, read_tokens,
+};
 use std::alloc::Global;
 use std::convert::AsStr;
 use std::fmt;
@@ -206,7 +207,7 @@ impl SSHFP {
 
 impl RecordDataDecodable for SSHFP {
     ghost use Rattle.std.specs.Prelude.{◌+◌, ◌≤◌, length as size, OnOk};
-    ghost use Rattle.dnw_decoder.specs.Reading.{IsWantOfMemory};
+    ghost use Rattle.drd_order.specs.dnw_decoder.Reading.{IsWantOfMemory};
     ghost use Rattle.drd_keys.specs.Sshfp.{IsNamedSshfp};
 
     ghost reads = { λ message place sshfp end. FieldsAt message place (sshfp_fields sshfp) end × IsNamedSshfp sshfp };

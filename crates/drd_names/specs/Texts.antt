@@ -2,8 +2,8 @@
 use Rattle.std.specs.Prelude.{ℕ, List, [], ◌∷◌, ◌++◌, Option}
 use Rattle.std.specs.Fmt.{decimal, signed_decimal}
 use Rattle.std.specs.List.{flat_map}
-use Rattle.dnw_name.specs.DomainName.{DomainName}
-use Rattle.dnw_name.specs.NamePrint.{name_print}
+use Rattle.drd_words.specs.dnw_name.DomainName.{DomainName}
+use Rattle.drd_words.specs.dnw_name.NamePrint.{name_print}
 use Rattle.drd_words.specs.Word.{IsNumberWord, IsTtlWord, IsIntervalWord, IsNameWord}
 use Rattle.drd_words.specs.Words.{NoWords, OneThen}
 use Rattle.drd_names.specs.declared.aname.ANAME.{ANAME}

@@ -3,22 +3,21 @@ ghost use Rattle.std.specs.Prelude.{◌≡◌, ◌∷◌, ◌⊎◌, [], ℕ, Li
 ghost use Rattle.std.specs.Iterator.{Drains, IsFinite};
 ghost use Rattle.std.specs.Option.{option_copied};
 ghost use Rattle.std.specs.Cmp.{partial_equiv_from_equiv};
-ghost use Rattle.dnw_encoder.specs.declared.modes.RDataEncoding.TheVariants.{StandardRecord};
-ghost use Rattle.drd_fields.specs.Fields.{short, name, FieldsAt};
-ghost use Rattle.drd_fields.specs.Reading.{Misses, Stops};
-ghost use Rattle.drd_fields.specs.Equality.{AreFull, Tells, fields_eq};
-ghost use Rattle.drd_fields.specs.EqualityLaws.{data_equiv};
-ghost use Rattle.drd_fields.specs.Writing.{EmitsData, RefusesFields, canonical_octets};
+ghost use Rattle.drd_order.specs.dnw_encoder.declared.modes.RDataEncoding.TheVariants.{StandardRecord};
+ghost use Rattle.drd_order.specs.drd_fields.Fields.{short, name, FieldsAt};
+ghost use Rattle.drd_order.specs.drd_fields.Reading.{Misses, Stops};
+ghost use Rattle.drd_order.specs.drd_fields.Equality.{AreFull, Tells, fields_eq};
+ghost use Rattle.drd_order.specs.drd_fields.EqualityLaws.{data_equiv};
+ghost use Rattle.drd_order.specs.drd_fields.Writing.{EmitsData, RefusesFields, canonical_octets};
 ghost use Rattle.drd_names.specs.Fields.{mx_fields, mx_kinds};
 ghost use Rattle.drd_names.specs.Texts.{mx_print, IsMxText};
 ghost use Rattle.drd_words.specs.Word.{IsOutOfMemory};
 
-use dnw_codes::{DecodeError, ParseError, ProtoError, Restrict};
-use dnw_decoder::{BinDecodable, BinDecoder};
-use dnw_encoder::{BinEncodable, BinEncoder, RDataEncoding};
-use dnw_name::Name;
-use drd_fields::{DataFields, RecordDataDecodable, emit_data, read_data, read_exactly};
-use drd_words::read_tokens;
+use drd_order::{
+    BinDecodable, BinDecoder, BinEncodable, BinEncoder, DataFields, RDataEncoding,
+    RecordDataDecodable, emit_data, read_data, read_exactly,
+};
+use drd_words::{DecodeError, Name, ParseError, ProtoError, Restrict, read_tokens};
 use std::alloc::Global;
 use std::convert::AsStr;
 use std::fmt;

@@ -5,23 +5,24 @@ ghost use Rattle.std.specs.Int.{w32, cast_unsigned};
 ghost use Rattle.std.specs.Iterator.{Drains, IsFinite};
 ghost use Rattle.std.specs.Option.{option_copied};
 ghost use Rattle.std.specs.Cmp.{partial_equiv_from_equiv};
-ghost use Rattle.dnw_encoder.specs.declared.modes.RDataEncoding.TheVariants.{StandardRecord};
-ghost use Rattle.drd_fields.specs.Fields.{long, name, FieldsAt};
-ghost use Rattle.drd_fields.specs.Reading.{Misses, Stops};
-ghost use Rattle.drd_fields.specs.Equality.{AreFull, Tells, fields_eq};
-ghost use Rattle.drd_fields.specs.EqualityLaws.{data_equiv};
-ghost use Rattle.drd_fields.specs.Writing.{EmitsData, RefusesFields, canonical_octets};
+ghost use Rattle.drd_order.specs.dnw_encoder.declared.modes.RDataEncoding.TheVariants.{StandardRecord};
+ghost use Rattle.drd_order.specs.drd_fields.Fields.{long, name, FieldsAt};
+ghost use Rattle.drd_order.specs.drd_fields.Reading.{Misses, Stops};
+ghost use Rattle.drd_order.specs.drd_fields.Equality.{AreFull, Tells, fields_eq};
+ghost use Rattle.drd_order.specs.drd_fields.EqualityLaws.{data_equiv};
+ghost use Rattle.drd_order.specs.drd_fields.Writing.{EmitsData, RefusesFields, canonical_octets};
 ghost use Rattle.drd_names.specs.Fields.{soa_fields, soa_kinds};
 ghost use Rattle.drd_names.specs.Serials.{next_serial};
 ghost use Rattle.drd_names.specs.Texts.{soa_print, numbers_print, IsSoaText};
 ghost use Rattle.drd_words.specs.Word.{IsOutOfMemory};
 
-use dnw_codes::{DecodeError, ParseError, ProtoError, Restrict};
-use dnw_decoder::{BinDecodable, BinDecoder};
-use dnw_encoder::{BinEncodable, BinEncoder, RDataEncoding};
-use dnw_name::Name;
-use drd_fields::{DataFields, RecordDataDecodable, emit_three, read_data, read_exactly};
-use drd_words::{TimeInterval, TimeToLive, read_tokens};
+use drd_order::{
+    BinDecodable, BinDecoder, BinEncodable, BinEncoder, DataFields, RDataEncoding,
+    RecordDataDecodable, emit_three, read_data, read_exactly,
+};
+use drd_words::{
+    DecodeError, Name, ParseError, ProtoError, Restrict, TimeInterval, TimeToLive, read_tokens,
+};
 use std::alloc::Global;
 use std::convert::AsStr;
 use std::fmt;

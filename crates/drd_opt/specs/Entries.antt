@@ -3,8 +3,8 @@ use Rattle.std.specs.Prelude.{ℕ, ◌<◌, ◌≤◌, ◌^◌, Bool, not, List,
 use Rattle.std.proofs.Common.{◌⊎◌}
 use Rattle.std.specs.List.{All, filter, flat_map}
 use Rattle.std.specs.Fmt.{decimal}
-use Rattle.dnw_codes.specs.declared.error.ProtoError.{ProtoError}
-use Rattle.dnw_decoder.specs.Octets.{octets_16}
+use Rattle.drd_option.specs.dnw_codes.declared.error.ProtoError.{ProtoError}
+use Rattle.drd_option.specs.dnw_decoder.Octets.{octets_16}
 use Rattle.drd_option.specs.Codes.{edns_code_number, same_edns_code}
 use Rattle.drd_option.specs.Options.{option_octets, IsLong}
 use Rattle.hex.specs.Hex.{encode_lower}

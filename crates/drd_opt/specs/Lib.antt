@@ -10,3 +10,6 @@ pub mod OrderLaws
 pub mod Reading
 pub mod ReadingLaws
 pub mod SortedLaws
+pub use Rattle.drd_option.specs.drd_fields
+pub mod drd_option
+pub mod drd_order

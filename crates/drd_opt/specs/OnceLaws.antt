@@ -1,6 +1,6 @@
 -- Octets hold options in one way: those that are read have the same codes, by number, and the same octets.
 use Rattle.std.proofs.Common.{◌≡◌, ℕ, ◌-◌, ◌/◌, ◌%◌, List, [], ◌∷◌, ◌++◌, inl, inr, length, take, replicate, map, refl, sym, ap, subst, ◌∙◌, arith, append-nil}
-use Rattle.dnw_decoder.specs.Standing.{stands_same}
+use Rattle.drd_option.specs.dnw_decoder.Standing.{stands_same}
 use Rattle.drd_option.specs.Codes.{edns_code_number}
 use Rattle.drd_option.specs.Options.{option_octets, IsOptionOf}
 use Rattle.drd_option.specs.Subnets.{family_of, address_size, address_octets, prefix_octets, prefix_size, subnet_head, subnet_octets, SubnetAt}

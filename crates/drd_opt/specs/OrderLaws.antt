@@ -10,7 +10,7 @@ use Rattle.std.specs.List.{All}
 use Rattle.std.specs.Ordering.{on, nat_cmp, is_eq, is_gt, eq_by_cmp, ordering_then}
 use Rattle.std.specs.declared.cmp.Ordering.{Ordering}
 use Rattle.std.specs.declared.cmp.Ordering.TheVariants.{Less, Equal, Greater}
-use Rattle.dnw_decoder.specs.Octets.{octets_16}
+use Rattle.drd_option.specs.dnw_decoder.Octets.{octets_16}
 use Rattle.drd_order.specs.Order.{octets_cmp}
 use Rattle.drd_order.specs.OrderLaws.{short_orders, cmp_fronts, then_assoc}
 use Rattle.drd_opt.specs.Entries.{Entry, RawOption, Fits, raw_of, raw_octets, joined}

@@ -2,10 +2,10 @@
 use Rattle.std.specs.Prelude.{◌≡◌, ℕ, ◌+◌, ◌<◌, ◌≤◌, List, [], ◌∷◌, ◌++◌, length}
 use Rattle.std.proofs.Common.{◌⊎◌}
 use Rattle.std.specs.List.{All}
-use Rattle.dnw_codes.specs.declared.error.DecodeError.{DecodeError}
-use Rattle.dnw_codes.specs.declared.error.DecodeError.TheVariants.{InsufficientBytes}
-use Rattle.dnw_decoder.specs.Octets.{number_16, Stands}
-use Rattle.dnw_decoder.specs.Reading.{IsWantOfMemory}
+use Rattle.drd_option.specs.dnw_codes.declared.error.DecodeError.{DecodeError}
+use Rattle.drd_option.specs.dnw_codes.declared.error.DecodeError.TheVariants.{InsufficientBytes}
+use Rattle.drd_option.specs.dnw_decoder.Octets.{number_16, Stands}
+use Rattle.drd_option.specs.dnw_decoder.Reading.{IsWantOfMemory}
 use Rattle.drd_option.specs.Codes.{edns_code_number}
 use Rattle.drd_option.specs.Options.{IsOptionOf}
 use Rattle.drd_opt.specs.Entries.{Entry, RawOption, Fits, joined}

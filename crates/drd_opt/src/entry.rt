@@ -1,14 +1,12 @@
 //! An option under its code.
 ghost use Rattle.std.specs.Prelude.{◌≡◌, ◌≤◌, ◌⊎◌, length, IfErr, OnOk};
 ghost use Rattle.std.specs.Fmt.{WritesOnOk};
-ghost use Rattle.dnw_encoder.specs.Encoders.{state};
-ghost use Rattle.dnw_encoder.specs.Effects.{Writes, Puts, IsRefusal};
+ghost use Rattle.drd_option.specs.dnw_encoder.Encoders.{state};
+ghost use Rattle.drd_option.specs.dnw_encoder.Effects.{Writes, Puts, IsRefusal};
 ghost use Rattle.drd_option.specs.Options.{option_octets, IsLong};
 ghost use Rattle.drd_opt.specs.Entries.{raw_of, raw_octets, entry_print};
 
-use dnw_codes::ProtoError;
-use dnw_encoder::{BinEncodable, BinEncoder};
-use drd_option::{EdnsCode, EdnsOption};
+use drd_option::{BinEncodable, BinEncoder, EdnsCode, EdnsOption, ProtoError};
 use std::fmt;
 
 // Writes the code, the number of octets, and the octets.

@@ -4,6 +4,8 @@
 //! alone; of data that were read it is the order of their canonical octets, those of the options in order (RFC 4034 6.3).
 #![tactic(auto)]
 
+pub use drd_option::RecordDataDecodable;
+
 mod back;
 mod entry;
 mod equality;

@@ -4,9 +4,9 @@ ghost use Rattle.std.specs.Borrow.{sem};
 ghost use Rattle.std.specs.Cmp.{partial_equiv_from_equiv, po};
 ghost use Rattle.std.proofs.Common.{refl};
 ghost use Rattle.std.specs.Ordering.{as_partial_cmp};
-ghost use Rattle.dnw_encoder.specs.declared.modes.RDataEncoding.TheVariants.{Other};
-ghost use Rattle.drd_fields.specs.Fields.{rest};
-ghost use Rattle.drd_fields.specs.Writing.{EmitsData, RefusesFields};
+ghost use Rattle.drd_option.specs.dnw_encoder.declared.modes.RDataEncoding.TheVariants.{Other};
+ghost use Rattle.drd_option.specs.drd_fields.Fields.{rest};
+ghost use Rattle.drd_option.specs.drd_fields.Writing.{EmitsData, RefusesFields};
 ghost use Rattle.drd_option.specs.Codes.{edns_code_number};
 ghost use Rattle.drd_option.specs.Options.{option_code, option_octets};
 ghost use Rattle.drd_opt.specs.Entries.{Entry, entries_octets, entries_print, entries_without, options_of, raw_of, AreCountable, Fits, HasLong};
@@ -22,11 +22,10 @@ use crate::entry::{emit_entry, fmt_entry};
 use crate::equality::{are_same, sum_of_weights};
 use crate::order::cmp_entries;
 use crate::read::read_entries;
-use dnw_codes::{DecodeError, ProtoError, Restrict};
-use dnw_decoder::BinDecoder;
-use dnw_encoder::{BinEncodable, BinEncoder};
-use drd_fields::RecordDataDecodable;
-use drd_option::{EdnsCode, EdnsOption};
+use drd_option::{
+    BinDecoder, BinEncodable, BinEncoder, DecodeError, EdnsCode, EdnsOption, ProtoError,
+    RecordDataDecodable, Restrict,
+};
 use std::alloc::{AllocError, Global};
 use std::cmp::Ordering;
 use std::fmt;

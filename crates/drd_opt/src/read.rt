@@ -1,14 +1,12 @@
 //! Options that are read.
 ghost use Rattle.std.specs.Prelude.{◌≡◌, ◌+◌, ◌<◌, ◌≤◌, ◌⊎◌, ◌++◌, ℕ, [], List, length, drop, IfOk, IfErr, OnOk, OnErr, All, MatchOption};
-ghost use Rattle.dnw_codes.specs.declared.error.DecodeError.TheVariants.{InsufficientBytes};
-ghost use Rattle.dnw_decoder.specs.Octets.{Stands};
-ghost use Rattle.dnw_decoder.specs.Reading.{IsWantOfMemory};
+ghost use Rattle.drd_option.specs.dnw_codes.declared.error.DecodeError.TheVariants.{InsufficientBytes};
+ghost use Rattle.drd_option.specs.dnw_decoder.Octets.{Stands};
+ghost use Rattle.drd_option.specs.dnw_decoder.Reading.{IsWantOfMemory};
 ghost use Rattle.drd_opt.specs.Entries.{Entry, RawOption, Fits, raw, raw_octets};
 ghost use Rattle.drd_opt.specs.Reading.{HoldsEntries, IsEntryOf, IsRefused, EntriesAt, RefusesEntries, BreaksOff, EndsInside};
 
-use dnw_codes::{DecodeError, ProtoError};
-use dnw_decoder::BinDecoder;
-use drd_option::{EdnsCode, EdnsOption};
+use drd_option::{BinDecoder, DecodeError, EdnsCode, EdnsOption, ProtoError};
 use std::alloc::Global;
 
 // The code and the octets of the first option, which moves the decoder behind it; or nothing, where the octets break off.

@@ -1,1 +1,3 @@
 pub mod SubnetLemmas
+pub use Rattle.drd_words.proofs.dnw_name_lemmas
+pub mod drd_words_lemmas

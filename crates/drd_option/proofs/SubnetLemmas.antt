@@ -6,10 +6,10 @@ use Rattle.std.specs.Net.Addr.{ipv6_octets}
 use Rattle.std.specs.declared.net.ipv6_addr.Ipv6Addr.{Ipv6Addr}
 use Rattle.std.specs.declared.net.ip_addr.IpAddr.{IpAddr}
 use Rattle.std.specs.declared.net.ip_addr.IpAddr.TheVariants.{V4, V6}
-use Rattle.dnw_codes.specs.declared.error.DecodeError.{DecodeError}
-use Rattle.dnw_decoder.specs.Octets.{Stands}
-use Rattle.dnw_decoder.specs.Reading.{IsCut}
-use Rattle.dnw_decoder.specs.Standing.{stands_same, stands_within, cut_none}
+use Rattle.drd_fields.specs.dnw_codes.declared.error.DecodeError.{DecodeError}
+use Rattle.drd_fields.specs.dnw_decoder.Octets.{Stands}
+use Rattle.drd_fields.specs.dnw_decoder.Reading.{IsCut}
+use Rattle.drd_fields.specs.dnw_decoder.Standing.{stands_same, stands_within, cut_none}
 use Rattle.drd_option.specs.Subnets.{family_of, address_size, prefix_octets, subnet_head, AddressAt, SubnetAt, RefusesAddress}
 use Rattle.drd_option.specs.declared.subnet.ClientSubnet.{ClientSubnet}
 

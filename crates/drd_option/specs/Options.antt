@@ -4,8 +4,8 @@ use Rattle.std.specs.Cmp.Lexicographic.{pointwise, slice_cmp}
 use Rattle.std.specs.Ordering.{on, then_cmp, nat_cmp}
 use Rattle.std.specs.declared.cmp.Ordering.{Ordering}
 use Rattle.std.specs.Hash as fed
-use Rattle.dnw_codes.specs.declared.error.ProtoError.{ProtoError}
-use Rattle.dnw_codes.specs.declared.error.ProtoError.TheVariants.{Message}
+use Rattle.drd_fields.specs.dnw_codes.declared.error.ProtoError.{ProtoError}
+use Rattle.drd_fields.specs.dnw_codes.declared.error.ProtoError.TheVariants.{Message}
 use Rattle.drd_option.specs.Subnets.{subnet_octets, SubnetAt}
 use Rattle.drd_option.specs.declared.subnet.ClientSubnet.{ClientSubnet}
 use Rattle.drd_option.specs.declared.option.EdnsOption.{EdnsOption}

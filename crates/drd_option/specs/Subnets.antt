@@ -4,10 +4,10 @@ use Rattle.std.proofs.Common.{◌⊎◌}
 use Rattle.std.specs.Net.Addr.{ipv4_octets, ipv6_octets}
 use Rattle.std.specs.declared.net.ip_addr.IpAddr.{IpAddr}
 use Rattle.std.specs.declared.net.ip_addr.IpAddr.TheVariants.{V4, V6}
-use Rattle.dnw_codes.specs.declared.error.DecodeError.{DecodeError}
-use Rattle.dnw_codes.specs.declared.error.DecodeError.TheVariants.{UnknownAddressFamily}
-use Rattle.dnw_decoder.specs.Octets.{octets_16, Stands}
-use Rattle.dnw_decoder.specs.Reading.{IsCut}
+use Rattle.drd_fields.specs.dnw_codes.declared.error.DecodeError.{DecodeError}
+use Rattle.drd_fields.specs.dnw_codes.declared.error.DecodeError.TheVariants.{UnknownAddressFamily}
+use Rattle.drd_fields.specs.dnw_decoder.Octets.{octets_16, Stands}
+use Rattle.drd_fields.specs.dnw_decoder.Reading.{IsCut}
 use Rattle.drd_option.specs.declared.subnet.ClientSubnet.{ClientSubnet}
 
 -- The number of an address's family: 1 for IPv4, 2 for IPv6.

@@ -2,7 +2,7 @@
 use Rattle.std.specs.Prelude.{◌≡◌, ℕ, ◌<◌, ◌≤◌, ◌==◌, Bool, List, length}
 use Rattle.std.specs.List.{before_first, after_first, position_or_len}
 use Rattle.std.specs.Net.Grammar.{IsIpText}
-use Rattle.dnw_net.specs.Networks.{address_bits}
+use Rattle.drd_words.specs.dnw_net.Networks.{address_bits}
 use Rattle.drd_words.specs.Word.{IsNumberWord}
 use Rattle.drd_option.specs.declared.subnet.ClientSubnet.{ClientSubnet}
 

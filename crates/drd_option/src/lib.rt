@@ -1,6 +1,12 @@
 //! Options of EDNS (RFC 6891 6.1.2): their codes, and what they hold.
 #![tactic(auto)]
 
+pub use drd_fields::{
+    BinDecodable, BinDecoder, BinEncodable, BinEncoder, DecodeError, EncodedSize, NameEncoding,
+    ProtoError, RecordDataDecodable, Restrict,
+};
+pub use drd_words::{HEX, Label, LowerName, Name, RrKey};
+
 mod code;
 mod nsid;
 mod option;

@@ -2,7 +2,7 @@
 ghost use Rattle.std.specs.Prelude.{◌≡◌, ◌≤◌, ◌<◌, length, IfOk, IfErr};
 ghost use Rattle.drd_option.specs.Options.{IsLong};
 
-use dnw_codes::ProtoError;
+use drd_fields::ProtoError;
 use std::marker::Model;
 
 /// The identifier of a name server: octets of its own choice, none of them in a query (RFC 5001 2.3). A contract sees it as

@@ -5,8 +5,8 @@ ghost use Rattle.std.specs.Cmp.{partial_order_from_own_ties};
 ghost use Rattle.std.specs.Cmp.Rules.{comparing, hashing};
 ghost use Rattle.std.specs.Ordering.{as_partial_cmp};
 ghost use Rattle.std.specs.Cmp.Lexicographic.{pointwise};
-ghost use Rattle.dnw_codes.specs.ProtoError.{IsMemory};
-ghost use Rattle.dnw_encoder.specs.declared.modes.RDataEncoding.TheVariants.{Other};
+ghost use Rattle.drd_fields.specs.dnw_codes.ProtoError.{IsMemory};
+ghost use Rattle.drd_fields.specs.dnw_encoder.declared.modes.RDataEncoding.TheVariants.{Other};
 ghost use Rattle.drd_fields.specs.Fields.{rest};
 ghost use Rattle.drd_fields.specs.Writing.{EmitsData, RefusesFields};
 ghost use Rattle.drd_option.specs.Codes.{edns_code_number};
@@ -16,10 +16,9 @@ ghost use Rattle.hex.specs.Hex.{encode_lower};
 use crate::code::EdnsCode;
 use crate::nsid::NSIDPayload;
 use crate::subnet::ClientSubnet;
-use dnw_codes::ProtoError;
-use dnw_decoder::BinDecodable;
-use dnw_encoder::{BinEncodable, BinEncoder, RDataEncoding};
-use drd_fields::{RestField, emit_data};
+use drd_fields::{
+    BinDecodable, BinEncodable, BinEncoder, ProtoError, RDataEncoding, RestField, emit_data,
+};
 use drd_words::fmt_hex;
 use std::alloc::{AllocError, Global};
 use std::cmp::Ordering;

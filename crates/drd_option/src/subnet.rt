@@ -1,18 +1,18 @@
 //! The network of a client (RFC 7871).
 ghost use Rattle.std.specs.Prelude.{◌≡◌, ◌+◌, ◌≤◌, ◌<◌, ◌/◌, ◌%◌, ◌∷◌, ◌++◌, [], ℕ, false, length, take, get_or, min, IfOk, IfErr, OnOk, OnErr, replicate, ◌-◌};
 ghost use Rattle.std.specs.Net.Addr.{ipv4_octets, ipv6_octets};
-ghost use Rattle.dnw_decoder.specs.Octets.{Stands};
-ghost use Rattle.dnw_decoder.specs.Reading.{IsCut};
-ghost use Rattle.dnw_encoder.specs.declared.modes.RDataEncoding.TheVariants.{Other};
+ghost use Rattle.drd_fields.specs.dnw_decoder.Octets.{Stands};
+ghost use Rattle.drd_fields.specs.dnw_decoder.Reading.{IsCut};
+ghost use Rattle.drd_fields.specs.dnw_encoder.declared.modes.RDataEncoding.TheVariants.{Other};
 ghost use Rattle.drd_fields.specs.Fields.{rest};
 ghost use Rattle.drd_fields.specs.Writing.{EmitsData, RefusesFields};
 ghost use Rattle.drd_option.specs.Subnets.{subnet_octets, prefix_octets, family_of, AddressAt, SubnetAt, RefusesAddress, RefusesSubnet, subnet_head};
 
-use dnw_codes::{DecodeError, ProtoError};
-use dnw_decoder::{BinDecodable, BinDecoder};
-use dnw_encoder::{BinEncodable, BinEncoder, RDataEncoding};
-use dnw_net::IpNet;
-use drd_fields::{RestField, emit_data};
+use drd_fields::{
+    BinDecodable, BinDecoder, BinEncodable, BinEncoder, DecodeError, ProtoError, RDataEncoding,
+    RestField, emit_data,
+};
+use drd_words::IpNet;
 use std::alloc::Global;
 use std::net::{IpAddr, Ipv4Addr, Ipv6Addr};
 

@@ -1,12 +1,12 @@
 //! Subnets from texts.
 ghost use Rattle.std.specs.Prelude.{◌≡◌, ◌<◌, ◌≤◌, ℕ, MatchResult, IfOk, OnOk, OnErr};
-ghost use Rattle.dnw_net.specs.Networks.{address_bits};
+ghost use Rattle.drd_words.specs.dnw_net.Networks.{address_bits};
 ghost use Rattle.drd_words.specs.Word.{IsNumberWord};
 ghost use Rattle.drd_option.specs.Texts.{IsSubnetText};
 
 use crate::subnet::ClientSubnet;
-use dnw_codes::ParseError;
-use dnw_net::{IpNet, PrefixLenError};
+use drd_fields::ParseError;
+use drd_words::{IpNet, PrefixLenError};
 use std::net::IpAddr;
 use std::str::FromStr;
 

@@ -7,7 +7,7 @@ use Rattle.std.specs.Str.{str_to_ascii_lowercase}
 use Rattle.std.specs.Cmp.Lexicographic.{slice_cmp}
 use Rattle.std.specs.Ordering.{on, then_cmp, nat_cmp, ordering_then}
 use Rattle.std.specs.declared.cmp.Ordering.{Ordering}
-use Rattle.dnw_name.specs.NameHash.{name_writes}
+use Rattle.drd_fields.specs.dnw_name.NameHash.{name_writes}
 use Rattle.drd_fields.specs.Fields.{Field, octet, short, long, name, string, strings, rest}
 use Rattle.drd_fields.specs.Writing.{string_octets}
 use Rattle.drd_fields.specs.Equality.{canonical_field}

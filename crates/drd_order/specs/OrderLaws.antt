@@ -5,8 +5,8 @@ use Rattle.std.specs.Bool.{beq}
 use Rattle.std.specs.Cmp.{IsTotalOrder, on_total, ranked, nat_cmp_is}
 use Rattle.std.specs.Hash as fed
 use Rattle.std.specs.Hash.{HashWrites}
-use Rattle.dnw_name.specs.NameHash.{name_writes-alike}
-use Rattle.dnw_decoder.specs.Octets.{octets_16, octets_32}
+use Rattle.drd_fields.specs.dnw_name.NameHash.{name_writes-alike}
+use Rattle.drd_fields.specs.dnw_decoder.Octets.{octets_16, octets_32}
 use Rattle.std.specs.Cmp.Rules.{comparing}
 use Rattle.std.specs.Cmp.Lexicographic.{pointwise, slice_cmp, lists_ties, texts_ties}
 use Rattle.std.specs.List.{flat_map}
@@ -15,9 +15,9 @@ use Rattle.std.specs.declared.cmp.Ordering.{Ordering}
 use Rattle.std.specs.declared.cmp.Ordering.TheVariants.{Less, Equal, Greater}
 use Rattle.std.specs.Str.{str_to_ascii_lowercase}
 use Rattle.std.proofs.lemmas.List.Elements.{All-head, All-tail}
-use Rattle.dnw_label.specs.Label.{IsLabel, label_eq}
-use Rattle.dnw_encoder.specs.NameLaws.{lower_name}
-use Rattle.dnw_name.specs.DomainName.{DomainName, IsDomainName, name_eq}
+use Rattle.drd_fields.specs.dnw_label.Label.{IsLabel, label_eq}
+use Rattle.drd_fields.specs.dnw_encoder.NameLaws.{lower_name}
+use Rattle.drd_fields.specs.dnw_name.DomainName.{DomainName, IsDomainName, name_eq}
 use Rattle.drd_fields.specs.Fields.{Field, octet, short, long, name, string, strings, rest}
 use Rattle.drd_fields.specs.Writing.{string_octets}
 use Rattle.drd_fields.specs.Equality.{canonical_field, field_eq, fields_eq, Tells}

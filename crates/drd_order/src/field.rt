@@ -3,12 +3,11 @@ ghost use Rattle.std.specs.Prelude.{◌≡◌, ◌∷◌, [], ◌++◌, map};
 ghost use Rattle.drd_fields.specs.Fields.{octet, short, long, name, string};
 ghost use Rattle.std.specs.List.{fold};
 ghost use Rattle.std.specs.Ordering.{nat_cmp};
-ghost use Rattle.dnw_decoder.specs.Octets.{octets_32};
+ghost use Rattle.drd_fields.specs.dnw_decoder.Octets.{octets_32};
 ghost use Rattle.drd_order.specs.Order.{field_cmp, field_input, string_input, OrdersFronts};
 
 use crate::octets::{cmp_labels, cmp_string};
-use dnw_name::Name;
-use drd_fields::{DataField, StringField};
+use drd_fields::{DataField, Name, StringField};
 use std::cmp::Ordering;
 use std::hash::{Hash, Hasher};
 

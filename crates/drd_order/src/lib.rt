@@ -5,6 +5,12 @@
 //! names are fully qualified it is the order of their canonical octets, from the left. Neither takes memory.
 #![tactic(auto)]
 
+pub use drd_fields::{
+    BinDecodable, BinDecoder, BinEncodable, BinEncoder, CharacterString, CharacterStrings,
+    DataField, DataFields, RDataEncoding, ReadFields, RecordDataDecodable, Rest, RestField,
+    StringField, StringFields, emit_data, emit_three, read_data, read_data_within, read_exactly,
+};
+
 mod field;
 mod fields;
 mod octets;

@@ -7,7 +7,7 @@ ghost use Rattle.std.specs.Str.{str_to_ascii_lowercase};
 ghost use Rattle.drd_fields.specs.Writing.{string_octets};
 ghost use Rattle.drd_order.specs.Order.{octets_cmp, labels_octets};
 
-use dnw_label::LabelIter;
+use drd_fields::LabelIter;
 use std::cmp::Ordering;
 
 // The order of two strings behind their lengths.

@@ -6,17 +6,17 @@ use Rattle.std.proofs.lemmas.List.{take_more}
 use Rattle.std.proofs.lemmas.List.Concat.{flat_map-cons}
 use Rattle.std.proofs.lemmas.List.Elements.{Contains-get_or}
 use Rattle.std.proofs.lemmas.List.Folds.{length-flat_map-take}
-use Rattle.dnw_codes.specs.declared.error.ProtoError.{ProtoError}
-use Rattle.dnw_codes.specs.declared.error.ProtoError.TheVariants.{MaxBufferSizeExceeded}
-use Rattle.dnw_encoder.specs.Effects.{IsRefusal, Puts, Writes}
-use Rattle.dnw_encoder.specs.Laws.{writes_then, writes_same}
-use Rattle.dnw_encoder.specs.State.{State}
+use Rattle.drd_plain.specs.dnw_codes.declared.error.ProtoError.{ProtoError}
+use Rattle.drd_plain.specs.dnw_codes.declared.error.ProtoError.TheVariants.{MaxBufferSizeExceeded}
+use Rattle.drd_plain.specs.dnw_encoder.Effects.{IsRefusal, Puts, Writes}
+use Rattle.drd_plain.specs.dnw_encoder.Laws.{writes_then, writes_same}
+use Rattle.drd_plain.specs.dnw_encoder.State.{State}
 use Rattle.std.specs.Prelude.{String, Result, Ok, Err, IfErr, OnOk}
 use Rattle.std.specs.String.{string_bytes}
 use Rattle.std.specs.declared.alloc.Global.{Global}
-use Rattle.dnw_decoder.specs.Octets.{octets_16}
-use Rattle.drd_fields.specs.Writing.{IsTooLong}
-use Rattle.drd_fields.specs.WritingLaws.{puts_then, puts_none}
+use Rattle.drd_plain.specs.dnw_decoder.Octets.{octets_16}
+use Rattle.drd_plain.specs.drd_fields.Writing.{IsTooLong}
+use Rattle.drd_plain.specs.drd_fields.WritingLaws.{puts_then, puts_none}
 use Rattle.drd_params.specs.Writing.{RefusesValueWriting}
 use Rattle.drd_params.specs.declared.value.Alpn.{Alpn}
 use Rattle.drd_params.specs.declared.value.SvcParamValue.TheVariants as value

@@ -1,3 +1,4 @@
+mod NumberOctets
 pub mod Canonical
 mod Emitting
 mod Entries
@@ -8,3 +9,4 @@ mod Numbers
 mod ReadParams
 mod Strings
 mod SameLemmas
+pub use Rattle.drd_plain.proofs.drd_words_lemmas

@@ -6,11 +6,11 @@ use Rattle.std.specs.declared.alloc.Global.{Global}
 use Rattle.std.specs.String.{string_bytes}
 use Rattle.std.proofs.lemmas.List.Concat.{flat_map-cons}
 use Rattle.std.proofs.lemmas.List.Elements.{All-nil, All-cons}
-use Rattle.dnw_codes.specs.declared.error.DecodeError.{DecodeError}
-use Rattle.dnw_codes.specs.declared.error.DecodeError.TheVariants.{IncorrectRDataLengthRead, InsufficientBytes, SvcParamMissingValue, Utf8}
-use Rattle.dnw_decoder.specs.Octets.{octets_16}
-use Rattle.dnw_decoder.specs.Reading.{IsWantOfMemory}
-use Rattle.drd_fields.specs.Writing.{string_octets}
+use Rattle.drd_plain.specs.dnw_codes.declared.error.DecodeError.{DecodeError}
+use Rattle.drd_plain.specs.dnw_codes.declared.error.DecodeError.TheVariants.{IncorrectRDataLengthRead, InsufficientBytes, SvcParamMissingValue, Utf8}
+use Rattle.drd_plain.specs.dnw_decoder.Octets.{octets_16}
+use Rattle.drd_plain.specs.dnw_decoder.Reading.{IsWantOfMemory}
+use Rattle.drd_plain.specs.drd_fields.Writing.{string_octets}
 use Rattle.drd_plain.specs.declared.a.A.{A}
 use Rattle.drd_plain.specs.declared.aaaa.AAAA.{AAAA}
 use Rattle.drd_params.specs.EntryLaws.{key_laws, string_laws}

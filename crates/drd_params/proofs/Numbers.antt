@@ -1,14 +1,14 @@
 -- Numbers that stand one behind the other.
 use Rattle.std.proofs.Common.{◌≡◌, ℕ, ◌+◌, ◌⊎◌, inl, inr, List, [], ◌∷◌, ◌++◌, length, drop, refl, sym, ap, subst, ◌∙◌, arith}
 use Rattle.std.proofs.lemmas.List.{drop_at}
-use Rattle.dnw_codes.specs.declared.error.DecodeError.{DecodeError}
-use Rattle.dnw_codes.specs.declared.error.DecodeError.TheVariants.{InsufficientBytes}
-use Rattle.dnw_decoder.specs.Octets.{octets_16, octets_32, Stands}
-use Rattle.dnw_decoder.specs.Reading.{IsWantOfMemory}
-use Rattle.dnw_decoder.specs.Standing.{stands_joined, stands_split}
-use Rattle.drd_fields.specs.Fields.{Field, octet, short, long, name, string, strings, rest, Kind, an_octet, a_short, a_long, a_name, a_string, all_strings, the_rest, kinds_of, FieldsAt}
-use Rattle.drd_fields.specs.Reading.{Stops}
-use Rattle.drd_fields.specs.Writing.{fields_octets}
+use Rattle.drd_plain.specs.dnw_codes.declared.error.DecodeError.{DecodeError}
+use Rattle.drd_plain.specs.dnw_codes.declared.error.DecodeError.TheVariants.{InsufficientBytes}
+use Rattle.drd_plain.specs.dnw_decoder.Octets.{octets_16, octets_32, Stands}
+use Rattle.drd_plain.specs.dnw_decoder.Reading.{IsWantOfMemory}
+use Rattle.drd_plain.specs.dnw_decoder.Standing.{stands_joined, stands_split}
+use Rattle.drd_plain.specs.drd_fields.Fields.{Field, octet, short, long, name, string, strings, rest, Kind, an_octet, a_short, a_long, a_name, a_string, all_strings, the_rest, kinds_of, FieldsAt}
+use Rattle.drd_plain.specs.drd_fields.Reading.{Stops}
+use Rattle.drd_plain.specs.drd_fields.Writing.{fields_octets}
 
 abbrev pub AreNumbers : List Kind → Type 0
 AreNumbers [] = Unit {0}

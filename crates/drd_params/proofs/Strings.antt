@@ -6,7 +6,7 @@ use Rattle.std.specs.declared.alloc.Global.{Global}
 use Rattle.std.specs.Str.{IsUtf8}
 use Rattle.std.specs.String.{string_bytes}
 use Rattle.std.proofs.lemmas.Str.{IsUtf8-string_bytes}
-use Rattle.drd_fields.specs.Writing.{string_octets}
+use Rattle.drd_plain.specs.drd_fields.Writing.{string_octets}
 use Rattle.drd_params.specs.EntryLaws.{strings_same}
 
 pub no-text : (octets : List ℕ) (n k : ℕ) (rest text behind : List ℕ) → octets ≡ n ∷ rest → k ≡ n → text ≡ take k rest → behind ≡ drop k rest → length text ≡ k → (IsUtf8 text → ⊥) → (entry : String Global) (after : List ℕ) → octets ≡ string_octets (string_bytes entry) ++ after → ⊥

@@ -8,12 +8,12 @@ use Rattle.std.specs.Ordering.{ordering_then}
 use Rattle.std.specs.declared.cmp.Ordering.{Ordering}
 use Rattle.std.proofs.lemmas.List.{append-nil}
 use Rattle.std.specs.Net.Addr.{ipv4_bits}
-use Rattle.dnw_decoder.specs.Octets.{octets_16, octets_32}
-use Rattle.dnw_decoder.specs.Standing.{length-octets_32}
-use Rattle.drd_fields.specs.Equality.{Tells, TellsApart}
-use Rattle.drd_fields.specs.Writing.{string_octets}
-use Rattle.drd_order.specs.Order.{Orders, OrdersFronts, octets_cmp}
-use Rattle.drd_order.specs.OrderLaws.{cmp_fronts}
+use Rattle.drd_plain.specs.dnw_decoder.Octets.{octets_16, octets_32}
+use Rattle.drd_plain.specs.dnw_decoder.Standing.{length-octets_32}
+use Rattle.drd_plain.specs.drd_fields.Equality.{Tells, TellsApart}
+use Rattle.drd_plain.specs.drd_fields.Writing.{string_octets}
+use Rattle.drd_plain.specs.drd_order.Order.{Orders, OrdersFronts, octets_cmp}
+use Rattle.drd_plain.specs.drd_order.OrderLaws.{cmp_fronts}
 use Rattle.drd_plain.specs.declared.a.A.{A}
 use Rattle.drd_plain.specs.declared.aaaa.AAAA.{AAAA}
 use Rattle.drd_params.specs.Keys.{key_number}

@@ -10,3 +10,12 @@ pub mod Hashing
 pub mod Texts
 pub mod Print
 pub mod Equality
+pub use Rattle.drd_plain.specs.dnw_codes
+pub use Rattle.drd_plain.specs.dnw_decoder
+pub use Rattle.drd_plain.specs.dnw_encoder
+pub use Rattle.drd_plain.specs.dnw_label
+pub use Rattle.drd_plain.specs.dnw_name
+pub use Rattle.drd_plain.specs.drd_fields
+pub use Rattle.drd_plain.specs.drd_order
+pub mod drd_plain
+pub use Rattle.drd_plain.specs.drd_words

@@ -6,7 +6,7 @@ use Rattle.std.specs.String.{string_bytes}
 use Rattle.base64.specs.Engines.{standard}
 use Rattle.base64.specs.GeneralPurpose.{encode_of}
 use Rattle.drd_plain.specs.Print.{a_print, aaaa_print}
-use Rattle.drd_words.specs.Print.{escaped_print}
+use Rattle.drd_plain.specs.drd_words.Print.{escaped_print}
 use Rattle.drd_params.specs.Keys.{key_text}
 use Rattle.drd_params.specs.Params.{Param}
 use Rattle.drd_params.specs.declared.value.SvcParamValue.{SvcParamValue}

@@ -1,8 +1,8 @@
 -- Why octets are no value of a key, and no parameters.
 use Rattle.std.specs.Prelude.{ℕ, ◌≡◌, ◌<◌, List, length}
 use Rattle.std.proofs.Common.{◌⊎◌}
-use Rattle.dnw_codes.specs.declared.error.DecodeError.{DecodeError}
-use Rattle.dnw_codes.specs.declared.error.DecodeError.TheVariants.{IncorrectRDataLengthRead, InsufficientBytes, SvcParamMissingValue, Utf8}
+use Rattle.drd_plain.specs.dnw_codes.declared.error.DecodeError.{DecodeError}
+use Rattle.drd_plain.specs.dnw_codes.declared.error.DecodeError.TheVariants.{IncorrectRDataLengthRead, InsufficientBytes, SvcParamMissingValue, Utf8}
 use Rattle.drd_params.specs.Values.{IsValueOf, value_octets}
 use Rattle.drd_params.specs.declared.key.SvcParamKey.{SvcParamKey}
 use Rattle.drd_params.specs.declared.key.SvcParamKey.TheVariants as key

@@ -3,8 +3,8 @@ use Rattle.std.specs.Prelude.{ℕ, ◌<◌, ◌≤◌, List, [], length, All, St
 use Rattle.std.specs.declared.alloc.Global.{Global}
 use Rattle.std.specs.List.{flat_map}
 use Rattle.std.specs.String.{string_bytes}
-use Rattle.dnw_decoder.specs.Octets.{octets_16}
-use Rattle.drd_fields.specs.Writing.{string_octets, fields_octets}
+use Rattle.drd_plain.specs.dnw_decoder.Octets.{octets_16}
+use Rattle.drd_plain.specs.drd_fields.Writing.{string_octets, fields_octets}
 use Rattle.drd_plain.specs.Fields.{a_fields, aaaa_fields}
 use Rattle.drd_plain.specs.declared.a.A.{A}
 use Rattle.drd_plain.specs.declared.aaaa.AAAA.{AAAA}

@@ -1,6 +1,6 @@
 //! Addresses in lists.
 ghost use Rattle.std.specs.Prelude.{◌≡◌, ◌++◌, ◌⊎◌, List, length, IfOk, IfErr};
-ghost use Rattle.dnw_codes.specs.declared.error.DecodeError.TheVariants.{InsufficientBytes};
+ghost use Rattle.drd_plain.specs.dnw_codes.declared.error.DecodeError.TheVariants.{InsufficientBytes};
 ghost use Rattle.drd_plain.specs.Print.{a_print, aaaa_print};
 ghost use Rattle.drd_params.specs.Hashing.{one_write};
 ghost use Rattle.drd_params.specs.Texts.{IsAEntry, IsAaaaEntry};
@@ -8,11 +8,9 @@ ghost use Rattle.drd_params.specs.Values.{a_octets, aaaa_octets};
 
 use crate::entry::Entry;
 use crate::write::append;
-use dnw_codes::{DecodeError, ParseError, ProtoError};
-use dnw_decoder::{BinDecodable, BinDecoder};
-use dnw_encoder::BinEncoder;
-use drd_order::OrderField;
-use drd_plain::{A, AAAA};
+use drd_plain::{
+    A, AAAA, BinDecodable, BinDecoder, BinEncoder, DecodeError, OrderField, ParseError, ProtoError,
+};
 use std::alloc::Global;
 use std::cmp::Ordering;
 use std::fmt;
@@ -48,7 +46,7 @@ impl Entry for A {
         }
     }
 
-    #[tactic(auto, unfolding(dnw_decoder::specs::Octets::octets_32))]
+    #[tactic(auto, using(crate::proofs::NumberOctets::octets_of_32))]
     fn append(&self, octets: &mut Vec<u8>) -> Result<(), ProtoError> {
         append(octets, &self.0.to_bits().to_be_bytes())
     }
@@ -86,7 +84,7 @@ impl Entry for A {
         self.0.to_bits().cmp_field(&other.0.to_bits())
     }
 
-    #[tactic(auto, unfolding(dnw_decoder::specs::Octets::octets_32))]
+    #[tactic(auto, using(crate::proofs::NumberOctets::octets_of_32))]
     fn feed<H: Hasher>(&self, state: &mut H) {
         state.write(&self.0.to_bits().to_be_bytes());
     }

@@ -2,20 +2,17 @@
 ghost use Rattle.std.specs.Prelude.{◌≡◌, ◌++◌, ◌⊎◌, List, length, IfOk, IfErr};
 ghost use Rattle.std.specs.List.{flat_map};
 ghost use Rattle.std.specs.String.{string_bytes};
-ghost use Rattle.dnw_codes.specs.declared.error.DecodeError.TheVariants.{InsufficientBytes, Utf8};
-ghost use Rattle.dnw_decoder.specs.Reading.{IsWantOfMemory};
-ghost use Rattle.dnw_decoder.specs.Octets.{octets_16};
-ghost use Rattle.drd_fields.specs.Writing.{IsTooLong, string_octets};
+ghost use Rattle.drd_plain.specs.dnw_codes.declared.error.DecodeError.TheVariants.{InsufficientBytes, Utf8};
+ghost use Rattle.drd_plain.specs.dnw_decoder.Reading.{IsWantOfMemory};
+ghost use Rattle.drd_plain.specs.dnw_decoder.Octets.{octets_16};
+ghost use Rattle.drd_plain.specs.drd_fields.Writing.{IsTooLong, string_octets};
 ghost use Rattle.drd_params.specs.Keys.{key_number, key_text};
 ghost use Rattle.drd_params.specs.Hashing.{one_write, string_write};
 ghost use Rattle.drd_params.specs.Texts.{IsKeyText, IsProtocolText};
 
 use crate::key::SvcParamKey;
 use crate::write::{append, append_short};
-use dnw_codes::{DecodeError, ParseError, ProtoError};
-use dnw_encoder::BinEncoder;
-use drd_fields::StringField;
-use drd_order::OrderField;
+use drd_plain::{BinEncoder, DecodeError, OrderField, ParseError, ProtoError, StringField};
 use std::alloc::Global;
 use std::cmp::Ordering;
 use std::fmt;
@@ -25,15 +22,15 @@ use std::hash::Hasher;
 pub trait Entry: Sized + Drop {
     ghost use Rattle.std.specs.Prelude.{◌≡◌, ◌++◌, ◌<◌, ◌⊎◌, ℕ, List, length, IfOk, IfErr, OnOk};
     ghost use Rattle.std.specs.Fmt.{WritesOnOk};
-    ghost use Rattle.dnw_codes.specs.ProtoError.{IsMemory};
-    ghost use Rattle.dnw_codes.specs.declared.error.DecodeError.{DecodeError as Error};
-    ghost use Rattle.dnw_codes.specs.declared.error.ProtoError.{ProtoError as WriteError};
-    ghost use Rattle.dnw_decoder.specs.Reading.{IsWantOfMemory};
-    ghost use Rattle.dnw_encoder.specs.Encoders.{state};
-    ghost use Rattle.dnw_encoder.specs.Effects.{IsRefusal, Puts, Writes};
-    ghost use Rattle.drd_fields.specs.Equality.{TellsApart};
-    ghost use Rattle.drd_words.specs.Word.{IsOutOfMemory};
-    ghost use Rattle.drd_order.specs.Order.{OrdersFronts};
+    ghost use Rattle.drd_plain.specs.dnw_codes.ProtoError.{IsMemory};
+    ghost use Rattle.drd_plain.specs.dnw_codes.declared.error.DecodeError.{DecodeError as Error};
+    ghost use Rattle.drd_plain.specs.dnw_codes.declared.error.ProtoError.{ProtoError as WriteError};
+    ghost use Rattle.drd_plain.specs.dnw_decoder.Reading.{IsWantOfMemory};
+    ghost use Rattle.drd_plain.specs.dnw_encoder.Encoders.{state};
+    ghost use Rattle.drd_plain.specs.dnw_encoder.Effects.{IsRefusal, Puts, Writes};
+    ghost use Rattle.drd_plain.specs.drd_fields.Equality.{TellsApart};
+    ghost use Rattle.drd_plain.specs.drd_words.Word.{IsOutOfMemory};
+    ghost use Rattle.drd_plain.specs.drd_order.Order.{OrdersFronts};
     ghost use Rattle.std.specs.Hash.{HashWrites};
     ghost use Rattle.std.specs.List.{fold};
 
@@ -161,7 +158,7 @@ impl Entry for SvcParamKey {
         fmt::Display::fmt(self, f)
     }
 
-    #[tactic(auto, using(drd_fields::specs::EqualityLaws::short_apart))]
+    #[tactic(auto, using(crate::proofs::SameLemmas::short_apart))]
     fn same(&self, other: &SvcParamKey) -> bool {
         u16::from(*self) == u16::from(*other)
     }
@@ -252,7 +249,7 @@ impl Entry for String {
         f.write_str(self)
     }
 
-    #[tactic(auto, using(drd_fields::specs::EqualityLaws::string_apart))]
+    #[tactic(auto, using(crate::proofs::SameLemmas::string_apart))]
     fn same(&self, other: &String) -> bool {
         self.as_bytes() == other.as_bytes()
     }

@@ -1,6 +1,13 @@
 //! The parameters of SVCB data (RFC 9460 2.1): their keys and values.
 #![tactic(auto)]
 
+pub use drd_plain::{
+    A, AAAA, BinDecoder, BinEncodable, BinEncoder, DataField, DecodeError, HINFO, NAPTR, Name,
+    OrderField, ParseError, ProtoError, RDataEncoding, RecordDataDecodable, Rest, RestField,
+    Restrict, StringField, TXT, Words, emit_three, key_of, octet_at, read_data_within, read_tokens,
+    verify_flags, words_of_text,
+};
+
 mod addresses;
 mod emit;
 mod entry;

@@ -1,7 +1,7 @@
 -- One place holds one text.
 use Rattle.std.proofs.Common.{◌≡◌, ℕ, List, [], ◌∷◌, ap, sym, subst, arith, Bool, true, false}
-use Rattle.drd_fields.specs.Fields.{Field, short, name, string, StringAt, FieldsAt}
-use Rattle.drd_fields.specs.FieldLaws.{string_once}
+use Rattle.drd_order.specs.drd_fields.Fields.{Field, short, name, string, StringAt, FieldsAt}
+use Rattle.drd_order.specs.drd_fields.FieldLaws.{string_once}
 use Rattle.drd_plain.specs.declared.naptr.NAPTR.{NAPTR}
 use Rattle.drd_plain.specs.Fields.{naptr_fields, are_alphanumeric}
 

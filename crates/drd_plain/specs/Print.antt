@@ -4,7 +4,7 @@ use Rattle.std.specs.Fmt.{decimal}
 use Rattle.std.specs.List.{flat_map}
 use Rattle.std.specs.Net.Addr.{ipv4_octets, ipv6_segments}
 use Rattle.std.specs.Net.Text.{ipv4_text, ipv6_text}
-use Rattle.dnw_name.specs.NamePrint.{name_print}
+use Rattle.drd_words.specs.dnw_name.NamePrint.{name_print}
 use Rattle.drd_words.specs.Print.{escaped_print}
 use Rattle.drd_plain.specs.declared.a.A.{A}
 use Rattle.drd_plain.specs.declared.aaaa.AAAA.{AAAA}

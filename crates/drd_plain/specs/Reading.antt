@@ -1,10 +1,10 @@
 -- Why record data with conditions of their own are not read.
 use Rattle.std.specs.Prelude.{ℕ, ◌≡◌, false, List}
 use Rattle.std.proofs.Common.{◌⊎◌}
-use Rattle.dnw_codes.specs.declared.error.DecodeError.{DecodeError}
-use Rattle.dnw_codes.specs.declared.error.DecodeError.TheVariants.{Utf8}
-use Rattle.drd_fields.specs.Fields.{FieldsAt}
-use Rattle.drd_fields.specs.Reading.{Misses, Stops}
+use Rattle.drd_words.specs.dnw_codes.declared.error.DecodeError.{DecodeError}
+use Rattle.drd_words.specs.dnw_codes.declared.error.DecodeError.TheVariants.{Utf8}
+use Rattle.drd_order.specs.drd_fields.Fields.{FieldsAt}
+use Rattle.drd_order.specs.drd_fields.Reading.{Misses, Stops}
 use Rattle.drd_plain.specs.declared.naptr.NAPTR.{NAPTR}
 use Rattle.drd_plain.specs.Fields.{naptr_fields, naptr_kinds, are_alphanumeric}
 

@@ -1,7 +1,7 @@
 -- The words that record data are read from (RFC 1035 5.1).
 use Rattle.std.specs.Prelude.{ℕ, ◌≡◌, true, List, Option}
 use Rattle.std.specs.Net.Grammar.{IsIpv4Text, IsIpv6Text}
-use Rattle.dnw_name.specs.DomainName.{DomainName}
+use Rattle.drd_words.specs.dnw_name.DomainName.{DomainName}
 use Rattle.drd_words.specs.Word.{IsNumberWord, IsNameWord, IsStringWord}
 use Rattle.drd_words.specs.Words.{NoWords, OneThen, EachWord}
 use Rattle.drd_plain.specs.declared.a.A.{A}

@@ -3,24 +3,23 @@ ghost use Rattle.std.specs.Prelude.{◌≡◌, ◌∷◌, [], ℕ, List, ◌⊎�
 ghost use Rattle.std.specs.Net.Addr.{ipv4_octets, ipv4_bits};
 ghost use Rattle.std.specs.Net.Grammar.{Parses, IsIpv4Text};
 ghost use Rattle.std.specs.Cmp.{partial_equiv_from_equiv};
-ghost use Rattle.dnw_encoder.specs.declared.modes.RDataEncoding.TheVariants.{Other};
-ghost use Rattle.drd_fields.specs.Fields.{long, FieldsAt};
-ghost use Rattle.drd_fields.specs.Reading.{Misses, Stops};
-ghost use Rattle.drd_fields.specs.Equality.{AreFull, Tells, fields_eq};
-ghost use Rattle.drd_fields.specs.EqualityLaws.{data_equiv};
-ghost use Rattle.drd_fields.specs.Writing.{EmitsData, RefusesFields, canonical_octets};
+ghost use Rattle.drd_order.specs.dnw_encoder.declared.modes.RDataEncoding.TheVariants.{Other};
+ghost use Rattle.drd_order.specs.drd_fields.Fields.{long, FieldsAt};
+ghost use Rattle.drd_order.specs.drd_fields.Reading.{Misses, Stops};
+ghost use Rattle.drd_order.specs.drd_fields.Equality.{AreFull, Tells, fields_eq};
+ghost use Rattle.drd_order.specs.drd_fields.EqualityLaws.{data_equiv};
+ghost use Rattle.drd_order.specs.drd_fields.Writing.{EmitsData, RefusesFields, canonical_octets};
 ghost use Rattle.drd_plain.specs.Fields.{a_fields, a_kinds};
 ghost use Rattle.std.specs.Iterator.{Drains, IsFinite};
 ghost use Rattle.drd_words.specs.Word.{IsOutOfMemory};
 ghost use Rattle.drd_plain.specs.Words.{IsAText};
 ghost use Rattle.drd_plain.specs.Print.{a_print};
 
-use dnw_codes::{DecodeError, ParseError, ProtoError, Restrict};
-use dnw_decoder::{BinDecodable, BinDecoder};
-use dnw_encoder::{BinEncodable, BinEncoder, RDataEncoding};
-use dnw_name::Name;
-use drd_fields::{DataFields, RecordDataDecodable, emit_data, read_data, read_exactly};
-use drd_words::read_tokens;
+use drd_order::{
+    BinDecodable, BinDecoder, BinEncodable, BinEncoder, DataFields, RDataEncoding,
+    RecordDataDecodable, emit_data, read_data, read_exactly,
+};
+use drd_words::{DecodeError, Name, ParseError, ProtoError, Restrict, read_tokens};
 use std::alloc::Global;
 use std::convert::AsStr;
 use std::fmt;

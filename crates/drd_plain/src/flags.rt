@@ -3,9 +3,7 @@ ghost use Rattle.std.specs.Prelude.{◌≡◌};
 ghost use Rattle.drd_plain.specs.Fields.{are_alphanumeric};
 ghost use Rattle.drd_plain.specs.Words.{IsFlagsWord};
 
-use dnw_codes::ParseError;
-use dnw_name::Name;
-use drd_words::{CharacterString, Word};
+use drd_words::{CharacterString, Name, ParseError, Word};
 use std::alloc::Global;
 
 /// Whether flags are ASCII letters and digits (RFC 3403 4.1).

@@ -1,27 +1,26 @@
 //! HINFO (RFC 1035 3.3.2).
 ghost use Rattle.std.specs.Prelude.{◌≡◌, ◌∷◌, [], ◌++◌, ℕ, List, ◌⊎◌, Some, Ok, Err, Result, IfOk, IfErr, map};
 ghost use Rattle.std.specs.Cmp.{partial_equiv_from_equiv};
-ghost use Rattle.dnw_encoder.specs.declared.modes.RDataEncoding.TheVariants.{Other};
-ghost use Rattle.drd_fields.specs.Fields.{string, FieldsAt};
-ghost use Rattle.drd_fields.specs.Reading.{Misses, Stops};
-ghost use Rattle.drd_fields.specs.Equality.{AreFull, Tells, fields_eq};
-ghost use Rattle.drd_fields.specs.EqualityLaws.{data_equiv};
-ghost use Rattle.drd_fields.specs.Writing.{EmitsData, RefusesFields, canonical_octets};
+ghost use Rattle.drd_order.specs.dnw_encoder.declared.modes.RDataEncoding.TheVariants.{Other};
+ghost use Rattle.drd_order.specs.drd_fields.Fields.{string, FieldsAt};
+ghost use Rattle.drd_order.specs.drd_fields.Reading.{Misses, Stops};
+ghost use Rattle.drd_order.specs.drd_fields.Equality.{AreFull, Tells, fields_eq};
+ghost use Rattle.drd_order.specs.drd_fields.EqualityLaws.{data_equiv};
+ghost use Rattle.drd_order.specs.drd_fields.Writing.{EmitsData, RefusesFields, canonical_octets};
 ghost use Rattle.drd_plain.specs.Fields.{hinfo_fields, hinfo_kinds};
 ghost use Rattle.std.specs.Iterator.{Drains, IsFinite};
 ghost use Rattle.drd_words.specs.Word.{IsOutOfMemory};
 ghost use Rattle.drd_plain.specs.Words.{IsHinfoText};
 ghost use Rattle.drd_plain.specs.Print.{hinfo_print};
 
-use dnw_codes::{DecodeError, ParseError, ProtoError, Restrict};
-use dnw_decoder::{BinDecodable, BinDecoder};
-use dnw_encoder::{BinEncodable, BinEncoder, RDataEncoding};
-use dnw_name::Name;
-use drd_fields::{
-    CharacterString, DataFields, RecordDataDecodable, StringField, emit_three, read_data,
-    read_exactly,
+use drd_order::{
+    BinDecodable, BinDecoder, BinEncodable, BinEncoder, CharacterString, DataFields, RDataEncoding,
+    RecordDataDecodable, StringField, emit_three, read_data, read_exactly,
 };
-use drd_words::{CharacterString as Word, fmt_escaped, read_tokens};
+use drd_words::{
+    CharacterString as Word, DecodeError, Name, ParseError, ProtoError, Restrict, fmt_escaped,
+    read_tokens,
+};
 use std::alloc::Global;
 use std::convert::AsStr;
 use std::fmt;

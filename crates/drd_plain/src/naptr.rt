@@ -5,15 +5,15 @@ ghost use Rattle.std.specs.Cmp.{partial_equiv_from_equiv};
 ghost use Rattle.std.specs.Iterator.{Drains, IsFinite};
 ghost use Rattle.std.specs.Option.{option_copied};
 ghost use Rattle.drd_words.specs.Word.{IsOutOfMemory};
-ghost use Rattle.dnw_decoder.specs.Reading.{IsWantOfMemory};
-ghost use Rattle.dnw_encoder.specs.Effects.{Writes};
-ghost use Rattle.dnw_encoder.specs.Encoders.{state};
-ghost use Rattle.dnw_encoder.specs.declared.modes.RDataEncoding.TheVariants.{Canonical};
-ghost use Rattle.drd_fields.specs.Fields.{Field, short, string, name, FieldsAt, kinds_of};
-ghost use Rattle.drd_fields.specs.Reading.{Misses, Stops};
-ghost use Rattle.drd_fields.specs.Equality.{AreFull, Tells, fields_eq};
-ghost use Rattle.drd_fields.specs.EqualityLaws.{data_equiv};
-ghost use Rattle.drd_fields.specs.Writing.{EmitsData, RefusesFields, canonical_octets};
+ghost use Rattle.drd_order.specs.dnw_decoder.Reading.{IsWantOfMemory};
+ghost use Rattle.drd_order.specs.dnw_encoder.Effects.{Writes};
+ghost use Rattle.drd_order.specs.dnw_encoder.Encoders.{state};
+ghost use Rattle.drd_order.specs.dnw_encoder.declared.modes.RDataEncoding.TheVariants.{Canonical};
+ghost use Rattle.drd_order.specs.drd_fields.Fields.{Field, short, string, name, FieldsAt, kinds_of};
+ghost use Rattle.drd_order.specs.drd_fields.Reading.{Misses, Stops};
+ghost use Rattle.drd_order.specs.drd_fields.Equality.{AreFull, Tells, fields_eq};
+ghost use Rattle.drd_order.specs.drd_fields.EqualityLaws.{data_equiv};
+ghost use Rattle.drd_order.specs.drd_fields.Writing.{EmitsData, RefusesFields, canonical_octets};
 ghost use Rattle.drd_plain.specs.Fields.{naptr_fields, naptr_kinds, are_alphanumeric};
 ghost use Rattle.drd_plain.specs.Print.{naptr_print, naptr_strings, quoted};
 ghost use Rattle.drd_plain.specs.Reading.{MissesNaptr, RefusesNaptr};
@@ -21,15 +21,13 @@ ghost use Rattle.drd_plain.specs.Words.{IsNaptrText};
 
 use crate::flags::{Flags, verify_flags};
 use crate::print::fmt_quoted;
-use dnw_codes::{DecodeError, ParseError, ProtoError, Restrict};
-use dnw_decoder::{BinDecodable, BinDecoder};
-use dnw_encoder::{BinEncodable, BinEncoder, RDataEncoding};
-use dnw_name::Name;
-use drd_fields::{
-    CharacterString, DataField, DataFields, RecordDataDecodable, StringField, emit_data, read_data,
-    read_exactly,
+use drd_order::{
+    BinDecodable, BinDecoder, BinEncodable, BinEncoder, CharacterString, DataField, DataFields,
+    RDataEncoding, RecordDataDecodable, StringField, emit_data, read_data, read_exactly,
 };
-use drd_words::{CharacterString as Word, read_tokens};
+use drd_words::{
+    CharacterString as Word, DecodeError, Name, ParseError, ProtoError, Restrict, read_tokens,
+};
 use std::alloc::Global;
 use std::convert::AsStr;
 use std::fmt;

@@ -1,12 +1,12 @@
 //! TXT (RFC 1035 3.3.14).
 ghost use Rattle.std.specs.Prelude.{◌≡◌, ◌∷◌, [], ◌++◌, ℕ, List, ◌⊎◌, Some, Ok, Err, Result, IfOk, IfErr, map};
 ghost use Rattle.std.specs.Cmp.{partial_equiv_from_equiv};
-ghost use Rattle.dnw_encoder.specs.declared.modes.RDataEncoding.TheVariants.{Other};
-ghost use Rattle.drd_fields.specs.Fields.{strings, FieldsAt};
-ghost use Rattle.drd_fields.specs.Reading.{Stops};
-ghost use Rattle.drd_fields.specs.Equality.{AreFull, Tells, fields_eq};
-ghost use Rattle.drd_fields.specs.EqualityLaws.{data_equiv};
-ghost use Rattle.drd_fields.specs.Writing.{EmitsData, RefusesFields, canonical_octets};
+ghost use Rattle.drd_order.specs.dnw_encoder.declared.modes.RDataEncoding.TheVariants.{Other};
+ghost use Rattle.drd_order.specs.drd_fields.Fields.{strings, FieldsAt};
+ghost use Rattle.drd_order.specs.drd_fields.Reading.{Stops};
+ghost use Rattle.drd_order.specs.drd_fields.Equality.{AreFull, Tells, fields_eq};
+ghost use Rattle.drd_order.specs.drd_fields.EqualityLaws.{data_equiv};
+ghost use Rattle.drd_order.specs.drd_fields.Writing.{EmitsData, RefusesFields, canonical_octets};
 ghost use Rattle.drd_plain.specs.Fields.{txt_fields, txt_kinds, txt_strings};
 ghost use Rattle.std.specs.Iterator.{Drains, IsFinite};
 ghost use Rattle.drd_words.specs.Word.{IsOutOfMemory, IsStringWord};
@@ -14,14 +14,14 @@ ghost use Rattle.drd_words.specs.Words.{EachWord};
 ghost use Rattle.drd_plain.specs.Words.{IsTxtText};
 ghost use Rattle.drd_plain.specs.Print.{txt_print};
 
-use dnw_codes::{DecodeError, ParseError, ProtoError, Restrict};
-use dnw_decoder::BinDecoder;
-use dnw_encoder::{BinEncodable, BinEncoder, RDataEncoding};
-use dnw_name::Name;
-use drd_fields::{
-    CharacterStrings, DataFields, RecordDataDecodable, StringFields, emit_data, read_data_within,
+use drd_order::{
+    BinDecoder, BinEncodable, BinEncoder, CharacterStrings, DataFields, RDataEncoding,
+    RecordDataDecodable, StringFields, emit_data, read_data_within,
 };
-use drd_words::{CharacterString, Word, Words, fmt_escaped, read_tokens};
+use drd_words::{
+    CharacterString, DecodeError, Name, ParseError, ProtoError, Restrict, Word, Words, fmt_escaped,
+    read_tokens,
+};
 use std::alloc::{AllocError, Global};
 use std::convert::AsStr;
 use std::fmt;

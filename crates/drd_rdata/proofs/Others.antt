@@ -2,11 +2,11 @@
 use Rattle.std.specs.Prelude.{Result, Ok, Err, IfOk, IfErr}
 use Rattle.std.proofs.Common.{◌≡◌, ℕ, ◌⊎◌, inl, inr, List, refl}
 use Rattle.dnw_codes.specs.declared.error.DecodeError.{DecodeError}
-use Rattle.dnw_decoder.specs.Reading.{IsWantOfMemory}
+use Rattle.drd_types.specs.dnw_decoder.Reading.{IsWantOfMemory}
 use Rattle.dnw_codes.specs.declared.record_type.RecordType.{RecordType}
 use Rattle.dnw_codes.specs.declared.record_type.RecordType.TheVariants as kind
-use Rattle.drd_fields.specs.Fields.{FieldsAt}
-use Rattle.drd_keys.specs.Fields.{null_fields}
+use Rattle.drd_types.specs.drd_fields.Fields.{FieldsAt}
+use Rattle.drd_types.specs.drd_keys.Fields.{null_fields}
 use Rattle.drd_rdata.specs.declared.rdata.RData.{RData}
 use Rattle.drd_rdata.specs.declared.rdata.RData.TheVariants as rdata
 use Rattle.drd_rdata.specs.Reading.{Is, HoldsAs}

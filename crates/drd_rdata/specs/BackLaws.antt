@@ -2,34 +2,34 @@
 use Rattle.std.proofs.Common.{◌≡◌, ℕ, ◌++◌, Bool, true, false, List, [], ◌∷◌, map, refl, sym, ap, subst, ◌∙◌, arith}
 use Rattle.dnw_codes.specs.declared.record_type.RecordType.{RecordType}
 use Rattle.dnw_codes.specs.declared.record_type.RecordType.TheVariants as kind
-use Rattle.dnw_decoder.specs.Octets.{octets_16, octets_32, Stands}
-use Rattle.dnw_decoder.specs.Standing.{stands_same, length-octets_32}
-use Rattle.dnw_encoder.specs.Effects.{Sound, Holds}
-use Rattle.dnw_encoder.specs.State.{State, rdata_encoding}
-use Rattle.dnw_encoder.specs.declared.modes.NameEncoding.{NameEncoding}
-use Rattle.dnw_encoder.specs.declared.modes.NameEncoding.TheVariants.{Uncompressed}
-use Rattle.dnw_encoder.specs.declared.modes.RDataEncoding.TheVariants.{StandardRecord, Canonical, Other}
-use Rattle.dnw_types.specs.BitMapLaws.{maps_rise, read_once}
-use Rattle.dnw_types.specs.MapOrder.{tight_maps}
-use Rattle.dnw_types.specs.MapOrderLaws.{tight_written}
-use Rattle.drd_fields.specs.Fields.{rest, FieldsAt}
-use Rattle.drd_fields.specs.BackLaws.{fields_back, fields_full}
-use Rattle.drd_fields.specs.Equality.{Tells}
-use Rattle.drd_fields.specs.Writing.{canonical_octets, fields_octets}
-use Rattle.drd_plain.specs.Fields.{a_fields, aaaa_fields, hinfo_fields, naptr_fields, txt_fields}
-use Rattle.drd_names.specs.Fields.{aname_fields, cname_fields, mx_fields, ns_fields, ptr_fields, soa_fields, srv_fields}
-use Rattle.drd_keys.specs.Fields.{cert_fields, null_fields, openpgpkey_fields, smimea_fields, sshfp_fields, tlsa_fields}
-use Rattle.drd_caa.specs.Fields.{caa_fields}
+use Rattle.drd_types.specs.dnw_decoder.Octets.{octets_16, octets_32, Stands}
+use Rattle.drd_types.specs.dnw_decoder.Standing.{stands_same, length-octets_32}
+use Rattle.drd_types.specs.dnw_encoder.Effects.{Sound, Holds}
+use Rattle.drd_types.specs.dnw_encoder.State.{State, rdata_encoding}
+use Rattle.drd_types.specs.dnw_encoder.declared.modes.NameEncoding.{NameEncoding}
+use Rattle.drd_types.specs.dnw_encoder.declared.modes.NameEncoding.TheVariants.{Uncompressed}
+use Rattle.drd_types.specs.dnw_encoder.declared.modes.RDataEncoding.TheVariants.{StandardRecord, Canonical, Other}
+use Rattle.drd_types.specs.dnw_types.BitMapLaws.{maps_rise, read_once}
+use Rattle.drd_types.specs.dnw_types.MapOrder.{tight_maps}
+use Rattle.drd_types.specs.dnw_types.MapOrderLaws.{tight_written}
+use Rattle.drd_types.specs.drd_fields.Fields.{rest, FieldsAt}
+use Rattle.drd_types.specs.drd_fields.BackLaws.{fields_back, fields_full}
+use Rattle.drd_types.specs.drd_fields.Equality.{Tells}
+use Rattle.drd_types.specs.drd_fields.Writing.{canonical_octets, fields_octets}
+use Rattle.drd_svcb.specs.drd_plain.Fields.{a_fields, aaaa_fields, hinfo_fields, naptr_fields, txt_fields}
+use Rattle.drd_types.specs.drd_names.Fields.{aname_fields, cname_fields, mx_fields, ns_fields, ptr_fields, soa_fields, srv_fields}
+use Rattle.drd_types.specs.drd_keys.Fields.{cert_fields, null_fields, openpgpkey_fields, smimea_fields, sshfp_fields, tlsa_fields}
+use Rattle.drd_types.specs.drd_caa.Fields.{caa_fields}
 use Rattle.drd_svcb.specs.Fields.{svcb_fields}
-use Rattle.drd_csync.specs.Data.{csync_fields, csync_flags, CsyncAt}
-use Rattle.drd_csync.specs.declared.csync.CSYNC.{CSYNC}
-use Rattle.drd_opt.specs.BackLaws.{read_back}
-use Rattle.drd_opt.specs.FitLaws.{read_fit}
-use Rattle.drd_opt.specs.Entries.{RawOption, raw_octets, raw_of, entries_octets, joined}
-use Rattle.drd_opt.specs.Order.{sorted_by, canonical_entries}
-use Rattle.drd_opt.specs.Reading.{EntriesAt, HoldsEntries}
-use Rattle.drd_opt.specs.declared.opt.OPT.{OPT}
-use Rattle.drd_order.specs.Order.{octets_cmp}
+use Rattle.drd_types.specs.drd_csync.Data.{csync_fields, csync_flags, CsyncAt}
+use Rattle.drd_types.specs.drd_csync.declared.csync.CSYNC.{CSYNC}
+use Rattle.drd_types.specs.drd_opt.BackLaws.{read_back}
+use Rattle.drd_types.specs.drd_opt.FitLaws.{read_fit}
+use Rattle.drd_types.specs.drd_opt.Entries.{RawOption, raw_octets, raw_of, entries_octets, joined}
+use Rattle.drd_types.specs.drd_opt.Order.{sorted_by, canonical_entries}
+use Rattle.drd_types.specs.drd_opt.Reading.{EntriesAt, HoldsEntries}
+use Rattle.drd_types.specs.drd_opt.declared.opt.OPT.{OPT}
+use Rattle.drd_types.specs.drd_order.Order.{octets_cmp}
 use Rattle.std.specs.Ordering.{on}
 use Rattle.drd_rdata.specs.Reading.{HoldsAs}
 use Rattle.drd_rdata.specs.Order.{HasCanonical, type_number, form}

@@ -9,3 +9,11 @@ pub mod Order
 pub mod OrderLaws
 pub mod BackLaws
 pub mod WrittenLaws
+pub mod dnw_codes
+pub use Rattle.drd_types.specs.dnw_types
+pub use Rattle.drd_types.specs.drd_caa
+pub use Rattle.drd_types.specs.drd_csync
+pub use Rattle.drd_types.specs.drd_keys
+pub use Rattle.drd_types.specs.drd_names
+pub use Rattle.drd_types.specs.drd_opt
+pub mod drd_svcb

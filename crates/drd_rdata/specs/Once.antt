@@ -4,13 +4,13 @@ use Rattle.std.specs.Int.{w32}
 use Rattle.std.specs.Net.Addr.{ipv4_octets, ipv6_segments}
 use Rattle.std.specs.declared.net.ipv4_addr.Ipv4Addr.{Ipv4Addr}
 use Rattle.std.specs.declared.net.ipv6_addr.Ipv6Addr.{Ipv6Addr}
-use Rattle.drd_caa.specs.declared.caa.CAA.{CAA}
-use Rattle.drd_fields.specs.OnceLaws.{AllFit}
-use Rattle.drd_keys.specs.declared.tlsa.TLSA.{TLSA}
-use Rattle.drd_names.specs.declared.soa.SOA.{SOA}
-use Rattle.drd_opt.specs.Entries.{raw_of}
-use Rattle.drd_params.specs.Params.{params_octets}
-use Rattle.drd_plain.specs.Fields.{txt_strings}
+use Rattle.drd_types.specs.drd_caa.declared.caa.CAA.{CAA}
+use Rattle.drd_types.specs.drd_fields.OnceLaws.{AllFit}
+use Rattle.drd_types.specs.drd_keys.declared.tlsa.TLSA.{TLSA}
+use Rattle.drd_types.specs.drd_names.declared.soa.SOA.{SOA}
+use Rattle.drd_types.specs.drd_opt.Entries.{raw_of}
+use Rattle.drd_svcb.specs.drd_params.Params.{params_octets}
+use Rattle.drd_svcb.specs.drd_plain.Fields.{txt_strings}
 use Rattle.drd_svcb.specs.declared.svcb.SVCB.{SVCB}
 use Rattle.drd_rdata.specs.Writing.{written_fields}
 use Rattle.drd_rdata.specs.declared.rdata.RData.{RData}

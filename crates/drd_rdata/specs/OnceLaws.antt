@@ -9,43 +9,43 @@ use Rattle.std.specs.Net.Addr.{ipv4_octets, ipv4_bits, ipv6_segments}
 use Rattle.std.specs.declared.net.ipv4_addr.Ipv4Addr.{Ipv4Addr}
 use Rattle.dnw_codes.specs.declared.record_type.RecordType.{RecordType}
 use Rattle.dnw_codes.specs.declared.record_type.RecordType.TheVariants as kind
-use Rattle.dnw_decoder.specs.Octets.{octets_32}
-use Rattle.dnw_decoder.specs.Standing.{stands_same, length-octets_32}
-use Rattle.dnw_name.specs.DomainName.{DomainName}
-use Rattle.dnw_types.specs.BitMapLaws.{read_once}
-use Rattle.drd_caa.specs.Fields.{IsCaa, caa_fields, caa_flags}
-use Rattle.drd_caa.specs.declared.caa.CAA.{CAA}
-use Rattle.drd_csync.specs.Data.{csync_fields, csync_flags, CsyncAt}
-use Rattle.drd_csync.specs.declared.csync.CSYNC.{CSYNC}
-use Rattle.drd_fields.specs.Fields.{octet, long, name, rest, FieldsAt}
-use Rattle.drd_fields.specs.OnceLaws.{AllFit, fields_once}
-use Rattle.drd_keys.specs.Cert.{cert_type_number, cert_type_of, cert_algorithm_number, cert_algorithm_of, IsNamedCert}
-use Rattle.drd_keys.specs.Fields.{cert_fields, null_fields, openpgpkey_fields, smimea_fields, sshfp_fields, tlsa_fields}
-use Rattle.drd_keys.specs.Sshfp.{sshfp_algorithm_number, sshfp_algorithm_of, fingerprint_type_number, fingerprint_type_of, IsNamedSshfp}
-use Rattle.drd_keys.specs.Tlsa.{cert_usage_number, cert_usage_of, selector_number, selector_of, matching_number, matching_of, IsNamedTlsa}
-use Rattle.drd_keys.specs.declared.cert.CERT.{CERT}
-use Rattle.drd_keys.specs.declared.null.NULL.{NULL}
-use Rattle.drd_keys.specs.declared.openpgpkey.OPENPGPKEY.{OPENPGPKEY}
-use Rattle.drd_keys.specs.declared.sshfp.SSHFP.{SSHFP}
-use Rattle.drd_keys.specs.declared.tlsa.TLSA.{TLSA}
-use Rattle.drd_names.specs.Fields.{aname_fields, cname_fields, mx_fields, ns_fields, ptr_fields, soa_fields, srv_fields}
-use Rattle.drd_names.specs.declared.aname.ANAME.{ANAME}
-use Rattle.drd_names.specs.declared.cname.CNAME.{CNAME}
-use Rattle.drd_names.specs.declared.mx.MX.{MX}
-use Rattle.drd_names.specs.declared.ns.NS.{NS}
-use Rattle.drd_names.specs.declared.ptr.PTR.{PTR}
-use Rattle.drd_names.specs.declared.soa.SOA.{SOA}
-use Rattle.drd_names.specs.declared.srv.SRV.{SRV}
-use Rattle.drd_plain.specs.Fields.{a_fields, aaaa_fields, are_alphanumeric, hinfo_fields, naptr_fields, txt_fields}
-use Rattle.drd_plain.specs.declared.a.A.{A}
-use Rattle.drd_plain.specs.declared.aaaa.AAAA.{AAAA}
-use Rattle.drd_plain.specs.declared.hinfo.HINFO.{HINFO}
-use Rattle.drd_plain.specs.declared.naptr.NAPTR.{NAPTR}
-use Rattle.drd_plain.specs.declared.txt.TXT.{TXT}
-use Rattle.drd_opt.specs.Entries.{Entry, raw_of}
-use Rattle.drd_opt.specs.OnceLaws.{entries_once}
-use Rattle.drd_opt.specs.Reading.{EntriesAt}
-use Rattle.drd_params.specs.Params.{AreParams}
+use Rattle.drd_types.specs.dnw_decoder.Octets.{octets_32}
+use Rattle.drd_types.specs.dnw_decoder.Standing.{stands_same, length-octets_32}
+use Rattle.drd_svcb.specs.dnw_name.DomainName.{DomainName}
+use Rattle.drd_types.specs.dnw_types.BitMapLaws.{read_once}
+use Rattle.drd_types.specs.drd_caa.Fields.{IsCaa, caa_fields, caa_flags}
+use Rattle.drd_types.specs.drd_caa.declared.caa.CAA.{CAA}
+use Rattle.drd_types.specs.drd_csync.Data.{csync_fields, csync_flags, CsyncAt}
+use Rattle.drd_types.specs.drd_csync.declared.csync.CSYNC.{CSYNC}
+use Rattle.drd_types.specs.drd_fields.Fields.{octet, long, name, rest, FieldsAt}
+use Rattle.drd_types.specs.drd_fields.OnceLaws.{AllFit, fields_once}
+use Rattle.drd_types.specs.drd_keys.Cert.{cert_type_number, cert_type_of, cert_algorithm_number, cert_algorithm_of, IsNamedCert}
+use Rattle.drd_types.specs.drd_keys.Fields.{cert_fields, null_fields, openpgpkey_fields, smimea_fields, sshfp_fields, tlsa_fields}
+use Rattle.drd_types.specs.drd_keys.Sshfp.{sshfp_algorithm_number, sshfp_algorithm_of, fingerprint_type_number, fingerprint_type_of, IsNamedSshfp}
+use Rattle.drd_types.specs.drd_keys.Tlsa.{cert_usage_number, cert_usage_of, selector_number, selector_of, matching_number, matching_of, IsNamedTlsa}
+use Rattle.drd_types.specs.drd_keys.declared.cert.CERT.{CERT}
+use Rattle.drd_types.specs.drd_keys.declared.null.NULL.{NULL}
+use Rattle.drd_types.specs.drd_keys.declared.openpgpkey.OPENPGPKEY.{OPENPGPKEY}
+use Rattle.drd_types.specs.drd_keys.declared.sshfp.SSHFP.{SSHFP}
+use Rattle.drd_types.specs.drd_keys.declared.tlsa.TLSA.{TLSA}
+use Rattle.drd_types.specs.drd_names.Fields.{aname_fields, cname_fields, mx_fields, ns_fields, ptr_fields, soa_fields, srv_fields}
+use Rattle.drd_types.specs.drd_names.declared.aname.ANAME.{ANAME}
+use Rattle.drd_types.specs.drd_names.declared.cname.CNAME.{CNAME}
+use Rattle.drd_types.specs.drd_names.declared.mx.MX.{MX}
+use Rattle.drd_types.specs.drd_names.declared.ns.NS.{NS}
+use Rattle.drd_types.specs.drd_names.declared.ptr.PTR.{PTR}
+use Rattle.drd_types.specs.drd_names.declared.soa.SOA.{SOA}
+use Rattle.drd_types.specs.drd_names.declared.srv.SRV.{SRV}
+use Rattle.drd_svcb.specs.drd_plain.Fields.{a_fields, aaaa_fields, are_alphanumeric, hinfo_fields, naptr_fields, txt_fields}
+use Rattle.drd_svcb.specs.drd_plain.declared.a.A.{A}
+use Rattle.drd_svcb.specs.drd_plain.declared.aaaa.AAAA.{AAAA}
+use Rattle.drd_svcb.specs.drd_plain.declared.hinfo.HINFO.{HINFO}
+use Rattle.drd_svcb.specs.drd_plain.declared.naptr.NAPTR.{NAPTR}
+use Rattle.drd_svcb.specs.drd_plain.declared.txt.TXT.{TXT}
+use Rattle.drd_types.specs.drd_opt.Entries.{Entry, raw_of}
+use Rattle.drd_types.specs.drd_opt.OnceLaws.{entries_once}
+use Rattle.drd_types.specs.drd_opt.Reading.{EntriesAt}
+use Rattle.drd_svcb.specs.drd_params.Params.{AreParams}
 use Rattle.drd_svcb.specs.Fields.{svcb_fields}
 use Rattle.drd_svcb.specs.declared.svcb.SVCB.{SVCB}
 use Rattle.drd_rdata.specs.Once.{IsIpv4, IsIpv6, IsSoa, IsInRange, SameCaa, SameTlsa, SameSvcb, SameData}

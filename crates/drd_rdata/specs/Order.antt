@@ -8,24 +8,24 @@ use Rattle.std.specs.Option.{option_cmp}
 use Rattle.std.specs.Ordering.{on, then_cmp, nat_cmp, eq_by_cmp}
 use Rattle.std.specs.declared.cmp.Ordering.{Ordering}
 use Rattle.dnw_codes.specs.RecordType.{record_type_number}
-use Rattle.drd_fields.specs.Fields.{Field}
-use Rattle.drd_fields.specs.Equality.{AreFull}
-use Rattle.drd_fields.specs.Writing.{canonical_octets, fields_octets}
-use Rattle.drd_order.specs.Order.{fields_cmp, fields_input}
-use Rattle.drd_plain.specs.Fields.{a_fields, aaaa_fields, hinfo_fields, naptr_fields, txt_fields}
-use Rattle.drd_names.specs.Fields.{aname_fields, cname_fields, mx_fields, ns_fields, ptr_fields, soa_fields, srv_fields}
-use Rattle.drd_keys.specs.Fields.{cert_fields, null_fields, openpgpkey_fields, smimea_fields, sshfp_fields, tlsa_fields}
-use Rattle.drd_caa.specs.Fields.{caa_fields}
+use Rattle.drd_types.specs.drd_fields.Fields.{Field}
+use Rattle.drd_types.specs.drd_fields.Equality.{AreFull}
+use Rattle.drd_types.specs.drd_fields.Writing.{canonical_octets, fields_octets}
+use Rattle.drd_types.specs.drd_order.Order.{fields_cmp, fields_input}
+use Rattle.drd_svcb.specs.drd_plain.Fields.{a_fields, aaaa_fields, hinfo_fields, naptr_fields, txt_fields}
+use Rattle.drd_types.specs.drd_names.Fields.{aname_fields, cname_fields, mx_fields, ns_fields, ptr_fields, soa_fields, srv_fields}
+use Rattle.drd_types.specs.drd_keys.Fields.{cert_fields, null_fields, openpgpkey_fields, smimea_fields, sshfp_fields, tlsa_fields}
+use Rattle.drd_types.specs.drd_caa.Fields.{caa_fields}
 use Rattle.drd_svcb.specs.Fields.{svcb_code, svcb_fields}
-use Rattle.drd_csync.specs.declared.csync.CSYNC.{CSYNC}
-use Rattle.drd_csync.specs.Data.{csync_fields}
-use Rattle.drd_csync.specs.Equality.{IsWritten}
-use Rattle.drd_csync.specs.Order.{csync_cmp, csync_input}
-use Rattle.drd_opt.specs.declared.opt.OPT.{OPT}
-use Rattle.drd_opt.specs.Entries.{Fits, raw_of}
-use Rattle.drd_opt.specs.Equality.{entries_input}
-use Rattle.drd_opt.specs.Order.{entries_cmp, canonical_entries}
-use Rattle.drd_params.specs.Params.{AreParams}
+use Rattle.drd_types.specs.drd_csync.declared.csync.CSYNC.{CSYNC}
+use Rattle.drd_types.specs.drd_csync.Data.{csync_fields}
+use Rattle.drd_types.specs.drd_csync.Equality.{IsWritten}
+use Rattle.drd_types.specs.drd_csync.Order.{csync_cmp, csync_input}
+use Rattle.drd_types.specs.drd_opt.declared.opt.OPT.{OPT}
+use Rattle.drd_types.specs.drd_opt.Entries.{Fits, raw_of}
+use Rattle.drd_types.specs.drd_opt.Equality.{entries_input}
+use Rattle.drd_types.specs.drd_opt.Order.{entries_cmp, canonical_entries}
+use Rattle.drd_svcb.specs.drd_params.Params.{AreParams}
 use Rattle.drd_svcb.specs.declared.svcb.SVCB.{SVCB}
 use Rattle.drd_svcb.specs.Hashing.{svcb_input}
 use Rattle.drd_rdata.specs.declared.rdata.RData.{RData}

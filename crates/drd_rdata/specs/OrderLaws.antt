@@ -12,42 +12,42 @@ use Rattle.std.proofs.lemmas.Cmp.{eq_by_cmp_equiv}
 use Rattle.std.specs.Hash as fed
 use Rattle.std.specs.Hash.{HashWrites}
 use Rattle.dnw_codes.specs.declared.record_type.RecordType.{RecordType}
-use Rattle.drd_fields.specs.Fields.{Field}
-use Rattle.drd_order.specs.Order.{Orders, fields_cmp, fields_input}
-use Rattle.drd_fields.specs.Equality.{Tells}
-use Rattle.drd_fields.specs.EqualityLaws.{same_octets, found_same, true_or_false}
-use Rattle.drd_order.specs.OrderLaws.{fields_total, fields_ties, fields-alike}
-use Rattle.drd_order.specs.OrderLaws.{data_total as fields_data_total}
+use Rattle.drd_types.specs.drd_fields.Fields.{Field}
+use Rattle.drd_types.specs.drd_order.Order.{Orders, fields_cmp, fields_input}
+use Rattle.drd_types.specs.drd_fields.Equality.{Tells}
+use Rattle.drd_types.specs.drd_fields.EqualityLaws.{same_octets, found_same, true_or_false}
+use Rattle.drd_types.specs.drd_order.OrderLaws.{fields_total, fields_ties, fields-alike}
+use Rattle.drd_types.specs.drd_order.OrderLaws.{data_total as fields_data_total}
 use Rattle.drd_svcb.specs.Fields.{svcb_code}
 use Rattle.drd_svcb.specs.Hashing.{svcb_input, svcb-alike}
-use Rattle.drd_csync.specs.Order.{csync_cmp, csync_input}
-use Rattle.drd_csync.specs.OrderLaws.{csync_total, csync_ties, csync_fed}
-use Rattle.drd_opt.specs.OrderLaws.{entries_total, entries_tie}
-use Rattle.drd_opt.specs.EqualityLaws.{entries_fed}
-use Rattle.drd_opt.specs.Equality.{entries_input}
-use Rattle.drd_plain.specs.declared.a.A.{A}
-use Rattle.drd_plain.specs.declared.aaaa.AAAA.{AAAA}
-use Rattle.drd_names.specs.declared.aname.ANAME.{ANAME}
-use Rattle.drd_caa.specs.declared.caa.CAA.{CAA}
-use Rattle.drd_keys.specs.declared.cert.CERT.{CERT}
-use Rattle.drd_names.specs.declared.cname.CNAME.{CNAME}
-use Rattle.drd_csync.specs.declared.csync.CSYNC.{CSYNC}
-use Rattle.drd_plain.specs.declared.hinfo.HINFO.{HINFO}
+use Rattle.drd_types.specs.drd_csync.Order.{csync_cmp, csync_input}
+use Rattle.drd_types.specs.drd_csync.OrderLaws.{csync_total, csync_ties, csync_fed}
+use Rattle.drd_types.specs.drd_opt.OrderLaws.{entries_total, entries_tie}
+use Rattle.drd_types.specs.drd_opt.EqualityLaws.{entries_fed}
+use Rattle.drd_types.specs.drd_opt.Equality.{entries_input}
+use Rattle.drd_svcb.specs.drd_plain.declared.a.A.{A}
+use Rattle.drd_svcb.specs.drd_plain.declared.aaaa.AAAA.{AAAA}
+use Rattle.drd_types.specs.drd_names.declared.aname.ANAME.{ANAME}
+use Rattle.drd_types.specs.drd_caa.declared.caa.CAA.{CAA}
+use Rattle.drd_types.specs.drd_keys.declared.cert.CERT.{CERT}
+use Rattle.drd_types.specs.drd_names.declared.cname.CNAME.{CNAME}
+use Rattle.drd_types.specs.drd_csync.declared.csync.CSYNC.{CSYNC}
+use Rattle.drd_svcb.specs.drd_plain.declared.hinfo.HINFO.{HINFO}
 use Rattle.drd_svcb.specs.declared.https.HTTPS.{HTTPS}
-use Rattle.drd_names.specs.declared.mx.MX.{MX}
-use Rattle.drd_plain.specs.declared.naptr.NAPTR.{NAPTR}
-use Rattle.drd_keys.specs.declared.null.NULL.{NULL}
-use Rattle.drd_names.specs.declared.ns.NS.{NS}
-use Rattle.drd_keys.specs.declared.openpgpkey.OPENPGPKEY.{OPENPGPKEY}
-use Rattle.drd_opt.specs.declared.opt.OPT.{OPT}
-use Rattle.drd_names.specs.declared.ptr.PTR.{PTR}
-use Rattle.drd_keys.specs.declared.smimea.SMIMEA.{SMIMEA}
-use Rattle.drd_names.specs.declared.soa.SOA.{SOA}
-use Rattle.drd_names.specs.declared.srv.SRV.{SRV}
-use Rattle.drd_keys.specs.declared.sshfp.SSHFP.{SSHFP}
+use Rattle.drd_types.specs.drd_names.declared.mx.MX.{MX}
+use Rattle.drd_svcb.specs.drd_plain.declared.naptr.NAPTR.{NAPTR}
+use Rattle.drd_types.specs.drd_keys.declared.null.NULL.{NULL}
+use Rattle.drd_types.specs.drd_names.declared.ns.NS.{NS}
+use Rattle.drd_types.specs.drd_keys.declared.openpgpkey.OPENPGPKEY.{OPENPGPKEY}
+use Rattle.drd_types.specs.drd_opt.declared.opt.OPT.{OPT}
+use Rattle.drd_types.specs.drd_names.declared.ptr.PTR.{PTR}
+use Rattle.drd_types.specs.drd_keys.declared.smimea.SMIMEA.{SMIMEA}
+use Rattle.drd_types.specs.drd_names.declared.soa.SOA.{SOA}
+use Rattle.drd_types.specs.drd_names.declared.srv.SRV.{SRV}
+use Rattle.drd_types.specs.drd_keys.declared.sshfp.SSHFP.{SSHFP}
 use Rattle.drd_svcb.specs.declared.svcb.SVCB.{SVCB}
-use Rattle.drd_keys.specs.declared.tlsa.TLSA.{TLSA}
-use Rattle.drd_plain.specs.declared.txt.TXT.{TXT}
+use Rattle.drd_types.specs.drd_keys.declared.tlsa.TLSA.{TLSA}
+use Rattle.drd_svcb.specs.drd_plain.declared.txt.TXT.{TXT}
 use Rattle.drd_rdata.specs.declared.rdata.RData.{RData}
 use Rattle.drd_rdata.specs.declared.rdata.RData.TheVariants as rdata
 use Rattle.drd_rdata.specs.Order.{type_number, form, rdata_fields, csync_of, opt_of, svcb_of, opt_cmp, svcb_cmp, data_cmp, rdata_cmp, rdata_eq, data_input, rdata_input}

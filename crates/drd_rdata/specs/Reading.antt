@@ -6,22 +6,22 @@ use Rattle.dnw_codes.specs.declared.error.DecodeError.TheVariants.{IncorrectRDat
 use Rattle.dnw_codes.specs.RecordType.{record_type_number}
 use Rattle.dnw_codes.specs.declared.record_type.RecordType.{RecordType}
 use Rattle.dnw_codes.specs.declared.record_type.RecordType.TheVariants as kind
-use Rattle.drd_fields.specs.Fields.{FieldsAt}
-use Rattle.drd_fields.specs.Reading.{Misses, Stops}
-use Rattle.drd_plain.specs.Fields.{a_fields, a_kinds, aaaa_fields, aaaa_kinds, are_alphanumeric, hinfo_fields, hinfo_kinds, naptr_fields, txt_fields, txt_kinds}
-use Rattle.drd_names.specs.Fields.{aname_fields, cname_fields, mx_fields, mx_kinds, ns_fields, one_name, ptr_fields, soa_fields, soa_kinds, srv_fields, srv_kinds}
-use Rattle.drd_keys.specs.Cert.{IsNamedCert}
-use Rattle.drd_keys.specs.Fields.{cert_fields, cert_kinds, null_fields, null_kinds, openpgpkey_fields, openpgpkey_kinds, smimea_fields, smimea_kinds, sshfp_fields, sshfp_kinds, tlsa_fields, tlsa_kinds}
-use Rattle.drd_keys.specs.Sshfp.{IsNamedSshfp}
-use Rattle.drd_keys.specs.Tlsa.{IsNamedTlsa}
-use Rattle.drd_caa.specs.Fields.{IsCaa, caa_fields}
+use Rattle.drd_types.specs.drd_fields.Fields.{FieldsAt}
+use Rattle.drd_types.specs.drd_fields.Reading.{Misses, Stops}
+use Rattle.drd_svcb.specs.drd_plain.Fields.{a_fields, a_kinds, aaaa_fields, aaaa_kinds, are_alphanumeric, hinfo_fields, hinfo_kinds, naptr_fields, txt_fields, txt_kinds}
+use Rattle.drd_types.specs.drd_names.Fields.{aname_fields, cname_fields, mx_fields, mx_kinds, ns_fields, one_name, ptr_fields, soa_fields, soa_kinds, srv_fields, srv_kinds}
+use Rattle.drd_types.specs.drd_keys.Cert.{IsNamedCert}
+use Rattle.drd_types.specs.drd_keys.Fields.{cert_fields, cert_kinds, null_fields, null_kinds, openpgpkey_fields, openpgpkey_kinds, smimea_fields, smimea_kinds, sshfp_fields, sshfp_kinds, tlsa_fields, tlsa_kinds}
+use Rattle.drd_types.specs.drd_keys.Sshfp.{IsNamedSshfp}
+use Rattle.drd_types.specs.drd_keys.Tlsa.{IsNamedTlsa}
+use Rattle.drd_types.specs.drd_caa.Fields.{IsCaa, caa_fields}
 use Rattle.drd_svcb.specs.Fields.{svcb_fields}
-use Rattle.drd_plain.specs.Reading.{MissesNaptr}
-use Rattle.drd_caa.specs.Reading.{RefusesCaa}
-use Rattle.drd_csync.specs.Data.{CsyncAt}
-use Rattle.drd_csync.specs.Reading.{RefusesCsync}
-use Rattle.drd_opt.specs.Reading.{EntriesAt, RefusesEntries}
-use Rattle.drd_params.specs.Params.{AreParams}
+use Rattle.drd_svcb.specs.drd_plain.Reading.{MissesNaptr}
+use Rattle.drd_types.specs.drd_caa.Reading.{RefusesCaa}
+use Rattle.drd_types.specs.drd_csync.Data.{CsyncAt}
+use Rattle.drd_types.specs.drd_csync.Reading.{RefusesCsync}
+use Rattle.drd_types.specs.drd_opt.Reading.{EntriesAt, RefusesEntries}
+use Rattle.drd_svcb.specs.drd_params.Params.{AreParams}
 use Rattle.drd_svcb.specs.Reading.{RefusesSvcb}
 use Rattle.drd_rdata.specs.Types.{type_of}
 use Rattle.drd_rdata.specs.declared.rdata.RData.{RData}

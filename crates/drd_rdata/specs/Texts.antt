@@ -1,18 +1,18 @@
 -- Record data of every type in words (RFC 1035 5.1).
 use Rattle.std.specs.Prelude.{ℕ, Bool, true, false, List, [], codes, Option}
-use Rattle.dnw_name.specs.DomainName.{DomainName}
+use Rattle.drd_svcb.specs.dnw_name.DomainName.{DomainName}
 use Rattle.dnw_codes.specs.declared.record_type.RecordType.{RecordType}
 use Rattle.dnw_codes.specs.declared.record_type.RecordType.TheVariants as kind
-use Rattle.dnw_name.specs.NamePrint.{name_print}
-use Rattle.drd_caa.specs.Print.{caa_print}
-use Rattle.drd_caa.specs.Words.{IsCaaText}
-use Rattle.drd_csync.specs.Texts.{IsCsyncText, csync_print}
-use Rattle.drd_keys.specs.Print.{cert_print, null_print, openpgpkey_print, smimea_print, sshfp_print, tlsa_print}
-use Rattle.drd_keys.specs.Texts.{IsCertText, IsOpenpgpkeyText, IsSmimeaText, IsSshfpText, IsTlsaText}
-use Rattle.drd_names.specs.Texts.{IsAnameText, IsCnameText, IsMxText, IsNsText, IsPtrText, IsSoaText, IsSrvText, mx_print, soa_print, srv_print}
-use Rattle.drd_opt.specs.Entries.{entries_print}
-use Rattle.drd_plain.specs.Print.{a_print, aaaa_print, hinfo_print, naptr_print, txt_print}
-use Rattle.drd_plain.specs.Words.{IsAText, IsAaaaText, IsHinfoText, IsNaptrText, IsTxtText}
+use Rattle.drd_svcb.specs.dnw_name.NamePrint.{name_print}
+use Rattle.drd_types.specs.drd_caa.Print.{caa_print}
+use Rattle.drd_types.specs.drd_caa.Words.{IsCaaText}
+use Rattle.drd_types.specs.drd_csync.Texts.{IsCsyncText, csync_print}
+use Rattle.drd_types.specs.drd_keys.Print.{cert_print, null_print, openpgpkey_print, smimea_print, sshfp_print, tlsa_print}
+use Rattle.drd_types.specs.drd_keys.Texts.{IsCertText, IsOpenpgpkeyText, IsSmimeaText, IsSshfpText, IsTlsaText}
+use Rattle.drd_types.specs.drd_names.Texts.{IsAnameText, IsCnameText, IsMxText, IsNsText, IsPtrText, IsSoaText, IsSrvText, mx_print, soa_print, srv_print}
+use Rattle.drd_types.specs.drd_opt.Entries.{entries_print}
+use Rattle.drd_svcb.specs.drd_plain.Print.{a_print, aaaa_print, hinfo_print, naptr_print, txt_print}
+use Rattle.drd_svcb.specs.drd_plain.Words.{IsAText, IsAaaaText, IsHinfoText, IsNaptrText, IsTxtText}
 use Rattle.drd_svcb.specs.Print.{svcb_print}
 use Rattle.drd_svcb.specs.Texts.{IsSvcbText}
 use Rattle.drd_rdata.specs.Reading.{Is}

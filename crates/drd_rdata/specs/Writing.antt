@@ -2,23 +2,23 @@
 use Rattle.std.specs.Prelude.{ℕ, ◌≡◌, false, List, [], ◌∷◌}
 use Rattle.std.proofs.Common.{◌⊎◌}
 use Rattle.dnw_codes.specs.declared.error.ProtoError.{ProtoError}
-use Rattle.dnw_encoder.specs.State.{State, is_lower}
-use Rattle.dnw_encoder.specs.declared.modes.RDataEncoding.TheVariants.{StandardRecord, Canonical, Other}
-use Rattle.dnw_types.specs.MapOrder.{tight_maps}
-use Rattle.drd_fields.specs.Fields.{Field, rest, FieldsAt}
-use Rattle.drd_fields.specs.Writing.{EmitsData, RefusesFields, encoded_fields, fields_octets}
-use Rattle.drd_plain.specs.Fields.{a_fields, aaaa_fields, hinfo_fields, naptr_fields, txt_fields}
-use Rattle.drd_names.specs.Fields.{aname_fields, cname_fields, mx_fields, ns_fields, ptr_fields, soa_fields, srv_fields}
-use Rattle.drd_keys.specs.Fields.{cert_fields, null_fields, openpgpkey_fields, smimea_fields, sshfp_fields, tlsa_fields}
-use Rattle.drd_caa.specs.Fields.{caa_fields}
+use Rattle.drd_types.specs.dnw_encoder.State.{State, is_lower}
+use Rattle.drd_types.specs.dnw_encoder.declared.modes.RDataEncoding.TheVariants.{StandardRecord, Canonical, Other}
+use Rattle.drd_types.specs.dnw_types.MapOrder.{tight_maps}
+use Rattle.drd_types.specs.drd_fields.Fields.{Field, rest, FieldsAt}
+use Rattle.drd_types.specs.drd_fields.Writing.{EmitsData, RefusesFields, encoded_fields, fields_octets}
+use Rattle.drd_svcb.specs.drd_plain.Fields.{a_fields, aaaa_fields, hinfo_fields, naptr_fields, txt_fields}
+use Rattle.drd_types.specs.drd_names.Fields.{aname_fields, cname_fields, mx_fields, ns_fields, ptr_fields, soa_fields, srv_fields}
+use Rattle.drd_types.specs.drd_keys.Fields.{cert_fields, null_fields, openpgpkey_fields, smimea_fields, sshfp_fields, tlsa_fields}
+use Rattle.drd_types.specs.drd_caa.Fields.{caa_fields}
 use Rattle.drd_svcb.specs.Fields.{svcb_fields}
-use Rattle.dnw_encoder.specs.declared.modes.NameEncoding.{NameEncoding}
+use Rattle.drd_types.specs.dnw_encoder.declared.modes.NameEncoding.{NameEncoding}
 use Rattle.drd_rdata.specs.Order.{rdata_fields}
-use Rattle.drd_csync.specs.Data.{CsyncAt, csync_fields}
-use Rattle.drd_csync.specs.Writing.{EmitsCsync, RefusesEmit}
-use Rattle.drd_opt.specs.Entries.{entries_octets, AreCountable, HasLong}
+use Rattle.drd_types.specs.drd_csync.Data.{CsyncAt, csync_fields}
+use Rattle.drd_types.specs.drd_csync.Writing.{EmitsCsync, RefusesEmit}
+use Rattle.drd_types.specs.drd_opt.Entries.{entries_octets, AreCountable, HasLong}
 use Rattle.drd_svcb.specs.Writing.{RefusesEmit as RefusesService}
-use Rattle.dnw_encoder.specs.Effects.{IsRefusal, Sound}
+use Rattle.drd_types.specs.dnw_encoder.Effects.{IsRefusal, Sound}
 use Rattle.drd_rdata.specs.declared.rdata.RData.{RData}
 use Rattle.drd_rdata.specs.declared.rdata.RData.TheVariants as rdata
 

@@ -7,17 +7,17 @@ use Rattle.dnw_codes.specs.declared.error.DecodeError.{DecodeError}
 use Rattle.dnw_codes.specs.declared.error.ProtoError.{ProtoError}
 use Rattle.dnw_codes.specs.declared.record_type.RecordType.{RecordType}
 use Rattle.dnw_codes.specs.declared.record_type.RecordType.TheVariants as kind
-use Rattle.dnw_encoder.specs.State.{State}
-use Rattle.drd_fields.specs.Fields.{Field, octet, short, long, name, string, strings, rest, FieldAt, FieldsAt, StringsAt}
-use Rattle.drd_fields.specs.Writing.{HasLongString, HaveLongString, SomeTooLong, RefusesFields, fields_octets}
-use Rattle.drd_opt.specs.Entries.{Entry, Fits, raw_of, entries_octets, HasLong}
+use Rattle.drd_types.specs.dnw_encoder.State.{State}
+use Rattle.drd_types.specs.drd_fields.Fields.{Field, octet, short, long, name, string, strings, rest, FieldAt, FieldsAt, StringsAt}
+use Rattle.drd_types.specs.drd_fields.Writing.{HasLongString, HaveLongString, SomeTooLong, RefusesFields, fields_octets}
+use Rattle.drd_types.specs.drd_opt.Entries.{Entry, Fits, raw_of, entries_octets, HasLong}
 use Rattle.dnw_codes.specs.declared.error.ProtoError.TheVariants.{Message}
-use Rattle.drd_option.specs.Options.{option_octets, IsLong}
-use Rattle.drd_opt.specs.FitLaws.{read_fit}
-use Rattle.drd_plain.specs.Fields.{a_fields, aaaa_fields, hinfo_fields, naptr_fields, txt_fields}
-use Rattle.drd_names.specs.Fields.{aname_fields, cname_fields, mx_fields, ns_fields, ptr_fields, soa_fields, srv_fields}
-use Rattle.drd_keys.specs.Fields.{cert_fields, null_fields, openpgpkey_fields, smimea_fields, sshfp_fields, tlsa_fields}
-use Rattle.drd_caa.specs.Fields.{caa_fields}
+use Rattle.drd_types.specs.drd_option.Options.{option_octets, IsLong}
+use Rattle.drd_types.specs.drd_opt.FitLaws.{read_fit}
+use Rattle.drd_svcb.specs.drd_plain.Fields.{a_fields, aaaa_fields, hinfo_fields, naptr_fields, txt_fields}
+use Rattle.drd_types.specs.drd_names.Fields.{aname_fields, cname_fields, mx_fields, ns_fields, ptr_fields, soa_fields, srv_fields}
+use Rattle.drd_types.specs.drd_keys.Fields.{cert_fields, null_fields, openpgpkey_fields, smimea_fields, sshfp_fields, tlsa_fields}
+use Rattle.drd_types.specs.drd_caa.Fields.{caa_fields}
 use Rattle.drd_svcb.specs.Fields.{svcb_fields}
 use Rattle.drd_rdata.specs.Reading.{HoldsAs, ReadsAs}
 use Rattle.drd_rdata.specs.Writing.{RefusesRData, WantsRoom}

@@ -6,34 +6,34 @@ use Rattle.std.specs.Str.{str_to_ascii_lowercase}
 use Rattle.dnw_codes.specs.declared.error.ProtoError.{ProtoError}
 use Rattle.dnw_codes.specs.declared.record_type.RecordType.{RecordType}
 use Rattle.dnw_codes.specs.declared.record_type.RecordType.TheVariants as kind
-use Rattle.dnw_name.specs.DomainName.{DomainName, domain_name}
-use Rattle.dnw_decoder.specs.Octets.{octets_16, octets_32}
-use Rattle.dnw_decoder.specs.SpellingLaws.{spelled_within}
-use Rattle.dnw_decoder.specs.Standing.{length-octets_32}
-use Rattle.dnw_encoder.specs.Effects.{Holds, IsRefusal}
-use Rattle.dnw_encoder.specs.Laws.{holds_map}
-use Rattle.dnw_encoder.specs.Names.{encoded_name}
-use Rattle.dnw_encoder.specs.State.{State, is_lower, rdata_encoding}
-use Rattle.dnw_encoder.specs.declared.modes.NameEncoding.{NameEncoding}
-use Rattle.dnw_encoder.specs.declared.modes.RDataEncoding.{RDataEncoding}
-use Rattle.dnw_encoder.specs.declared.modes.RDataEncoding.TheVariants.{StandardRecord, Canonical, Other}
-use Rattle.dnw_types.specs.BitMapLaws.{maps_rise, written_once}
-use Rattle.dnw_types.specs.BitMaps.{AreTightMaps}
-use Rattle.dnw_types.specs.MapOrder.{tight_maps}
-use Rattle.dnw_types.specs.MapOrderLaws.{tight_written}
-use Rattle.drd_caa.specs.Fields.{caa_fields}
-use Rattle.drd_csync.specs.Data.{csync_fields, csync_flags, CsyncAt}
-use Rattle.drd_csync.specs.Writing.{RefusesEmit}
-use Rattle.drd_csync.specs.declared.csync.CSYNC.{CSYNC}
-use Rattle.drd_fields.specs.BackLaws.{fields_full}
-use Rattle.drd_fields.specs.Equality.{AreFull}
-use Rattle.drd_fields.specs.FieldLaws.{strings_forward, fields_forward}
-use Rattle.drd_fields.specs.Fields.{Field, octet, short, long, name, string, strings, rest, FieldAt, FieldsAt}
-use Rattle.drd_fields.specs.Writing.{EmitsData, EndsWithin, RefusesFields, encoded_fields, fields_octets}
-use Rattle.drd_fields.specs.WritingLaws.{refused_front}
-use Rattle.drd_keys.specs.Fields.{cert_fields, null_fields, openpgpkey_fields, smimea_fields, sshfp_fields, tlsa_fields}
-use Rattle.drd_names.specs.Fields.{aname_fields, cname_fields, mx_fields, ns_fields, ptr_fields, soa_fields, srv_fields}
-use Rattle.drd_plain.specs.Fields.{a_fields, aaaa_fields, hinfo_fields, naptr_fields, txt_fields}
+use Rattle.drd_svcb.specs.dnw_name.DomainName.{DomainName, domain_name}
+use Rattle.drd_types.specs.dnw_decoder.Octets.{octets_16, octets_32}
+use Rattle.drd_types.specs.dnw_decoder.SpellingLaws.{spelled_within}
+use Rattle.drd_types.specs.dnw_decoder.Standing.{length-octets_32}
+use Rattle.drd_types.specs.dnw_encoder.Effects.{Holds, IsRefusal}
+use Rattle.drd_types.specs.dnw_encoder.Laws.{holds_map}
+use Rattle.drd_types.specs.dnw_encoder.Names.{encoded_name}
+use Rattle.drd_types.specs.dnw_encoder.State.{State, is_lower, rdata_encoding}
+use Rattle.drd_types.specs.dnw_encoder.declared.modes.NameEncoding.{NameEncoding}
+use Rattle.drd_types.specs.dnw_encoder.declared.modes.RDataEncoding.{RDataEncoding}
+use Rattle.drd_types.specs.dnw_encoder.declared.modes.RDataEncoding.TheVariants.{StandardRecord, Canonical, Other}
+use Rattle.drd_types.specs.dnw_types.BitMapLaws.{maps_rise, written_once}
+use Rattle.drd_types.specs.dnw_types.BitMaps.{AreTightMaps}
+use Rattle.drd_types.specs.dnw_types.MapOrder.{tight_maps}
+use Rattle.drd_types.specs.dnw_types.MapOrderLaws.{tight_written}
+use Rattle.drd_types.specs.drd_caa.Fields.{caa_fields}
+use Rattle.drd_types.specs.drd_csync.Data.{csync_fields, csync_flags, CsyncAt}
+use Rattle.drd_types.specs.drd_csync.Writing.{RefusesEmit}
+use Rattle.drd_types.specs.drd_csync.declared.csync.CSYNC.{CSYNC}
+use Rattle.drd_types.specs.drd_fields.BackLaws.{fields_full}
+use Rattle.drd_types.specs.drd_fields.Equality.{AreFull}
+use Rattle.drd_types.specs.drd_fields.FieldLaws.{strings_forward, fields_forward}
+use Rattle.drd_types.specs.drd_fields.Fields.{Field, octet, short, long, name, string, strings, rest, FieldAt, FieldsAt}
+use Rattle.drd_types.specs.drd_fields.Writing.{EmitsData, EndsWithin, RefusesFields, encoded_fields, fields_octets}
+use Rattle.drd_types.specs.drd_fields.WritingLaws.{refused_front}
+use Rattle.drd_types.specs.drd_keys.Fields.{cert_fields, null_fields, openpgpkey_fields, smimea_fields, sshfp_fields, tlsa_fields}
+use Rattle.drd_types.specs.drd_names.Fields.{aname_fields, cname_fields, mx_fields, ns_fields, ptr_fields, soa_fields, srv_fields}
+use Rattle.drd_svcb.specs.drd_plain.Fields.{a_fields, aaaa_fields, hinfo_fields, naptr_fields, txt_fields}
 use Rattle.drd_svcb.specs.Fields.{svcb_fields}
 use Rattle.drd_rdata.specs.Reading.{HoldsAs}
 use Rattle.drd_rdata.specs.Writing.{EmitsRData, RefusesRData, WritesInFull, written_octets}

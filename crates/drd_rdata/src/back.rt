@@ -1,8 +1,8 @@
 //! What was written reads back.
 ghost use Rattle.std.specs.Prelude.{◌≡◌, ℕ, List, true};
 ghost use Rattle.dnw_codes.specs.declared.record_type.RecordType.{RecordType as Kind};
-ghost use Rattle.dnw_encoder.specs.Effects.{Sound, Holds};
-ghost use Rattle.dnw_encoder.specs.State.{State};
+ghost use Rattle.drd_types.specs.dnw_encoder.Effects.{Sound, Holds};
+ghost use Rattle.drd_types.specs.dnw_encoder.State.{State};
 ghost use Rattle.drd_rdata.specs.Order.{rdata_eq};
 ghost use Rattle.drd_rdata.specs.Reading.{HoldsAs};
 ghost use Rattle.drd_rdata.specs.Writing.{EmitsRData};

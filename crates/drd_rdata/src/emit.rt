@@ -3,7 +3,7 @@ ghost use Rattle.drd_rdata.specs.Writing.{EmitsRData, RefusesRData};
 
 use crate::rdata::RData;
 use dnw_codes::ProtoError;
-use dnw_encoder::{BinEncodable, BinEncoder};
+use drd_types::{BinEncodable, BinEncoder};
 
 impl BinEncodable for RData {
     ghost emits = { EmitsRData };

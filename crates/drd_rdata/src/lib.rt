@@ -2,6 +2,13 @@
 //! type of their record.
 #![tactic(auto)]
 
+pub use dnw_codes::{DNSClass, DecodeError, ProtoError, RecordType};
+pub use drd_svcb::{HTTPS, SVCB};
+pub use drd_types::{
+    ANAME, CAA, CERT, CNAME, CSYNC, KeyValue, MX, NS, NULL, OPENPGPKEY, OPT, PTR, SMIMEA, SOA, SRV,
+    SSHFP, TLSA, cert, is_tag, read_iodef, read_issuer, sshfp, tlsa,
+};
+
 mod back;
 mod emit;
 mod order;

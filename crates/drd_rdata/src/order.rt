@@ -3,24 +3,22 @@ ghost use Rattle.std.specs.Prelude.{◌≡◌, List, ℕ, Some};
 ghost use Rattle.std.proofs.Common.{refl};
 ghost use Rattle.std.specs.Cmp.{po, partial_equiv_from_equiv};
 ghost use Rattle.std.specs.List.{fold};
-ghost use Rattle.drd_fields.specs.Equality.{Tells};
+ghost use Rattle.drd_types.specs.drd_fields.Equality.{Tells};
 ghost use Rattle.dnw_codes.specs.declared.record_type.RecordType.{RecordType};
-ghost use Rattle.drd_keys.specs.Fields.{null_fields};
-ghost use Rattle.drd_order.specs.Order.{Orders, fields_cmp};
-ghost use Rattle.drd_fields.specs.Writing.{canonical_octets};
+ghost use Rattle.drd_types.specs.drd_keys.Fields.{null_fields};
+ghost use Rattle.drd_types.specs.drd_order.Order.{Orders, fields_cmp};
+ghost use Rattle.drd_types.specs.drd_fields.Writing.{canonical_octets};
 ghost use Rattle.drd_rdata.specs.declared.rdata.RData.TheVariants.{Unknown};
 ghost use Rattle.drd_rdata.specs.Order.{type_number, form, data_cmp, rdata_cmp, rdata_eq, HasCanonical, data_input, rdata_input};
 ghost use Rattle.drd_rdata.specs.OrderLaws.{rdata_total, rdata_equiv, rdata_ties, rdata_fed};
 
 use crate::rdata::RData;
 use crate::record_data::RecordData;
-use drd_caa::CAA;
-use drd_csync::CSYNC;
-use drd_keys::{CERT, NULL, OPENPGPKEY, SMIMEA, SSHFP, TLSA};
-use drd_names::{ANAME, CNAME, MX, NS, PTR, SOA, SRV};
-use drd_opt::OPT;
-use drd_plain::{A, AAAA, HINFO, NAPTR, TXT};
-use drd_svcb::{HTTPS, SVCB};
+use drd_svcb::{A, AAAA, HINFO, HTTPS, NAPTR, SVCB, TXT};
+use drd_types::{
+    ANAME, CAA, CERT, CNAME, CSYNC, MX, NS, NULL, OPENPGPKEY, OPT, PTR, SMIMEA, SOA, SRV, SSHFP,
+    TLSA,
+};
 use std::cmp::Ordering;
 use std::hash::{Hash, Hasher};
 
@@ -127,9 +125,9 @@ impl RData {
 trait OrderData: RecordData {
     ghost use Rattle.std.specs.Prelude.{◌≡◌, List, ℕ};
     ghost use Rattle.dnw_codes.specs.declared.record_type.RecordType.{RecordType};
-    ghost use Rattle.drd_keys.specs.Fields.{null_fields};
-    ghost use Rattle.drd_order.specs.Order.{Orders, fields_cmp};
-    ghost use Rattle.drd_fields.specs.Writing.{canonical_octets};
+    ghost use Rattle.drd_types.specs.drd_keys.Fields.{null_fields};
+    ghost use Rattle.drd_types.specs.drd_order.Order.{Orders, fields_cmp};
+    ghost use Rattle.drd_types.specs.drd_fields.Writing.{canonical_octets};
     ghost use Rattle.drd_rdata.specs.Order.{data_cmp, HasCanonical};
 
     // The order of two values, which is that of their canonical octets.

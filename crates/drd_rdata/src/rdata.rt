@@ -3,13 +3,11 @@ ghost use Rattle.std.specs.Prelude.{◌≡◌};
 ghost use Rattle.drd_rdata.specs.Types.{type_of, address_of};
 
 use dnw_codes::RecordType;
-use drd_caa::CAA;
-use drd_csync::CSYNC;
-use drd_keys::{CERT, NULL, OPENPGPKEY, SMIMEA, SSHFP, TLSA};
-use drd_names::{ANAME, CNAME, MX, NS, PTR, SOA, SRV};
-use drd_opt::OPT;
-use drd_plain::{A, AAAA, HINFO, NAPTR, TXT};
-use drd_svcb::{HTTPS, SVCB};
+use drd_svcb::{A, AAAA, HINFO, HTTPS, NAPTR, SVCB, TXT};
+use drd_types::{
+    ANAME, CAA, CERT, CNAME, CSYNC, MX, NS, NULL, OPENPGPKEY, OPT, PTR, SMIMEA, SOA, SRV, SSHFP,
+    TLSA,
+};
 use std::net::{IpAddr, Ipv4Addr, Ipv6Addr};
 
 /// The data of a record, by its type.

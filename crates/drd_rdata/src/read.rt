@@ -3,14 +3,14 @@ ghost use Rattle.std.specs.Prelude.{◌≡◌, ◌+◌, ◌<◌, ◌≤◌, ◌�
 ghost use Rattle.dnw_codes.specs.RecordType.{record_type_number};
 ghost use Rattle.dnw_codes.specs.declared.error.DecodeError.TheVariants.{UnknownRecordTypeValue};
 ghost use Rattle.dnw_codes.specs.declared.error.DecodeError.{DecodeError as Error};
-ghost use Rattle.dnw_decoder.specs.Reading.{IsWantOfMemory};
+ghost use Rattle.drd_types.specs.dnw_decoder.Reading.{IsWantOfMemory};
 ghost use Rattle.drd_rdata.specs.declared.rdata.RData.{RData as Rdata};
-ghost use Rattle.drd_fields.specs.Fields.{FieldsAt};
-ghost use Rattle.drd_fields.specs.Reading.{Stops};
-ghost use Rattle.drd_keys.specs.Fields.{null_fields, null_kinds};
+ghost use Rattle.drd_types.specs.drd_fields.Fields.{FieldsAt};
+ghost use Rattle.drd_types.specs.drd_fields.Reading.{Stops};
+ghost use Rattle.drd_types.specs.drd_keys.Fields.{null_fields, null_kinds};
 ghost use Rattle.drd_rdata.specs.declared.rdata.RData.TheVariants.{Unknown};
 ghost use Rattle.dnw_codes.specs.declared.error.ProtoError.{ProtoError as WritingError};
-ghost use Rattle.dnw_encoder.specs.State.{State};
+ghost use Rattle.drd_types.specs.dnw_encoder.State.{State};
 ghost use Rattle.drd_rdata.specs.Writing.{RefusesRData, WantsRoom};
 ghost use Rattle.drd_rdata.specs.Types.{type_of};
 ghost use Rattle.drd_rdata.specs.Reading.{Is, IsEmptyOf, HoldsAs, ReadsAs, StopsAs, RefusesAs, Shows};
@@ -18,15 +18,11 @@ ghost use Rattle.drd_rdata.specs.Reading.{Is, IsEmptyOf, HoldsAs, ReadsAs, Stops
 use crate::rdata::RData;
 use crate::record_data::RecordData;
 use dnw_codes::{DecodeError, RecordType, Restrict};
-use dnw_decoder::BinDecoder;
-use drd_caa::CAA;
-use drd_csync::CSYNC;
-use drd_fields::RecordDataDecodable;
-use drd_keys::{CERT, NULL, OPENPGPKEY, SMIMEA, SSHFP, TLSA};
-use drd_names::{ANAME, CNAME, MX, NS, PTR, SOA, SRV};
-use drd_opt::OPT;
-use drd_plain::{A, AAAA, HINFO, NAPTR, TXT};
-use drd_svcb::{HTTPS, SVCB};
+use drd_svcb::{A, AAAA, HINFO, HTTPS, NAPTR, SVCB, TXT};
+use drd_types::{
+    ANAME, BinDecoder, CAA, CERT, CNAME, CSYNC, MX, NS, NULL, OPENPGPKEY, OPT, PTR,
+    RecordDataDecodable, SMIMEA, SOA, SRV, SSHFP, TLSA,
+};
 use std::alloc::Global;
 
 impl RData {

@@ -3,8 +3,8 @@ ghost use Rattle.std.specs.Prelude.{◌≡◌, ◌⊎◌, ℕ, List, None, Ok, E
 ghost use Rattle.std.specs.Iterator.{Drains, IsFinite};
 ghost use Rattle.std.specs.Option.{option_copied};
 ghost use Rattle.dnw_codes.specs.declared.error.ParseError.TheVariants.{UnsupportedRecordType};
-ghost use Rattle.drd_words.specs.Text.{TextWords, TextRefused};
-ghost use Rattle.drd_words.specs.Word.{IsOutOfMemory};
+ghost use Rattle.drd_svcb.specs.drd_words.Text.{TextWords, TextRefused};
+ghost use Rattle.drd_svcb.specs.drd_words.Word.{IsOutOfMemory};
 ghost use Rattle.drd_rdata.specs.declared.rdata.RData.{RData as Rdata};
 ghost use Rattle.drd_rdata.specs.Types.{type_of};
 ghost use Rattle.drd_rdata.specs.Texts.{IsTextOf, has_text};
@@ -12,14 +12,10 @@ ghost use Rattle.drd_rdata.specs.Texts.{IsTextOf, has_text};
 use crate::rdata::RData;
 use crate::record_data::RecordData;
 use dnw_codes::{ParseError, RecordType};
-use dnw_name::Name;
-use drd_caa::CAA;
-use drd_csync::CSYNC;
-use drd_keys::{CERT, OPENPGPKEY, SMIMEA, SSHFP, TLSA};
-use drd_names::{ANAME, CNAME, MX, NS, PTR, SOA, SRV};
-use drd_plain::{A, AAAA, HINFO, NAPTR, TXT};
-use drd_svcb::{HTTPS, SVCB};
-use drd_words::words_of_text;
+use drd_svcb::{A, AAAA, HINFO, HTTPS, NAPTR, Name, SVCB, TXT, words_of_text};
+use drd_types::{
+    ANAME, CAA, CERT, CNAME, CSYNC, MX, NS, OPENPGPKEY, PTR, SMIMEA, SOA, SRV, SSHFP, TLSA,
+};
 use std::alloc::Global;
 use std::convert::AsStr;
 

@@ -1,8 +1,8 @@
 -- Which fields stand in some message.
 use Rattle.std.specs.Prelude.{ℕ, ◌≡◌, ◌≤◌, true, List, length}
 use Rattle.std.specs.List.{All, AllByRecursion}
-use Rattle.dnw_name.specs.DomainName.{DomainName, IsDomainName}
-use Rattle.drd_fields.specs.Fields.{Field, name, string, strings}
+use Rattle.drd_option.specs.dnw_name.DomainName.{DomainName, IsDomainName}
+use Rattle.drd_option.specs.drd_fields.Fields.{Field, name, string, strings}
 
 -- An octet counts the string's (RFC 1035 3.3).
 abbrev pub IsShort : List ℕ → Type 0

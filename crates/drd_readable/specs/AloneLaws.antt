@@ -3,13 +3,13 @@ use Rattle.std.proofs.Common.{ℕ, ◌+◌, List, [], ◌∷◌, ◌++◌, lengt
 use Rattle.std.proofs.Math.Seq.{drop-length}
 use Rattle.std.proofs.lemmas.List.Elements.{All-nil, All-cons, All-head, All-tail}
 use Rattle.std.specs.List.{All, flat_map}
-use Rattle.dnw_label.specs.Label.{IsLabel}
-use Rattle.dnw_decoder.specs.Octets.{Stands}
-use Rattle.dnw_decoder.specs.Spelling.{Spelled, at_end, at_label, at_pointer}
-use Rattle.dnw_decoder.specs.Standing.{stands_split}
-use Rattle.dnw_encoder.specs.NameLaws.{name_stands}
-use Rattle.drd_fields.specs.Fields.{Field, octet, short, long, name, string, strings, rest, StringsAt, FieldAt, FieldsAt}
-use Rattle.drd_fields.specs.Writing.{string_octets, field_octets, fields_octets}
+use Rattle.drd_option.specs.dnw_label.Label.{IsLabel}
+use Rattle.drd_option.specs.dnw_decoder.Octets.{Stands}
+use Rattle.drd_option.specs.dnw_decoder.Spelling.{Spelled, at_end, at_label, at_pointer}
+use Rattle.drd_option.specs.dnw_decoder.Standing.{stands_split}
+use Rattle.drd_option.specs.dnw_encoder.NameLaws.{name_stands}
+use Rattle.drd_option.specs.drd_fields.Fields.{Field, octet, short, long, name, string, strings, rest, StringsAt, FieldAt, FieldsAt}
+use Rattle.drd_option.specs.drd_fields.Writing.{string_octets, field_octets, fields_octets}
 use Rattle.drd_readable.specs.Alone.{IsShort, StandsAlone, StandAlone}
 
 own_strings : (message : List ℕ) (place : ℕ) (ss : List (List ℕ)) (end : ℕ) → All IsShort ss → Stands message place (flat_map string_octets ss) end → StringsAt message place ss end

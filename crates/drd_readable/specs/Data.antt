@@ -1,17 +1,17 @@
 -- Which record data can be read: what the data of each type must hold.
 use Rattle.std.specs.Prelude.{◌≡◌, ◌<◌, true, length}
 use Rattle.std.specs.List.{All}
-use Rattle.dnw_codes.specs.declared.record_type.RecordType.{RecordType}
-use Rattle.dnw_codes.specs.declared.record_type.RecordType.TheVariants as kind
-use Rattle.dnw_types.specs.BitMaps.{Rises}
-use Rattle.drd_plain.specs.Fields.{are_alphanumeric}
-use Rattle.drd_plain.specs.declared.naptr.NAPTR.{NAPTR}
-use Rattle.drd_keys.specs.Cert.{IsNamedCert}
-use Rattle.drd_keys.specs.Sshfp.{IsNamedSshfp}
-use Rattle.drd_keys.specs.Tlsa.{IsNamedTlsa}
-use Rattle.drd_caa.specs.Fields.{IsCaa}
+use Rattle.drd_rdata.specs.dnw_codes.declared.record_type.RecordType.{RecordType}
+use Rattle.drd_rdata.specs.dnw_codes.declared.record_type.RecordType.TheVariants as kind
+use Rattle.drd_rdata.specs.dnw_types.BitMaps.{Rises}
+use Rattle.drd_params.specs.drd_plain.Fields.{are_alphanumeric}
+use Rattle.drd_params.specs.drd_plain.declared.naptr.NAPTR.{NAPTR}
+use Rattle.drd_rdata.specs.drd_keys.Cert.{IsNamedCert}
+use Rattle.drd_rdata.specs.drd_keys.Sshfp.{IsNamedSshfp}
+use Rattle.drd_rdata.specs.drd_keys.Tlsa.{IsNamedTlsa}
+use Rattle.drd_rdata.specs.drd_caa.Fields.{IsCaa}
 use Rattle.drd_params.specs.Params.{AreParams}
-use Rattle.drd_svcb.specs.declared.svcb.SVCB.{SVCB}
+use Rattle.drd_rdata.specs.drd_svcb.declared.svcb.SVCB.{SVCB}
 use Rattle.drd_rdata.specs.declared.rdata.RData.{RData}
 use Rattle.drd_rdata.specs.declared.rdata.RData.TheVariants as rdata
 use Rattle.drd_readable.specs.Alone.{IsShort, EndsAtRoot}

@@ -5,31 +5,31 @@ use Rattle.std.proofs.lemmas.List.{length-append, length-map}
 use Rattle.std.proofs.lemmas.List.Elements.{All-nil, All-cons, All-head, All-tail, All-map}
 use Rattle.std.specs.List.{All}
 use Rattle.std.specs.Net.Addr.{ipv4_bits}
-use Rattle.dnw_codes.specs.declared.record_type.RecordType.{RecordType}
-use Rattle.dnw_codes.specs.declared.record_type.RecordType.TheVariants as kind
-use Rattle.dnw_decoder.specs.Octets.{octets_32}
-use Rattle.dnw_decoder.specs.Standing.{length-octets_32}
-use Rattle.dnw_encoder.specs.NameLaws.{length-name_octets}
-use Rattle.dnw_name.specs.DomainName.{DomainName, name_octets}
-use Rattle.dnw_types.specs.BitMapLaws.{maps_rise, tight_reads}
-use Rattle.dnw_types.specs.BitMaps.{Rises}
-use Rattle.dnw_types.specs.MapOrder.{tight_maps}
-use Rattle.dnw_types.specs.MapOrderLaws.{tight_written}
-use Rattle.drd_fields.specs.Fields.{Field, strings, rest, FieldsAt}
-use Rattle.drd_fields.specs.Writing.{fields_octets}
-use Rattle.drd_plain.specs.Fields.{a_fields, aaaa_fields, are_alphanumeric, hinfo_fields, naptr_fields, txt_fields, txt_strings}
-use Rattle.drd_names.specs.Fields.{aname_fields, cname_fields, mx_fields, ns_fields, ptr_fields, soa_fields, srv_fields}
-use Rattle.drd_keys.specs.Fields.{cert_fields, null_fields, openpgpkey_fields, smimea_fields, sshfp_fields, tlsa_fields}
-use Rattle.drd_keys.specs.Cert.{IsNamedCert}
-use Rattle.drd_keys.specs.Sshfp.{IsNamedSshfp}
-use Rattle.drd_keys.specs.Tlsa.{IsNamedTlsa}
-use Rattle.drd_keys.specs.declared.null.NULL.{NULL}
-use Rattle.drd_caa.specs.Fields.{IsCaa, caa_fields, is_caa_tag}
-use Rattle.drd_csync.specs.Data.{csync_fields, CsyncAt}
-use Rattle.drd_csync.specs.declared.csync.CSYNC.{CSYNC}
-use Rattle.drd_opt.specs.Reading.{EntriesAt}
+use Rattle.drd_rdata.specs.dnw_codes.declared.record_type.RecordType.{RecordType}
+use Rattle.drd_rdata.specs.dnw_codes.declared.record_type.RecordType.TheVariants as kind
+use Rattle.drd_option.specs.dnw_decoder.Octets.{octets_32}
+use Rattle.drd_option.specs.dnw_decoder.Standing.{length-octets_32}
+use Rattle.drd_option.specs.dnw_encoder.NameLaws.{length-name_octets}
+use Rattle.drd_option.specs.dnw_name.DomainName.{DomainName, name_octets}
+use Rattle.drd_rdata.specs.dnw_types.BitMapLaws.{maps_rise, tight_reads}
+use Rattle.drd_rdata.specs.dnw_types.BitMaps.{Rises}
+use Rattle.drd_rdata.specs.dnw_types.MapOrder.{tight_maps}
+use Rattle.drd_rdata.specs.dnw_types.MapOrderLaws.{tight_written}
+use Rattle.drd_option.specs.drd_fields.Fields.{Field, strings, rest, FieldsAt}
+use Rattle.drd_option.specs.drd_fields.Writing.{fields_octets}
+use Rattle.drd_params.specs.drd_plain.Fields.{a_fields, aaaa_fields, are_alphanumeric, hinfo_fields, naptr_fields, txt_fields, txt_strings}
+use Rattle.drd_rdata.specs.drd_names.Fields.{aname_fields, cname_fields, mx_fields, ns_fields, ptr_fields, soa_fields, srv_fields}
+use Rattle.drd_rdata.specs.drd_keys.Fields.{cert_fields, null_fields, openpgpkey_fields, smimea_fields, sshfp_fields, tlsa_fields}
+use Rattle.drd_rdata.specs.drd_keys.Cert.{IsNamedCert}
+use Rattle.drd_rdata.specs.drd_keys.Sshfp.{IsNamedSshfp}
+use Rattle.drd_rdata.specs.drd_keys.Tlsa.{IsNamedTlsa}
+use Rattle.drd_rdata.specs.drd_keys.declared.null.NULL.{NULL}
+use Rattle.drd_rdata.specs.drd_caa.Fields.{IsCaa, caa_fields, is_caa_tag}
+use Rattle.drd_rdata.specs.drd_csync.Data.{csync_fields, CsyncAt}
+use Rattle.drd_rdata.specs.drd_csync.declared.csync.CSYNC.{CSYNC}
+use Rattle.drd_rdata.specs.drd_opt.Reading.{EntriesAt}
 use Rattle.drd_params.specs.Params.{AreParams}
-use Rattle.drd_svcb.specs.Fields.{svcb_fields}
+use Rattle.drd_rdata.specs.drd_svcb.Fields.{svcb_fields}
 use Rattle.drd_rdata.specs.Reading.{Is, HoldsAs, IsReadable}
 use Rattle.drd_rdata.specs.Types.{type_of}
 use Rattle.drd_rdata.specs.declared.rdata.RData.{RData}

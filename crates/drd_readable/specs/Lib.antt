@@ -4,3 +4,11 @@ pub mod Options
 pub mod OptionLaws
 pub mod Data
 pub mod DataLaws
+pub use Rattle.drd_rdata.specs.dnw_codes
+pub use Rattle.drd_option.specs.dnw_decoder
+pub use Rattle.drd_option.specs.dnw_encoder
+pub use Rattle.drd_option.specs.dnw_name
+pub use Rattle.drd_option.specs.drd_fields
+pub use Rattle.drd_rdata.specs.drd_names
+pub mod drd_rdata
+pub use Rattle.drd_option.specs.drd_words

@@ -4,9 +4,9 @@ use Rattle.std.proofs.lemmas.Bool.{and_parts, eqb-true}
 use Rattle.std.proofs.lemmas.List.{drop_at, length-append, length-drop, length-replicate, length-take, take-append-drop}
 use Rattle.std.proofs.lemmas.List.Elements.{All-nil, All-cons, All-head, All-tail}
 use Rattle.std.specs.List.{All, list_all}
-use Rattle.dnw_codes.specs.declared.error.DecodeError.{DecodeError}
-use Rattle.dnw_decoder.specs.Reading.{IsWantOfMemory}
-use Rattle.dnw_decoder.specs.Standing.{stands_split}
+use Rattle.drd_rdata.specs.dnw_codes.declared.error.DecodeError.{DecodeError}
+use Rattle.drd_option.specs.dnw_decoder.Reading.{IsWantOfMemory}
+use Rattle.drd_option.specs.dnw_decoder.Standing.{stands_split}
 use Rattle.drd_option.specs.Codes.{edns_code_number}
 use Rattle.drd_option.specs.Options.{HasNoForm, IsOptionOf, option_code, option_octets}
 use Rattle.drd_option.specs.Subnets.{family_of, address_octets, address_size, prefix_size, subnet_head, subnet_octets, RefusesSubnet, SubnetAt}
@@ -14,9 +14,9 @@ use Rattle.drd_option.specs.declared.code.EdnsCode.{EdnsCode}
 use Rattle.drd_option.specs.declared.option.EdnsOption.{EdnsOption}
 use Rattle.drd_option.specs.declared.option.EdnsOption.TheVariants.{DAU, Subnet, NSID, Unknown}
 use Rattle.drd_option.specs.declared.subnet.ClientSubnet.{ClientSubnet}
-use Rattle.drd_opt.specs.Entries.{Entry, RawOption, raw, Fits, joined, raw_octets}
-use Rattle.drd_opt.specs.FitLaws.{option_fits}
-use Rattle.drd_opt.specs.Reading.{AreEntriesOf, HoldsEntries}
+use Rattle.drd_rdata.specs.drd_opt.Entries.{Entry, RawOption, raw, Fits, joined, raw_octets}
+use Rattle.drd_rdata.specs.drd_opt.FitLaws.{option_fits}
+use Rattle.drd_rdata.specs.drd_opt.Reading.{AreEntriesOf, HoldsEntries}
 use Rattle.drd_readable.specs.AloneLaws.{whole}
 use Rattle.drd_readable.specs.Options.{StandsSomewhere, HasOwnForm, IsPadded}
 

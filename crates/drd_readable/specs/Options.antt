@@ -6,8 +6,8 @@ use Rattle.drd_option.specs.Subnets.{address_octets, address_size, prefix_size}
 use Rattle.drd_option.specs.declared.subnet.ClientSubnet.{ClientSubnet}
 use Rattle.drd_option.specs.declared.option.EdnsOption.{EdnsOption}
 use Rattle.drd_option.specs.declared.option.EdnsOption.TheVariants.{Subnet, Unknown}
-use Rattle.drd_opt.specs.Entries.{Entry, RawOption, Fits}
-use Rattle.drd_opt.specs.Reading.{IsEntryOf}
+use Rattle.drd_rdata.specs.drd_opt.Entries.{Entry, RawOption, Fits}
+use Rattle.drd_rdata.specs.drd_opt.Reading.{IsEntryOf}
 
 -- Some option, as it is written, is read as this one under this code.
 pub record StandsSomewhere (entry : Entry) : Type 0 where

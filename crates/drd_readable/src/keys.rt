@@ -1,15 +1,15 @@
 //! Data of certificates and fingerprints: each code is the one that its number stands for, as those that are read.
 ghost use Rattle.std.specs.Prelude.{◌≡◌, ◌↔◌, IsTrue};
-ghost use Rattle.drd_keys.specs.Cert.{cert_algorithm_number, cert_algorithm_of, cert_type_number, cert_type_of};
-ghost use Rattle.drd_keys.specs.Sshfp.{fingerprint_type_number, fingerprint_type_of, sshfp_algorithm_number, sshfp_algorithm_of};
-ghost use Rattle.drd_keys.specs.Tlsa.{cert_usage_number, cert_usage_of, matching_number, matching_of, selector_number, selector_of};
+ghost use Rattle.drd_rdata.specs.drd_keys.Cert.{cert_algorithm_number, cert_algorithm_of, cert_type_number, cert_type_of};
+ghost use Rattle.drd_rdata.specs.drd_keys.Sshfp.{fingerprint_type_number, fingerprint_type_of, sshfp_algorithm_number, sshfp_algorithm_of};
+ghost use Rattle.drd_rdata.specs.drd_keys.Tlsa.{cert_usage_number, cert_usage_of, matching_number, matching_of, selector_number, selector_of};
 ghost use Rattle.drd_rdata.specs.declared.rdata.RData.TheVariants as variant;
 ghost use Rattle.drd_readable.specs.Data.{CanBeRead};
 
-use drd_keys::cert::{Algorithm as KeyAlgorithm, CertType};
-use drd_keys::sshfp::{Algorithm, FingerprintType};
-use drd_keys::tlsa::{CertUsage, Matching, Selector};
-use drd_keys::{CERT, SMIMEA, SSHFP, TLSA};
+use drd_rdata::cert::{Algorithm as KeyAlgorithm, CertType};
+use drd_rdata::sshfp::{Algorithm, FingerprintType};
+use drd_rdata::tlsa::{CertUsage, Matching, Selector};
+use drd_rdata::{CERT, SMIMEA, SSHFP, TLSA};
 
 /// Whether kind and algorithm are those of their numbers.
 pub(crate) fn can_read_cert(cert: &CERT) -> bool

@@ -3,8 +3,7 @@ ghost use Rattle.std.specs.Prelude.{◌↔◌, IsTrue};
 ghost use Rattle.drd_rdata.specs.declared.rdata.RData.TheVariants as variant;
 ghost use Rattle.drd_readable.specs.Data.{CanBeRead, IsOther};
 
-use dnw_codes::RecordType;
-use drd_csync::CSYNC;
+use drd_rdata::{CSYNC, RecordType};
 
 /// Whether data of this type have no form of their own here, and records may be of it: they are kept as octets (RFC 3597
 /// 3).

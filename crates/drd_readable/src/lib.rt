@@ -5,6 +5,21 @@
 //! (`IsReadable`). It takes no memory.
 #![tactic(auto)]
 
+pub use drd_option::{
+    BinDecodable, BinDecoder, BinEncodable, BinEncoder, ClientSubnet, EdnsCode, EdnsOption,
+    EncodedSize, HEX, Label, LowerName, NSIDPayload, Name, NameEncoding, RecordDataDecodable,
+    RrKey,
+};
+pub use drd_params::{
+    A, AAAA, Alpn, EchConfigList, HINFO, IpHint, Mandatory, NAPTR, SvcParamKey, SvcParamValue, TXT,
+    Unknown, key_of, read_params, verify_flags, write_params,
+};
+pub use drd_rdata::{
+    ANAME, CAA, CERT, CNAME, CSYNC, DNSClass, DecodeError, HTTPS, KeyValue, MX, NS, NULL,
+    OPENPGPKEY, OPT, PTR, ProtoError, RData, RecordData, RecordType, SMIMEA, SOA, SRV, SSHFP, SVCB,
+    TLSA, cert, read_iodef, read_issuer, sshfp, tlsa,
+};
+
 mod keys;
 mod kinds;
 mod names;

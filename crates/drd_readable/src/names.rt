@@ -4,8 +4,8 @@ ghost use Rattle.drd_rdata.specs.declared.rdata.RData.TheVariants as variant;
 ghost use Rattle.drd_readable.specs.Alone.{EndsAtRoot};
 ghost use Rattle.drd_readable.specs.Data.{CanBeRead};
 
-use dnw_name::Name;
-use drd_names::SOA;
+use drd_option::Name;
+use drd_rdata::SOA;
 
 /// Whether a name ends at the root, as each name in a message does (RFC 1035 3.1).
 pub(crate) fn ends_at_root(name: &Name) -> bool

@@ -9,9 +9,8 @@ ghost use Rattle.drd_rdata.specs.declared.rdata.RData.TheVariants as variant;
 ghost use Rattle.drd_readable.specs.Data.{CanBeRead};
 ghost use Rattle.drd_readable.specs.Options.{HasOwnForm, IsPadded, StandsSomewhere};
 
-use dnw_decoder::BinDecodable;
-use drd_opt::OPT;
-use drd_option::{ClientSubnet, EdnsCode, EdnsOption};
+use drd_option::{BinDecodable, ClientSubnet, EdnsCode, EdnsOption};
+use drd_rdata::OPT;
 use std::net::IpAddr;
 
 /// Whether each option is one that is read under its code.

@@ -9,7 +9,7 @@ ghost use Rattle.std.specs.List.{All};
 
 use crate::names::ends_at_root;
 use drd_params::{SvcParamKey, SvcParamValue};
-use drd_svcb::SVCB;
+use drd_rdata::SVCB;
 
 /// Whether the target ends at the root, and the parameters are some of a record.
 pub(crate) fn can_read_service(svcb: &SVCB) -> bool

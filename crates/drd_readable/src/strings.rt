@@ -6,8 +6,8 @@ ghost use Rattle.drd_readable.specs.Alone.{IsShort};
 ghost use Rattle.drd_readable.specs.Data.{CanBeRead};
 
 use crate::names::ends_at_root;
-use drd_caa::{CAA, is_tag};
-use drd_plain::{HINFO, NAPTR, TXT, verify_flags};
+use drd_params::{HINFO, NAPTR, TXT, verify_flags};
+use drd_rdata::{CAA, is_tag};
 
 /// Whether an octet can count the string's.
 fn is_short(string: &[u8]) -> bool

@@ -5,8 +5,8 @@ use Rattle.std.specs.List.{slice_split, onto_first}
 use Rattle.std.specs.Prelude.{Option, Some, None, MatchOption}
 use Rattle.std.proofs.lemmas.Bool.Decides.{nat_tests}
 use Rattle.std.proofs.lemmas.List.Splits.{slice_split-cons_yes, slice_split-cons_no}
-use Rattle.drd_words.proofs.EachWord.{each-more, each-one}
-use Rattle.drd_words.specs.Words.{EachWord}
+use Rattle.drd_params.proofs.drd_words_lemmas.EachWord.{each-more, each-one}
+use Rattle.drd_params.specs.drd_words.Words.{EachWord}
 use Rattle.drd_svcb.specs.Texts.{is_comma, IsListText}
 
 abbrev parts_of : List ℕ → List (List ℕ)

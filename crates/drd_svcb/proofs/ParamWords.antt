@@ -3,8 +3,8 @@ use Rattle.std.proofs.Common.{◌≡◌, ◌<◌, ◌≤◌, ◌+◌, ℕ, zero,
 use Rattle.std.specs.Borrow.{Bor}
 use Rattle.std.specs.List.{before_first, after_first}
 use Rattle.std.proofs.lemmas.List.{append_cancel_right, map-append}
-use Rattle.drd_words.specs.Words.{EachWord}
-use Rattle.drd_words.proofs.EachWord.{each-step}
+use Rattle.drd_params.specs.drd_words.Words.{EachWord}
+use Rattle.drd_params.proofs.drd_words_lemmas.EachWord.{each-step}
 use Rattle.drd_params.specs.Keys.{key_number}
 use Rattle.drd_params.specs.Params.{Param, IsParam, Rise}
 use Rattle.drd_params.specs.Texts.{IsKeyText}

@@ -1,21 +1,21 @@
 -- One place holds one rest behind a number and a name.
 use Rattle.std.proofs.Common.{◌≡◌, ℕ, ◌+◌, ◌≤◌, length, Bool, true, List, [], ◌++◌, ◌⊎◌, inl, inr, append-nil, sym, ap, subst, ◌∙◌, arith}
-use Rattle.dnw_codes.specs.declared.error.DecodeError.{DecodeError}
-use Rattle.dnw_codes.specs.declared.error.ProtoError.{ProtoError}
-use Rattle.dnw_codes.specs.ProtoError.{IsMemory}
-use Rattle.dnw_encoder.specs.State.{State}
+use Rattle.drd_params.specs.dnw_codes.declared.error.DecodeError.{DecodeError}
+use Rattle.drd_params.specs.dnw_codes.declared.error.ProtoError.{ProtoError}
+use Rattle.drd_params.specs.dnw_codes.ProtoError.{IsMemory}
+use Rattle.drd_params.specs.dnw_encoder.State.{State}
 use Rattle.drd_params.specs.Writing.{RefusesWriting}
 use Rattle.drd_svcb.specs.Writing.{RefusesEmit}
-use Rattle.dnw_decoder.specs.Octets.{Stands, octets_16}
-use Rattle.dnw_decoder.specs.Reading.{IsWantOfMemory}
-use Rattle.dnw_decoder.specs.Spelling.{NameAt}
-use Rattle.dnw_decoder.specs.SpellingLaws.{name_once, spelled_within}
-use Rattle.dnw_decoder.specs.Standing.{stands_same}
-use Rattle.dnw_name.specs.DomainName.{DomainName}
-use Rattle.drd_fields.specs.Equality.{Tells, TellsApart, canonical_field}
-use Rattle.drd_fields.specs.EqualityLaws.{front_tells}
-use Rattle.drd_fields.specs.Fields.{FieldsAt, name}
-use Rattle.drd_fields.specs.Writing.{canonical_octets}
+use Rattle.drd_params.specs.dnw_decoder.Octets.{Stands, octets_16}
+use Rattle.drd_params.specs.dnw_decoder.Reading.{IsWantOfMemory}
+use Rattle.drd_params.specs.dnw_decoder.Spelling.{NameAt}
+use Rattle.drd_params.specs.dnw_decoder.SpellingLaws.{name_once, spelled_within}
+use Rattle.drd_params.specs.dnw_decoder.Standing.{stands_same}
+use Rattle.drd_params.specs.dnw_name.DomainName.{DomainName}
+use Rattle.drd_params.specs.drd_fields.Equality.{Tells, TellsApart, canonical_field}
+use Rattle.drd_params.specs.drd_fields.EqualityLaws.{front_tells}
+use Rattle.drd_params.specs.drd_fields.Fields.{FieldsAt, name}
+use Rattle.drd_params.specs.drd_fields.Writing.{canonical_octets}
 use Rattle.drd_params.specs.Params.{Param, AreParams, NoParams, params_octets}
 use Rattle.drd_svcb.specs.Fields.{svcb_fields, svcb_parts}
 use Rattle.drd_svcb.specs.Reading.{HasNoParams}

@@ -9,10 +9,10 @@ use Rattle.std.proofs.lemmas.List.Splits.{length-slice_split}
 use Rattle.base64.proofs.EngineFacts.{decode_of-encode_of}
 use Rattle.base64.specs.Engines.{standard}
 use Rattle.base64.specs.GeneralPurpose.{decode_of}
-use Rattle.dnw_decoder.specs.Octets.{octets_16}
-use Rattle.drd_fields.specs.Writing.{string_octets}
-use Rattle.drd_words.specs.Data.{IsBase64Text}
-use Rattle.drd_words.specs.Words.{EachWord}
+use Rattle.drd_params.specs.dnw_decoder.Octets.{octets_16}
+use Rattle.drd_params.specs.drd_fields.Writing.{string_octets}
+use Rattle.drd_params.specs.drd_words.Data.{IsBase64Text}
+use Rattle.drd_params.specs.drd_words.Words.{EachWord}
 use Rattle.drd_params.specs.EntryLaws.{key_told, string_told, a_told, aaaa_told}
 use Rattle.drd_params.specs.Keys.{key_number}
 use Rattle.drd_params.specs.Texts.{IsKeyText, IsProtocolText, IsAEntry, IsAaaaEntry}

@@ -1,6 +1,6 @@
 -- Octets as a text with escapes (RFC 9460 2.1 by RFC 1035 5.1, with octal digits as they are printed).
 use Rattle.std.specs.Prelude.{ℕ, List, [], ◌∷◌}
-use Rattle.dnw_label.specs.LabelText.{OctetText}
+use Rattle.drd_params.specs.dnw_label.LabelText.{OctetText}
 
 -- The text of octets, one behind the other.
 pub data EscapedText : List ℕ → List ℕ → Type 0 where

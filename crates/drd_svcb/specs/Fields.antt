@@ -1,7 +1,7 @@
 -- The fields of SVCB data (RFC 9460 2.2).
 use Rattle.std.specs.Prelude.{ℕ, List, [], ◌∷◌}
-use Rattle.dnw_name.specs.DomainName.{DomainName}
-use Rattle.drd_fields.specs.Fields.{Field, short, name, rest, Kind, a_short, a_name, the_rest}
+use Rattle.drd_params.specs.dnw_name.DomainName.{DomainName}
+use Rattle.drd_params.specs.drd_fields.Fields.{Field, short, name, rest, Kind, a_short, a_name, the_rest}
 use Rattle.drd_params.specs.Equality.{params_code}
 use Rattle.drd_params.specs.Params.{params_octets}
 use Rattle.drd_svcb.specs.declared.svcb.SVCB.{SVCB}

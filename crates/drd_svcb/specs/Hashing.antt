@@ -2,11 +2,11 @@
 use Rattle.std.specs.Prelude.{◌≡◌, ◌&&◌, Bool, true, ◌∷◌, [], ◌++◌}
 use Rattle.std.proofs.Common.{refl, ap, ◌∙◌}
 use Rattle.std.specs.Hash.{HashWrites}
-use Rattle.drd_fields.specs.Equality.{field_eq, fields_eq}
-use Rattle.drd_fields.specs.EqualityLaws.{both_true}
-use Rattle.drd_fields.specs.Fields.{short, name}
-use Rattle.drd_order.specs.Order.{fields_input}
-use Rattle.drd_order.specs.OrderLaws.{fields-alike}
+use Rattle.drd_params.specs.drd_fields.Equality.{field_eq, fields_eq}
+use Rattle.drd_params.specs.drd_fields.EqualityLaws.{both_true}
+use Rattle.drd_params.specs.drd_fields.Fields.{short, name}
+use Rattle.drd_params.specs.drd_order.Order.{fields_input}
+use Rattle.drd_params.specs.drd_order.OrderLaws.{fields-alike}
 use Rattle.drd_params.specs.Equality.{params_code}
 use Rattle.drd_svcb.specs.ParamsHashing.{params_input}
 use Rattle.drd_svcb.specs.ParamsHashingLaws.{params-alike}

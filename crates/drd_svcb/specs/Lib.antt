@@ -7,3 +7,7 @@ pub mod ParamsHashingLaws
 pub mod Texts
 pub mod Writing
 pub mod Print
+pub use Rattle.drd_params.specs.dnw_name
+pub mod drd_params
+pub use Rattle.drd_params.specs.drd_plain
+pub use Rattle.drd_params.specs.drd_words

@@ -4,9 +4,9 @@ use Rattle.std.specs.Hash as fed
 use Rattle.std.specs.Hash.{HashWrites}
 use Rattle.std.specs.List.{flat_map}
 use Rattle.std.specs.String.{string_bytes}
-use Rattle.dnw_decoder.specs.Octets.{octets_16}
-use Rattle.drd_fields.specs.Writing.{string_octets}
-use Rattle.drd_order.specs.Order.{string_input}
+use Rattle.drd_params.specs.dnw_decoder.Octets.{octets_16}
+use Rattle.drd_params.specs.drd_fields.Writing.{string_octets}
+use Rattle.drd_params.specs.drd_order.Order.{string_input}
 use Rattle.drd_params.specs.Hashing.{one_write, string_write}
 use Rattle.drd_params.specs.Keys.{key_number}
 use Rattle.drd_params.specs.Params.{Param}

@@ -2,7 +2,7 @@
 use Rattle.std.specs.Prelude.{ℕ, List, ◌∷◌, ◌++◌}
 use Rattle.std.specs.Fmt.{decimal}
 use Rattle.std.specs.List.{flat_map}
-use Rattle.dnw_name.specs.NamePrint.{name_print}
+use Rattle.drd_params.specs.dnw_name.NamePrint.{name_print}
 use Rattle.drd_params.specs.Params.{Param}
 use Rattle.drd_params.specs.Print.{param_print}
 use Rattle.drd_svcb.specs.declared.svcb.SVCB.{SVCB}

@@ -1,11 +1,11 @@
 -- Why SVCB data are not read.
 use Rattle.std.specs.Prelude.{ℕ, ◌≡◌, ◌+◌, List, length}
 use Rattle.std.proofs.Common.{◌⊎◌}
-use Rattle.dnw_codes.specs.declared.error.DecodeError.{DecodeError}
-use Rattle.dnw_decoder.specs.Reading.{IsWantOfMemory}
-use Rattle.dnw_name.specs.DomainName.{DomainName}
-use Rattle.drd_fields.specs.Fields.{FieldsAt}
-use Rattle.drd_fields.specs.Reading.{Stops}
+use Rattle.drd_params.specs.dnw_codes.declared.error.DecodeError.{DecodeError}
+use Rattle.drd_params.specs.dnw_decoder.Reading.{IsWantOfMemory}
+use Rattle.drd_params.specs.dnw_name.DomainName.{DomainName}
+use Rattle.drd_params.specs.drd_fields.Fields.{FieldsAt}
+use Rattle.drd_params.specs.drd_fields.Reading.{Stops}
 use Rattle.drd_params.specs.Params.{RefusesParams}
 use Rattle.drd_svcb.specs.Fields.{svcb_kinds, svcb_parts}
 

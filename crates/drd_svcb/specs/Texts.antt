@@ -2,10 +2,10 @@
 use Rattle.std.specs.Prelude.{ℕ, ◌≡◌, ◌≢◌, ◌<◌, ◌==◌, Bool, List, [], ◌∷◌, ◌++◌, length, Option}
 use Rattle.std.proofs.Common.{◌⊎◌}
 use Rattle.std.specs.List.{before_first, after_first, slice_split}
-use Rattle.dnw_name.specs.DomainName.{DomainName}
-use Rattle.drd_words.specs.Data.{IsBase64Text}
-use Rattle.drd_words.specs.Word.{IsNumberWord, IsNameWord}
-use Rattle.drd_words.specs.Words.{OneThen, EachWord}
+use Rattle.drd_params.specs.dnw_name.DomainName.{DomainName}
+use Rattle.drd_params.specs.drd_words.Data.{IsBase64Text}
+use Rattle.drd_params.specs.drd_words.Word.{IsNumberWord, IsNameWord}
+use Rattle.drd_params.specs.drd_words.Words.{OneThen, EachWord}
 use Rattle.drd_params.specs.Params.{Param, AreParams}
 use Rattle.drd_params.specs.Texts.{IsKeyText, IsProtocolText, IsAEntry, IsAaaaEntry}
 use Rattle.drd_params.specs.declared.key.SvcParamKey.{SvcParamKey}

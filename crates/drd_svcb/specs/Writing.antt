@@ -1,10 +1,10 @@
 -- Why SVCB data are not written.
 use Rattle.std.specs.Prelude.{length}
 use Rattle.std.proofs.Common.{◌⊎◌}
-use Rattle.dnw_codes.specs.declared.error.ProtoError.{ProtoError}
-use Rattle.dnw_encoder.specs.Effects.{IsRefusal}
-use Rattle.dnw_encoder.specs.State.{State}
-use Rattle.drd_fields.specs.Writing.{RefusesFields, fields_octets}
+use Rattle.drd_params.specs.dnw_codes.declared.error.ProtoError.{ProtoError}
+use Rattle.drd_params.specs.dnw_encoder.Effects.{IsRefusal}
+use Rattle.drd_params.specs.dnw_encoder.State.{State}
+use Rattle.drd_params.specs.drd_fields.Writing.{RefusesFields, fields_octets}
 use Rattle.drd_params.specs.Params.{AreParams}
 use Rattle.drd_params.specs.Writing.{RefusesWriting}
 use Rattle.drd_svcb.specs.Fields.{svcb_fields}

@@ -1,10 +1,9 @@
 //! Octets as texts with escapes (RFC 1035 5.1, with octal digits).
 ghost use Rattle.std.specs.Prelude.{◌⊎◌, ℕ, List, IfOk, IfErr};
-ghost use Rattle.drd_words.specs.Word.{IsOutOfMemory};
+ghost use Rattle.drd_params.specs.drd_words.Word.{IsOutOfMemory};
 ghost use Rattle.drd_svcb.specs.Escapes.{EscapedText};
 
-use dnw_codes::ParseError;
-use dnw_label::octet_at;
+use drd_params::{ParseError, octet_at};
 use std::alloc::{AllocError, Global};
 
 /// The octets that a text with escapes stands for. Refused is a `\` at its end, or before digits that aren't three octal

@@ -2,14 +2,14 @@
 ghost use Rattle.std.specs.Prelude.{◌≡◌, ◌⊎◌, List, Some, map, IfOk, IfErr};
 ghost use Rattle.std.specs.Iterator.{Drains, IsFinite};
 ghost use Rattle.std.specs.Option.{option_copied};
-ghost use Rattle.drd_words.specs.Word.{IsOutOfMemory};
+ghost use Rattle.drd_params.specs.drd_words.Word.{IsOutOfMemory};
 ghost use Rattle.drd_svcb.specs.Texts.{IsSvcbText};
 ghost use Rattle.std.specs.Cmp.{partial_equiv_from_equiv};
-ghost use Rattle.dnw_encoder.specs.declared.modes.RDataEncoding.TheVariants.{Other};
-ghost use Rattle.drd_fields.specs.Fields.{FieldsAt};
-ghost use Rattle.drd_fields.specs.Equality.{AreFull, Tells, fields_eq};
-ghost use Rattle.drd_fields.specs.EqualityLaws.{data_equiv};
-ghost use Rattle.drd_fields.specs.Writing.{EmitsData, canonical_octets};
+ghost use Rattle.drd_params.specs.dnw_encoder.declared.modes.RDataEncoding.TheVariants.{Other};
+ghost use Rattle.drd_params.specs.drd_fields.Fields.{FieldsAt};
+ghost use Rattle.drd_params.specs.drd_fields.Equality.{AreFull, Tells, fields_eq};
+ghost use Rattle.drd_params.specs.drd_fields.EqualityLaws.{data_equiv};
+ghost use Rattle.drd_params.specs.drd_fields.Writing.{EmitsData, canonical_octets};
 ghost use Rattle.drd_params.specs.Params.{AreParams};
 ghost use Rattle.drd_svcb.specs.Fields.{svcb_code, svcb_fields};
 ghost use Rattle.drd_svcb.specs.Print.{svcb_print};
@@ -17,11 +17,10 @@ ghost use Rattle.drd_svcb.specs.Reading.{RefusesSvcb};
 ghost use Rattle.drd_svcb.specs.Writing.{RefusesEmit};
 
 use crate::svcb::SVCB;
-use dnw_codes::{DecodeError, ParseError, ProtoError, Restrict};
-use dnw_decoder::BinDecoder;
-use dnw_encoder::{BinEncodable, BinEncoder};
-use dnw_name::Name;
-use drd_fields::RecordDataDecodable;
+use drd_params::{
+    BinDecoder, BinEncodable, BinEncoder, DecodeError, Name, ParseError, ProtoError,
+    RecordDataDecodable, Restrict,
+};
 use std::alloc::Global;
 use std::convert::AsStr;
 use std::fmt;

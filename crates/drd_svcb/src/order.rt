@@ -2,10 +2,10 @@
 ghost use Rattle.std.specs.Prelude.{◌≡◌, Some};
 ghost use Rattle.std.proofs.Common.{refl};
 ghost use Rattle.std.specs.Cmp.{po};
-ghost use Rattle.drd_fields.specs.Equality.{AreFull};
-ghost use Rattle.drd_fields.specs.Writing.{canonical_octets};
-ghost use Rattle.drd_order.specs.Order.{Orders, fields_cmp};
-ghost use Rattle.drd_order.specs.OrderLaws.{data_total, data_ties};
+ghost use Rattle.drd_params.specs.drd_fields.Equality.{AreFull};
+ghost use Rattle.drd_params.specs.drd_fields.Writing.{canonical_octets};
+ghost use Rattle.drd_params.specs.drd_order.Order.{Orders, fields_cmp};
+ghost use Rattle.drd_params.specs.drd_order.OrderLaws.{data_total, data_ties};
 ghost use Rattle.drd_params.specs.Params.{AreParams};
 ghost use Rattle.drd_svcb.specs.Fields.{svcb_code, svcb_fields};
 ghost use Rattle.drd_svcb.specs.Hashing.{svcb_input, svcb-alike};
@@ -13,7 +13,7 @@ ghost use Rattle.drd_svcb.specs.Hashing.{svcb_input, svcb-alike};
 use crate::params_hash::hash_params;
 use crate::params_order::cmp_params;
 use crate::{HTTPS, SVCB};
-use drd_order::OrderField;
+use drd_params::OrderField;
 use std::cmp::Ordering;
 use std::hash::{Hash, Hasher};
 

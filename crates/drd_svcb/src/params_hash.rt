@@ -4,9 +4,7 @@ ghost use Rattle.std.specs.Hash as fed;
 ghost use Rattle.std.specs.List.{flat_map, fold};
 ghost use Rattle.drd_svcb.specs.ParamsHashing.{entries_input, param_input, params_input, value_input};
 
-use drd_fields::StringField;
-use drd_order::OrderField;
-use drd_params::{Entry, SvcParamKey, SvcParamValue};
+use drd_params::{Entry, OrderField, StringField, SvcParamKey, SvcParamValue};
 use std::hash::Hasher;
 
 // Feeds entries to a hasher, behind their number.

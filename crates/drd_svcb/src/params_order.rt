@@ -1,10 +1,10 @@
 //! Parameters in order.
 ghost use Rattle.std.specs.Prelude.{◌≡◌};
 ghost use Rattle.std.specs.List.{flat_map};
-ghost use Rattle.drd_order.specs.Order.{Orders, fields_cmp, octets_cmp};
+ghost use Rattle.drd_params.specs.drd_order.Order.{Orders, fields_cmp, octets_cmp};
 ghost use Rattle.drd_params.specs.Equality.{param_code, params_code, told_length, value_code, value_kind};
 ghost use Rattle.drd_params.specs.Params.{AreParams, params_octets};
-ghost use Rattle.dnw_decoder.specs.Octets.{octets_16};
+ghost use Rattle.drd_params.specs.dnw_decoder.Octets.{octets_16};
 ghost use Rattle.drd_params.specs.Values.{value_octets};
 
 use drd_params::{Entry, SvcParamKey, SvcParamValue};

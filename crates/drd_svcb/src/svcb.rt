@@ -1,12 +1,12 @@
 //! SVCB (RFC 9460 2).
 ghost use Rattle.std.specs.Prelude.{◌≡◌, ◌∷◌, [], ℕ, List, ◌⊎◌, ◌+◌, ◌≤◌, Some, length, map, IfOk, IfErr, OnOk};
-ghost use Rattle.dnw_decoder.specs.Reading.{IsWantOfMemory};
-ghost use Rattle.dnw_encoder.specs.declared.modes.RDataEncoding.TheVariants.{Other};
-ghost use Rattle.drd_fields.specs.Fields.{Field, FieldsAt, kinds_of};
-ghost use Rattle.drd_fields.specs.Reading.{Stops};
-ghost use Rattle.drd_fields.specs.Equality.{AreFull, Tells, fields_eq};
-ghost use Rattle.drd_fields.specs.EqualityLaws.{data_equiv};
-ghost use Rattle.drd_fields.specs.Writing.{EmitsData, canonical_octets};
+ghost use Rattle.drd_params.specs.dnw_decoder.Reading.{IsWantOfMemory};
+ghost use Rattle.drd_params.specs.dnw_encoder.declared.modes.RDataEncoding.TheVariants.{Other};
+ghost use Rattle.drd_params.specs.drd_fields.Fields.{Field, FieldsAt, kinds_of};
+ghost use Rattle.drd_params.specs.drd_fields.Reading.{Stops};
+ghost use Rattle.drd_params.specs.drd_fields.Equality.{AreFull, Tells, fields_eq};
+ghost use Rattle.drd_params.specs.drd_fields.EqualityLaws.{data_equiv};
+ghost use Rattle.drd_params.specs.drd_fields.Writing.{EmitsData, canonical_octets};
 ghost use Rattle.drd_params.specs.Params.{AreParams};
 ghost use Rattle.std.specs.Cmp.{partial_equiv_from_equiv};
 ghost use Rattle.drd_svcb.specs.Fields.{svcb_code, svcb_fields, svcb_kinds, svcb_parts};
@@ -17,19 +17,16 @@ ghost use Rattle.drd_svcb.specs.Reading.{RefusesSvcb};
 ghost use Rattle.drd_svcb.specs.Writing.{RefusesEmit};
 ghost use Rattle.std.specs.Iterator.{Drains, IsFinite};
 ghost use Rattle.std.specs.Option.{option_copied};
-ghost use Rattle.drd_words.specs.Word.{IsOutOfMemory};
+ghost use Rattle.drd_params.specs.drd_words.Word.{IsOutOfMemory};
 ghost use Rattle.drd_svcb.specs.Texts.{IsSvcbText};
 
 use crate::words::ParamWords;
-use dnw_codes::{DecodeError, ParseError, ProtoError, Restrict};
-use dnw_decoder::BinDecoder;
-use dnw_encoder::{BinEncodable, BinEncoder, RDataEncoding};
-use dnw_name::Name;
-use drd_fields::{DataField, RecordDataDecodable, Rest, RestField, emit_three, read_data_within};
 use drd_params::{
-    SvcParamKey, SvcParamValue, are_same_params, fmt_param, read_params_until, write_params,
+    BinDecoder, BinEncodable, BinEncoder, DataField, DecodeError, Name, ParseError, ProtoError,
+    RDataEncoding, RecordDataDecodable, Rest, RestField, Restrict, SvcParamKey, SvcParamValue,
+    are_same_params, emit_three, fmt_param, read_data_within, read_params_until, read_tokens,
+    write_params,
 };
-use drd_words::read_tokens;
 use std::alloc::Global;
 use std::convert::AsStr;
 use std::fmt;

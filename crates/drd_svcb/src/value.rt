@@ -1,8 +1,8 @@
 //! Values of parameters in texts.
 ghost use Rattle.std.specs.Prelude.{◌≡◌, ◌<◌, ◌⊎◌, ◌∷◌, [], ℕ, List, length, MatchOption, IfOk, IfErr, OnErr};
 ghost use Rattle.std.specs.List.{slice_split};
-ghost use Rattle.drd_words.specs.Data.{IsBase64Text};
-ghost use Rattle.drd_words.specs.Word.{IsOutOfMemory, IsNumberWord};
+ghost use Rattle.drd_params.specs.drd_words.Data.{IsBase64Text};
+ghost use Rattle.drd_params.specs.drd_words.Word.{IsOutOfMemory, IsNumberWord};
 ghost use Rattle.drd_params.specs.declared.key.SvcParamKey.TheVariants as of;
 ghost use Rattle.drd_params.specs.declared.value.SvcParamValue.{SvcParamValue as Value};
 ghost use Rattle.drd_svcb.specs.Escapes.{EscapedText};
@@ -11,9 +11,8 @@ ghost use Rattle.drd_svcb.specs.Texts.{is_comma, IsListText, IsValueText};
 use crate::escape::unescaped;
 use base64::DecodeAllocError;
 use base64::engine::general_purpose::STANDARD;
-use dnw_codes::ParseError;
 use drd_params::{
-    Alpn, EchConfigList, Entry, IpHint, Mandatory, SvcParamKey, SvcParamValue, Unknown,
+    Alpn, EchConfigList, Entry, IpHint, Mandatory, ParseError, SvcParamKey, SvcParamValue, Unknown,
 };
 use std::alloc::{AllocError, Global};
 

@@ -2,14 +2,11 @@
 ghost use Rattle.std.specs.Prelude.{◌≡◌, ◌⊎◌, IfOk, IfErr};
 ghost use Rattle.std.specs.List.{before_first, after_first};
 ghost use Rattle.drd_params.specs.Params.{Param, IsParam};
-ghost use Rattle.drd_words.specs.Word.{IsOutOfMemory};
+ghost use Rattle.drd_params.specs.drd_words.Word.{IsOutOfMemory};
 ghost use Rattle.drd_svcb.specs.Texts.{is_equals, IsUnquoted, IsParamText, AreParamTexts};
 
 use crate::value::value_of;
-use dnw_codes::ParseError;
-use dnw_name::Name;
-use drd_params::{SvcParamKey, SvcParamValue};
-use drd_words::Words;
+use drd_params::{Name, ParseError, SvcParamKey, SvcParamValue, Words};
 use std::alloc::{AllocError, Global};
 
 /// The parameters that words write, each one of them.

@@ -4,3 +4,4 @@ pub mod JoinedLemmas
 pub mod Numbers
 pub mod Shorter
 pub mod TextLemmas
+pub mod dnw_name_lemmas

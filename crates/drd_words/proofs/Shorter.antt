@@ -1,7 +1,7 @@
 -- Behind a token less is left of the text.
 use Rattle.std.proofs.Common.{◌≡◌, ℕ, ◌<◌, ◌≤◌, suc, ◌&&◌, ◌||◌, ◌==◌, Bool, true, false, cond, List, [], ◌∷◌, length, refl, ap, arith}
 use Rattle.std.specs.Prelude.{Result, Ok, Err, Option, Some, None, MatchBool}
-use Rattle.dnw_codes.specs.declared.error.LexerError.{LexerError}
+use Rattle.dnw_lexer.specs.dnw_codes.declared.error.LexerError.{LexerError}
 use Rattle.dnw_lexer.specs.Lexer.{Reading, Words, words_before, is_blank, at_line_end, behind_line_end, begins_blank, without_blanks, line_end, without_comment, ends_word, StringText, ListText, closes, word, refused, unclosed, Lexeme, blank, end_of_line, Unread, unread, Given, lexeme_given, bare_lexeme, bare_given, string_given, list_given, BareToken, StringToken, ListToken, WordToken, LineToken, IsToken}
 use Rattle.dnw_lexer.specs.LeftLaws.{left, plain-shorter, string-left, gap-left, list-shorter}
 

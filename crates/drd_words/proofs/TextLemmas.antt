@@ -2,10 +2,10 @@
 use Rattle.std.proofs.Common.{◌≡◌, ◌∙◌, ℕ, ◌++◌, List, [], refl, sym, ap, subst, ◌⊎◌, inl, inr}
 use Rattle.std.specs.Prelude.{Result, Ok, Err, Option, Some, None, OnOk, IfOk, IfErr, MatchResult}
 use Rattle.std.proofs.lemmas.List.{append_assoc, append-nil}
-use Rattle.dnw_codes.specs.declared.error.LexerError.{LexerError}
-use Rattle.dnw_codes.specs.declared.error.ParseError.{ParseError}
-use Rattle.dnw_codes.specs.declared.error.ParseError.TheVariants.{Lexer, UnexpectedToken}
-use Rattle.dnw_codes.specs.declared.error.LexerError.TheVariants.{Memory}
+use Rattle.dnw_lexer.specs.dnw_codes.declared.error.LexerError.{LexerError}
+use Rattle.dnw_lexer.specs.dnw_codes.declared.error.ParseError.{ParseError}
+use Rattle.dnw_lexer.specs.dnw_codes.declared.error.ParseError.TheVariants.{Lexer, UnexpectedToken}
+use Rattle.dnw_lexer.specs.dnw_codes.declared.error.LexerError.TheVariants.{Memory}
 use Rattle.dnw_lexer.specs.Lexer.{Lexeme, Unread, Given, IsToken}
 use Rattle.dnw_lexer.specs.Tokens.{IsLexeme, AreLexemes}
 use Rattle.dnw_lexer.specs.declared.token.Token.{Token}

@@ -3,3 +3,7 @@ pub mod Print
 pub mod Text
 pub mod Word
 pub mod Words
+pub use Rattle.dnw_lexer.specs.dnw_codes
+pub use Rattle.dnw_name.specs.dnw_label
+pub mod dnw_name
+pub use Rattle.dnw_name.specs.dnw_net

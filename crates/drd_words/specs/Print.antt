@@ -1,7 +1,7 @@
 -- Printed character strings (RFC 1035 5.1, with octal digits in escapes), and octets in hex.
 use Rattle.std.specs.Prelude.{ℕ, ◌/◌, ◌%◌, ◌==◌, ◌&&◌, ◌||◌, nat_le, List, [], ◌∷◌, if◌then◌else◌, slice_index}
 use Rattle.std.specs.List.{flat_map}
-use Rattle.dnw_label.specs.LabelPrint.{octal_print}
+use Rattle.dnw_name.specs.dnw_label.LabelPrint.{octal_print}
 use Rattle.hex.specs.Hex.{lower_digits}
 
 -- A quote and a backslash stand behind a backslash, other printed characters and the space for themselves, all

@@ -1,9 +1,9 @@
 -- The words of a text, by its tokens.
 use Rattle.std.specs.Prelude.{ℕ, ◌≡◌, true, List, [], ◌∷◌, ◌++◌, map, Option, Some, None, Result, Ok, Err, chars}
 use Rattle.std.specs.Str.{encode_utf8_all}
-use Rattle.dnw_codes.specs.declared.error.LexerError.{LexerError}
-use Rattle.dnw_codes.specs.declared.error.ParseError.{ParseError}
-use Rattle.dnw_codes.specs.declared.error.ParseError.TheVariants.{Lexer, UnexpectedToken}
+use Rattle.dnw_lexer.specs.dnw_codes.declared.error.LexerError.{LexerError}
+use Rattle.dnw_lexer.specs.dnw_codes.declared.error.ParseError.{ParseError}
+use Rattle.dnw_lexer.specs.dnw_codes.declared.error.ParseError.TheVariants.{Lexer, UnexpectedToken}
 use Rattle.dnw_lexer.specs.Lexer.{Lexeme, blank, end_of_line, at_sign, include, origin, ttl, word, list, Unread, unread, IsToken}
 
 -- The words that a token stands for: none for blanks and a line's end, those of a list. Other tokens have no

@@ -1,8 +1,8 @@
 -- What one word of record data stands for (RFC 1035 5.1). A word is its octets.
 use Rattle.std.specs.Prelude.{ℕ, ◌≡◌, ◌<◌, ◌≤◌, ◌^◌, ℤ, pos, List, length, Option}
 use Rattle.std.specs.Str.Parse.{digits_value}
-use Rattle.dnw_codes.specs.declared.error.ParseError.{ParseError}
-use Rattle.dnw_codes.specs.declared.error.ParseError.TheVariants.{Memory}
+use Rattle.dnw_lexer.specs.dnw_codes.declared.error.ParseError.{ParseError}
+use Rattle.dnw_lexer.specs.dnw_codes.declared.error.ParseError.TheVariants.{Memory}
 use Rattle.dnw_lexer.specs.Ttl.{IsNumber, TtlText}
 use Rattle.dnw_name.specs.DomainName.{DomainName, IsDomainName}
 use Rattle.dnw_name.specs.NameText.{NameText, completed}

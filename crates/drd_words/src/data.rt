@@ -9,7 +9,7 @@ ghost use Rattle.drd_words.specs.Data.{IsBase64Text, IsHexText, IsBase64Words, I
 use crate::words::Words;
 use base64::DecodeAllocError;
 use base64::engine::general_purpose::STANDARD;
-use dnw_codes::ParseError;
+use dnw_lexer::ParseError;
 use dnw_name::Name;
 use hex::FromHexError;
 use std::alloc::{AllocError, Global};

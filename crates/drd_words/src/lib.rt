@@ -5,6 +5,9 @@
 //! that no word is left, so `(u16, (Name, ()))` reads the words of an MX record.
 #![tactic(auto)]
 
+pub use dnw_lexer::{DecodeError, ParseError, ProtoError, Restrict, number_behind};
+pub use dnw_name::{IpNet, Label, LowerName, Name, PrefixLenError, RrKey, key_of, octet_at};
+
 mod data;
 mod print;
 mod text;

@@ -4,7 +4,7 @@ ghost use Rattle.std.specs.Fmt.{WritesOnOk};
 ghost use Rattle.base64.specs.Engines.{standard};
 ghost use Rattle.base64.specs.GeneralPurpose.{encode_of};
 ghost use Rattle.hex.specs.Hex.{encode_lower, lower_digits};
-ghost use Rattle.dnw_label.specs.LabelPrint.{octal_print};
+ghost use Rattle.dnw_name.specs.dnw_label.LabelPrint.{octal_print};
 ghost use Rattle.drd_words.specs.Print.{escaped_octet, escaped_print, hex_pair};
 
 use crate::word::CharacterString;

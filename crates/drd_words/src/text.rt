@@ -1,16 +1,15 @@
 //! The words of a text.
 ghost use Rattle.std.specs.Prelude.{◌≡◌, ◌≢◌, ◌++◌, ◌⊎◌, ℕ, List, None, Some, Ok, Err, OnOk, IfOk, IfErr, MatchResult, map, chars, true};
 ghost use Rattle.std.specs.String.{string_bytes};
-ghost use Rattle.dnw_codes.specs.declared.error.ParseError.TheVariants.{Lexer as Unlexed, UnexpectedToken};
-ghost use Rattle.dnw_codes.specs.declared.error.LexerError.TheVariants.{Memory};
+ghost use Rattle.dnw_lexer.specs.dnw_codes.declared.error.ParseError.TheVariants.{Lexer as Unlexed, UnexpectedToken};
+ghost use Rattle.dnw_lexer.specs.dnw_codes.declared.error.LexerError.TheVariants.{Memory};
 ghost use Rattle.dnw_lexer.specs.Lexer.{Lexeme, unread};
 ghost use Rattle.dnw_lexer.specs.Tokens.{IsLexeme};
 ghost use Rattle.drd_words.specs.Text.{lexeme_words, TextWords, TextRefused};
 ghost use Rattle.drd_words.specs.Word.{IsOutOfMemory};
 
 use crate::words::{Words, push, texts};
-use dnw_codes::{LexerError, ParseError};
-use dnw_lexer::{Lexer, Token};
+use dnw_lexer::{Lexer, LexerError, ParseError, Token};
 use std::alloc::{AllocError, Global};
 
 /// Reads the words of a text, those of a list in its place. Blanks at a line's front and line ends are passed over.

@@ -5,7 +5,7 @@ ghost use Rattle.std.specs.Option.{option_copied};
 ghost use Rattle.drd_words.specs.Word.{IsOutOfMemory};
 
 use crate::words::{Words, texts};
-use dnw_codes::ParseError;
+use dnw_lexer::ParseError;
 use dnw_name::Name;
 use std::alloc::Global;
 use std::convert::AsStr;

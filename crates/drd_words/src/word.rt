@@ -4,8 +4,7 @@ ghost use Rattle.std.specs.Option.{option_copied};
 ghost use Rattle.dnw_name.specs.DomainName.{DomainName};
 ghost use Rattle.drd_words.specs.Word.{IsOutOfMemory, IsNumberWord, IsTtlWord, IsIntervalWord, IsNameWord, IsStringWord};
 
-use dnw_codes::{ParseError, ProtoError};
-use dnw_lexer::parse_ttl;
+use dnw_lexer::{ParseError, ProtoError, parse_ttl};
 use dnw_name::Name;
 use std::alloc::Global;
 use std::marker::Model;

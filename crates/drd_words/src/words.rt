@@ -6,7 +6,7 @@ ghost use Rattle.drd_words.specs.Word.{IsOutOfMemory};
 ghost use Rattle.drd_words.specs.Words.{NoWords, OneThen, EachWord};
 
 use crate::word::Word;
-use dnw_codes::ParseError;
+use dnw_lexer::ParseError;
 use dnw_name::Name;
 use std::alloc::{AllocError, Global};
 use std::convert::AsStr;

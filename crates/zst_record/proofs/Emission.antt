@@ -1,26 +1,26 @@
 -- A record that is written piece by piece.
 use Rattle.std.proofs.Common.{◌≡◌, ℕ, ◌+◌, ◌≤◌, inr, List, ◌++◌, length, sym, ap, subst, ◌∙◌, arith}
 use Rattle.std.specs.Prelude.{Result, Ok, Err, OnOk, OnErr}
-use Rattle.dnw_codes.specs.DNSClass.{class_number}
-use Rattle.dnw_codes.specs.RecordType.{record_type_number}
-use Rattle.dnw_codes.specs.declared.error.ProtoError.{ProtoError}
-use Rattle.dnw_codes.specs.declared.record_type.RecordType.TheVariants.{OPT}
-use Rattle.dnw_decoder.specs.Octets.{octets_16, octets_32, Stands}
-use Rattle.dnw_decoder.specs.Spelling.{NameAt}
-use Rattle.dnw_decoder.specs.Standing.{stands_joined, length-octets_32}
-use Rattle.dnw_encoder.specs.Effects.{Holds, Keeps, Writes, Puts, Opens, Fills, IsRefusal, place_of}
-use Rattle.dnw_encoder.specs.Laws.{holds_more, holds_same, holds_written, keeps_then, modes_then, puts_stands, writes_then}
-use Rattle.dnw_encoder.specs.Members.{In}
-use Rattle.dnw_encoder.specs.Names.{EmitsName}
-use Rattle.dnw_encoder.specs.PlaceLaws.{opens_open}
-use Rattle.dnw_encoder.specs.State.{State, is_lower}
-use Rattle.dnw_name.specs.DomainName.{DomainName, name_octets}
-use Rattle.drd_fields.specs.WritingLaws.{refused_front, refused_later, within_then}
-use Rattle.drd_rdata.specs.Reading.{HoldsAs, IsReadable}
-use Rattle.drd_rdata.specs.Types.{type_of}
-use Rattle.drd_rdata.specs.Writing.{EmitsRData, RefusesRData, WritesInFull, written_octets}
-use Rattle.drd_rdata.specs.WrittenLaws.{HoldsSome, data_within, encoded_full, written_holds, written_size, written_refused}
-use Rattle.drd_rdata.specs.declared.rdata.RData.{RData}
+use Rattle.drd_readable.specs.dnw_codes.DNSClass.{class_number}
+use Rattle.drd_readable.specs.dnw_codes.RecordType.{record_type_number}
+use Rattle.drd_readable.specs.dnw_codes.declared.error.ProtoError.{ProtoError}
+use Rattle.drd_readable.specs.dnw_codes.declared.record_type.RecordType.TheVariants.{OPT}
+use Rattle.drd_readable.specs.dnw_decoder.Octets.{octets_16, octets_32, Stands}
+use Rattle.drd_readable.specs.dnw_decoder.Spelling.{NameAt}
+use Rattle.drd_readable.specs.dnw_decoder.Standing.{stands_joined, length-octets_32}
+use Rattle.drd_readable.specs.dnw_encoder.Effects.{Holds, Keeps, Writes, Puts, Opens, Fills, IsRefusal, place_of}
+use Rattle.drd_readable.specs.dnw_encoder.Laws.{holds_more, holds_same, holds_written, keeps_then, modes_then, puts_stands, writes_then}
+use Rattle.drd_readable.specs.dnw_encoder.Members.{In}
+use Rattle.drd_readable.specs.dnw_encoder.Names.{EmitsName}
+use Rattle.drd_readable.specs.dnw_encoder.PlaceLaws.{opens_open}
+use Rattle.drd_readable.specs.dnw_encoder.State.{State, is_lower}
+use Rattle.drd_readable.specs.dnw_name.DomainName.{DomainName, name_octets}
+use Rattle.drd_readable.specs.drd_fields.WritingLaws.{refused_front, refused_later, within_then}
+use Rattle.drd_readable.specs.drd_rdata.Reading.{HoldsAs, IsReadable}
+use Rattle.drd_readable.specs.drd_rdata.Types.{type_of}
+use Rattle.drd_readable.specs.drd_rdata.Writing.{EmitsRData, RefusesRData, WritesInFull, written_octets}
+use Rattle.drd_readable.specs.drd_rdata.WrittenLaws.{HoldsSome, data_within, encoded_full, written_holds, written_size, written_refused}
+use Rattle.drd_readable.specs.drd_rdata.declared.rdata.RData.{RData}
 use Rattle.zst_record.specs.Records.{head_octets}
 use Rattle.zst_record.specs.Writing.{HeadAt, EmitsHead, DataAt, EmitsBehindLength, EmitsRecord, RefusesBehindLength, RefusesRecord}
 use Rattle.zst_record.specs.declared.records.Record.{Record}

@@ -1,3 +1,5 @@
 pub mod NameLaws
 pub mod PutRecords
 pub mod Emission
+pub use Rattle.drd_readable.proofs.dnw_name_lemmas
+pub use Rattle.drd_readable.proofs.drd_words_lemmas

@@ -4,12 +4,12 @@
 //! back (`EmitsRecord`).
 #![tactic(auto)]
 
+pub use drd_readable::{
+    A, BinDecodable, BinDecoder, BinEncodable, BinEncoder, DNSClass, DecodeError, EncodedSize,
+    Label, LowerName, NS, Name, NameEncoding, ProtoError, RData, RecordType, RrKey, SOA, key_of,
+};
+
 mod emit;
 mod records;
 
-pub use dnw_codes::{DNSClass, RecordType};
-pub use dnw_name::{Label, Name};
-pub use drd_names::{NS, SOA};
-pub use drd_plain::A;
-pub use drd_rdata::RData;
 pub use records::{Record, RecordSet};

@@ -5,11 +5,11 @@ use Rattle.std.specs.Cmp.Lexicographic.{texts_ties}
 use Rattle.std.specs.List.{starts_with}
 use Rattle.std.specs.Ordering.{is_eq}
 use Rattle.std.specs.Str.{bytes_eq}
-use Rattle.dnw_name.specs.DomainName.{DomainName, name_eq, is_at_or_below}
-use Rattle.dnw_name.specs.NameKey.{labels_key, name_key}
-use Rattle.dnw_name.specs.NameOrder.{name_eq-by_cmp}
-use Rattle.dnw_name.proofs.Fronts.{key-front}
-use Rattle.dnw_name.proofs.KeyOrder.{key-order}
+use Rattle.zst_record.specs.dnw_name.DomainName.{DomainName, name_eq, is_at_or_below}
+use Rattle.zst_record.specs.dnw_name.NameKey.{labels_key, name_key}
+use Rattle.zst_record.specs.dnw_name.NameOrder.{name_eq-by_cmp}
+use Rattle.zst_record.proofs.dnw_name_lemmas.Fronts.{key-front}
+use Rattle.zst_record.proofs.dnw_name_lemmas.KeyOrder.{key-order}
 
 -- Whether some octets begin others.
 abbrev pub begins : List ℕ → List ℕ → Bool

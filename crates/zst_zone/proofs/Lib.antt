@@ -3,3 +3,5 @@ pub mod ZoneEntries
 pub mod ZoneMapsBy
 pub mod ZoneNodes
 pub mod ZoneSets
+pub use Rattle.zst_record.proofs.dnw_name_lemmas
+pub use Rattle.zst_record.proofs.drd_words_lemmas

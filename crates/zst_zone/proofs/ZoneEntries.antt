@@ -14,10 +14,10 @@ use Rattle.std.proofs.lemmas.Map.Text.{is_eq-slice_cmp}
 use Rattle.std.proofs.lemmas.Slice.Eq.{bytes_eq-Decides}
 use Rattle.dnw_codes.specs.declared.record_type.RecordType.{RecordType}
 use Rattle.zst_record.specs.declared.records.Record.{Record}
-use Rattle.dnw_name.specs.DomainName.{DomainName, name_eq}
+use Rattle.zst_record.specs.dnw_name.DomainName.{DomainName, name_eq}
 use Rattle.dnw_codes.specs.RecordType.{same_record_type}
-use Rattle.dnw_name.specs.NameKey.{name_key}
-use Rattle.drd_rdata.specs.Types.{type_of}
+use Rattle.zst_record.specs.dnw_name.NameKey.{name_key}
+use Rattle.zst_record.specs.drd_rdata.Types.{type_of}
 use Rattle.zst_record.specs.Records.{RRset}
 use Rattle.zst_zone.specs.Zones.{stored, Adds}
 use Rattle.zst_record.specs.Records.{set_with}

@@ -8,8 +8,8 @@ use Rattle.std.specs.Ordering.{nat_cmp}
 use Rattle.std.specs.Cmp.Lexicographic.{slice_cmp}
 use Rattle.std.specs.Str.{bytes_eq}
 use Rattle.dnw_codes.specs.declared.record_type.RecordType.{RecordType}
-use Rattle.dnw_name.specs.DomainName.{DomainName}
-use Rattle.dnw_name.specs.NameKey.{name_key}
+use Rattle.zst_record.specs.dnw_name.DomainName.{DomainName}
+use Rattle.zst_record.specs.dnw_name.NameKey.{name_key}
 use Rattle.zst_zone.proofs.Keys.{begins}
 use Rattle.zst_record.specs.Records.{RRset}
 use Rattle.zst_zone.specs.Zones.{stored, exists_in}

@@ -7,11 +7,11 @@ use Rattle.std.specs.List.{AllByRecursion, insert}
 use Rattle.std.proofs.lemmas.Bool.{eqb-true, eqb-false, ltb-true, ltb-false, eq-eqb, ne_eqb}
 use Rattle.dnw_codes.specs.declared.record_type.RecordType.{RecordType}
 use Rattle.zst_record.specs.declared.records.Record.{Record}
-use Rattle.dnw_name.specs.DomainName.{name_eq}
+use Rattle.zst_record.specs.dnw_name.DomainName.{name_eq}
 use Rattle.dnw_codes.specs.RecordType.{record_type_number, same_record_type}
-use Rattle.dnw_name.specs.NameKey.{name_key}
+use Rattle.zst_record.specs.dnw_name.NameKey.{name_key}
 use Rattle.zst_record.proofs.NameLaws.{name_eq_equiv}
-use Rattle.drd_rdata.specs.Types.{type_of}
+use Rattle.zst_record.specs.drd_rdata.Types.{type_of}
 use Rattle.zst_record.specs.Records.{RRset, IsRecordOf, ReadsBackAlone}
 use Rattle.zst_record.specs.Records.{set_with}
 use Rattle.zst_zone.specs.ZoneMaps.{with_record, place_from, IsOwnedAt, IsNode, TypesRise}

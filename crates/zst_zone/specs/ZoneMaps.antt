@@ -5,11 +5,11 @@ use Rattle.std.specs.List.Sorted.{IsStrictlySortedBy}
 use Rattle.std.specs.Ordering.{nat_cmp}
 use Rattle.std.specs.Cmp.Lexicographic.{slice_cmp}
 use Rattle.std.specs.Map.{keys_of}
-use Rattle.dnw_name.specs.DomainName.{DomainName}
+use Rattle.zst_record.specs.dnw_name.DomainName.{DomainName}
 use Rattle.dnw_codes.specs.RecordType.{record_type_number, same_record_type}
-use Rattle.dnw_name.specs.NameKey.{name_key}
+use Rattle.zst_record.specs.dnw_name.NameKey.{name_key}
 use Rattle.zst_record.specs.declared.records.Record.{Record}
-use Rattle.drd_rdata.specs.Types.{type_of}
+use Rattle.zst_record.specs.drd_rdata.Types.{type_of}
 use Rattle.zst_record.specs.Records.{RRset}
 use Rattle.zst_record.specs.Records.{set_with}
 

@@ -7,9 +7,9 @@ use Rattle.zst_zone.specs.declared.settings.ZoneType.{ZoneType}
 use Rattle.zst_zone.specs.declared.settings.AxfrPolicy.{AxfrPolicy}
 use Rattle.zst_zone.specs.declared.settings.NxProofKind.{NxProofKind}
 use Rattle.zst_zone.specs.declared.settings.ZoneSettings.{ZoneSettings}
-use Rattle.dnw_name.specs.DomainName.{DomainName, name_eq, is_at_or_below}
+use Rattle.zst_record.specs.dnw_name.DomainName.{DomainName, name_eq, is_at_or_below}
 use Rattle.dnw_codes.specs.RecordType.{same_record_type}
-use Rattle.drd_rdata.specs.Types.{type_of}
+use Rattle.zst_record.specs.drd_rdata.Types.{type_of}
 use Rattle.zst_record.specs.Records.{RRset, set_with}
 
 -- The set of a type at a name.

@@ -1,18 +1,17 @@
 //! A zone kept in memory, and what it answers.
 
 ghost use Rattle.std.specs.Prelude.{◌≡◌, true, option_copied, IfOk, OnOk, OnErr};
-ghost use Rattle.dnw_name.specs.DomainName.{DomainName, is_at_or_below};
-ghost use Rattle.dnw_name.specs.NameKey.{name_key};
+ghost use Rattle.zst_record.specs.dnw_name.DomainName.{DomainName, is_at_or_below};
+ghost use Rattle.zst_record.specs.dnw_name.NameKey.{name_key};
 ghost use Rattle.zst_record.specs.Records.{ReadsBackAlone};
 ghost use Rattle.zst_zone.specs.Zones.{stored, lookup_result, empty_zone, AddsTo};
 ghost use Rattle.zst_zone.specs.Lookups.{outcome};
 
 use crate::map::{Found, ZoneMap};
 use crate::settings::{AxfrPolicy, NxProofKind, ZoneSettings, ZoneType};
-use dnw_name::{RrKey, key_of};
 use std::alloc::{AllocError, Global};
 use std::marker::{Model, PhantomData};
-use zst_record::{Name, Record, RecordSet, RecordType};
+use zst_record::{Name, Record, RecordSet, RecordType, RrKey, key_of};
 
 /// What a zone holds for a name and a type, or why there is nothing (RFC 2308 section 2).
 #[derive(Clone, Copy)]

@@ -4,10 +4,12 @@
 //! by name and type, and `lookup_result` says what is answered, or why nothing is.
 #![tactic(auto)]
 
+pub use dnw_codes::{DNSClass, ParseError, ProtoError, RecordType};
+pub use zst_record::{LowerName, Name, RData, Record, RrKey, key_of};
+
 mod handler;
 mod map;
 mod settings;
 
-pub use dnw_name::{LowerName, RrKey, key_of};
 pub use handler::{InMemoryZoneHandler, Lookup};
 pub use settings::{AxfrPolicy, NxProofKind, Salt, ZoneSettings, ZoneType};

@@ -2,8 +2,8 @@
 
 ghost use Rattle.std.specs.Prelude.{◌≡◌, true, [], ◌∷◌, find, option_copied, IfOk, OnOk, OnErr};
 ghost use Rattle.std.specs.List.{AllByRecursion};
-ghost use Rattle.dnw_name.specs.DomainName.{DomainName, name_eq};
-ghost use Rattle.dnw_name.specs.NameKey.{name_key};
+ghost use Rattle.zst_record.specs.dnw_name.DomainName.{DomainName, name_eq};
+ghost use Rattle.zst_record.specs.dnw_name.NameKey.{name_key};
 ghost use Rattle.dnw_codes.specs.RecordType.{record_type_number, same_record_type};
 ghost use Rattle.zst_record.specs.Records.{ReadsBackAlone};
 ghost use Rattle.zst_zone.specs.Zones.{stored, exists_in, Adds};
@@ -11,11 +11,10 @@ ghost use Rattle.zst_record.specs.Records.{set_with};
 ghost use Rattle.zst_zone.specs.ZoneMaps.{with_record, place_from};
 ghost use Rattle.zst_zone.specs.Lookups.{set_found, name_found};
 
-use dnw_name::key_of;
 use std::alloc::{AllocError, Global};
 use std::collections::BTreeMap;
 use std::marker::Model;
-use zst_record::{Record, RecordSet, RecordType};
+use zst_record::{Record, RecordSet, RecordType, key_of};
 
 /// What a map holds for a name and a type.
 #[derive(Clone, Copy)]

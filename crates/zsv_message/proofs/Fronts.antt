@@ -7,15 +7,15 @@ use Rattle.std.specs.List.{AllByRecursion}
 use Rattle.std.specs.Slice.Iter.{iter_rest, iter_steps}
 use Rattle.std.specs.declared.slice.Iter.{Iter}
 use Rattle.std.proofs.lemmas.List.{length-append}
-use Rattle.dnw_codes.specs.ProtoError.{IsMemory}
-use Rattle.dnw_codes.specs.declared.error.ProtoError.{ProtoError}
-use Rattle.dnw_codes.specs.declared.error.ProtoError.TheVariants.{MaxBufferSizeExceeded, NotAllRecordsWritten}
-use Rattle.dnw_decoder.specs.SpellingLaws.{spelled_within}
-use Rattle.dnw_decoder.specs.Standing.{length-octets_32}
-use Rattle.dnw_encoder.specs.Effects.{Holds, Writes, Emitted, WroteAll, WroteFront, IsRefusal, IsSizeError}
-use Rattle.dnw_encoder.specs.Laws.{holds_now, holds_more, holds_written, writes_same, writes_then}
-use Rattle.dnw_encoder.specs.State.{State, is_lower}
-use Rattle.drd_rdata.specs.Writing.{WritesInFull}
+use Rattle.zst_record.specs.dnw_codes.ProtoError.{IsMemory}
+use Rattle.zst_record.specs.dnw_codes.declared.error.ProtoError.{ProtoError}
+use Rattle.zst_record.specs.dnw_codes.declared.error.ProtoError.TheVariants.{MaxBufferSizeExceeded, NotAllRecordsWritten}
+use Rattle.zst_record.specs.dnw_decoder.SpellingLaws.{spelled_within}
+use Rattle.zst_record.specs.dnw_decoder.Standing.{length-octets_32}
+use Rattle.zst_record.specs.dnw_encoder.Effects.{Holds, Writes, Emitted, WroteAll, WroteFront, IsRefusal, IsSizeError}
+use Rattle.zst_record.specs.dnw_encoder.Laws.{holds_now, holds_more, holds_written, writes_same, writes_then}
+use Rattle.zst_record.specs.dnw_encoder.State.{State, is_lower}
+use Rattle.zst_record.specs.drd_rdata.Writing.{WritesInFull}
 use Rattle.zst_record.specs.Records.{RecordAt, ReadsBackAlone, fixed_octets, plain}
 use Rattle.zst_record.specs.Writing.{EmitsRecord, RefusesRecord}
 use Rattle.zst_record.specs.declared.records.Record.{Record}

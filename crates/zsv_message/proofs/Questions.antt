@@ -1,18 +1,18 @@
 -- Questions, one behind the other: one place holds one of them, and what is read is what stands there.
 use Rattle.std.proofs.Common.{◌≡◌, ℕ, ◌+◌, ◌/◌, ◌%◌, ◌<◌, ◌≤◌, List, [], ◌∷◌, ◌++◌, length, get_or, refl, sym, ap, subst, inl, inr, ◌∙◌, arith, append_assoc, append-nil, length-append, Global, Vec}
 use Rattle.std.specs.Prelude.{◌⊎◌, Err}
-use Rattle.dnw_codes.specs.DNSClass.{class_of}
-use Rattle.dnw_codes.specs.RecordType.{record_type_of}
-use Rattle.dnw_codes.specs.declared.dns_class.DNSClass.{DNSClass}
-use Rattle.dnw_codes.specs.declared.error.DecodeError.{DecodeError}
-use Rattle.dnw_codes.specs.declared.record_type.RecordType.{RecordType}
-use Rattle.dnw_name.specs.DomainName.{DomainName}
-use Rattle.dnw_decoder.specs.Codes.{RecordTypeAt, ClassAt}
-use Rattle.dnw_decoder.specs.Octets.{octets_16}
-use Rattle.dnw_decoder.specs.Reading.{IsWantOfMemory}
-use Rattle.dnw_decoder.specs.Spelling.{NameAt}
-use Rattle.dnw_decoder.specs.SpellingLaws.{name_once}
-use Rattle.dnw_decoder.specs.Standing.{stands_same}
+use Rattle.zst_record.specs.dnw_codes.DNSClass.{class_of}
+use Rattle.zst_record.specs.dnw_codes.RecordType.{record_type_of}
+use Rattle.zst_record.specs.dnw_codes.declared.dns_class.DNSClass.{DNSClass}
+use Rattle.zst_record.specs.dnw_codes.declared.error.DecodeError.{DecodeError}
+use Rattle.zst_record.specs.dnw_codes.declared.record_type.RecordType.{RecordType}
+use Rattle.zst_record.specs.dnw_name.DomainName.{DomainName}
+use Rattle.zst_record.specs.dnw_decoder.Codes.{RecordTypeAt, ClassAt}
+use Rattle.zst_record.specs.dnw_decoder.Octets.{octets_16}
+use Rattle.zst_record.specs.dnw_decoder.Reading.{IsWantOfMemory}
+use Rattle.zst_record.specs.dnw_decoder.Spelling.{NameAt}
+use Rattle.zst_record.specs.dnw_decoder.SpellingLaws.{name_once}
+use Rattle.zst_record.specs.dnw_decoder.Standing.{stands_same}
 use Rattle.zsv_message.specs.declared.read.ReadError.{ReadError}
 use Rattle.zsv_message.specs.declared.read.ReadError.TheVariants as errors
 use Rattle.zsv_message.specs.declared.request.Query.{Query}

@@ -1,10 +1,10 @@
 -- The sections of a reply, written one behind the other, and the header that is filled in last.
 use Rattle.std.proofs.Common.{◌≡◌, ℕ, ◌+◌, ◌≤◌, ◌||◌, false, List, ◌++◌, length, drop, nat_lt, sym, ap, subst, ◌∙◌, arith}
-use Rattle.dnw_decoder.specs.Octets.{Stands}
-use Rattle.dnw_encoder.specs.Effects.{Holds, Writes, Puts, Fills, Sound, place_of}
-use Rattle.dnw_encoder.specs.Laws.{holds_now, holds_same, holds_written, puts_stands, writes_same, writes_then}
-use Rattle.dnw_encoder.specs.Members.{In}
-use Rattle.dnw_encoder.specs.State.{State}
+use Rattle.zst_record.specs.dnw_decoder.Octets.{Stands}
+use Rattle.zst_record.specs.dnw_encoder.Effects.{Holds, Writes, Puts, Fills, Sound, place_of}
+use Rattle.zst_record.specs.dnw_encoder.Laws.{holds_now, holds_same, holds_written, puts_stands, writes_same, writes_then}
+use Rattle.zst_record.specs.dnw_encoder.Members.{In}
+use Rattle.zst_record.specs.dnw_encoder.State.{State}
 use Rattle.zst_record.specs.declared.records.Record.{Record}
 use Rattle.zsv_message.specs.declared.header.Header.{Header}
 use Rattle.zsv_message.specs.declared.header.Metadata.{Metadata}

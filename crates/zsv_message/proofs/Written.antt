@@ -1,8 +1,8 @@
 -- A reply that was written is a reply to its request.
 use Rattle.std.proofs.Common.{◌≡◌, ℕ, ◌+◌, ◌<◌, ◌≤◌, List, [], ◌∷◌, length, refl, subst, arith}
 use Rattle.std.specs.List.{AllByRecursion}
-use Rattle.dnw_decoder.specs.Octets.{Stands}
-use Rattle.dnw_decoder.specs.SpellingLaws.{spelled_within}
+use Rattle.zst_record.specs.dnw_decoder.Octets.{Stands}
+use Rattle.zst_record.specs.dnw_decoder.SpellingLaws.{spelled_within}
 use Rattle.zst_record.specs.Records.{ReadsBackAlone}
 use Rattle.zsv_message.specs.declared.request.Query.{Query}
 use Rattle.zsv_message.specs.Replies.{ReplyParts, IsReply}

@@ -9,7 +9,7 @@ use Rattle.zsv_message.specs.declared.header.ResponseCode.TheVariants as respons
 use Rattle.zsv_message.specs.declared.header.Metadata.{Metadata}
 use Rattle.zsv_message.specs.declared.header.HeaderCounts.{HeaderCounts}
 use Rattle.zsv_message.specs.declared.header.Header.{Header}
-use Rattle.dnw_decoder.specs.Octets.{number_16, octets_16}
+use Rattle.zst_record.specs.dnw_decoder.Octets.{number_16, octets_16}
 
 -- The number of an operation, and the operation of a number.
 abbrev pub op_code_number : OpCode → ℕ

@@ -8,7 +8,7 @@ use Rattle.zsv_message.specs.declared.header.MessageType.TheVariants as messages
 use Rattle.zsv_message.specs.declared.header.OpCode.TheVariants as operations
 use Rattle.zsv_message.specs.declared.header.ResponseCode.TheVariants as responses
 use Rattle.zsv_message.specs.Headers.{header_of, reserved_bit}
-use Rattle.dnw_decoder.specs.Octets.{Stands}
+use Rattle.zst_record.specs.dnw_decoder.Octets.{Stands}
 use Rattle.zst_record.specs.Records.{RecordAt, plain}
 use Rattle.zsv_message.specs.Requests.{Request, QuestionAt, QuestionsAt, AvoidsHeader}
 use Rattle.zsv_message.specs.Wire.{Entries}

@@ -1,10 +1,10 @@
 -- A reply as an encoder writes it: as many records of each list as fit, then the header over them.
 use Rattle.std.specs.Prelude.{◌≡◌, ℕ, ◌+◌, ◌≤◌, ◌||◌, false, List, length, nat_lt, Result, Ok, Err}
-use Rattle.dnw_codes.specs.declared.error.ProtoError.{ProtoError}
-use Rattle.dnw_codes.specs.declared.error.ProtoError.TheVariants.{NotAllRecordsWritten}
-use Rattle.dnw_decoder.specs.Octets.{Stands}
-use Rattle.dnw_encoder.specs.Effects.{Holds}
-use Rattle.dnw_encoder.specs.State.{State}
+use Rattle.zst_record.specs.dnw_codes.declared.error.ProtoError.{ProtoError}
+use Rattle.zst_record.specs.dnw_codes.declared.error.ProtoError.TheVariants.{NotAllRecordsWritten}
+use Rattle.zst_record.specs.dnw_decoder.Octets.{Stands}
+use Rattle.zst_record.specs.dnw_encoder.Effects.{Holds}
+use Rattle.zst_record.specs.dnw_encoder.State.{State}
 use Rattle.zst_record.specs.declared.records.Record.{Record}
 use Rattle.zsv_message.specs.declared.header.Metadata.{Metadata}
 use Rattle.zsv_message.specs.Headers.{header_of, reserved_bit}

@@ -2,19 +2,17 @@
 
 ghost use Rattle.std.specs.Prelude.{◌≡◌, ◌+◌, ◌^◌, ◌<◌, ◌≤◌, ◌||◌, false, nat_lt, length, IfOk, IfErr, OnOk};
 ghost use Rattle.std.specs.List.{AllByRecursion};
-ghost use Rattle.dnw_codes.specs.ProtoError.{IsMemory};
-ghost use Rattle.dnw_encoder.specs.Effects.{Writes};
-ghost use Rattle.dnw_encoder.specs.Encoders.{state};
-ghost use Rattle.drd_rdata.specs.Writing.{WritesInFull};
+ghost use Rattle.zst_record.specs.dnw_codes.ProtoError.{IsMemory};
+ghost use Rattle.zst_record.specs.dnw_encoder.Effects.{Writes};
+ghost use Rattle.zst_record.specs.dnw_encoder.Encoders.{state};
+ghost use Rattle.zst_record.specs.drd_rdata.Writing.{WritesInFull};
 ghost use Rattle.zst_record.specs.Records.{ReadsBackAlone};
 ghost use Rattle.zsv_message.specs.Headers.{header_of, reserved_bit, FitsHeader};
 ghost use Rattle.zsv_message.specs.Writing.{counted, EmitsFront, IsWritten};
 
 use crate::header::{Header, HeaderCounts, Metadata};
-use dnw_codes::ProtoError;
-use dnw_encoder::{BinEncoder, NameEncoding};
 use std::alloc::{AllocError, Global};
-use zst_record::Record;
+use zst_record::{BinEncoder, NameEncoding, ProtoError, Record};
 
 /// What a reply holds in full.
 #[derive(Clone, Copy)]

@@ -1,14 +1,13 @@
 //! The header of a message (RFC 1035 section 4.1.1).
 
 ghost use Rattle.std.specs.Prelude.{◌≡◌, ◌+◌, ◌<◌, ◌≤◌, ◌%◌, ◌/◌, ◌++◌, ℕ, List, length, get_or, IfErr, OnOk, OnErr};
-ghost use Rattle.dnw_decoder.specs.Octets.{number_16};
-ghost use Rattle.dnw_encoder.specs.Effects.{Writes, Puts, IsRefusal};
-ghost use Rattle.dnw_encoder.specs.Encoders.{state};
+ghost use Rattle.zst_record.specs.dnw_decoder.Octets.{number_16};
+ghost use Rattle.zst_record.specs.dnw_encoder.Effects.{Writes, Puts, IsRefusal};
+ghost use Rattle.zst_record.specs.dnw_encoder.Encoders.{state};
 ghost use Rattle.zsv_message.specs.Headers.{op_code_of, op_code_number, response_code_of, response_code_number, bit, metadata_of, counts_of, header_of, high_octet, low_octet, header_octets, FitsHeader};
 ghost use Rattle.zsv_message.specs.Replies.{header_with};
 
-use dnw_codes::ProtoError;
-use dnw_encoder::{BinEncodable, BinEncoder, EncodedSize};
+use zst_record::{BinEncodable, BinEncoder, EncodedSize, ProtoError};
 
 /// Whether a message asks or answers.
 #[derive(Clone, Copy, Debug, PartialEq, Eq)]

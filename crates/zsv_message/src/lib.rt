@@ -4,6 +4,8 @@
 //! stands in `IsReply` to what it is to hold, cut at a limit.
 #![tactic(auto)]
 
+pub use zst_record::{A, DNSClass, Label, NS, Name, RData, Record, RecordSet, RecordType, SOA};
+
 mod encode;
 mod header;
 mod read;

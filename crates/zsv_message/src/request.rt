@@ -6,11 +6,9 @@ ghost use Rattle.zsv_message.specs.Requests.{QuestionAt, QuestionsAt, Request, I
 
 use crate::header::{Header, Metadata};
 use crate::read::ReadError;
-use dnw_codes::{DNSClass, RecordType};
-use dnw_decoder::{BinDecodable, BinDecoder};
-use dnw_name::Name;
 use std::alloc::Global;
 use std::marker::Model;
+use zst_record::{BinDecodable, BinDecoder, DNSClass, Name, RecordType};
 
 /// A question: a name, a type and a class.
 #[derive(Drop)]

@@ -2,22 +2,20 @@
 
 ghost use Rattle.std.specs.Prelude.{◌≡◌, ◌^◌, ◌<◌, ◌≤◌, true, [], Ok, IfOk, IfErr, length, option_copied};
 ghost use Rattle.std.specs.List.{AllByRecursion};
-ghost use Rattle.dnw_codes.specs.ProtoError.{IsMemory};
+ghost use Rattle.authority_text.specs.dnw_codes.ProtoError.{IsMemory};
 ghost use Rattle.zsv_message.specs.Headers.{FitsHeader, response_code_of, response_code_number};
-ghost use Rattle.zst_record.specs.Records.{ReadsBackAlone};
-ghost use Rattle.zst_zone.specs.Lookups.{outcome};
+ghost use Rattle.zsv_message.specs.zst_record.Records.{ReadsBackAlone};
+ghost use Rattle.authority_text.specs.zst_zone.Lookups.{outcome};
 ghost use Rattle.zsv_message.specs.Replies.{bare_failure, IsReply};
 ghost use Rattle.zsv_message.specs.Requests.{IsRequest};
 ghost use Rattle.authority.specs.Serving.{reply_metadata, error_parts, records_of, apex, beside_answer, outcome_parts, question_parts, query_parts, operation_parts, reply_parts};
 ghost use Rattle.authority.specs.Servers.{parts_of, IsSound, IsKnown, AsksFullNames};
 
-use dnw_codes::ProtoError;
+use authority_text::{InMemoryZoneHandler, Lookup, ProtoError, key_of};
 use std::alloc::{AllocError, Global};
-use zst_record::{Record, RecordSet, RecordType};
-use zst_zone::{InMemoryZoneHandler, Lookup, key_of};
 use zsv_message::{
-    MessageRequest, MessageResponse, MessageType, Metadata, OpCode, Query, ResponseCode,
-    encode_header,
+    MessageRequest, MessageResponse, MessageType, Metadata, OpCode, Query, Record, RecordSet,
+    RecordType, ResponseCode, encode_header,
 };
 
 // The header of a reply: it repeats the identifier, the operation, RD and CD.

@@ -3,11 +3,11 @@ ghost use Rattle.std.specs.Prelude.{◌≡◌, Some};
 ghost use Rattle.std.specs.Fmt.{decimal};
 ghost use Rattle.std.specs.Cmp.Rules.{comparing};
 ghost use Rattle.std.proofs.Common.{rules};
-ghost use Rattle.drd_fields.specs.Fields.{octet};
+ghost use Rattle.drd_order.specs.drd_fields.Fields.{octet};
 
 use crate::cert::{Algorithm, CertType};
-use dnw_codes::DecodeError;
-use dnw_decoder::{BinDecodable, BinDecoder};
+use drd_order::{BinDecodable, BinDecoder};
+use drd_words::DecodeError;
 use std::alloc::Global;
 use std::fmt;
 
@@ -80,7 +80,7 @@ impl Eq for CertType {
 }
 
 impl BinDecodable for CertType {
-    ghost use Rattle.dnw_decoder.specs.Reading.{IsCut};
+    ghost use Rattle.drd_order.specs.dnw_decoder.Reading.{IsCut};
     ghost use Rattle.drd_keys.specs.Cert.{CertTypeAt};
 
     ghost reads = { CertTypeAt };
@@ -189,7 +189,7 @@ impl Eq for Algorithm {
 }
 
 impl BinDecodable for Algorithm {
-    ghost use Rattle.dnw_decoder.specs.Reading.{IsCut};
+    ghost use Rattle.drd_order.specs.dnw_decoder.Reading.{IsCut};
     ghost use Rattle.drd_keys.specs.Cert.{CertAlgorithmAt};
 
     ghost reads = { CertAlgorithmAt };

@@ -4,7 +4,7 @@ ghost use Rattle.drd_rdata.specs.declared.rdata.RData.TheVariants as rdata;
 use crate::rdata::RData;
 use crate::record_data::RecordData;
 use dnw_codes::RecordType;
-use drd_keys::{CERT, NULL, OPENPGPKEY, SMIMEA, SSHFP, TLSA};
+use drd_types::{CERT, NULL, OPENPGPKEY, SMIMEA, SSHFP, TLSA};
 
 impl RecordData for CERT {
     ghost rdata = { rdata.CERT };

@@ -4,10 +4,8 @@ ghost use Rattle.drd_rdata.specs.declared.rdata.RData.TheVariants as rdata;
 use crate::rdata::RData;
 use crate::record_data::RecordData;
 use dnw_codes::RecordType;
-use drd_caa::CAA;
-use drd_csync::CSYNC;
-use drd_opt::OPT;
 use drd_svcb::{HTTPS, SVCB};
+use drd_types::{CAA, CSYNC, OPT};
 
 impl RecordData for CAA {
     ghost rdata = { rdata.CAA };

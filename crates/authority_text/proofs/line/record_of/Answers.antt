@@ -1,11 +1,11 @@
 use Rattle.std.proofs.Common.{◌≡◌, true, false, refl, sym, ◌∙◌, is_some}
-use Rattle.drd_rdata.specs.Types.{type_of}
+use Rattle.zst_zone.specs.drd_rdata.Types.{type_of}
 use Rattle.std.proofs.lemmas.Bool.{both_ways}
 use Rattle.std.proofs.lemmas.Result.{err_from_is_err_and}
-use Rattle.dnw_codes.specs.declared.record_type.RecordType.TheVariants as types
+use Rattle.zst_zone.specs.dnw_codes.declared.record_type.RecordType.TheVariants as types
 use Rattle.zst_zone.specs.Zones.{stored}
 use Rattle.authority_text.specs.declared.loader.LoadCause.TheVariants as causes
-use Rattle.dnw_name.specs.DomainName.{is_at_or_below}
+use Rattle.zst_zone.specs.dnw_name.DomainName.{is_at_or_below}
 use Rattle.authority_text.specs.ZoneText.{field, IsDataText, is_start}
 use Rattle.authority_text.proofs.Causes.{field_kept, field_read, field_refused, data_readable, none_8, data_none, data_some, none_9, none_11, second_stands, none_12}
 use Rattle.authority_text.proofs.Readable.{loaded, no_options, own_type, unreadable}

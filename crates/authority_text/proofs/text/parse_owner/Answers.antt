@@ -1,6 +1,6 @@
 use Rattle.std.proofs.Common.{sym, ap, ◌∙◌}
-use Rattle.dnw_name.specs.DomainName.{DomainName}
-use Rattle.dnw_name.proofs.TextLemmas.{name-same}
+use Rattle.zst_zone.specs.dnw_name.DomainName.{DomainName}
+use Rattle.zst_zone.proofs.dnw_name_lemmas.TextLemmas.{name-same}
 use Rattle.authority_text.proofs.text.parse_owner.Goals as goal
 
 pub returns-else-is_fqdn : goal.returns-else-is_fqdn

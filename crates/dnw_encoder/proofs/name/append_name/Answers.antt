@@ -1,8 +1,8 @@
 use Rattle.std.proofs.Common.{◌≡◌, ℕ, ◌∷◌, [], ◌++◌, Bool, List, rules, ◌∙◌, ap, sym, arith, append_assoc, append-nil}
 use Rattle.std.specs.List.{All, flat_map}
 use Rattle.std.proofs.lemmas.List.Elements.{All-tail}
-use Rattle.dnw_label.specs.Label.{IsLabel}
-use Rattle.dnw_name.specs.DomainName.{labels_len}
+use Rattle.dnw_decoder.specs.dnw_label.Label.{IsLabel}
+use Rattle.dnw_decoder.specs.dnw_name.DomainName.{labels_len}
 use Rattle.dnw_encoder.specs.Names.{piece}
 use Rattle.dnw_encoder.specs.NameLaws.{length-name_octets, length-encoded, len-cons, encoded_is}
 use Rattle.dnw_encoder.proofs.Pieces.{pieces_more, pieces_encoded}

@@ -1,8 +1,8 @@
 use Rattle.std.proofs.Common.{◌≡◌, ◌+◌, ◌≤◌, ◌++◌, length}
 use Rattle.std.specs.Prelude.{vec_len, vec_capacity}
 use Rattle.std.specs.List.{All, flat_map}
-use Rattle.dnw_label.specs.Label.{IsLabel}
-use Rattle.dnw_name.specs.DomainName.{labels_len}
+use Rattle.dnw_decoder.specs.dnw_label.Label.{IsLabel}
+use Rattle.dnw_decoder.specs.dnw_name.DomainName.{labels_len}
 use Rattle.dnw_encoder.specs.Names.{piece}
 use Rattle.dnw_encoder.proofs.name.append_name.Given as goal
 

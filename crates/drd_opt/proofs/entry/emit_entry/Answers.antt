@@ -1,9 +1,9 @@
 use Rattle.std.proofs.Common.{◌≤◌, ℕ, length, subst, arith}
-use Rattle.dnw_decoder.specs.Octets.{octets_16}
-use Rattle.dnw_encoder.specs.Encoders.{state}
-use Rattle.dnw_encoder.specs.Effects.{Puts}
-use Rattle.dnw_encoder.specs.Laws.{writes_then}
-use Rattle.drd_fields.specs.WritingLaws.{on_ok, within_then}
+use Rattle.drd_option.specs.dnw_decoder.Octets.{octets_16}
+use Rattle.drd_option.specs.dnw_encoder.Encoders.{state}
+use Rattle.drd_option.specs.dnw_encoder.Effects.{Puts}
+use Rattle.drd_option.specs.dnw_encoder.Laws.{writes_then}
+use Rattle.drd_option.specs.drd_fields.WritingLaws.{on_ok, within_then}
 use Rattle.drd_option.specs.Codes.{edns_code_number}
 use Rattle.drd_option.specs.Options.{option_octets}
 use Rattle.drd_opt.proofs.WriteLemmas.{entry_puts}

@@ -1,5 +1,5 @@
 use Rattle.std.proofs.Common.{◌≡◌, ℕ, List, [], ◌∷◌, ◌++◌, subst, sym, ◌∙◌, rules}
-use Rattle.dnw_decoder.specs.Octets.{Stands}
+use Rattle.drd_option.specs.dnw_decoder.Octets.{Stands}
 use Rattle.drd_opt.specs.Entries.{Fits, raw, raw_octets}
 use Rattle.drd_opt.specs.Reading.{HasRead}
 use Rattle.drd_opt.specs.ReadingLaws.{one_more}

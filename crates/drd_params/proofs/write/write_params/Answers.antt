@@ -1,4 +1,4 @@
-use Rattle.dnw_codes.specs.ProtoError.{IsMemory}
+use Rattle.drd_plain.specs.dnw_codes.ProtoError.{IsMemory}
 use Rattle.drd_params.specs.WritingLaws.{only-others}
 use Rattle.drd_params.proofs.write.write_params.Goals as goal
 

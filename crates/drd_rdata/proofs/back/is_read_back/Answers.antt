@@ -1,5 +1,5 @@
 use Rattle.std.proofs.Common.{◌≡◌, true}
-use Rattle.dnw_encoder.specs.Laws.{holds_map}
+use Rattle.drd_types.specs.dnw_encoder.Laws.{holds_map}
 use Rattle.drd_rdata.specs.BackLaws.{alike, alike_equal, emitted_stands}
 use Rattle.drd_rdata.specs.Reading.{HoldsAs}
 use Rattle.drd_rdata.specs.Writing.{StandsWritten}

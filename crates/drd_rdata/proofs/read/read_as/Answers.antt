@@ -1,5 +1,5 @@
 use Rattle.std.proofs.Common.{inl, inr, sym, subst}
-use Rattle.dnw_decoder.specs.Reading.{IsWantOfMemory}
+use Rattle.drd_types.specs.dnw_decoder.Reading.{IsWantOfMemory}
 use Rattle.drd_rdata.proofs.read.read_as.Goals as goal
 
 pub returns-in-Err-clause-none : goal.returns-in-Err-clause-none

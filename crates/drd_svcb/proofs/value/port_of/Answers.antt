@@ -1,5 +1,5 @@
 use Rattle.std.proofs.Common.{rules}
-use Rattle.drd_words.proofs.Numbers.{number-read, number-refused}
+use Rattle.drd_params.proofs.drd_words_lemmas.Numbers.{number-read, number-refused}
 use Rattle.drd_svcb.proofs.value.port_of.Goals as goal
 
 pub returns-in-Ok-clause-ok : goal.returns-in-Ok-clause-ok

@@ -1,6 +1,6 @@
 use Rattle.std.proofs.Common.{ℕ, List, inr, subst, arith}
 use Rattle.std.specs.List.{before_first, after_first}
-use Rattle.dnw_codes.specs.declared.error.ParseError.TheVariants.{UnexpectedToken}
+use Rattle.drd_params.specs.dnw_codes.declared.error.ParseError.TheVariants.{UnexpectedToken}
 use Rattle.drd_params.proofs.KeyTexts.{key-found}
 use Rattle.drd_params.specs.Keys.{key_of_text}
 use Rattle.drd_params.specs.Texts.{IsKeyText}

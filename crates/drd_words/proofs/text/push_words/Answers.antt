@@ -5,7 +5,7 @@ use Rattle.std.specs.String.{string_bytes}
 use Rattle.std.proofs.lemmas.List.{map-append}
 use Rattle.dnw_lexer.specs.Tokens.{IsLexeme}
 use Rattle.dnw_lexer.specs.declared.token.Token.{Token}
-use Rattle.dnw_codes.specs.declared.error.ParseError.TheVariants.{UnexpectedToken}
+use Rattle.dnw_lexer.specs.dnw_codes.declared.error.ParseError.TheVariants.{UnexpectedToken}
 use Rattle.drd_words.proofs.TextLemmas.{push-then}
 use Rattle.drd_words.specs.Word.{IsOutOfMemory}
 use Rattle.drd_words.specs.Text.{lexeme_words}

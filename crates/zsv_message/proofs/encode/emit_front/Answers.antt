@@ -1,9 +1,9 @@
 use Rattle.std.proofs.Common.{ℕ, arith, subst, sym}
 use Rattle.std.specs.Prelude.{Result, IfOk, IfErr}
 use Rattle.std.proofs.lemmas.Result.{err_from_is_err_and}
-use Rattle.dnw_codes.specs.ProtoError.{IsMemory}
-use Rattle.dnw_codes.specs.declared.error.ProtoError.{ProtoError}
-use Rattle.dnw_encoder.specs.Encoders.{state}
+use Rattle.zst_record.specs.dnw_codes.ProtoError.{IsMemory}
+use Rattle.zst_record.specs.dnw_codes.declared.error.ProtoError.{ProtoError}
+use Rattle.zst_record.specs.dnw_encoder.Encoders.{state}
 use Rattle.zsv_message.proofs.Fronts.{Told, front_told}
 use Rattle.zsv_message.proofs.encode.emit_front.Goals as goal
 

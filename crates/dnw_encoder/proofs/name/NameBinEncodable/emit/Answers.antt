@@ -1,5 +1,5 @@
 use Rattle.std.proofs.Common.{◌≡◌, ℕ, List, length, refl, sym, ap, arith, ◌∙◌}
-use Rattle.dnw_name.specs.DomainName.{name_octets}
+use Rattle.dnw_decoder.specs.dnw_name.DomainName.{name_octets}
 use Rattle.dnw_encoder.specs.State.{writes_pointers}
 use Rattle.dnw_encoder.specs.Encoders.{state}
 use Rattle.dnw_encoder.specs.Effects.{written_at}

@@ -2,8 +2,8 @@ use Rattle.std.proofs.Common.{ℕ, ◌≡◌, refl, true, false}
 use Rattle.std.specs.Prelude.{codes}
 use Rattle.std.specs.Result.{IsOkAnd}
 use Rattle.std.specs.declared.net.ip_addr.IpAddr.{IpAddr}
-use Rattle.dnw_label.specs.Label.{label_eq}
-use Rattle.dnw_net.specs.declared.IpNet.{IpNet}
+use Rattle.dnw_arpa.specs.dnw_label.Label.{label_eq}
+use Rattle.dnw_arpa.specs.dnw_net.declared.IpNet.{IpNet}
 use Rattle.dnw_name.specs.Arpa.{IsArpaName}
 use Rattle.dnw_arpa.proofs.SuffixLemmas.{suffix-v4, suffix-v6}
 use Rattle.dnw_name.proofs.SuffixLemmas.{result-ok, result-only, address-from, label_eq-from, no-suffix}

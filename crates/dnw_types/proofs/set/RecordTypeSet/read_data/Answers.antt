@@ -1,6 +1,6 @@
 use Rattle.std.proofs.Common.{◌≡◌, ℕ, List, length, inl, inr, sym, subst, ◌∙◌, arith}
-use Rattle.dnw_decoder.specs.Octets.{Stands}
-use Rattle.dnw_decoder.specs.Standing.{stands_same}
+use Rattle.dnw_encoder.specs.dnw_decoder.Octets.{Stands}
+use Rattle.dnw_encoder.specs.dnw_decoder.Standing.{stands_same}
 use Rattle.dnw_types.specs.BitMaps.{BitMaps, IsMap}
 use Rattle.dnw_types.specs.BitMapLaws.{maps_rise}
 use Rattle.dnw_types.proofs.set.RecordTypeSet.read_data.Goals as goal

@@ -1,6 +1,6 @@
 use Rattle.std.proofs.Common.{ℕ, ◌+◌, inl, inr, refl, ap, sym, subst, ◌∙◌}
-use Rattle.drd_fields.specs.Fields.{FieldsAt}
-use Rattle.drd_fields.specs.Reading.{Stops}
+use Rattle.drd_plain.specs.drd_fields.Fields.{FieldsAt}
+use Rattle.drd_plain.specs.drd_fields.Reading.{Stops}
 use Rattle.drd_caa.specs.Fields.{caa_fields, caa_kinds, is_caa_tag}
 use Rattle.drd_caa.proofs.Texts.{no_caa}
 use Rattle.drd_caa.proofs.caa.CAARecordDataDecodable.read_data.Goals as goal

@@ -1,8 +1,8 @@
 use Rattle.std.proofs.Common.{ℕ, arith, subst}
-use Rattle.dnw_decoder.specs.Octets.{octets_16}
-use Rattle.dnw_encoder.specs.Effects.{Puts}
+use Rattle.dnw_types.specs.dnw_decoder.Octets.{octets_16}
+use Rattle.dnw_types.specs.dnw_encoder.Effects.{Puts}
 use Rattle.drd_csync.proofs.Writing.{front_put, flags_refused}
-use Rattle.dnw_encoder.specs.Encoders.{state}
+use Rattle.dnw_types.specs.dnw_encoder.Encoders.{state}
 use Rattle.drd_csync.proofs.csync.CSYNC.emit_front.Goals as goal
 
 pub returns-in-Ok-emit_u16-clause-ok : goal.returns-in-Ok-emit_u16-clause-ok

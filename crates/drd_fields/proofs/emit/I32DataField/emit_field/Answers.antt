@@ -1,5 +1,5 @@
 use Rattle.std.proofs.Common.{inl}
-use Rattle.dnw_decoder.specs.Standing.{length-octets_32}
+use Rattle.dnw_encoder.specs.dnw_decoder.Standing.{length-octets_32}
 use Rattle.std.specs.Int.{w32, cast_unsigned}
 use Rattle.dnw_encoder.specs.Encoders.{state}
 use Rattle.drd_fields.specs.WritingLaws.{refused_long, puts_within, if_err}

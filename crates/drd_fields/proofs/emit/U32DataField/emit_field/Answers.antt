@@ -1,5 +1,5 @@
 use Rattle.std.proofs.Common.{inl}
-use Rattle.dnw_decoder.specs.Standing.{length-octets_32}
+use Rattle.dnw_encoder.specs.dnw_decoder.Standing.{length-octets_32}
 use Rattle.dnw_encoder.specs.Encoders.{state}
 use Rattle.drd_fields.specs.WritingLaws.{refused_long, puts_within, if_err}
 use Rattle.drd_fields.proofs.emit.U32DataField.emit_field.Goals as goal

@@ -1,6 +1,6 @@
 use Rattle.std.proofs.Common.{ℕ, ◌+◌, refl, subst}
 use Rattle.std.proofs.lemmas.Result.{err_from_is_err_and}
-use Rattle.drd_fields.specs.Reading.{Stops}
+use Rattle.drd_order.specs.drd_fields.Reading.{Stops}
 use Rattle.drd_keys.specs.Fields.{tlsa_fields, tlsa_kinds}
 use Rattle.drd_keys.proofs.ReadLemmas.{no_value}
 use Rattle.drd_keys.proofs.tlsa.TLSARecordDataDecodable.read_data.Goals as goal

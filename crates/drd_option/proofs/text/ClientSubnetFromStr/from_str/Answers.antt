@@ -3,7 +3,7 @@ use Rattle.std.proofs.NetLemmas.Theorems.{IsIpText_unique}
 use Rattle.std.specs.List.{before_first, after_first}
 use Rattle.std.specs.Net.Grammar.{IsIpText}
 use Rattle.std.specs.Str.Parse.{digits_value}
-use Rattle.dnw_net.specs.Networks.{address_bits}
+use Rattle.drd_words.specs.dnw_net.Networks.{address_bits}
 use Rattle.drd_words.specs.Word.{IsNumberWord}
 use Rattle.drd_option.specs.Texts.{is_slash}
 use Rattle.drd_option.proofs.text.ClientSubnetFromStr.from_str.Goals as goal

@@ -1,5 +1,5 @@
 use Rattle.drd_params.specs.Keys.{key_of_text}
-use Rattle.dnw_codes.specs.declared.error.ParseError.TheVariants.{UnexpectedToken}
+use Rattle.drd_plain.specs.dnw_codes.declared.error.ParseError.TheVariants.{UnexpectedToken}
 use Rattle.drd_params.proofs.KeyTexts.{key-found}
 use Rattle.drd_params.proofs.entry.SvcParamKeyEntry.from_text.Goals as goal
 

@@ -1,5 +1,5 @@
 use Rattle.std.proofs.Common.{◌+◌, ℕ, inl, inr, refl, sym, subst}
-use Rattle.drd_fields.specs.Fields.{FieldsAt}
+use Rattle.drd_order.specs.drd_fields.Fields.{FieldsAt}
 use Rattle.drd_plain.specs.Fields.{txt_fields}
 use Rattle.drd_plain.proofs.txt.TXTRecordDataDecodable.read_data.Goals as goal
 

@@ -1,5 +1,5 @@
 use Rattle.std.proofs.Common.{sym, subst, Bool}
-use Rattle.drd_fields.specs.Equality.{Tells}
+use Rattle.drd_types.specs.drd_fields.Equality.{Tells}
 use Rattle.drd_rdata.specs.OrderLaws.{ordered_tells}
 use Rattle.drd_rdata.proofs.order.RDataPartialEq.eq.Goals as goal
 

@@ -2,8 +2,8 @@ use Rattle.std.proofs.Common.{◌≡◌, ap, map, ◌∙◌}
 use Rattle.std.specs.Prelude.{None}
 use Rattle.std.specs.String.{string_bytes}
 use Rattle.dnw_codes.specs.declared.error.ParseError.TheVariants.{UnsupportedRecordType}
-use Rattle.drd_words.specs.Text.{TextWords, TextRefused}
-use Rattle.drd_words.specs.Word.{IsOutOfMemory}
+use Rattle.drd_svcb.specs.drd_words.Text.{TextWords, TextRefused}
+use Rattle.drd_svcb.specs.drd_words.Word.{IsOutOfMemory}
 use Rattle.drd_rdata.specs.Texts.{IsTextOf}
 use Rattle.drd_rdata.proofs.Words.{ok_of, refused_of, only_of}
 use Rattle.drd_rdata.proofs.rdata.RData.try_from_str.Goals as goal

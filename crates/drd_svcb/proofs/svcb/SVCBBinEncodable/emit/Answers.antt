@@ -1,4 +1,4 @@
-use Rattle.dnw_encoder.specs.Encoders.{state}
+use Rattle.drd_params.specs.dnw_encoder.Encoders.{state}
 use Rattle.drd_svcb.proofs.Parts.{params-refused}
 use Rattle.drd_svcb.proofs.svcb.SVCBBinEncodable.emit.Goals as goal
 

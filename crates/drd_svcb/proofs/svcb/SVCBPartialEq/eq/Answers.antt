@@ -1,7 +1,7 @@
 use Rattle.std.proofs.Common.{◌≡◌, Bool, true, subst, rules}
-use Rattle.dnw_decoder.specs.Octets.{octets_16}
-use Rattle.drd_fields.specs.Equality.{TellsApart, canonical_field}
-use Rattle.drd_fields.specs.Fields.{name}
+use Rattle.drd_params.specs.dnw_decoder.Octets.{octets_16}
+use Rattle.drd_params.specs.drd_fields.Equality.{TellsApart, canonical_field}
+use Rattle.drd_params.specs.drd_fields.Fields.{name}
 use Rattle.drd_svcb.proofs.Parts.{params-told, svcb-tells}
 use Rattle.drd_svcb.proofs.svcb.SVCBPartialEq.eq.Goals as goal
 

@@ -1,7 +1,7 @@
 use Rattle.std.proofs.Common.{◌≡◌, ℕ, ◌+◌, ◌-◌, ◌≤◌, ◌⊎◌, List, length, inl, inr, refl, ap, sym, subst, arith}
-use Rattle.dnw_decoder.specs.Reading.{IsWantOfMemory}
-use Rattle.drd_fields.specs.Fields.{FieldsAt}
-use Rattle.drd_fields.specs.Reading.{Stops}
+use Rattle.drd_params.specs.dnw_decoder.Reading.{IsWantOfMemory}
+use Rattle.drd_params.specs.drd_fields.Fields.{FieldsAt}
+use Rattle.drd_params.specs.drd_fields.Reading.{Stops}
 use Rattle.drd_params.specs.Params.{NoParams}
 use Rattle.drd_svcb.specs.Fields.{svcb_fields, svcb_kinds, svcb_parts}
 use Rattle.drd_svcb.proofs.Parts.{has-none, no-svcb, rest-fits}

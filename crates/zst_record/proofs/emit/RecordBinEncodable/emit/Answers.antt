@@ -1,6 +1,6 @@
-use Rattle.dnw_encoder.specs.Encoders.{state}
-use Rattle.dnw_encoder.specs.Laws.{writes_then}
-use Rattle.drd_fields.specs.WritingLaws.{on_ok}
+use Rattle.drd_readable.specs.dnw_encoder.Encoders.{state}
+use Rattle.drd_readable.specs.dnw_encoder.Laws.{writes_then}
+use Rattle.drd_readable.specs.drd_fields.WritingLaws.{on_ok}
 use Rattle.zst_record.proofs.Emission.{record_emitted}
 use Rattle.zst_record.proofs.emit.RecordBinEncodable.emit.Goals as goal
 

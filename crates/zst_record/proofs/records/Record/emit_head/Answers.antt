@@ -1,11 +1,11 @@
 use Rattle.std.proofs.Common.{subst}
-use Rattle.dnw_codes.specs.RecordType.{record_type_number}
-use Rattle.dnw_codes.specs.declared.record_type.RecordType.{RecordType}
-use Rattle.dnw_decoder.specs.Octets.{octets_16}
-use Rattle.dnw_encoder.specs.Effects.{Puts}
-use Rattle.dnw_encoder.specs.Encoders.{state}
-use Rattle.dnw_encoder.specs.Laws.{writes_then}
-use Rattle.drd_fields.specs.WritingLaws.{on_ok}
+use Rattle.drd_readable.specs.dnw_codes.RecordType.{record_type_number}
+use Rattle.drd_readable.specs.dnw_codes.declared.record_type.RecordType.{RecordType}
+use Rattle.drd_readable.specs.dnw_decoder.Octets.{octets_16}
+use Rattle.drd_readable.specs.dnw_encoder.Effects.{Puts}
+use Rattle.drd_readable.specs.dnw_encoder.Encoders.{state}
+use Rattle.drd_readable.specs.dnw_encoder.Laws.{writes_then}
+use Rattle.drd_readable.specs.drd_fields.WritingLaws.{on_ok}
 use Rattle.zst_record.proofs.Emission.{head_emitted}
 use Rattle.zst_record.proofs.records.Record.emit_head.Goals as goal
 

@@ -1,8 +1,8 @@
 use Rattle.std.proofs.Common.{◌∙◌, sym, ap, ℕ, nat_eq}
 use Rattle.std.specs.Prelude.{List}
 use Rattle.std.specs.List.{starts_with}
-use Rattle.dnw_name.specs.DomainName.{is_at_or_below}
-use Rattle.dnw_name.specs.NameKey.{name_key}
+use Rattle.zst_record.specs.dnw_name.DomainName.{is_at_or_below}
+use Rattle.zst_record.specs.dnw_name.NameKey.{name_key}
 use Rattle.zst_zone.proofs.Keys.{begins}
 use Rattle.zst_zone.specs.Zones.{View}
 use Rattle.zst_zone.proofs.Keys.{begins-starts_with, above_begins}

@@ -1,8 +1,8 @@
 use Rattle.std.proofs.Common.{◌≡◌, ℕ, ◌∙◌, Bool, arith, subst, ap}
 use Rattle.std.proofs.lemmas.Result.{on_ok_weaker}
-use Rattle.dnw_encoder.specs.Effects.{Fills}
-use Rattle.dnw_encoder.specs.Encoders.{state}
-use Rattle.dnw_encoder.specs.PlaceLaws.{opens_open}
+use Rattle.zst_record.specs.dnw_encoder.Effects.{Fills}
+use Rattle.zst_record.specs.dnw_encoder.Encoders.{state}
+use Rattle.zst_record.specs.dnw_encoder.PlaceLaws.{opens_open}
 use Rattle.zsv_message.specs.Headers.{header_octets}
 use Rattle.zsv_message.specs.Replies.{header_with}
 use Rattle.zsv_message.proofs.Sections.{Steps, stays_open, steps_write}

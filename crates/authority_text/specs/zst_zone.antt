@@ -1,0 +1,3 @@
+pub use Rattle.zst_zone.specs.Lookups
+pub use Rattle.zst_zone.specs.Zones
+pub use Rattle.zst_zone.specs.declared

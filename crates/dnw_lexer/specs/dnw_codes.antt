@@ -1,0 +1,3 @@
+pub use Rattle.dnw_codes.specs.Digits
+pub use Rattle.dnw_codes.specs.ProtoError
+pub use Rattle.dnw_codes.specs.declared

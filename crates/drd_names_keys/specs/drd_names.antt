@@ -1,0 +1,3 @@
+pub use Rattle.drd_names.specs.Fields
+pub use Rattle.drd_names.specs.Texts
+pub use Rattle.drd_names.specs.declared

@@ -1,0 +1,8 @@
+//! Record data of names, of keys and certificates, and of sets of types, as one crate for those above.
+//!
+//! It holds nothing of its own.
+#![tactic(auto)]
+
+pub use drd_csync::{BinDecoder, BinEncodable, BinEncoder, CSYNC};
+pub use drd_keys::{CERT, NULL, OPENPGPKEY, SMIMEA, SSHFP, TLSA, cert, sshfp, tlsa};
+pub use drd_names::{ANAME, CNAME, MX, NS, PTR, SOA, SRV};

@@ -1,0 +1,2 @@
+pub use Rattle.drd_order.specs.Order
+pub use Rattle.drd_order.specs.OrderLaws

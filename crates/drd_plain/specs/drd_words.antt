@@ -1,0 +1,5 @@
+pub use Rattle.drd_words.specs.Data
+pub use Rattle.drd_words.specs.Print
+pub use Rattle.drd_words.specs.Text
+pub use Rattle.drd_words.specs.Word
+pub use Rattle.drd_words.specs.Words

@@ -1,0 +1,2 @@
+pub use Rattle.drd_svcb.specs.Fields
+pub use Rattle.drd_svcb.specs.declared

@@ -1,0 +1,11 @@
+pub use Rattle.drd_names_keys.specs.dnw_decoder
+pub use Rattle.drd_names_keys.specs.dnw_encoder
+pub use Rattle.drd_names_keys.specs.dnw_types
+pub mod drd_caa
+pub use Rattle.drd_names_keys.specs.drd_csync
+pub use Rattle.drd_opt.specs.drd_fields
+pub use Rattle.drd_names_keys.specs.drd_keys
+pub use Rattle.drd_names_keys.specs.drd_names
+pub mod drd_opt
+pub use Rattle.drd_opt.specs.drd_option
+pub use Rattle.drd_opt.specs.drd_order

@@ -1,0 +1,11 @@
+//! Record data of every type but services, as one crate for those above.
+//!
+//! It holds nothing of its own.
+#![tactic(auto)]
+
+pub use drd_caa::{CAA, KeyValue, is_tag, read_iodef, read_issuer};
+pub use drd_names_keys::{
+    ANAME, BinDecoder, BinEncodable, BinEncoder, CERT, CNAME, CSYNC, MX, NS, NULL, OPENPGPKEY, PTR,
+    SMIMEA, SOA, SRV, SSHFP, TLSA, cert, sshfp, tlsa,
+};
+pub use drd_opt::{OPT, RecordDataDecodable};

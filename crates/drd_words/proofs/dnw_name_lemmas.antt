@@ -1,0 +1,3 @@
+pub use Rattle.dnw_name.proofs.Fronts
+pub use Rattle.dnw_name.proofs.KeyOrder
+pub use Rattle.dnw_name.proofs.TextLemmas

@@ -1,0 +1,2 @@
+pub use Rattle.zst_record.specs.Records
+pub use Rattle.zst_record.specs.declared
