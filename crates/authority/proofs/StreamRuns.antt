@@ -9,26 +9,26 @@ use Rattle.std.proofs.lemmas.List.{length-append, map-append}
 use Rattle.authority.specs.declared.stream.StreamError.{StreamError}
 use Rattle.authority.specs.declared.stream.StreamError.TheVariants as errors
 use Rattle.authority.specs.Serving.{World, Received, ServesAll}
-use Rattle.authority.specs.Frames.{framed, framed_answer, streamed, reading, serving, counting, IsReadFault, IsServeFault, ServesFrame, ServesFrames, ServesUntil}
+use Rattle.authority.specs.Frames.{frame_of, frame_of_answer, stream_message, reading, serving, counting, IsReadFault, IsServeFault, ServesFrame, ServesFrames, ServesUntil}
 use Rattle.authority.proofs.ServedRuns.{serves_more}
 
 pub frames_none : (old : World) (source : SocketAddr) (moment : ℕ) (left before : Option (List ℕ)) → ServesFrames old source moment left left before before old
 frames_none old source moment left before = record { messages = []; answers = []; read = Consumes-nil left; run = refl; written = Appends-nil before }
 
-one_framed : (message : List ℕ) → flat_map framed (message ∷ []) ≡ framed message
-one_framed message = append-nil (framed message)
+one_framed : (message : List ℕ) → flat_map frame_of (message ∷ []) ≡ frame_of message
+one_framed message = append-nil (frame_of message)
 
-one_answered : (answer : Option (List ℕ)) → flat_map framed_answer (answer ∷ []) ≡ framed_answer answer
-one_answered answer = append-nil (framed_answer answer)
+one_answered : (answer : Option (List ℕ)) → flat_map frame_of_answer (answer ∷ []) ≡ frame_of_answer answer
+one_answered answer = append-nil (frame_of_answer answer)
 
 pub frames_more : (old : World) (source : SocketAddr) (moment : ℕ) (left rest before after : Option (List ℕ)) (middle : World) (message : List ℕ) (less more : Option (List ℕ)) (new : World) →
-    ServesFrames old source moment left rest before after middle → Consumes rest less (framed message) → ServesFrame middle (streamed source moment message) after more new → ServesFrames old source moment left less before more new
+    ServesFrames old source moment left rest before after middle → Consumes rest less (frame_of message) → ServesFrame middle (stream_message source moment message) after more new → ServesFrames old source moment left less before more new
 frames_more old source moment left rest before after middle message less more new s read (answer, step, wrote) = record {
   messages = s.messages ++ message ∷ [];
   answers = s.answers ++ answer ∷ [];
-  read = subst (λ (octets : List ℕ). Consumes left less octets) (sym (flat_map-append framed s.messages (message ∷ []) ∙ ap (λ (octets : List ℕ). flat_map framed s.messages ++ octets) (one_framed message))) (Consumes-trans left rest less (flat_map framed s.messages) (framed message) s.read read);
-  run = subst (λ (ms : List Received). ServesAll old ms (s.answers ++ answer ∷ []) new) (sym (map-append (streamed source moment) s.messages (message ∷ []))) (serves_more old (map (streamed source moment) s.messages) s.answers middle (streamed source moment message) answer new s.run step);
-  written = subst (λ (octets : List ℕ). Appends before more octets) (sym (flat_map-append framed_answer s.answers (answer ∷ []) ∙ ap (λ (octets : List ℕ). flat_map framed_answer s.answers ++ octets) (one_answered answer))) (Appends-trans before after more (flat_map framed_answer s.answers) (framed_answer answer) s.written wrote);
+  read = subst (λ (octets : List ℕ). Consumes left less octets) (sym (flat_map-append frame_of s.messages (message ∷ []) ∙ ap (λ (octets : List ℕ). flat_map frame_of s.messages ++ octets) (one_framed message))) (Consumes-trans left rest less (flat_map frame_of s.messages) (frame_of message) s.read read);
+  run = subst (λ (ms : List Received). ServesAll old ms (s.answers ++ answer ∷ []) new) (sym (map-append (stream_message source moment) s.messages (message ∷ []))) (serves_more old (map (stream_message source moment) s.messages) s.answers middle (stream_message source moment message) answer new s.run step);
+  written = subst (λ (octets : List ℕ). Appends before more octets) (sym (flat_map-append frame_of_answer s.answers (answer ∷ []) ∙ ap (λ (octets : List ℕ). flat_map frame_of_answer s.answers ++ octets) (one_answered answer))) (Appends-trans before after more (flat_map frame_of_answer s.answers) (frame_of_answer answer) s.written wrote);
 }
 
 -- At the end nothing more is read.
@@ -36,7 +36,7 @@ pub frames_end : (old : World) (source : SocketAddr) (moment : ℕ) (left rest b
 frames_end old source moment left rest before after new less s none = record {
   messages = s.messages;
   answers = s.answers;
-  read = subst (λ (octets : List ℕ). Consumes left less octets) (append-nil (flat_map framed s.messages)) (Consumes-trans left rest less (flat_map framed s.messages) [] s.read none);
+  read = subst (λ (octets : List ℕ). Consumes left less octets) (append-nil (flat_map frame_of s.messages)) (Consumes-trans left rest less (flat_map frame_of s.messages) [] s.read none);
   run = s.run;
   written = s.written;
 }
@@ -51,7 +51,7 @@ unfolding frames_none
 counted_none old source moment left before = record { frames = frames_none old source moment left before; counted = refl }
 
 pub counted_more : (old : World) (source : SocketAddr) (moment : ℕ) (left rest before after : Option (List ℕ)) (middle : World) (message : List ℕ) (less more : Option (List ℕ)) (new : World) (count : ℕ) →
-    Counted old source moment left rest before after middle count → Consumes rest less (framed message) → ServesFrame middle (streamed source moment message) after more new → Counted old source moment left less before more new (count + 1)
+    Counted old source moment left rest before after middle count → Consumes rest less (frame_of message) → ServesFrame middle (stream_message source moment message) after more new → Counted old source moment left less before more new (count + 1)
 unfolding frames_more
 counted_more old source moment left rest before after middle message less more new count s read step = record {
   frames = frames_more old source moment left rest before after middle message less more new s.frames read step;
@@ -72,13 +72,13 @@ left_reading old source moment left rest before after middle count less fault s 
 
 -- or while one is served.
 pub left_serving : (old : World) (source : SocketAddr) (moment : ℕ) (left rest before after : Option (List ℕ)) (middle : World) (count : ℕ) (message : List ℕ) (less more : Option (List ℕ)) (new : World) (fault : StreamError) →
-    Counted old source moment left rest before after middle count → Consumes rest less (framed message) → IsServeFault middle (streamed source moment message) after more new fault → ServesUntil old source moment left less before more new fault
+    Counted old source moment left rest before after middle count → Consumes rest less (frame_of message) → IsServeFault middle (stream_message source moment message) after more new fault → ServesUntil old source moment left less before more new fault
 left_serving old source moment left rest before after middle count message less more new fault s read fails = record {
   middle = middle;
   behind = rest;
   held = after;
   frames = s.frames;
-  counted = λ is. absurd (subst (IsServeFault middle (streamed source moment message) after more new) is fails);
+  counted = λ is. absurd (subst (IsServeFault middle (stream_message source moment message) after more new) is fails);
   leaves = serving message read fails;
 }
 

@@ -1,12 +1,12 @@
 -- The definitions computed on worked rows: a zone with a start of authority and one address, and what it is asked.
 use Rattle.std.proofs.Common.{◌≡◌, ℕ, Bool, true, false, List, [], ◌∷◌, ◌++◌, refl, arith}
 use Rattle.std.specs.Prelude.{codes, pos, None}
-use Rattle.authority_text.specs.dnw_codes.declared.record_type.RecordType.TheVariants as types
-use Rattle.authority_text.specs.dnw_codes.declared.dns_class.DNSClass.TheVariants as classes
+use Rattle.authority_load.specs.dnw_codes.declared.record_type.RecordType.TheVariants as types
+use Rattle.authority_load.specs.dnw_codes.declared.dns_class.DNSClass.TheVariants as classes
 use Rattle.zsv_message.specs.drd_rdata.declared.rdata.RData.TheVariants as rdata
 use Rattle.zsv_message.specs.zst_record.declared.records.Record.{Record}
-use Rattle.authority_text.specs.zst_zone.declared.settings.ZoneType.TheVariants as kinds
-use Rattle.authority_text.specs.zst_zone.declared.settings.AxfrPolicy.TheVariants as policies
+use Rattle.authority_load.specs.zst_zone.declared.settings.ZoneType.TheVariants as kinds
+use Rattle.authority_load.specs.zst_zone.declared.settings.AxfrPolicy.TheVariants as policies
 use Rattle.zsv_message.specs.declared.header.MessageType.TheVariants as messages
 use Rattle.zsv_message.specs.declared.header.OpCode.TheVariants as operations
 use Rattle.zsv_message.specs.declared.header.ResponseCode.{ResponseCode}
@@ -25,7 +25,7 @@ use Rattle.zsv_message.specs.drd_rdata.Writing.{written_octets}
 use Rattle.zsv_message.specs.zst_record.Records.{fixed_octets, plain}
 use Rattle.zsv_message.specs.dnw_decoder.Spelling.{NameAt, at_end, at_label}
 use Rattle.zsv_message.specs.Requests.{Request, QuestionAt}
-use Rattle.authority_text.specs.zst_zone.Zones.{View, lookup_result, answered, name_exists, name_error, out_of_zone}
+use Rattle.authority_load.specs.zst_zone.Zones.{View, lookup_result, answered, name_exists, name_error, out_of_zone}
 use Rattle.authority.specs.Serving.{reply_parts}
 
 abbrev example : DomainName

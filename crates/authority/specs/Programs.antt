@@ -2,17 +2,17 @@
 use Rattle.std.specs.Prelude.{◌≡◌, ℕ, ◌⊎◌, false, List, [], ◌∷◌, Option, Some, None, Result, Ok, Err}
 use Rattle.std.specs.Io.KnownBytes.{IsAtEnd}
 use Rattle.std.specs.declared.net.SocketAddr.{SocketAddr}
-use Rattle.authority_text.specs.declared.text.TextError.{TextError}
-use Rattle.authority_text.specs.declared.text.TextError.TheVariants as texts
+use Rattle.authority_load.specs.declared.text.TextError.{TextError}
+use Rattle.authority_load.specs.declared.text.TextError.TheVariants as texts
 use Rattle.authority.specs.declared.program.Fault.{Fault}
 use Rattle.authority.specs.declared.program.Fault.TheVariants as faults
 use Rattle.authority.specs.declared.stream.StreamError.{StreamError}
 use Rattle.authority.specs.declared.stream.StreamError.TheVariants as streams
-use Rattle.authority_text.specs.zst_zone.declared.settings.ZoneType.TheVariants as kinds
-use Rattle.authority_text.specs.zst_zone.declared.settings.AxfrPolicy.TheVariants as policies
+use Rattle.authority_load.specs.zst_zone.declared.settings.ZoneType.TheVariants as kinds
+use Rattle.authority_load.specs.zst_zone.declared.settings.AxfrPolicy.TheVariants as policies
 use Rattle.zsv_message.specs.dnw_name.DomainName.{DomainName}
-use Rattle.authority_text.specs.zst_zone.Zones.{View}
-use Rattle.authority_text.specs.ZoneText.{IsOwnerText, IsNumberText, IsZoneText, IsLoadFault}
+use Rattle.authority_load.specs.zst_zone.Zones.{View}
+use Rattle.authority_load.specs.ZoneText.{IsOwnerText, IsNumberText, IsZoneText, IsLoadFault}
 use Rattle.authority.specs.Frames.{ServesFrames, ServesUntil}
 
 -- Three words: an origin that ends at the root, a file, and a moment of 64 bits.
@@ -24,10 +24,17 @@ pub record AreWords (words : List (List ℕ)) (origin : DomainName) (now : ℕ) 
   pub origin_text : IsOwnerText origin_word origin
   pub now_text : IsNumberText 64 now_word now
 
--- The zone that the program begins with: kept here, transferred to everybody, without proofs of absence or records.
+-- The zone that the program begins with: kept here, transferred to everybody, without proofs of
+-- absence or records.
 abbrev pub first_zone : DomainName → View
 first_zone name =
-    record { origin = name; zone_type = kinds.Primary; axfr_policy = policies.AllowAll; nx_proof_kind = None; sets = [] }
+    record {
+      origin = name;
+      zone_type = kinds.Primary;
+      axfr_policy = policies.AllowAll;
+      nx_proof_kind = None;
+      sets = [];
+    }
 
 -- The words are right, and the file is the text of a zone.
 pub record Starts (words : List (List ℕ)) (file : Option (List ℕ)) : Type 0 where
@@ -39,39 +46,52 @@ pub record Starts (words : List (List ℕ)) (file : Option (List ℕ)) : Type 0 
   pub readable : file ≡ Some text
   pub loaded : IsZoneText (first_zone origin) text zone
 
--- It started, and served the frames of its input over that zone, up to the input's end; the zone is as before.
-pub record Finishes (words : List (List ℕ)) (file left rest before after : Option (List ℕ)) : Type 0 where
+-- It started, and served the frames of its input over that zone, up to the input's end; the zone is
+-- as before.
+pub record Finishes (words : List (List ℕ))
+    (file left rest before after : Option (List ℕ)) : Type 0 where
   pub starts : Starts words file
   pub source : SocketAddr
-  pub frames : ServesFrames (record { zone = starts.zone }) source starts.now left rest before after (record { zone = starts.zone })
+  pub frames : ServesFrames (record { zone = starts.zone }) source starts.now left rest before after
+      (record { zone = starts.zone })
   pub ended : IsAtEnd rest
 
--- It started, and left the stream for this fault, behind the frames that were served whole over that zone.
-pub record Stops (words : List (List ℕ)) (file left rest before after : Option (List ℕ)) (fault : StreamError) : Type 0 where
+-- It started, and left the stream for this fault, behind the frames that were served whole over
+-- that zone.
+pub record LeavesStream (words : List (List ℕ)) (file left rest before after : Option (List ℕ))
+    (fault : StreamError) : Type 0 where
   pub starts : Starts words file
   pub source : SocketAddr
-  pub frames : ServesUntil (record { zone = starts.zone }) source starts.now left rest before after (record { zone = starts.zone }) fault
+  pub frames : ServesUntil (record { zone = starts.zone }) source starts.now left rest before after
+      (record { zone = starts.zone }) fault
 
--- The fault stands: wrong words; a file that could not be read; a text that is refused at a line; want of memory before
--- the zone is served. Want of memory may be answered at any time.
+-- The fault stands: wrong words; a file that could not be read; a text that is refused at a line;
+-- want of memory before the zone is served. Want of memory may be answered at any time.
 abbrev pub FaultStands : List (List ℕ) → Option (List ℕ) → Fault → Type 0
-FaultStands words file faults.Words = (origin : DomainName) (now : ℕ) → AreWords words origin now → ⊥
-FaultStands words file faults.ZoneFile = (origin : DomainName) × (now : ℕ) × AreWords words origin now × (file ≡ None)
+FaultStands words file faults.Words =
+    (origin : DomainName) (now : ℕ) → AreWords words origin now → ⊥
+FaultStands words file faults.ZoneFile =
+    (origin : DomainName) × (now : ℕ) × AreWords words origin now × (file ≡ None)
 FaultStands words file (faults.Zone error) =
-    (origin : DomainName) × (now : ℕ) × (text : List ℕ) × AreWords words origin now × (file ≡ Some text)
+    (origin : DomainName) × (now : ℕ) × (text : List ℕ) × AreWords words origin now
+    × (file ≡ Some text)
     × IsLoadFault (first_zone origin) text error
 FaultStands words file (faults.Stream error) = error ≡ streams.OutOfMemory false
 
 -- The program ends before it serves, and leaves input and output alone, or it leaves the stream.
-abbrev pub EndsBy : List (List ℕ) → Option (List ℕ) → Option (List ℕ) → Option (List ℕ) → Option (List ℕ) → Option (List ℕ) → Fault → Type 0
+abbrev pub EndsBy : List (List ℕ) → Option (List ℕ) → Option (List ℕ) → Option (List ℕ)
+    → Option (List ℕ) → Option (List ℕ) → Fault → Type 0
 EndsBy words file left rest before after fault =
     ((rest ≡ left) × (after ≡ before) × FaultStands words file fault)
-    ⊎ ((error : StreamError) × (fault ≡ faults.Stream error) × Stops words file left rest before after error)
+    ⊎ ((error : StreamError) × (fault ≡ faults.Stream error)
+    × LeavesStream words file left rest before after error)
 
 -- What the program answers: it ends with its input, or a fault stands.
-abbrev pub Answers : {X : Type 0} → List (List ℕ) → Option (List ℕ) → Option (List ℕ) → Option (List ℕ) → Option (List ℕ) → Option (List ℕ) → Result X Fault → Type 0
+abbrev pub Answers : {X : Type 0} → List (List ℕ) → Option (List ℕ) → Option (List ℕ)
+    → Option (List ℕ) → Option (List ℕ) → Option (List ℕ) → Result X Fault → Type 0
 Answers words file left rest before after (Ok done) = Finishes words file left rest before after
-Answers words file left rest before after (Err fault) = EndsBy words file left rest before after fault
+Answers words file left rest before after (Err fault) =
+    EndsBy words file left rest before after fault
 
 -- The status of a fault.
 abbrev pub status_of : Fault → ℕ
@@ -81,9 +101,12 @@ status_of (faults.Zone error) = 3
 status_of (faults.Stream error) = 4
 
 -- The status of the program: 0 where it ends with its input, else that of a fault that stands.
-abbrev pub StatusIs : List (List ℕ) → Option (List ℕ) → Option (List ℕ) → Option (List ℕ) → Option (List ℕ) → Option (List ℕ) → ℕ → Type 0
+abbrev pub StatusIs : List (List ℕ) → Option (List ℕ) → Option (List ℕ) → Option (List ℕ)
+    → Option (List ℕ) → Option (List ℕ) → ℕ → Type 0
 StatusIs words file left rest before after status =
-    ((status ≡ 0) × Finishes words file left rest before after) ⊎ ((fault : Fault) × (status ≡ status_of fault) × EndsBy words file left rest before after fault)
+    ((status ≡ 0) × Finishes words file left rest before after)
+    ⊎ ((fault : Fault) × (status ≡ status_of fault)
+    × EndsBy words file left rest before after fault)
 
 -- What was read of a word, where a malformed one is a fault.
 abbrev pub read_or_usage : {X : Type 0} → Result X TextError → Result X Fault
@@ -92,22 +115,26 @@ read_or_usage (Err texts.Malformed) = Err faults.Words
 read_or_usage (Err texts.OutOfMemory) = Err (faults.Stream (streams.OutOfMemory false))
 
 -- What the words give.
-abbrev pub WordsGive : {C : Type 0} → List (List ℕ) → (C → DomainName) → (C → ℕ) → Result C Fault → Type 0
+abbrev pub WordsGive : {C : Type 0} → List (List ℕ) → (C → DomainName) → (C → ℕ) → Result C Fault
+    → Type 0
 WordsGive words origin now (Ok command) = AreWords words (origin command) (now command)
-WordsGive words origin now (Err faults.Words) = (name : DomainName) (n : ℕ) → AreWords words name n → ⊥
+WordsGive words origin now (Err faults.Words) =
+    (name : DomainName) (n : ℕ) → AreWords words name n → ⊥
 WordsGive words origin now (Err faults.ZoneFile) = ⊥
 WordsGive words origin now (Err (faults.Zone error)) = ⊥
 WordsGive words origin now (Err (faults.Stream error)) = error ≡ streams.OutOfMemory false
 
 -- What the text gives.
 abbrev pub TextGives : DomainName → List ℕ → Result View Fault → Type 0
-TextGives origin text (Ok zone) = IsZoneText (first_zone origin) text zone × (zone.zone_type ≡ kinds.Primary)
+TextGives origin text (Ok zone) =
+    IsZoneText (first_zone origin) text zone × (zone.zone_type ≡ kinds.Primary)
 TextGives origin text (Err faults.Words) = ⊥
 TextGives origin text (Err faults.ZoneFile) = ⊥
 TextGives origin text (Err (faults.Zone error)) = IsLoadFault (first_zone origin) text error
 TextGives origin text (Err (faults.Stream error)) = ⊥
 
--- A status that stands for some words, file and streams: those of a process have no value in a clause.
+-- A status that stands for some words, file and streams: those of a process have no value in a
+-- clause.
 pub record IsExitStatus (status : ℕ) : Type 0 where
   pub words : List (List ℕ)
   pub file : Option (List ℕ)

@@ -2,14 +2,14 @@
 use Rattle.std.specs.Prelude.{◌≡◌, ◌<◌, Bool, true, false}
 use Rattle.std.specs.List.{AllByRecursion}
 use Rattle.zsv_message.specs.declared.encode.MessageResponse.{MessageResponse}
-use Rattle.authority_text.specs.zst_zone.declared.settings.ZoneType.{ZoneType}
-use Rattle.authority_text.specs.zst_zone.declared.settings.ZoneType.TheVariants as zones
+use Rattle.authority_load.specs.zst_zone.declared.settings.ZoneType.{ZoneType}
+use Rattle.authority_load.specs.zst_zone.declared.settings.ZoneType.TheVariants as zones
 use Rattle.zsv_message.specs.declared.header.ResponseCode.{ResponseCode}
 use Rattle.zsv_message.specs.Headers.{FitsHeader, response_code_of, response_code_number}
 use Rattle.zsv_message.specs.Requests.{Request}
 use Rattle.zsv_message.specs.zst_record.Records.{ReadsBackAlone}
 use Rattle.zsv_message.specs.Replies.{ReplyParts}
-use Rattle.authority_text.specs.zst_zone.Zones.{View}
+use Rattle.authority_load.specs.zst_zone.Zones.{View}
 
 abbrev pub serves_kind : ZoneType → Bool
 serves_kind zones.Primary = true
@@ -18,7 +18,11 @@ serves_kind zones.External = false
 
 -- What a response holds.
 abbrev pub parts_of : MessageResponse → ReplyParts
-parts_of r = record { metadata = r.metadata; answers = r.answers.now; authorities = r.authorities.now }
+parts_of r = record {
+  metadata = r.metadata;
+  answers = r.answers.now;
+  authorities = r.authorities.now;
+}
 
 -- A response that can be written and read back.
 pub record IsSound (r : MessageResponse) : Type 0 where

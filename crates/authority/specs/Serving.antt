@@ -1,8 +1,9 @@
--- What a server answers: RFC 1034, section 4.3.2; RFC 2308, section 3. One message, and a list of them.
+-- What a server answers: RFC 1034, section 4.3.2; RFC 2308, section 3. One message, and a list of
+-- them.
 use Rattle.std.specs.Prelude.{◌≡◌, ℕ, Bool, true, false, List, [], ◌∷◌, Option, Some, None, if◌then◌else◌}
 use Rattle.std.specs.declared.net.SocketAddr.{SocketAddr}
-use Rattle.authority_text.specs.dnw_codes.declared.record_type.RecordType.{RecordType}
-use Rattle.authority_text.specs.dnw_codes.declared.record_type.RecordType.TheVariants as types
+use Rattle.authority_load.specs.dnw_codes.declared.record_type.RecordType.{RecordType}
+use Rattle.authority_load.specs.dnw_codes.declared.record_type.RecordType.TheVariants as types
 use Rattle.zsv_message.specs.zst_record.declared.records.Record.{Record}
 use Rattle.zsv_message.specs.declared.header.Metadata.{Metadata}
 use Rattle.zsv_message.specs.declared.header.MessageType.{MessageType}
@@ -15,9 +16,9 @@ use Rattle.zsv_message.specs.declared.request.Query.{Query}
 use Rattle.authority.specs.declared.server.Protocol.{Protocol}
 use Rattle.authority.specs.declared.server.Protocol.TheVariants as protocols
 use Rattle.zsv_message.specs.dnw_name.DomainName.{is_at_or_below}
-use Rattle.authority_text.specs.dnw_codes.RecordType.{same_record_type}
+use Rattle.authority_load.specs.dnw_codes.RecordType.{same_record_type}
 use Rattle.zsv_message.specs.zst_record.Records.{RRset}
-use Rattle.authority_text.specs.zst_zone.Zones.{View, Outcome, answered, name_exists, name_error, out_of_zone, stored, lookup_result}
+use Rattle.authority_load.specs.zst_zone.Zones.{View, Outcome, answered, name_exists, name_error, out_of_zone, rrset_at, lookup_result}
 use Rattle.zsv_message.specs.Requests.{Request, IsRequest}
 use Rattle.zsv_message.specs.Replies.{ReplyParts, IsReply}
 
@@ -38,7 +39,11 @@ reply_metadata m authoritative code = record {
 
 -- An error has no records.
 abbrev pub error_parts : Metadata → ResponseCode → ReplyParts
-error_parts m code = record { metadata = reply_metadata m false code; answers = []; authorities = [] }
+error_parts m code = record {
+  metadata = reply_metadata m false code;
+  answers = [];
+  authorities = [];
+}
 
 -- The records of a set, if there is one.
 abbrev pub records_of : Option RRset → List Record
@@ -47,18 +52,35 @@ records_of (Some set) = set.records
 
 -- The set of a type at the zone's origin.
 abbrev pub apex : View → RecordType → List Record
-apex view record_type = records_of (stored view.sets view.origin record_type)
+apex view record_type = records_of (rrset_at view.sets view.origin record_type)
 
 -- With an answer to a question for the zone's start come its name servers.
 abbrev pub beside_answer : View → RecordType → List Record
-beside_answer view record_type = if same_record_type record_type types.SOA then apex view types.NS else []
+beside_answer view record_type =
+    if same_record_type record_type types.SOA then apex view types.NS else []
 
 -- The zone's own answer: the records; or the zone's start, with or without a name error.
 abbrev pub outcome_parts : View → Metadata → RecordType → Outcome → ReplyParts
-outcome_parts view m record_type (answered records) = record { metadata = reply_metadata m true responses.NoError; answers = records; authorities = beside_answer view record_type }
-outcome_parts view m record_type name_exists = record { metadata = reply_metadata m true responses.NoError; answers = []; authorities = apex view types.SOA }
-outcome_parts view m record_type name_error = record { metadata = reply_metadata m true responses.NXDomain; answers = []; authorities = apex view types.SOA }
-outcome_parts view m record_type out_of_zone = record { metadata = reply_metadata m true responses.Refused; answers = []; authorities = [] }
+outcome_parts view m record_type (answered records) = record {
+  metadata = reply_metadata m true responses.NoError;
+  answers = records;
+  authorities = beside_answer view record_type;
+}
+outcome_parts view m record_type name_exists = record {
+  metadata = reply_metadata m true responses.NoError;
+  answers = [];
+  authorities = apex view types.SOA;
+}
+outcome_parts view m record_type name_error = record {
+  metadata = reply_metadata m true responses.NXDomain;
+  answers = [];
+  authorities = apex view types.SOA;
+}
+outcome_parts view m record_type out_of_zone = record {
+  metadata = reply_metadata m true responses.Refused;
+  answers = [];
+  authorities = [];
+}
 
 -- One question: refused outside the zone; transfers are not served.
 abbrev pub question_parts : View → Metadata → Query → ReplyParts
@@ -85,7 +107,8 @@ operation_parts view m (operations.Unknown n) qs = error_parts m responses.NotIm
 -- A reply sent as a request is a format error.
 abbrev pub request_parts : View → Request → MessageType → ReplyParts
 request_parts view request messages.Response = error_parts request.metadata responses.FormErr
-request_parts view request messages.Query = operation_parts view request.metadata request.metadata.op_code request.questions
+request_parts view request messages.Query =
+    operation_parts view request.metadata request.metadata.op_code request.questions
 
 -- What a full reply to a request holds.
 abbrev pub reply_parts : View → Request → ReplyParts
@@ -107,15 +130,20 @@ abbrev pub limit_of : Protocol → ℕ
 limit_of protocols.Udp = 512
 limit_of protocols.Tcp = 65535
 
--- One message served: outside the request grammar there is no answer; inside it there is one reply, of the parts
--- that the zone gives. Nothing changes the server.
+-- One message served: outside the request grammar there is no answer; inside it there is one reply,
+-- of the parts that the zone gives. Nothing changes the server.
 abbrev pub Serves : World → Received → Option (List ℕ) → World → Type 0
-Serves old received None new = ((request : Request) → IsRequest received.message request → ⊥) × (new ≡ old)
-Serves old received (Some reply) new = (request : Request) × IsRequest received.message request × IsReply received.message reply (reply_parts old.zone request) request (limit_of received.transport) × (new ≡ old)
+Serves old received None new =
+    ((request : Request) → IsRequest received.message request → ⊥) × (new ≡ old)
+Serves old received (Some reply) new =
+    (request : Request) × IsRequest received.message request
+    × IsReply received.message reply (reply_parts old.zone request) request
+    (limit_of received.transport) × (new ≡ old)
 
 -- A list of messages served, one after the other.
 abbrev pub ServesAll : World → List Received → List (Option (List ℕ)) → World → Type 0
 ServesAll old [] [] new = new ≡ old
-ServesAll old (received ∷ later) (answer ∷ answers) new = (middle : World) × Serves old received answer middle × ServesAll middle later answers new
+ServesAll old (received ∷ later) (answer ∷ answers) new =
+    (middle : World) × Serves old received answer middle × ServesAll middle later answers new
 ServesAll old [] (answer ∷ answers) new = ⊥
 ServesAll old (received ∷ later) [] new = ⊥

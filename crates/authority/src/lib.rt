@@ -1,7 +1,7 @@
 //! An authoritative DNS server, from the octets of a request to the octets of its reply.
 #![tactic(auto)]
 
-pub use authority_text::{
+pub use authority_load::{
     AxfrPolicy, InMemoryZoneHandler, LoadCause, LoadError, Lookup, LowerName, NxProofKind,
     ProtoError, RrKey, Salt, ZoneSettings, ZoneType, load_zone,
 };

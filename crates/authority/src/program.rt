@@ -6,7 +6,7 @@ ghost use Rattle.authority.specs.Programs.{Answers, StatusIs, TextGives, WordsGi
 
 use crate::server::{Authority, NoSuite};
 use crate::stream::StreamError;
-use authority_text::{
+use authority_load::{
     AxfrPolicy, InMemoryZoneHandler, LoadError, TextError, ZoneSettings, ZoneType, load_zone,
     parse_owner, parse_u64,
 };
@@ -59,7 +59,8 @@ pub fn run<R: Read, W: Write, F: Write>(
     writer: &mut W,
     faults: &mut F,
 ) -> u8
-    ensures status { StatusIs (map string_bytes words.now) (option_copied zone.entry) (R.remaining reader.old) (R.remaining reader.new) (W.contents writer.old) (W.contents writer.new) result }
+    ensures status { StatusIs (map string_bytes words.now) (option_copied zone.entry) (R.remaining reader.old)
+        (R.remaining reader.new) (W.contents writer.old) (W.contents writer.new) result }
     ensures quiet { result ≡ 0 → F.contents faults.new ≡ F.contents faults.old }
 {
     match serve(alloc, words, zone, reader, writer) {
@@ -90,7 +91,8 @@ fn serve<R: Read, W: Write>(
     reader: &mut R,
     writer: &mut W,
 ) -> Result<(), Fault>
-    ensures { Answers (map string_bytes words.now) (option_copied zone.entry) (R.remaining reader.old) (R.remaining reader.new) (W.contents writer.old) (W.contents writer.new) result }
+    ensures { Answers (map string_bytes words.now) (option_copied zone.entry) (R.remaining reader.old)
+        (R.remaining reader.new) (W.contents writer.old) (W.contents writer.new) result }
 {
     let command = read_words(alloc, words)?;
     let Some(text) = zone else {

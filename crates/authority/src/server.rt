@@ -3,10 +3,10 @@
 ghost use Rattle.std.specs.Prelude.{◌≡◌, ◌+◌, ◌<◌, vec_len, vec_capacity, length, map, IfOk, IfErr, OnOk, false};
 ghost use Rattle.authority.specs.Serving.{limit_of, Serves};
 ghost use Rattle.zsv_message.specs.Requests.{OpensRequest};
-ghost use Rattle.authority.specs.Runs.{octets_of, received, ServesNext, ServesFront};
+ghost use Rattle.authority.specs.Runs.{octets_of, received_of, ServesNext, ServesFront};
 
 use crate::server::answer::reply_to;
-use authority_text::{InMemoryZoneHandler, ZoneType};
+use authority_load::{InMemoryZoneHandler, ZoneType};
 use std::alloc::Global;
 use std::marker::Model;
 use std::net::SocketAddr;
@@ -108,7 +108,9 @@ impl<S, K> Authority<S, K> {
         protocol: Protocol,
         now: u64,
     ) -> Result<Option<Vec<u8>>, ServeError>
-        ensures served { IfOk result (λ answer. Serves self.old (record { message = message.now; source = src; transport = protocol; now = now }) (octets_of answer) self.new) }
+        ensures served { IfOk result
+            (λ answer. Serves self.old (record { message = message.now; source = src; transport = protocol; now = now })
+            (octets_of answer) self.new) }
         ensures refused { IfErr result (λ e. (e ≡ ServeError.OutOfMemory false) × OpensRequest message.now × (self.new ≡ self.old)) }
     {
         let request = match MessageRequest::read(self.alloc, message) {
@@ -129,7 +131,7 @@ impl<S, K> Authority<S, K> {
         answers: &mut Vec<Option<Vec<u8>>>,
     ) -> Result<(), ServeError>
         requires { vec_len answers.old < vec_capacity answers.old }
-        ensures served { OnOk result (ServesNext self.old (received arrival.entry.now) answers.old.items answers.new.items self.new) }
+        ensures served { OnOk result (ServesNext self.old (received_of arrival.entry.now) answers.old.items answers.new.items self.new) }
         ensures capacity { vec_capacity answers.new ≡ vec_capacity answers.old }
         ensures len { OnOk result (vec_len answers.new ≡ vec_len answers.old + 1) }
         ensures refused { IfErr result (λ e. (e ≡ ServeError.OutOfMemory false) × (self.new ≡ self.old) × (answers.new.items ≡ answers.old.items)) }
@@ -146,7 +148,7 @@ impl<S, K> Authority<S, K> {
         arrivals: &[Arrival<'_>],
         answers: &mut Vec<Option<Vec<u8>>>,
     ) -> Result<(), ServeError>
-        ensures served { ServesFront self.old (map received arrivals.now) (map octets_of answers.old.items) (map octets_of answers.new.items) self.new }
+        ensures served { ServesFront self.old (map received_of arrivals.now) (map octets_of answers.old.items) (map octets_of answers.new.items) self.new }
         ensures all { OnOk result (length answers.new.items ≡ length answers.old.items + length arrivals.now) }
         ensures refused { IfErr result (λ e. e ≡ ServeError.OutOfMemory false) }
     {

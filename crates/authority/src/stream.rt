@@ -3,7 +3,7 @@
 ghost use Rattle.std.specs.Prelude.{◌≡◌, ◌<◌, ◌≤◌, ◌^◌, ℕ, true, false, length, take, [], Ok, Err, IfOk, IfErr, IfSome, OnOk, None};
 ghost use Rattle.std.specs.Int.{w16, to_be_bytes};
 ghost use Rattle.std.specs.Io.KnownBytes.{Consumes, Appends, IsAtEnd};
-ghost use Rattle.authority.specs.Frames.{framed, streamed, ReadsLess, IsMessageFault, IsReadFault, WritesFront, IsServeFault, ServesFrame, ServesFrames, ServesUntil};
+ghost use Rattle.authority.specs.Frames.{frame_of, stream_message, ReadsLess, IsMessageFault, IsReadFault, WritesFront, IsServeFault, ServesFrame, ServesFrames, ServesUntil};
 
 use crate::server::{Authority, Protocol, ServeError};
 use std::io::{Read, Write};
@@ -96,7 +96,7 @@ fn read_message<R: Read>(reader: &mut R, frame: &mut Vec<u8>, size: u16) -> Resu
 
 // Reads one frame: whether one came before the input ended.
 fn read_frame<R: Read>(reader: &mut R, frame: &mut Vec<u8>) -> Result<bool, StreamError>
-    ensures whole { result ≡ Ok true → Consumes (R.remaining reader.old) (R.remaining reader.new) (framed frame.new.items) }
+    ensures whole { result ≡ Ok true → Consumes (R.remaining reader.old) (R.remaining reader.new) (frame_of frame.new.items) }
     ensures end { result ≡ Ok false → Consumes (R.remaining reader.old) (R.remaining reader.new) [] × IsAtEnd (R.remaining reader.new) }
     ensures fault { IfErr result (IsReadFault (R.remaining reader.old) (R.remaining reader.new)) }
 {
@@ -112,7 +112,9 @@ fn read_frame<R: Read>(reader: &mut R, frame: &mut Vec<u8>) -> Result<bool, Stre
 // Writes octets.
 fn put<W: Write>(writer: &mut W, octets: &[u8]) -> Result<(), StreamError>
     ensures written { OnOk result (Appends (W.contents writer.old) (W.contents writer.new) octets.now) }
-    ensures fault { IfErr result (λ e. (e ≡ StreamError.Write) × (count : ℕ) × (count ≤ length octets.now) × Appends (W.contents writer.old) (W.contents writer.new) (take count octets.now)) }
+    ensures fault { IfErr result
+        (λ e. (e ≡ StreamError.Write) × (count : ℕ) × (count ≤ length octets.now)
+        × Appends (W.contents writer.old) (W.contents writer.new) (take count octets.now)) }
 {
     let mut at = 0;
     'writing: while at < octets.len() {
@@ -128,8 +130,8 @@ fn put<W: Write>(writer: &mut W, octets: &[u8]) -> Result<(), StreamError>
 // Writes one frame.
 fn write_frame<W: Write>(writer: &mut W, message: &[u8]) -> Result<(), StreamError>
     requires { length message.now < 2 ^ 16 }
-    ensures written { OnOk result (Appends (W.contents writer.old) (W.contents writer.new) (framed message.now)) }
-    ensures fault { IfErr result (λ e. (e ≡ StreamError.Write) × WritesFront (W.contents writer.old) (W.contents writer.new) (framed message.now)) }
+    ensures written { OnOk result (Appends (W.contents writer.old) (W.contents writer.new) (frame_of message.now)) }
+    ensures fault { IfErr result (λ e. (e ≡ StreamError.Write) × WritesFront (W.contents writer.old) (W.contents writer.new) (frame_of message.now)) }
 {
     put(writer, &(message.len() as u16).to_be_bytes())?;
     put(writer, message)?;
@@ -148,8 +150,8 @@ impl<S, K> Authority<S, K> {
         src: SocketAddr,
         now: u64,
     ) -> Result<(), StreamError>
-        ensures served { OnOk result (ServesFrame self.old (streamed src now message.now) (W.contents writer.old) (W.contents writer.new) self.new) }
-        ensures fault { IfErr result (IsServeFault self.old (streamed src now message.now) (W.contents writer.old) (W.contents writer.new) self.new) }
+        ensures served { OnOk result (ServesFrame self.old (stream_message src now message.now) (W.contents writer.old) (W.contents writer.new) self.new) }
+        ensures fault { IfErr result (IsServeFault self.old (stream_message src now message.now) (W.contents writer.old) (W.contents writer.new) self.new) }
     {
         match self.serve(message, src, Protocol::Tcp, now) {
             Ok(Some(reply)) => write_frame(writer, &reply),
@@ -168,9 +170,13 @@ impl<S, K> Authority<S, K> {
         now: u64,
     ) -> Result<(), StreamError>
         ensures unchanged { self.new ≡ self.old }
-        ensures served { OnOk result (ServesFrames self.old src now (R.remaining reader.old) (R.remaining reader.new) (W.contents writer.old) (W.contents writer.new) self.new) }
+        ensures served { OnOk result
+            (ServesFrames self.old src now (R.remaining reader.old) (R.remaining reader.new) (W.contents writer.old)
+            (W.contents writer.new) self.new) }
         ensures ended { OnOk result (IsAtEnd (R.remaining reader.new)) }
-        ensures left { IfErr result (ServesUntil self.old src now (R.remaining reader.old) (R.remaining reader.new) (W.contents writer.old) (W.contents writer.new) self.new) }
+        ensures left { IfErr result
+            (ServesUntil self.old src now (R.remaining reader.old) (R.remaining reader.new) (W.contents writer.old)
+            (W.contents writer.new) self.new) }
         ensures cut { result ≡ Err StreamError.CutFrame → IsAtEnd (R.remaining reader.new) }
     {
         let mut frame = Vec::new(self.alloc());

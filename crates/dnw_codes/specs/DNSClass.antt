@@ -25,7 +25,8 @@ named_classes = IN ∷ CH ∷ HS ∷ NONE ∷ ANY ∷ []
 
 -- The class that a number stands for.
 abbrev pub class_of : ℕ → DNSClass
-class_of number = unwrap_or (find (λ named. class_number named == number) named_classes) (Unknown number)
+class_of number =
+    unwrap_or (find (λ named. class_number named == number) named_classes) (Unknown number)
 
 -- A class's name; the others have one together.
 abbrev pub class_name : DNSClass → List ℕ

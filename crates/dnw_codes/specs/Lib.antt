@@ -1,3 +1,4 @@
+pub mod Ascii
 pub mod DNSClass
 pub mod Digits
 pub mod ProtoError

@@ -56,12 +56,16 @@ record_type_number (Unknown number) = number
 -- The types that have a name, by rising number.
 abbrev pub named_record_types : List RecordType
 named_record_types =
-    ZERO ∷ A ∷ NS ∷ CNAME ∷ SOA ∷ NULL ∷ PTR ∷ HINFO ∷ MX ∷ TXT ∷ SIG ∷ KEY ∷ AAAA ∷ SRV ∷ NAPTR ∷ CERT ∷ DNAME ∷ OPT ∷ DS ∷ SSHFP ∷ RRSIG ∷ NSEC ∷ DNSKEY ∷ NSEC3 ∷ NSEC3PARAM ∷ TLSA ∷ SMIMEA ∷ CDS ∷ CDNSKEY ∷ OPENPGPKEY ∷ CSYNC ∷ SVCB ∷ HTTPS ∷ TSIG ∷ IXFR ∷ AXFR ∷ ANY ∷ CAA ∷ ANAME ∷ []
+    ZERO ∷ A ∷ NS ∷ CNAME ∷ SOA ∷ NULL ∷ PTR ∷ HINFO ∷ MX ∷ TXT ∷ SIG ∷ KEY ∷ AAAA ∷ SRV ∷ NAPTR
+    ∷ CERT ∷ DNAME ∷ OPT ∷ DS ∷ SSHFP ∷ RRSIG ∷ NSEC ∷ DNSKEY ∷ NSEC3 ∷ NSEC3PARAM ∷ TLSA ∷ SMIMEA
+    ∷ CDS ∷ CDNSKEY ∷ OPENPGPKEY ∷ CSYNC ∷ SVCB ∷ HTTPS ∷ TSIG ∷ IXFR ∷ AXFR ∷ ANY ∷ CAA ∷ ANAME
+    ∷ []
 
 -- The type that a number stands for.
 abbrev pub record_type_of : ℕ → RecordType
 record_type_of number =
-    unwrap_or (find (λ named. record_type_number named == number) named_record_types) (Unknown number)
+    unwrap_or (find (λ named. record_type_number named == number) named_record_types)
+    (Unknown number)
 
 -- A type's name; the others have one together.
 abbrev pub record_type_name : RecordType → List ℕ

@@ -1,3 +1,5 @@
+pub mod SpellingLaws
+pub mod Standing
 pub mod Progress
 pub mod Reached
 pub mod Refused

@@ -5,7 +5,7 @@ use Rattle.dnw_name.specs.dnw_label.Label.{IsLabel}
 use Rattle.dnw_decoder.specs.Octets.{Stands}
 use Rattle.dnw_decoder.specs.Spelling.{NameAt, Spells, pointer_octets, at_end}
 use Rattle.dnw_decoder.specs.Refusals.{Reaches, at_start, behind_label, at_target}
-use Rattle.dnw_decoder.specs.Standing.{stands_within}
+use Rattle.dnw_decoder.proofs.Standing.{stands_within}
 use Rattle.dnw_decoder.proofs.Reached.{reached_whole}
 
 -- Where the name ends if a pointer was followed.

@@ -2,7 +2,7 @@
 use Rattle.std.proofs.Common.{◌≡◌, ℕ, List, [], ◌∷◌, ◌++◌, Option, unwrap_or, refl, sym, ap, subst, ◌∙◌, append_assoc}
 use Rattle.dnw_decoder.specs.Spelling.{Spelled, Spells, at_label, at_pointer}
 use Rattle.dnw_decoder.specs.Refusals.{Reaches, at_start, behind_label, at_target}
-use Rattle.dnw_decoder.specs.SpellingLaws.{label_first, pointer_first}
+use Rattle.dnw_decoder.proofs.SpellingLaws.{label_first, pointer_first}
 
 -- Whatever is spelled from here on completes the whole.
 pub reached_whole : (message : List ℕ) (start : ℕ) (found : List (List ℕ)) (segment bound place : ℕ) (resume : Option ℕ) → Reaches message start found segment bound place resume → (rest : List (List ℕ)) (end : ℕ) → Spelled message segment bound place rest end → Spells message start (found ++ rest) (unwrap_or resume end)

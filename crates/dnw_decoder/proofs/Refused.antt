@@ -7,8 +7,8 @@ use Rattle.dnw_name.specs.dnw_codes.declared.error.DecodeError.TheVariants.{Insu
 use Rattle.dnw_name.specs.DomainName.{DomainName, labels_len}
 use Rattle.dnw_decoder.specs.Reading.{IsWantOfMemory}
 use Rattle.dnw_decoder.specs.Spelling.{pointer_octets, Spelled, at_end, at_label, at_pointer, NameAt}
-use Rattle.dnw_decoder.specs.Refusals.{Refuses, IsCause, element_len, pointed}
-use Rattle.dnw_decoder.specs.Standing.{stands_head, stands_second, stands_within}
+use Rattle.dnw_decoder.specs.Refusals.{Refuses, IsCause, element_len, pointer_target}
+use Rattle.dnw_decoder.proofs.Standing.{stands_head, stands_second, stands_within}
 use Rattle.dnw_decoder.proofs.Reached.{reached_only}
 
 pub element_short : (first : ℕ) → first < 64 → element_len first ≡ first + 1
@@ -27,7 +27,7 @@ labels_len-cons = sum_by-cons (λ label. length label + 1)
 record Begins (message : List ℕ) (segment bound place : ℕ) (rest : List (List ℕ)) : Type 0 where
   inside : place < bound
   whole : place + element_len (get_or message place 0) ≤ length message
-  kind : (get_or message place 0 < 64) ⊎ ((192 ≤ get_or message place 0) × (pointed message place < segment))
+  kind : (get_or message place 0 < 64) ⊎ ((192 ≤ get_or message place 0) × (pointer_target message place < segment))
   long : 0 < get_or message place 0 → get_or message place 0 < 64 → get_or message place 0 + 1 ≤ labels_len rest
 
 begins : (message : List ℕ) (segment bound place : ℕ) (rest : List (List ℕ)) (end : ℕ) → Spelled message segment bound place rest end → Begins message segment bound place rest

@@ -4,11 +4,12 @@ use Rattle.dnw_name.specs.dnw_codes.DNSClass.{class_of}
 use Rattle.dnw_name.specs.dnw_codes.RecordType.{record_type_of}
 use Rattle.dnw_name.specs.dnw_codes.declared.dns_class.DNSClass.{DNSClass}
 use Rattle.dnw_name.specs.dnw_codes.declared.record_type.RecordType.{RecordType}
-use Rattle.dnw_name.specs.DomainName.{DomainName, lowercased}
+use Rattle.dnw_name.specs.DomainName.{DomainName, lowercase_name}
 use Rattle.dnw_decoder.specs.Octets.{octets_16, Stands}
 use Rattle.dnw_decoder.specs.Spelling.{NameAt}
 
-pub record RecordTypeAt (message : List ℕ) (place : ℕ) (record_type : RecordType) (end : ℕ) : Type 0 where
+pub record RecordTypeAt (message : List ℕ) (place : ℕ) (record_type : RecordType)
+    (end : ℕ) : Type 0 where
   pub number : ℕ
   pub small : number < 2 ^ 16
   pub there : Stands message place (octets_16 number) end
@@ -24,4 +25,4 @@ pub record ClassAt (message : List ℕ) (place : ℕ) (class : DNSClass) (end : 
 pub record LowerNameAt (message : List ℕ) (place : ℕ) (lower : DomainName) (end : ℕ) : Type 0 where
   pub name : DomainName
   pub there : NameAt message place name end
-  pub means : lower ≡ lowercased name
+  pub means : lower ≡ lowercase_name name

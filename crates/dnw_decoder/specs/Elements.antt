@@ -8,8 +8,11 @@ use Rattle.dnw_decoder.specs.declared.name.Element.TheVariants.{End, Label, Poin
 
 -- What stands at a place of a segment, before its bound.
 abbrev pub ElementAt : List ℕ → ℕ → ℕ → ℕ → Element → Type 0
-ElementAt message segment bound place End = (place < bound) × Stands message place (0 ∷ []) (place + 1)
+ElementAt message segment bound place End =
+    (place < bound) × Stands message place (0 ∷ []) (place + 1)
 ElementAt message segment bound place (Label label) =
-    (place < bound) × IsLabel label.now × Stands message place (length label.now ∷ label.now) (place + (1 + length label.now))
+    (place < bound) × IsLabel label.now
+    × Stands message place (length label.now ∷ label.now) (place + (1 + length label.now))
 ElementAt message segment bound place (Pointer target) =
-    (place < bound) × (target < segment) × (target < 16384) × Stands message place (pointer_octets target) (place + 2)
+    (place < bound) × (target < segment) × (target < 16384)
+    × Stands message place (pointer_octets target) (place + 2)

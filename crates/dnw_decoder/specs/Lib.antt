@@ -4,7 +4,5 @@ pub mod Octets
 pub mod Reading
 pub mod Refusals
 pub mod Spelling
-pub mod SpellingLaws
-pub mod Standing
 pub use Rattle.dnw_name.specs.dnw_label
 pub mod dnw_name

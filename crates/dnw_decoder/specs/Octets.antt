@@ -1,4 +1,5 @@
--- Octets of a message: what stands where (RFC 1035 2.3.2: the most significant octet of a number comes first).
+-- Octets of a message: what stands where (RFC 1035 2.3.2: the most significant octet of a number
+-- comes first).
 use Rattle.std.specs.Prelude.{◌≡◌, ℕ, ◌+◌, ◌*◌, List, ◌++◌, length, drop, get_or}
 use Rattle.std.specs.Int.{w16, w32, to_be_bytes}
 

@@ -12,13 +12,13 @@ abbrev pub reading : List ℕ → ℕ → Reading
 reading octets index = record { octets = octets; index = index }
 
 -- These octets were read: they stand at the index, and the decoder moved behind them.
-pub record Takes (old : Reading) (taken : List ℕ) (new : Reading) : Type 0 where
+pub record TakesOctets (old : Reading) (taken : List ℕ) (new : Reading) : Type 0 where
   pub there : Stands old.octets old.index taken new.index
   pub same : new.octets ≡ old.octets
   pub within : new.index ≤ length old.octets
 
 -- So many octets are not there, and the decoder stayed.
-pub record Lacks (old : Reading) (wanted : ℕ) (new : Reading) (e : DecodeError) : Type 0 where
+pub record LacksOctets (old : Reading) (wanted : ℕ) (new : Reading) (e : DecodeError) : Type 0 where
   pub cause : e ≡ InsufficientBytes
   pub short : length old.octets < old.index + wanted
   pub stays : new ≡ old

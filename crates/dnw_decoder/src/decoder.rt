@@ -4,7 +4,7 @@ ghost use Rattle.std.specs.Option.{option_copied};
 ghost use Rattle.std.specs.Int.{w32, cast_unsigned};
 ghost use Rattle.dnw_name.specs.dnw_codes.declared.error.DecodeError.TheVariants.{InvalidPreviousIndex};
 ghost use Rattle.dnw_decoder.specs.Octets.{octets_16, octets_32};
-ghost use Rattle.dnw_decoder.specs.Reading.{reading, Takes, Lacks, IsWantOfMemory};
+ghost use Rattle.dnw_decoder.specs.Reading.{reading, TakesOctets, LacksOctets, IsWantOfMemory};
 
 use dnw_name::{DecodeError, Restrict};
 use std::alloc::Global;
@@ -104,9 +104,9 @@ impl<'a> BinDecoder<'a> {
 
     /// So many octets, lent from the message.
     pub fn read_slice(&mut self, len: usize) -> Result<Restrict<&'a [u8]>, DecodeError>
-        ensures ok { IfOk result (λ slice. Takes self.old slice.now self.new) }
+        ensures ok { IfOk result (λ slice. TakesOctets self.old slice.now self.new) }
         ensures long { IfOk result (λ slice. length slice.now ≡ len) }
-        ensures err { IfErr result (Lacks self.old len self.new) }
+        ensures err { IfErr result (LacksOctets self.old len self.new) }
     {
         if self.octets.len() - self.index < len {
             return Err(DecodeError::InsufficientBytes);
@@ -119,8 +119,8 @@ impl<'a> BinDecoder<'a> {
 
     /// One octet.
     pub fn read_u8(&mut self) -> Result<Restrict<u8>, DecodeError>
-        ensures ok { IfOk result (λ octet. Takes self.old (octet ∷ []) self.new) }
-        ensures err { IfErr result (Lacks self.old 1 self.new) }
+        ensures ok { IfOk result (λ octet. TakesOctets self.old (octet ∷ []) self.new) }
+        ensures err { IfErr result (LacksOctets self.old 1 self.new) }
     {
         let octets = self.read_slice(1)?.unverified();
         Ok(Restrict::new(octets[0]))
@@ -128,16 +128,16 @@ impl<'a> BinDecoder<'a> {
 
     /// One octet.
     pub fn pop(&mut self) -> Result<Restrict<u8>, DecodeError>
-        ensures ok { IfOk result (λ octet. Takes self.old (octet ∷ []) self.new) }
-        ensures err { IfErr result (Lacks self.old 1 self.new) }
+        ensures ok { IfOk result (λ octet. TakesOctets self.old (octet ∷ []) self.new) }
+        ensures err { IfErr result (LacksOctets self.old 1 self.new) }
     {
         self.read_u8()
     }
 
     /// The number of two octets, the greatest first.
     pub fn read_u16(&mut self) -> Result<Restrict<u16>, DecodeError>
-        ensures ok { IfOk result (λ number. Takes self.old (octets_16 number) self.new) }
-        ensures err { IfErr result (Lacks self.old 2 self.new) }
+        ensures ok { IfOk result (λ number. TakesOctets self.old (octets_16 number) self.new) }
+        ensures err { IfErr result (LacksOctets self.old 2 self.new) }
     {
         let octets = self.read_slice(2)?.unverified();
         Ok(Restrict::new(u16::from_be_bytes([octets[0], octets[1]])))
@@ -145,8 +145,8 @@ impl<'a> BinDecoder<'a> {
 
     /// The number of four octets, the greatest first.
     pub fn read_u32(&mut self) -> Result<Restrict<u32>, DecodeError>
-        ensures ok { IfOk result (λ number. Takes self.old (octets_32 number) self.new) }
-        ensures err { IfErr result (Lacks self.old 4 self.new) }
+        ensures ok { IfOk result (λ number. TakesOctets self.old (octets_32 number) self.new) }
+        ensures err { IfErr result (LacksOctets self.old 4 self.new) }
     {
         let octets = self.read_slice(4)?.unverified();
         Ok(Restrict::new(u32::from_be_bytes([octets[0], octets[1], octets[2], octets[3]])))
@@ -154,8 +154,8 @@ impl<'a> BinDecoder<'a> {
 
     /// The number of four octets, the greatest first, in two's complement.
     pub fn read_i32(&mut self) -> Result<Restrict<i32>, DecodeError>
-        ensures ok { IfOk result (λ number. Takes self.old (octets_32 (cast_unsigned w32 number)) self.new) }
-        ensures err { IfErr result (Lacks self.old 4 self.new) }
+        ensures ok { IfOk result (λ number. TakesOctets self.old (octets_32 (cast_unsigned w32 number)) self.new) }
+        ensures err { IfErr result (LacksOctets self.old 4 self.new) }
     {
         let number = self.read_u32()?.unverified();
         Ok(Restrict::new(number.cast_signed()))
@@ -163,9 +163,9 @@ impl<'a> BinDecoder<'a> {
 
     /// A string: its octets stand behind one that holds their number (RFC 1035 3.3).
     pub fn read_character_data(&mut self) -> Result<Restrict<&'a [u8]>, DecodeError>
-        ensures ok { IfOk result (λ string. Takes self.old (length string.now ∷ string.now) self.new) }
+        ensures ok { IfOk result (λ string. TakesOctets self.old (length string.now ∷ string.now) self.new) }
         ensures short { IfOk result (λ string. length string.now ≤ 255) }
-        ensures err { IfErr result (Lacks self.old (get_or self.old.octets self.old.index 0 + 1) self.new) }
+        ensures err { IfErr result (LacksOctets self.old (get_or self.old.octets self.old.index 0 + 1) self.new) }
     {
         let Some(length) = self.octets.get(self.index) else {
             return Err(DecodeError::InsufficientBytes);
@@ -177,9 +177,9 @@ impl<'a> BinDecoder<'a> {
 
     /// So many octets, copied.
     pub fn read_vec(&mut self, alloc: Global, len: usize) -> Result<Restrict<Vec<u8>>, DecodeError>
-        ensures ok { IfOk result (λ octets. Takes self.old octets.items self.new) }
+        ensures ok { IfOk result (λ octets. TakesOctets self.old octets.items self.new) }
         ensures long { IfOk result (λ octets. length octets.items ≡ len) }
-        ensures err { IfErr result (λ e. IsWantOfMemory e × (self.new ≡ self.old) ⊎ Lacks self.old len self.new e) }
+        ensures err { IfErr result (λ e. IsWantOfMemory e × (self.new ≡ self.old) ⊎ LacksOctets self.old len self.new e) }
     {
         if self.len() < len {
             return Err(DecodeError::InsufficientBytes);

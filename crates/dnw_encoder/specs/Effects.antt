@@ -24,12 +24,13 @@ pub record Agrees (s : State) (bound : ℕ) (later : List ℕ) : Type 0 where
   pub there : (i : ℕ) → i < bound → Fixed s i → i < length later
   pub same : (i : ℕ) → i < bound → Fixed s i → get_or later i 0 ≡ get_or s.octets i 0
 
--- It stands in every list of octets that agrees so: in the octets as they are, and in the finished message.
-pub record Holds (s : State) (bound : ℕ) (P : List ℕ → Type 0) : Type 0 where
+-- It stands in every list of octets that agrees so: in the octets as they are, and in the finished
+-- message.
+pub record StaysTrue (s : State) (bound : ℕ) (P : List ℕ → Type 0) : Type 0 where
   pub of : (later : List ℕ) → Agrees s bound later → P later
 
--- From one state to another, what lies below a cut stays, but for open places: a cut is where a call begins to
--- write, or what a rollback goes back to.
+-- From one state to another, what lies below a cut stays, but for open places: a cut is where a
+-- call begins to write, or what a rollback goes back to.
 pub record Keeps (cut : ℕ) (old new : State) : Type 0 where
   pub octets : take cut new.octets ≡ take cut old.octets
   pub no_more : (r : OpenPlace) → In r new.places → r.from < cut → In r old.places
@@ -42,17 +43,20 @@ pub record Same (cut : ℕ) (old new : State) : Type 0 where
   pub fixed : (i : ℕ) → i < cut → Fixed old i → Fixed new i
   pub octets : (i : ℕ) → i < cut → Fixed old i → get_or new.octets i 0 ≡ get_or old.octets i 0
 
--- A candidate that is a name's octets is spelled at its place, by octets outside the open places; a pointer can
--- name its place.
+-- A candidate that is a name's octets is spelled at its place, by octets outside the open places; a
+-- pointer can name its place.
 pub record IsStanding (s : State) (c : Candidate) : Type 0 where
   pub within : c.end ≤ length s.octets
   pub small : c.place < 16383
-  pub spelled : (labels : List (List ℕ)) → All IsLabel labels → c.octets ≡ name_octets (domain_name true labels) → Holds s c.end (λ octets. Spells octets c.place labels c.end)
+  pub spelled : (labels : List (List ℕ)) → All IsLabel labels
+      → c.octets ≡ name_octets (domain_name true labels)
+      → StaysTrue s c.end (λ octets. Spells octets c.place labels c.end)
 
 pub record AllStand (s : State) : Type 0 where
   pub each : (c : Candidate) → In c s.candidates → IsStanding s c
   pub places : (r : OpenPlace) → In r s.places → r.to ≤ length s.octets
-  pub apart : (r q : OpenPlace) → In r s.places → In q s.places → (i : ℕ) → r.from ≤ i → i < r.to → q.from ≤ i → i < q.to → r ≡ q
+  pub apart : (r q : OpenPlace) → In r s.places → In q s.places → (i : ℕ) → r.from ≤ i → i < r.to
+      → q.from ≤ i → i < q.to → r ≡ q
 
 -- An encoder at its end, all of whose candidates stand.
 pub record Sound (s : State) : Type 0 where
@@ -78,7 +82,7 @@ abbrev pub written_at : List ℕ → ℕ → List ℕ → List ℕ
 written_at octets place more = take place octets ++ more ++ drop (place + length more) octets
 
 -- These octets are put at the offset, which moves behind them.
-pub record Puts (more : List ℕ) (old new : State) : Type 0 where
+pub record WritesOctets (more : List ℕ) (old new : State) : Type 0 where
   pub octets : new.octets ≡ written_at old.octets old.offset more
   pub offset : new.offset ≡ old.offset + length more
   pub candidates : new.candidates ≡ old.candidates
@@ -105,15 +109,18 @@ pub record Fills (p : ℕ) (more : List ℕ) (old new : State) : Type 0 where
   pub candidates : new.candidates ≡ old.candidates
   pub shut : In (place_of p (length more)) new.places → ⊥
   pub no_more : (r : OpenPlace) → In r new.places → In r old.places
-  pub stay_open : (r : OpenPlace) → In r old.places → (r ≡ place_of p (length more) → ⊥) → In r new.places
+  pub stay_open : (r : OpenPlace) → In r old.places → (r ≡ place_of p (length more) → ⊥)
+      → In r new.places
   pub modes : SameModes old new
   -- It stands there, and what is fixed elsewhere stays.
   pub same : (cut : ℕ) → Same cut old new
   pub keeps : Keeps p old new
   pub sound : Sound old → Sound new
-  pub stays : Sound old → Holds new (p + length more) (λ octets. Stands octets p more (p + length more))
+  pub stays : Sound old
+      → StaysTrue new (p + length more) (λ octets. Stands octets p more (p + length more))
 
--- Octets behind the offset are dropped, with the candidates and the open places that reach into them.
+-- Octets behind the offset are dropped, with the candidates and the open places that reach into
+-- them.
 pub record Trims (old new : State) : Type 0 where
   pub octets : new.octets ≡ take old.offset old.octets
   pub offset : new.offset ≡ old.offset
@@ -125,27 +132,33 @@ pub record Trims (old new : State) : Type 0 where
 
 -- A write of so many octets is refused: it would pass the maximum, or a growth was refused.
 abbrev pub IsRefusal : State → ℕ → ProtoError → Type 0
-IsRefusal s size e = IsMemory e ⊎ ((e ≡ MaxBufferSizeExceeded s.maximum) × (s.maximum < s.offset + size))
+IsRefusal s size e =
+    IsMemory e ⊎ ((e ≡ MaxBufferSizeExceeded s.maximum) × (s.maximum < s.offset + size))
 
 -- Some candidate has these octets.
 abbrev pub Has : List Candidate → List ℕ → Type 0
 Has cs octets = (c : Candidate) × In c cs × (c.octets ≡ octets)
 
--- A range of the octets may become a candidate, and does where pointers are written and there is room.
+-- A range of the octets may become a candidate, and does where pointers are written and there is
+-- room.
 pub record Stores (start end : ℕ) (old new : State) : Type 0 where
   pub octets : new.octets ≡ old.octets
   pub offset : new.offset ≡ old.offset
   pub places : new.places ≡ old.places
   pub keeps : (c : Candidate) → In c old.candidates → In c new.candidates
-  pub only : (c : Candidate) → In c new.candidates → In c old.candidates ⊎ (c ≡ record { place = start; octets = slice_range old.octets start end; end = end })
-  pub becomes : old.points ≡ true → length old.candidates < 64 → start < 16383 → Has new.candidates (slice_range old.octets start end)
+  pub only : (c : Candidate) → In c new.candidates
+      → In c old.candidates
+      ⊎ (c ≡ record { place = start; octets = slice_range old.octets start end; end = end })
+  pub becomes : old.points ≡ true → length old.candidates < 64 → start < 16383
+      → Has new.candidates (slice_range old.octets start end)
   pub sound : Sound old → Sound new
   pub modes : SameModes old new
 
 -- The place of a candidate with these octets, or that there is none.
-abbrev pub Answers : State → List ℕ → Option ℕ → Type 0
-Answers s octets (Some place) = (c : Candidate) × In c s.candidates × (c.octets ≡ octets) × (c.place ≡ place)
-Answers s octets None = Has s.candidates octets → ⊥
+abbrev pub FindsCandidate : State → List ℕ → Option ℕ → Type 0
+FindsCandidate s octets (Some place) =
+    (c : Candidate) × In c s.candidates × (c.octets ≡ octets) × (c.place ≡ place)
+FindsCandidate s octets None = Has s.candidates octets → ⊥
 
 -- What was written of a value is taken back.
 pub record RolledBack (mid new : State) : Type 0 where
@@ -158,10 +171,12 @@ pub record RolledBack (mid new : State) : Type 0 where
 -- Values one behind the other.
 abbrev pub Emitted : {X : Type 0} → (X → State → State → Type 0) → State → List X → State → Type 0
 Emitted emits old [] new = new ≡ old
-Emitted emits old (x ∷ xs) new = (mid : State) × emits x old mid × Writes old mid × Emitted emits mid xs new
+Emitted emits old (x ∷ xs) new =
+    (mid : State) × emits x old mid × Writes old mid × Emitted emits mid xs new
 
 -- So many items of an iterator were written, one behind the other.
-pub record Wrote {S X : Type 0} (steps : S → Option X → S → Type 0) (emits : X → State → State → Type 0) (from to : S) (count : ℕ) (old new : State) : Type 0 where
+pub record Wrote {S X : Type 0} (steps : S → Option X → S → Type 0)
+    (emits : X → State → State → Type 0) (from to : S) (count : ℕ) (old new : State) : Type 0 where
   pub items : List X
   pub yielded : Yields steps from items to
   pub counted : length items ≡ count
@@ -172,19 +187,25 @@ abbrev pub IsSizeError : ProtoError → Type 0
 IsSizeError (MaxBufferSizeExceeded size) = Unit {0}
 IsSizeError other = ⊥
 
--- An item is refused: for its size, and then what was written of it is taken back, and the error says how many were
--- written before; or for another cause.
-abbrev pub Stops : {X : Type 0} → (X → State → ProtoError → State → Type 0) → X → ℕ → State → ProtoError → State → Type 0
-Stops refuses x count old e new =
-    ((mid : State) × (size : ℕ) × refuses x old (MaxBufferSizeExceeded size) mid × (e ≡ NotAllRecordsWritten count) × RolledBack old new)
+-- An item is refused: for its size, and then what was written of it is taken back, and the error
+-- says how many were written before; or for another cause.
+abbrev pub RefusesItem : {X : Type 0} → (X → State → ProtoError → State → Type 0) → X → ℕ → State
+    → ProtoError → State → Type 0
+RefusesItem refuses x count old e new =
+    ((mid : State) × (size : ℕ) × refuses x old (MaxBufferSizeExceeded size) mid
+    × (e ≡ NotAllRecordsWritten count) × RolledBack old new)
     ⊎ (refuses x old e new × (IsSizeError e → ⊥))
 
 -- All items were written, or the first 65,535.
-abbrev pub WroteAll : {S X : Type 0} → (S → Option X → S → Type 0) → (X → State → State → Type 0) → S → S → ℕ → State → State → Type 0
+abbrev pub WroteAll : {S X : Type 0} → (S → Option X → S → Type 0) → (X → State → State → Type 0)
+    → S → S → ℕ → State → State → Type 0
 WroteAll {S} steps emits from to count old new =
-    (last : S) × Wrote steps emits from last count old new × (((count ≡ 65535) × (to ≡ last)) ⊎ steps last None to)
+    (last : S) × Wrote steps emits from last count old new
+    × (((count ≡ 65535) × (to ≡ last)) ⊎ steps last None to)
 
 -- A front of the items was written, and the next was refused.
-abbrev pub WroteFront : {S X : Type 0} → (S → Option X → S → Type 0) → (X → State → State → Type 0) → (X → State → ProtoError → State → Type 0) → S → S → State → ProtoError → State → Type 0
+abbrev pub WroteFront : {S X : Type 0} → (S → Option X → S → Type 0) → (X → State → State → Type 0)
+    → (X → State → ProtoError → State → Type 0) → S → S → State → ProtoError → State → Type 0
 WroteFront {S} {X} steps emits refuses from to old e new =
-    (last : S) × (count : ℕ) × (mid : State) × (x : X) × Wrote steps emits from last count old mid × steps last (Some x) to × Stops refuses x count mid e new
+    (last : S) × (count : ℕ) × (mid : State) × (x : X) × Wrote steps emits from last count old mid
+    × steps last (Some x) to × RefusesItem refuses x count mid e new

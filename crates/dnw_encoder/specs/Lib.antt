@@ -1,11 +1,7 @@
 pub mod Effects
 pub mod Encoders
-pub mod Laws
 pub mod Members
-pub mod NameLaws
 pub mod Names
-pub mod PlaceLaws
-pub mod RollbackLaws
 pub mod State
 pub mod dnw_codes
 pub mod dnw_decoder

@@ -5,26 +5,31 @@ use Rattle.dnw_decoder.specs.dnw_name.DomainName.{DomainName, domain_name, name_
 use Rattle.dnw_decoder.specs.Spelling.{NameAt}
 use Rattle.dnw_encoder.specs.declared.modes.NameEncoding.{NameEncoding}
 use Rattle.dnw_encoder.specs.State.{State, is_lower}
-use Rattle.dnw_encoder.specs.Effects.{Sound, Holds, Puts, Has}
+use Rattle.dnw_encoder.specs.Effects.{Sound, StaysTrue, WritesOctets, Has}
 
 -- A name as it is written: fully qualified, and in lower case where names are.
 abbrev pub encoded_name : NameEncoding → DomainName → DomainName
-encoded_name encoding name = domain_name true (cond (is_lower encoding) (map str_to_ascii_lowercase name.labels) name.labels)
+encoded_name encoding name =
+    domain_name true (cond (is_lower encoding) (map str_to_ascii_lowercase name.labels) name.labels)
 
 abbrev pub written_name : State → DomainName → DomainName
 written_name s name = encoded_name s.encoding name
 
 -- A label behind its length, in lower case or as it is.
-abbrev pub piece : Bool → List ℕ → List ℕ
-piece lower label = length label ∷ cond lower (str_to_ascii_lowercase label) label
+abbrev pub label_piece : Bool → List ℕ → List ℕ
+label_piece lower label = length label ∷ cond lower (str_to_ascii_lowercase label) label
 
--- A name was written: it reads back at its place, in the finished message too, and takes at most its plain size;
--- where no pointers are written it stands in full; where they are, one of labels takes two octets if a candidate
--- has its octets, and has become a candidate if there was room.
+-- A name was written: it reads back at its place, in the finished message too, and takes at most
+-- its plain size; where no pointers are written it stands in full; where they are, one of labels
+-- takes two octets if a candidate has its octets, and has become a candidate if there was room.
 pub record EmitsName (name : DomainName) (old new : State) : Type 0 where
-  pub stays : Sound old → Holds new new.offset (λ octets. NameAt octets old.offset (written_name old name) new.offset)
+  pub stays : Sound old
+      → StaysTrue new new.offset
+      (λ octets. NameAt octets old.offset (written_name old name) new.offset)
   pub size : new.offset ≤ old.offset + length (name_octets name)
-  pub exact : old.points ≡ false → Puts (name_octets (written_name old name)) old new
-  pub used : old.points ≡ true → 0 < length name.labels → Has old.candidates (name_octets name) → new.offset ≡ old.offset + 2
-  pub becomes : old.points ≡ true → 0 < length name.labels → length old.candidates < 64 → old.offset < 16383 → Has new.candidates (name_octets name)
+  pub exact : old.points ≡ false → WritesOctets (name_octets (written_name old name)) old new
+  pub used : old.points ≡ true → 0 < length name.labels → Has old.candidates (name_octets name)
+      → new.offset ≡ old.offset + 2
+  pub becomes : old.points ≡ true → 0 < length name.labels → length old.candidates < 64
+      → old.offset < 16383 → Has new.candidates (name_octets name)
   pub at_most : length new.candidates ≤ length old.candidates + length name.labels

@@ -1,5 +1,5 @@
 -- An encoder: the octets of a message that is being written, and what its writer keeps beside them.
-use Rattle.std.specs.Prelude.{ℕ, Bool, true, false, List, []}
+use Rattle.std.specs.Prelude.{ℕ, ◌==◌, ◌&&◌, Bool, not, true, false, List, []}
 use Rattle.dnw_codes.specs.declared.error.ProtoError.{ProtoError}
 use Rattle.dnw_codes.specs.declared.error.ProtoError.TheVariants.{CharacterDataTooLong}
 use Rattle.dnw_encoder.specs.declared.modes.NameEncoding.{NameEncoding}
@@ -8,8 +8,8 @@ use Rattle.dnw_encoder.specs.declared.modes.RDataEncoding.{RDataEncoding}
 use Rattle.dnw_encoder.specs.declared.modes.RDataEncoding.TheVariants.{StandardRecord, Canonical, Other}
 use Rattle.dnw_encoder.specs.declared.open_places.OpenPlace.{OpenPlace}
 
--- A name that later names may point to: its place, its octets uncompressed with the final 0, and where the
--- octets that were written for it end.
+-- A name that later names may point to: its place, its octets uncompressed with the final 0, and
+-- where the octets that were written for it end.
 pub record Candidate : Type 0 where
   pub place : ℕ
   pub octets : List ℕ
@@ -35,8 +35,8 @@ is_lower UncompressedLowercase = true
 is_lower other = false
 
 -- An encoder that begins at an offset.
-abbrev pub started : List ℕ → ℕ → NameEncoding → State
-started octets offset encoding = record {
+abbrev pub new_state : List ℕ → ℕ → NameEncoding → State
+new_state octets offset encoding = record {
   octets = octets;
   offset = offset;
   maximum = 65535;
@@ -55,8 +55,9 @@ with_encoding s encoding = record s { encoding = encoding; points = writes_point
 abbrev pub string_too_long : ℕ → ProtoError
 string_too_long octets = CharacterDataTooLong 255 octets
 
--- How the names of record data of a kind are written, in canonical form or not: names of the types of RFC 3597 4
--- as the encoder is set, those of RFC 4034 6.2 in full, both in lower case in canonical form; others in full.
+-- How the names of record data of a kind are written, in canonical form or not: names of the types
+-- of RFC 3597 4 as the encoder is set, those of RFC 4034 6.2 in full, both in lower case in
+-- canonical form; others in full.
 abbrev pub rdata_encoding : RDataEncoding → Bool → NameEncoding → NameEncoding
 rdata_encoding StandardRecord false encoding = encoding
 rdata_encoding StandardRecord true encoding = UncompressedLowercase
@@ -67,3 +68,7 @@ rdata_encoding Other canonical encoding = Uncompressed
 -- The same encoder at another offset.
 abbrev pub at_offset : State → ℕ → State
 at_offset s offset = record s { offset = offset }
+
+-- Whether an open place is another than the one that is filled.
+abbrev pub is_other : ℕ → ℕ → OpenPlace → Bool
+is_other p to r = not ((r.from == p) && (r.to == to))

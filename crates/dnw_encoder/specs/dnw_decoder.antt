@@ -3,5 +3,3 @@ pub use Rattle.dnw_decoder.specs.Octets
 pub use Rattle.dnw_decoder.specs.Reading
 pub use Rattle.dnw_decoder.specs.Refusals
 pub use Rattle.dnw_decoder.specs.Spelling
-pub use Rattle.dnw_decoder.specs.SpellingLaws
-pub use Rattle.dnw_decoder.specs.Standing

@@ -6,8 +6,8 @@ ghost use Rattle.dnw_codes.specs.DNSClass.{class_number};
 ghost use Rattle.dnw_codes.specs.RecordType.{record_type_number};
 ghost use Rattle.dnw_decoder.specs.Octets.{octets_16, octets_32};
 ghost use Rattle.dnw_encoder.specs.Encoders.{state};
-ghost use Rattle.dnw_encoder.specs.Effects.{Writes, Puts, IsRefusal};
-ghost use Rattle.dnw_encoder.specs.State.{started};
+ghost use Rattle.dnw_encoder.specs.Effects.{Writes, WritesOctets, IsRefusal};
+ghost use Rattle.dnw_encoder.specs.State.{new_state};
 
 use crate::encoder::BinEncoder;
 use dnw_codes::{DNSClass, ProtoError, RecordType};
@@ -21,7 +21,7 @@ pub trait BinEncodable {
     ghost use Rattle.dnw_codes.specs.declared.error.ProtoError.{ProtoError as Error};
     ghost use Rattle.dnw_encoder.specs.Encoders.{state};
     ghost use Rattle.dnw_encoder.specs.Effects.{Writes};
-    ghost use Rattle.dnw_encoder.specs.State.{State, started};
+    ghost use Rattle.dnw_encoder.specs.State.{State, new_state};
 
     // What an accepted emission does to an encoder, and what a refused one leaves.
     ghost emits: { Self → State → State → Type 0 };
@@ -37,8 +37,8 @@ pub trait BinEncodable {
 
     /// The octets of the value alone.
     fn to_bytes(&self, alloc: Global) -> Result<Vec<u8>, ProtoError>
-        ensures ok { IfOk result (λ bytes. (new : State) × emits self.now (started [] 0 Compressed) new × (bytes.items ≡ new.octets)) }
-        ensures err { IfErr result (λ e. (new : State) × refuses self.now (started [] 0 Compressed) e new) }
+        ensures ok { IfOk result (λ bytes. (new : State) × emits self.now (new_state [] 0 Compressed) new × (bytes.items ≡ new.octets)) }
+        ensures err { IfErr result (λ e. (new : State) × refuses self.now (new_state [] 0 Compressed) e new) }
     {
         let mut bytes = Vec::new(alloc);
         let mut encoder = BinEncoder::new(&mut bytes);
@@ -60,7 +60,7 @@ impl<E: BinEncodable> BinEncodable for &E {
 }
 
 impl BinEncodable for RecordType {
-    ghost emits = { λ record_type old new. Puts (octets_16 (record_type_number record_type)) old new };
+    ghost emits = { λ record_type old new. WritesOctets (octets_16 (record_type_number record_type)) old new };
 
     ghost refuses = { λ record_type old e new. (new ≡ old) × IsRefusal old 2 e };
 
@@ -68,7 +68,7 @@ impl BinEncodable for RecordType {
     fn emit(&self, encoder: &mut BinEncoder<'_>) -> Result<(), ProtoError>
         ensures same_reference { encoder.new.buffer.ghost_name ≡ encoder.old.buffer.ghost_name }
         ensures writes { Writes (state encoder.old) (state encoder.new) }
-        ensures ok { OnOk result (Puts (octets_16 (record_type_number self.now)) (state encoder.old) (state encoder.new)) }
+        ensures ok { OnOk result (WritesOctets (octets_16 (record_type_number self.now)) (state encoder.old) (state encoder.new)) }
         ensures fits { OnOk result ((state encoder.old).offset + 2 ≤ (state encoder.old).maximum) }
         ensures err { OnErr result (state encoder.new ≡ state encoder.old) }
         ensures cause { IfErr result (IsRefusal (state encoder.old) 2) }
@@ -79,7 +79,7 @@ impl BinEncodable for RecordType {
 }
 
 impl BinEncodable for DNSClass {
-    ghost emits = { λ class old new. Puts (octets_16 (class_number class)) old new };
+    ghost emits = { λ class old new. WritesOctets (octets_16 (class_number class)) old new };
 
     ghost refuses = { λ class old e new. (new ≡ old) × IsRefusal old 2 e };
 
@@ -87,7 +87,7 @@ impl BinEncodable for DNSClass {
     fn emit(&self, encoder: &mut BinEncoder<'_>) -> Result<(), ProtoError>
         ensures same_reference { encoder.new.buffer.ghost_name ≡ encoder.old.buffer.ghost_name }
         ensures writes { Writes (state encoder.old) (state encoder.new) }
-        ensures ok { OnOk result (Puts (octets_16 (class_number self.now)) (state encoder.old) (state encoder.new)) }
+        ensures ok { OnOk result (WritesOctets (octets_16 (class_number self.now)) (state encoder.old) (state encoder.new)) }
         ensures fits { OnOk result ((state encoder.old).offset + 2 ≤ (state encoder.old).maximum) }
         ensures err { OnErr result (state encoder.new ≡ state encoder.old) }
         ensures cause { IfErr result (IsRefusal (state encoder.old) 2) }
@@ -97,7 +97,7 @@ impl BinEncodable for DNSClass {
 }
 
 impl BinEncodable for Vec<u8> {
-    ghost emits = { λ octets old new. Puts (octets.items) old new };
+    ghost emits = { λ octets old new. WritesOctets (octets.items) old new };
 
     ghost refuses = { λ octets old e new. (new ≡ old) × IsRefusal old (length octets.items) e };
 
@@ -105,7 +105,7 @@ impl BinEncodable for Vec<u8> {
     fn emit(&self, encoder: &mut BinEncoder<'_>) -> Result<(), ProtoError>
         ensures same_reference { encoder.new.buffer.ghost_name ≡ encoder.old.buffer.ghost_name }
         ensures writes { Writes (state encoder.old) (state encoder.new) }
-        ensures ok { OnOk result (Puts (self.now.items) (state encoder.old) (state encoder.new)) }
+        ensures ok { OnOk result (WritesOctets (self.now.items) (state encoder.old) (state encoder.new)) }
         ensures fits { OnOk result ((state encoder.old).offset + (length self.now.items) ≤ (state encoder.old).maximum) }
         ensures err { OnErr result (state encoder.new ≡ state encoder.old) }
         ensures cause { IfErr result (IsRefusal (state encoder.old) (length self.now.items)) }
@@ -118,7 +118,7 @@ impl BinEncodable for Vec<u8> {
 pub trait EncodedSize: BinEncodable {
     ghost use Rattle.std.specs.Prelude.{◌≡◌, ◌<◌, ℕ, List, length};
     ghost use Rattle.dnw_codes.specs.declared.error.ProtoError.{ProtoError as Error};
-    ghost use Rattle.dnw_encoder.specs.Effects.{Puts};
+    ghost use Rattle.dnw_encoder.specs.Effects.{WritesOctets};
     ghost use Rattle.dnw_encoder.specs.State.{State};
 
     ghost LEN: { ℕ };
@@ -130,12 +130,12 @@ pub trait EncodedSize: BinEncodable {
 
     // It is at least one octet; an accepted emission puts exactly these octets, a refused one changes nothing.
     ghost laws: { (value : Self) → (0 < LEN) × (length (octets value) ≡ LEN)
-        × ((old new : State) → Self.emits value old new → Puts (octets value) old new)
+        × ((old new : State) → Self.emits value old new → WritesOctets (octets value) old new)
         × ((old new : State) (e : Error) → Self.refuses value old e new → new ≡ old) };
 }
 
 impl BinEncodable for u16 {
-    ghost emits = { λ number old new. Puts (octets_16 number) old new };
+    ghost emits = { λ number old new. WritesOctets (octets_16 number) old new };
 
     ghost refuses = { λ number old e new. (new ≡ old) × IsRefusal old 2 e };
 
@@ -143,7 +143,7 @@ impl BinEncodable for u16 {
     fn emit(&self, encoder: &mut BinEncoder<'_>) -> Result<(), ProtoError>
         ensures same_reference { encoder.new.buffer.ghost_name ≡ encoder.old.buffer.ghost_name }
         ensures writes { Writes (state encoder.old) (state encoder.new) }
-        ensures ok { OnOk result (Puts (octets_16 self.now) (state encoder.old) (state encoder.new)) }
+        ensures ok { OnOk result (WritesOctets (octets_16 self.now) (state encoder.old) (state encoder.new)) }
         ensures fits { OnOk result ((state encoder.old).offset + 2 ≤ (state encoder.old).maximum) }
         ensures err { OnErr result (state encoder.new ≡ state encoder.old) }
         ensures cause { IfErr result (IsRefusal (state encoder.old) 2) }
@@ -154,7 +154,7 @@ impl BinEncodable for u16 {
 
 impl EncodedSize for u16 {
     ghost use Rattle.std.proofs.Common.{refl, arith};
-    ghost use Rattle.dnw_decoder.specs.Standing.{length-octets_32};
+    ghost use Rattle.dnw_decoder.proofs.Standing.{length-octets_32};
 
     ghost LEN = { 2 };
 
@@ -166,7 +166,7 @@ impl EncodedSize for u16 {
 }
 
 impl BinEncodable for u32 {
-    ghost emits = { λ number old new. Puts (octets_32 number) old new };
+    ghost emits = { λ number old new. WritesOctets (octets_32 number) old new };
 
     ghost refuses = { λ number old e new. (new ≡ old) × IsRefusal old 4 e };
 
@@ -174,7 +174,7 @@ impl BinEncodable for u32 {
     fn emit(&self, encoder: &mut BinEncoder<'_>) -> Result<(), ProtoError>
         ensures same_reference { encoder.new.buffer.ghost_name ≡ encoder.old.buffer.ghost_name }
         ensures writes { Writes (state encoder.old) (state encoder.new) }
-        ensures ok { OnOk result (Puts (octets_32 self.now) (state encoder.old) (state encoder.new)) }
+        ensures ok { OnOk result (WritesOctets (octets_32 self.now) (state encoder.old) (state encoder.new)) }
         ensures fits { OnOk result ((state encoder.old).offset + 4 ≤ (state encoder.old).maximum) }
         ensures err { OnErr result (state encoder.new ≡ state encoder.old) }
         ensures cause { IfErr result (IsRefusal (state encoder.old) 4) }
@@ -185,7 +185,7 @@ impl BinEncodable for u32 {
 
 impl EncodedSize for u32 {
     ghost use Rattle.std.proofs.Common.{refl, arith};
-    ghost use Rattle.dnw_decoder.specs.Standing.{length-octets_32};
+    ghost use Rattle.dnw_decoder.proofs.Standing.{length-octets_32};
 
     ghost LEN = { 4 };
 
@@ -197,7 +197,7 @@ impl EncodedSize for u32 {
 }
 
 impl BinEncodable for i32 {
-    ghost emits = { λ number old new. Puts (octets_32 (cast_unsigned w32 number)) old new };
+    ghost emits = { λ number old new. WritesOctets (octets_32 (cast_unsigned w32 number)) old new };
 
     ghost refuses = { λ number old e new. (new ≡ old) × IsRefusal old 4 e };
 
@@ -205,7 +205,7 @@ impl BinEncodable for i32 {
     fn emit(&self, encoder: &mut BinEncoder<'_>) -> Result<(), ProtoError>
         ensures same_reference { encoder.new.buffer.ghost_name ≡ encoder.old.buffer.ghost_name }
         ensures writes { Writes (state encoder.old) (state encoder.new) }
-        ensures ok { OnOk result (Puts (octets_32 (cast_unsigned w32 self.now)) (state encoder.old) (state encoder.new)) }
+        ensures ok { OnOk result (WritesOctets (octets_32 (cast_unsigned w32 self.now)) (state encoder.old) (state encoder.new)) }
         ensures fits { OnOk result ((state encoder.old).offset + 4 ≤ (state encoder.old).maximum) }
         ensures err { OnErr result (state encoder.new ≡ state encoder.old) }
         ensures cause { IfErr result (IsRefusal (state encoder.old) 4) }
@@ -216,7 +216,7 @@ impl BinEncodable for i32 {
 
 impl EncodedSize for i32 {
     ghost use Rattle.std.proofs.Common.{refl, arith};
-    ghost use Rattle.dnw_decoder.specs.Standing.{length-octets_32};
+    ghost use Rattle.dnw_decoder.proofs.Standing.{length-octets_32};
 
     ghost LEN = { 4 };
 

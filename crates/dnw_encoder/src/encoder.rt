@@ -27,13 +27,13 @@ pub struct BinEncoder<'a> {
 
 impl<'a> BinEncoder<'a> {
     ghost use Rattle.dnw_encoder.specs.Encoders.{state};
-    ghost use Rattle.dnw_encoder.specs.Effects.{Sound, Writes, Puts, IsRefusal};
-    ghost use Rattle.dnw_encoder.specs.State.{started, with_encoding, string_too_long};
+    ghost use Rattle.dnw_encoder.specs.Effects.{Sound, Writes, WritesOctets, IsRefusal};
+    ghost use Rattle.dnw_encoder.specs.State.{new_state, with_encoding, string_too_long};
 
     /// An encoder at the front of the buffer, in mode `Compressed`.
     pub fn new(buffer: &'a mut Vec<u8>) -> BinEncoder<'a>
         ensures same_reference { result.buffer.ghost_name ≡ buffer.entry.ghost_name }
-        ensures state { state result ≡ started buffer.old.items 0 NameEncoding.Compressed }
+        ensures state { state result ≡ new_state buffer.old.items 0 NameEncoding.Compressed }
         ensures sound { length buffer.old.items ≡ 0 → Sound (state result) }
     {
         BinEncoder::with_offset(buffer, 0, NameEncoding::Compressed)
@@ -47,7 +47,7 @@ impl<'a> BinEncoder<'a> {
     ) -> BinEncoder<'a>
         requires { offset ≤ length buffer.old.items }
         ensures same_reference { result.buffer.ghost_name ≡ buffer.entry.ghost_name }
-        ensures state { state result ≡ started buffer.old.items offset name_encoding }
+        ensures state { state result ≡ new_state buffer.old.items offset name_encoding }
         ensures sound { length buffer.old.items ≡ offset → Sound (state result) }
     {
         let places = Vec::new(*buffer.allocator());
@@ -175,7 +175,7 @@ impl<'a> BinEncoder<'a> {
     fn write(&mut self, front: &[u8], rest: &[u8]) -> Result<(), ProtoError>
         ensures same_reference { self.new.buffer.ghost_name ≡ self.old.buffer.ghost_name }
         ensures writes { Writes (state self.old) (state self.new) }
-        ensures ok { OnOk result (Puts (front.now ++ rest.now) (state self.old) (state self.new)) }
+        ensures ok { OnOk result (WritesOctets (front.now ++ rest.now) (state self.old) (state self.new)) }
         ensures fits { OnOk result ((state self.old).offset + (length front.now + length rest.now) ≤ (state self.old).maximum) }
         ensures err { OnErr result (state self.new ≡ state self.old) }
         ensures cause { IfErr result (IsRefusal (state self.old) (length front.now + length rest.now)) }
@@ -195,7 +195,7 @@ impl<'a> BinEncoder<'a> {
     pub fn emit_vec(&mut self, octets: &[u8]) -> Result<(), ProtoError>
         ensures same_reference { self.new.buffer.ghost_name ≡ self.old.buffer.ghost_name }
         ensures writes { Writes (state self.old) (state self.new) }
-        ensures ok { OnOk result (Puts (octets.now) (state self.old) (state self.new)) }
+        ensures ok { OnOk result (WritesOctets (octets.now) (state self.old) (state self.new)) }
         ensures fits { OnOk result ((state self.old).offset + length octets.now ≤ (state self.old).maximum) }
         ensures err { OnErr result (state self.new ≡ state self.old) }
         ensures cause { IfErr result (IsRefusal (state self.old) (length octets.now)) }
@@ -207,7 +207,7 @@ impl<'a> BinEncoder<'a> {
     pub fn emit_u8(&mut self, octet: u8) -> Result<(), ProtoError>
         ensures same_reference { self.new.buffer.ghost_name ≡ self.old.buffer.ghost_name }
         ensures writes { Writes (state self.old) (state self.new) }
-        ensures ok { OnOk result (Puts (octet ∷ []) (state self.old) (state self.new)) }
+        ensures ok { OnOk result (WritesOctets (octet ∷ []) (state self.old) (state self.new)) }
         ensures fits { OnOk result ((state self.old).offset + 1 ≤ (state self.old).maximum) }
         ensures err { OnErr result (state self.new ≡ state self.old) }
         ensures cause { IfErr result (IsRefusal (state self.old) 1) }
@@ -219,7 +219,7 @@ impl<'a> BinEncoder<'a> {
     pub fn emit(&mut self, octet: u8) -> Result<(), ProtoError>
         ensures same_reference { self.new.buffer.ghost_name ≡ self.old.buffer.ghost_name }
         ensures writes { Writes (state self.old) (state self.new) }
-        ensures ok { OnOk result (Puts (octet ∷ []) (state self.old) (state self.new)) }
+        ensures ok { OnOk result (WritesOctets (octet ∷ []) (state self.old) (state self.new)) }
         ensures fits { OnOk result ((state self.old).offset + 1 ≤ (state self.old).maximum) }
         ensures err { OnErr result (state self.new ≡ state self.old) }
         ensures cause { IfErr result (IsRefusal (state self.old) 1) }
@@ -231,7 +231,7 @@ impl<'a> BinEncoder<'a> {
     pub fn emit_u16(&mut self, number: u16) -> Result<(), ProtoError>
         ensures same_reference { self.new.buffer.ghost_name ≡ self.old.buffer.ghost_name }
         ensures writes { Writes (state self.old) (state self.new) }
-        ensures ok { OnOk result (Puts (octets_16 number) (state self.old) (state self.new)) }
+        ensures ok { OnOk result (WritesOctets (octets_16 number) (state self.old) (state self.new)) }
         ensures fits { OnOk result ((state self.old).offset + 2 ≤ (state self.old).maximum) }
         ensures err { OnErr result (state self.new ≡ state self.old) }
         ensures cause { IfErr result (IsRefusal (state self.old) 2) }
@@ -243,7 +243,7 @@ impl<'a> BinEncoder<'a> {
     pub fn emit_u32(&mut self, number: u32) -> Result<(), ProtoError>
         ensures same_reference { self.new.buffer.ghost_name ≡ self.old.buffer.ghost_name }
         ensures writes { Writes (state self.old) (state self.new) }
-        ensures ok { OnOk result (Puts (octets_32 number) (state self.old) (state self.new)) }
+        ensures ok { OnOk result (WritesOctets (octets_32 number) (state self.old) (state self.new)) }
         ensures fits { OnOk result ((state self.old).offset + 4 ≤ (state self.old).maximum) }
         ensures err { OnErr result (state self.new ≡ state self.old) }
         ensures cause { IfErr result (IsRefusal (state self.old) 4) }
@@ -256,7 +256,7 @@ impl<'a> BinEncoder<'a> {
     pub fn emit_i32(&mut self, number: i32) -> Result<(), ProtoError>
         ensures same_reference { self.new.buffer.ghost_name ≡ self.old.buffer.ghost_name }
         ensures writes { Writes (state self.old) (state self.new) }
-        ensures ok { OnOk result (Puts (octets_32 (cast_unsigned w32 number)) (state self.old) (state self.new)) }
+        ensures ok { OnOk result (WritesOctets (octets_32 (cast_unsigned w32 number)) (state self.old) (state self.new)) }
         ensures fits { OnOk result ((state self.old).offset + 4 ≤ (state self.old).maximum) }
         ensures err { OnErr result (state self.new ≡ state self.old) }
         ensures cause { IfErr result (IsRefusal (state self.old) 4) }
@@ -268,7 +268,7 @@ impl<'a> BinEncoder<'a> {
     pub fn emit_character_data(&mut self, string: &[u8]) -> Result<(), ProtoError>
         ensures same_reference { self.new.buffer.ghost_name ≡ self.old.buffer.ghost_name }
         ensures writes { Writes (state self.old) (state self.new) }
-        ensures ok { OnOk result (Puts (length string.now ∷ string.now) (state self.old) (state self.new)) }
+        ensures ok { OnOk result (WritesOctets (length string.now ∷ string.now) (state self.old) (state self.new)) }
         ensures short { OnOk result (length string.now ≤ 255) }
         ensures fits { OnOk result ((state self.old).offset + (length string.now + 1) ≤ (state self.old).maximum) }
         ensures err { OnErr result (state self.new ≡ state self.old) }
@@ -288,7 +288,7 @@ impl<'a> BinEncoder<'a> {
     pub fn emit_character_data_unrestricted(&mut self, octets: &[u8]) -> Result<(), ProtoError>
         ensures same_reference { self.new.buffer.ghost_name ≡ self.old.buffer.ghost_name }
         ensures writes { Writes (state self.old) (state self.new) }
-        ensures ok { OnOk result (Puts (octets.now) (state self.old) (state self.new)) }
+        ensures ok { OnOk result (WritesOctets (octets.now) (state self.old) (state self.new)) }
         ensures fits { OnOk result ((state self.old).offset + length octets.now ≤ (state self.old).maximum) }
         ensures err { OnErr result (state self.new ≡ state self.old) }
         ensures cause { IfErr result (IsRefusal (state self.old) (length octets.now)) }

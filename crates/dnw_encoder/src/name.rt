@@ -4,7 +4,7 @@ ghost use Rattle.std.specs.Str.{str_to_ascii_lowercase};
 ghost use Rattle.dnw_decoder.specs.dnw_name.DomainName.{DomainName, IsDomainName, name_octets};
 ghost use Rattle.dnw_encoder.specs.Encoders.{state};
 ghost use Rattle.dnw_encoder.specs.Effects.{Writes, IsRefusal, written_at};
-ghost use Rattle.dnw_encoder.specs.Names.{EmitsName, encoded_name, piece};
+ghost use Rattle.dnw_encoder.specs.Names.{EmitsName, encoded_name, label_piece};
 
 use crate::buffer::write_at;
 use crate::encodable::BinEncodable;
@@ -52,7 +52,7 @@ fn append_lower(buffer: &mut Vec<u8>, octets: &[u8])
 fn append_label(buffer: &mut Vec<u8>, label: &[u8], lower: bool)
     requires few { length label.now ≤ 63 }
     requires room { vec_len buffer.old + (length label.now + 1) ≤ vec_capacity buffer.old }
-    ensures items { buffer.new.items ≡ buffer.old.items ++ piece lower label.now }
+    ensures items { buffer.new.items ≡ buffer.old.items ++ label_piece lower label.now }
     ensures len { vec_len buffer.new ≡ vec_len buffer.old + (length label.now + 1) }
     ensures capacity { vec_capacity buffer.old ≤ vec_capacity buffer.new }
 {

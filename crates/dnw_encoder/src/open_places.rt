@@ -1,6 +1,6 @@
 //! The places that were handed out and are not yet filled.
 ghost use Rattle.std.specs.Prelude.{◌≡◌, filter, nat_le};
-ghost use Rattle.dnw_encoder.specs.PlaceLaws.{is_other};
+ghost use Rattle.dnw_encoder.specs.State.{is_other};
 
 // A range of octets that was handed out and is not yet filled.
 #[derive(Clone, Copy, Debug, PartialEq, Eq)]

@@ -1,6 +1,6 @@
 //! Names that later names may point to.
 ghost use Rattle.std.specs.Prelude.{◌≡◌, ◌<◌, ◌≤◌, true, length, slice_range, OnOk, OnErr, IfSome, IsSome};
-ghost use Rattle.dnw_encoder.specs.Effects.{Stores, Has, Answers};
+ghost use Rattle.dnw_encoder.specs.Effects.{Stores, Has, FindsCandidate};
 ghost use Rattle.dnw_encoder.specs.Encoders.{state};
 ghost use Rattle.dnw_encoder.specs.Members.{In};
 ghost use Rattle.dnw_encoder.specs.State.{Candidate};
@@ -24,7 +24,7 @@ impl BinEncoder<'_> {
     pub fn get_label_pointer(&self, start: usize, end: usize) -> Option<u16>
         requires order { start ≤ end }
         requires within { end ≤ length (state self.now).octets }
-        ensures { Answers (state self.now) (slice_range (state self.now).octets start end) result }
+        ensures { FindsCandidate (state self.now) (slice_range (state self.now).octets start end) result }
     {
         None
     }

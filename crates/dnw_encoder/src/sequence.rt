@@ -1,7 +1,7 @@
 //! Values written one behind the other.
 ghost use Rattle.std.specs.Prelude.{◌≡◌, ◌⊎◌, ℕ, None, Some, IfOk, IfErr, OnOk, OnSome};
 ghost use Rattle.dnw_encoder.specs.Encoders.{state};
-ghost use Rattle.dnw_encoder.specs.Effects.{Writes, WroteAll, WroteFront, Stops};
+ghost use Rattle.dnw_encoder.specs.Effects.{Writes, WroteAll, WroteFront, RefusesItem};
 ghost use Rattle.dnw_encoder.specs.State.{State};
 
 use crate::encodable::BinEncodable;
@@ -23,7 +23,7 @@ impl BinEncoder<'_> {
         ensures same_reference { self.new.buffer.ghost_name ≡ self.old.buffer.ghost_name }
         ensures writes { Writes (state self.old) (state self.new) }
         ensures ok { OnOk result (E.emits item.now (state self.old) (state self.new)) }
-        ensures stopped { IfErr result (λ e. Stops E.refuses item.now count (state self.old) e (state self.new)) }
+        ensures stopped { IfErr result (λ e. RefusesItem E.refuses item.now count (state self.old) e (state self.new)) }
     {
         let offset = self.offset;
         match item.emit(self) {

@@ -2,7 +2,8 @@
 use Rattle.std.proofs.Common.{◌≡◌, ◌<◌, ◌&&◌, ℕ, true, false, List, ◌∷◌, sym, subst, arith}
 use Rattle.std.specs.Prelude.{Option, Some, None, MatchOption}
 use Rattle.std.specs.Char.{is_ascii_digit}
-use Rattle.dnw_label.specs.LabelText.{EscapeText, quoted, octal, is_octal, octal_value, OctetText, plain, escaped}
+use Rattle.dnw_codes.specs.Ascii.{is_octal, octal_value}
+use Rattle.dnw_label.specs.LabelText.{EscapeText, quoted, octal, OctetText, plain, escaped}
 
 pub quoted_text : (a : ℕ) (text rest : List ℕ) → text ≡ a ∷ rest → is_ascii_digit a ≡ false → EscapeText text a rest
 quoted_text a text rest e h = rw e (quoted a rest h)

@@ -2,7 +2,7 @@
 use Rattle.std.proofs.Common.{◌≡◌, ◌≢◌, ◌≤◌, ◌++◌, ℕ, false, List, [], ◌∷◌, refl, ap, sym, ◌∙◌, subst, arith, length, ◌⊎◌, inl, inr}
 use Rattle.std.proofs.lemmas.Bool.Decides.{nat_tests}
 use Rattle.std.proofs.lemmas.List.{append_assoc, append-nil}
-use Rattle.dnw_label.specs.EscapeLaws.{octet-same, octet-shorter, no_octet_in_nothing}
+use Rattle.dnw_label.proofs.EscapeLaws.{octet-same, octet-shorter, no_octet_in_nothing}
 use Rattle.dnw_label.specs.LabelText.{OctetText, at_dot, LabelText, ends, dot, octet, IsTextLabel}
 
 pub no_dot : (c : ℕ) (rest : List ℕ) → at_dot (c ∷ rest) ≡ false → c ≡ 46 → ⊥

@@ -1,3 +1,4 @@
+pub mod EscapeLaws
 pub mod EscapeLemmas
 pub mod LabelRoundTrip
 pub mod LabelTextLemmas

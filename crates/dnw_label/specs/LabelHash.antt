@@ -1,21 +1,9 @@
--- What a label feeds a hasher: the same where labels are equal.
-use Rattle.std.proofs.Common.{◌≡◌, ℕ, true, List, [], ◌∷◌, ◌++◌, length, ap, sym, ◌∙◌}
+-- What a label feeds a hasher.
+use Rattle.std.specs.Prelude.{ℕ, List, [], ◌∷◌, ◌++◌, length}
 use Rattle.std.specs.Hash as fed
 use Rattle.std.specs.Hash.{HashWrites}
 use Rattle.std.specs.Str.{str_to_ascii_lowercase}
-use Rattle.std.specs.Char.{to_ascii_lowercase}
-use Rattle.std.specs.Cmp.Lexicographic.{same_text}
-use Rattle.std.proofs.lemmas.List.{length-map}
-use Rattle.dnw_label.specs.Label.{label_eq}
 
 -- The length, and the octets in lower case.
 abbrev pub label_writes : List ℕ → HashWrites
 label_writes label = fed.u8 (length label) ++ str_to_ascii_lowercase label ∷ []
-
-pub label_writes-alike : (x y : List ℕ) → label_eq x y ≡ true → label_writes x ≡ label_writes y
-label_writes-alike x y same =
-    let lower : str_to_ascii_lowercase x ≡ str_to_ascii_lowercase y = same_text (str_to_ascii_lowercase x) (str_to_ascii_lowercase y) (sym same) in
-    let left : length (str_to_ascii_lowercase x) ≡ length x = length-map x to_ascii_lowercase in
-    let right : length (str_to_ascii_lowercase y) ≡ length y = length-map y to_ascii_lowercase in
-    let long : length x ≡ length y = sym left ∙ ap length lower ∙ right in
-    cc

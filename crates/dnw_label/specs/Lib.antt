@@ -1,6 +1,6 @@
+pub mod LabelHashLaws
 pub mod Label
 pub mod LabelHash
 pub mod LabelPrint
 pub mod LabelText
-pub mod EscapeLaws
 pub mod dnw_codes

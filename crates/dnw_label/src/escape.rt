@@ -1,7 +1,8 @@
 //! Octets in texts (RFC 1035 section 5.1, with octal digits behind a backslash).
 ghost use Rattle.std.specs.Prelude.{◌≡◌, ◌<◌, ◌&&◌, ℕ, List, MatchOption, true};
 ghost use Rattle.std.specs.Option.{SomeIff};
-ghost use Rattle.dnw_label.specs.LabelText.{EscapeText, OctetText, is_octal, octal_value};
+ghost use Rattle.dnw_codes.specs.Ascii.{is_octal, octal_value};
+ghost use Rattle.dnw_label.specs.LabelText.{EscapeText, OctetText};
 
 /// The octet that a text begins with, and the text behind it. An octet other than `\` stands for itself. Behind `\` a
 /// character that is no digit does, and three octal digits stand for the octet of their number; other digits stand for none.

@@ -241,7 +241,8 @@ impl PartialOrd for Label {
 }
 
 impl Hash for Label {
-    ghost use Rattle.dnw_label.specs.LabelHash.{label_writes, label_writes-alike};
+    ghost use Rattle.dnw_label.specs.LabelHash.{label_writes};
+    ghost use Rattle.dnw_label.specs.LabelHashLaws.{label_writes-alike};
 
     ghost hash_input = { label_writes };
 

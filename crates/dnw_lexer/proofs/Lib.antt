@@ -1,3 +1,4 @@
+pub mod LeftLaws
 pub mod Characters
 pub mod Lists
 pub mod Numbers

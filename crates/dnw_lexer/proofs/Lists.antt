@@ -4,7 +4,7 @@ use Rattle.std.specs.Prelude.{Ok, Err}
 use Rattle.std.specs.Str.{encode_utf8_all}
 use Rattle.std.proofs.lemmas.List.{append_assoc, append-nil, map-append}
 use Rattle.dnw_codes.specs.declared.error.LexerError.{LexerError}
-use Rattle.dnw_lexer.specs.Lexer.{Words, words_before, gap, ListWord, ListText, closes, word, refused}
+use Rattle.dnw_lexer.specs.Lexer.{Words, words_before, after_gap, ListWord, ListText, closes, word, refused}
 
 before-nothing : (r : Words) → words_before [] r ≡ r
 before-nothing (Ok found) = refl
@@ -24,7 +24,7 @@ module _ (text : List ℕ) where
   pub list-start : ListSoFar text [] text
   list-start = record { words = []; is = refl; sound = λ r p. subst (ListText text) (sym (before-nothing r)) p }
 
-  pub list-more : (octets : List (List ℕ)) (rest o w behind : List ℕ) (longer : List (List ℕ)) (c : ℕ) (later : List ℕ) → ListSoFar text octets rest → longer ≡ octets ++ o ∷ [] → o ≡ encode_utf8_all w → gap false rest ≡ c ∷ later → c ≢ 41 → ListWord c later (Ok (w, behind)) → ListSoFar text longer behind
+  pub list-more : (octets : List (List ℕ)) (rest o w behind : List ℕ) (longer : List (List ℕ)) (c : ℕ) (later : List ℕ) → ListSoFar text octets rest → longer ≡ octets ++ o ∷ [] → o ≡ encode_utf8_all w → after_gap false rest ≡ c ∷ later → c ≢ 41 → ListWord c later (Ok (w, behind)) → ListSoFar text longer behind
   list-more octets rest o w behind longer c later h e is at other found =
       record {
         words = h.words ++ w ∷ [];
@@ -32,13 +32,13 @@ module _ (text : List ℕ) where
         sound = λ r p. subst (ListText text) (before-before h.words (w ∷ []) r) (h.sound (words_before (w ∷ []) r) (word rest c later w behind r at other found p));
       }
 
-  pub list-done : (octets : List (List ℕ)) (rest behind : List ℕ) (c : ℕ) → ListSoFar text octets rest → gap false rest ≡ c ∷ behind → c ≡ 41 → (ws : List (List ℕ)) × (octets ≡ map encode_utf8_all ws) × ListText text (Ok (ws, behind))
+  pub list-done : (octets : List (List ℕ)) (rest behind : List ℕ) (c : ℕ) → ListSoFar text octets rest → after_gap false rest ≡ c ∷ behind → c ≡ 41 → (ws : List (List ℕ)) × (octets ≡ map encode_utf8_all ws) × ListText text (Ok (ws, behind))
   list-done octets rest behind c h at e =
       (h.words, h.is, subst (λ (ws : List (List ℕ)). ListText text (Ok (ws, behind))) (append-nil h.words) (h.sound (Ok ([], behind)) (closes rest c behind at e)))
 
   pub list-failed : (octets : List (List ℕ)) (rest : List ℕ) (e : LexerError) → ListSoFar text octets rest → ListText rest (Err e) → ListText text (Err e)
   list-failed octets rest e h p = h.sound (Err e) p
 
-  pub list-refused : {M : Type 0} (octets : List (List ℕ)) (rest : List ℕ) (c : ℕ) (later : List ℕ) (e : LexerError) → ListSoFar text octets rest → gap false rest ≡ c ∷ later → c ≢ 41 → M ⊎ ListWord c later (Err e) → M ⊎ ListText text (Err e)
+  pub list-refused : {M : Type 0} (octets : List (List ℕ)) (rest : List ℕ) (c : ℕ) (later : List ℕ) (e : LexerError) → ListSoFar text octets rest → after_gap false rest ≡ c ∷ later → c ≢ 41 → M ⊎ ListWord c later (Err e) → M ⊎ ListText text (Err e)
   list-refused octets rest c later e h at other (inl m) = inl m
   list-refused octets rest c later e h at other (inr found) = inr (list-failed octets rest e h (refused rest c later e at other found))

@@ -7,32 +7,32 @@ use Rattle.std.proofs.lemmas.List.{append_assoc, append-nil}
 use Rattle.std.proofs.lemmas.Str.{encodes-append}
 use Rattle.dnw_codes.specs.declared.error.LexerError.{LexerError}
 use Rattle.dnw_codes.specs.declared.error.LexerError.TheVariants.{EOF, UnrecognizedChar}
-use Rattle.dnw_lexer.specs.Lexer.{Reading, before, unit, ends_word, escape, PlainText, plain, escaped, bracket, cut, StringText, plain as string-plain, escaped as string-escaped, no_escape}
+use Rattle.dnw_lexer.specs.Lexer.{WordResult, prepend, plain_character, ends_word, escape, PlainText, plain, escaped, bracket, cut, StringText, plain as string-plain, escaped as string-escaped, no_escape}
 
-before-nothing : (r : Reading) → before [] r ≡ r
+before-nothing : (r : WordResult) → prepend [] r ≡ r
 before-nothing (Ok found) = refl
 before-nothing (Err e) = refl
 
-before-before : (v w : List ℕ) (r : Reading) → before v (before w r) ≡ before (v ++ w) r
+before-before : (v w : List ℕ) (r : WordResult) → prepend v (prepend w r) ≡ prepend (v ++ w) r
 before-before v w (Ok found) = ap (λ (x : List ℕ). Ok (x, found.1)) (sym (append_assoc v w found.0))
 before-before v w (Err e) = refl
 
 -- The octets of the word so far, and what stands for the text from here on stands for the whole behind the word.
-pub record SoFar (P : List ℕ → Reading → Type 0) (text octets rest : List ℕ) : Type 0 where
+pub record SoFar (P : List ℕ → WordResult → Type 0) (text octets rest : List ℕ) : Type 0 where
   pub word : List ℕ
   pub is : octets ≡ encode_utf8_all word
-  pub sound : (r : Reading) → P rest r → P text (before word r)
+  pub sound : (r : WordResult) → P rest r → P text (prepend word r)
 
-module _ (P : List ℕ → Reading → Type 0) (text : List ℕ) where
+module _ (P : List ℕ → WordResult → Type 0) (text : List ℕ) where
   pub start : SoFar P text [] text
   start = record { word = []; is = refl; sound = λ r p. subst (P text) (sym (before-nothing r)) p }
 
-  pub more : (octets rest : List ℕ) (u longer behind : List ℕ) → SoFar P text octets rest → longer ≡ octets ++ encode_utf8_all u → ((r : Reading) → P behind r → P rest (before u r)) → SoFar P text longer behind
+  pub more : (octets rest : List ℕ) (u longer behind : List ℕ) → SoFar P text octets rest → longer ≡ octets ++ encode_utf8_all u → ((r : WordResult) → P behind r → P rest (prepend u r)) → SoFar P text longer behind
   more octets rest u longer behind h e step =
       record {
         word = h.word ++ u;
         is = e ∙ ap (λ o. o ++ encode_utf8_all u) h.is ∙ sym (encodes-append h.word u);
-        sound = λ r p. subst (P text) (before-before h.word u r) (h.sound (before u r) (step r p));
+        sound = λ r p. subst (P text) (before-before h.word u r) (h.sound (prepend u r) (step r p));
       }
 
   pub done : (octets rest behind : List ℕ) → SoFar P text octets rest → P rest (Ok ([], behind)) → (w : List ℕ) × (octets ≡ encode_utf8_all w) × P text (Ok (w, behind))
@@ -43,12 +43,12 @@ module _ (P : List ℕ → Reading → Type 0) (text : List ℕ) where
   failed octets rest e h p = h.sound (Err e) p
 
 -- A character of a plain word, and the one that stays with it.
-pub plain-step : (inside : Bool) (c : ℕ) (rest behind later : List ℕ) (next : Option ℕ) → rest ≡ c ∷ behind → ends_word inside (c ∷ behind) ≡ false → (c ≢ 41) × MatchOption next ((c ≢ 92) × (later ≡ behind)) (λ d. (c ≡ 92) × (behind ≡ d ∷ later)) → (r : Reading) → PlainText inside later r → PlainText inside rest (before (unit c next) r)
+pub plain-step : (inside : Bool) (c : ℕ) (rest behind later : List ℕ) (next : Option ℕ) → rest ≡ c ∷ behind → ends_word inside (c ∷ behind) ≡ false → (c ≢ 41) × MatchOption next ((c ≢ 92) × (later ≡ behind)) (λ d. (c ≡ 92) × (behind ≡ d ∷ later)) → (r : WordResult) → PlainText inside later r → PlainText inside rest (prepend (plain_character c next) r)
 plain-step inside c rest behind later None e no_end h r p =
-    subst (λ (t : List ℕ). PlainText inside t (before (c ∷ []) r)) (sym e)
+    subst (λ (t : List ℕ). PlainText inside t (prepend (c ∷ []) r)) (sym e)
     (plain c behind r no_end h.0 (h.1).0 (subst (λ (t : List ℕ). PlainText inside t r) (h.1).1 p))
 plain-step inside c rest behind later (Some d) e no_end h r p =
-    subst (λ (t : List ℕ). PlainText inside t (before (c ∷ d ∷ []) r)) (sym (e ∙ ap (λ t. c ∷ t) (h.1).1)) (escaped c d later r (h.1).0 p)
+    subst (λ (t : List ℕ). PlainText inside t (prepend (c ∷ d ∷ []) r)) (sym (e ∙ ap (λ t. c ∷ t) (h.1).1)) (escaped c d later r (h.1).0 p)
 
 -- A character that has no place in a plain word.
 pub plain-refused : (inside : Bool) (c : ℕ) (rest behind : List ℕ) (e : LexerError) → rest ≡ c ∷ behind → ends_word inside (c ∷ behind) ≡ false → ((c ≡ 41) × (e ≡ UnrecognizedChar c)) ⊎ ((c ≡ 92) × (behind ≡ []) × (e ≡ EOF)) → PlainText inside rest (Err e)
@@ -65,10 +65,10 @@ not_slash : (c : ℕ) → (c == 92) ≡ false → c ≢ 92
 not_slash c e h = absurd (grind (arith, nat_tests))
 
 -- A character of a string in quotes.
-pub string-step : (c d : ℕ) (rest behind later : List ℕ) → rest ≡ c ∷ behind → c ≢ 34 → MatchBool (c == 92) (escape behind ≡ Ok (d, later)) ((d ≡ c) × (later ≡ behind)) → (r : Reading) → StringText later r → StringText rest (before (d ∷ []) r)
+pub string-step : (c d : ℕ) (rest behind later : List ℕ) → rest ≡ c ∷ behind → c ≢ 34 → MatchBool (c == 92) (escape behind ≡ Ok (d, later)) ((d ≡ c) × (later ≡ behind)) → (r : WordResult) → StringText later r → StringText rest (prepend (d ∷ []) r)
 string-step c d rest behind later is no_quote h r p = by_test (c == 92) refl h
   where
-    by_test : (b : Bool) → (c == 92) ≡ b → MatchBool b (escape behind ≡ Ok (d, later)) ((d ≡ c) × (later ≡ behind)) → StringText rest (before (d ∷ []) r)
+    by_test : (b : Bool) → (c == 92) ≡ b → MatchBool b (escape behind ≡ Ok (d, later)) ((d ≡ c) × (later ≡ behind)) → StringText rest (prepend (d ∷ []) r)
     by_test true e h = rw is (string-escaped c d behind later r (is_slash c e) h p)
     by_test false e h = rw (is, h.0) (string-plain c behind r no_quote (not_slash c e) (subst (λ (t : List ℕ). StringText t r) h.1 p))
 

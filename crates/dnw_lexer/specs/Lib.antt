@@ -1,4 +1,3 @@
-pub mod LeftLaws
 pub mod Lexer
 pub mod Tokens
 pub mod Ttl

@@ -10,8 +10,11 @@ use Rattle.dnw_lexer.specs.Lexer.{Lexeme, blank, end_of_line, at_sign, include, 
 -- A word's text has its characters in UTF-8.
 abbrev pub IsLexeme : Token → Lexeme → Type 0
 IsLexeme Blank lexeme = lexeme ≡ blank
-IsLexeme (WordList words) lexeme = (ws : List (List ℕ)) × (map string_bytes words.items ≡ map encode_utf8_all ws) × (lexeme ≡ list ws)
-IsLexeme (CharData text) lexeme = (w : List ℕ) × (string_bytes text ≡ encode_utf8_all w) × (lexeme ≡ word w)
+IsLexeme (WordList words) lexeme =
+    (ws : List (List ℕ)) × (map string_bytes words.items ≡ map encode_utf8_all ws)
+    × (lexeme ≡ list ws)
+IsLexeme (CharData text) lexeme =
+    (w : List ℕ) × (string_bytes text ≡ encode_utf8_all w) × (lexeme ≡ word w)
 IsLexeme At lexeme = lexeme ≡ at_sign
 IsLexeme Include lexeme = lexeme ≡ include
 IsLexeme Origin lexeme = lexeme ≡ origin

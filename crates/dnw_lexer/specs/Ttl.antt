@@ -3,15 +3,16 @@ use Rattle.std.specs.Prelude.{ℕ, ◌≡◌, ◌+◌, ◌*◌, ◌<◌, ◌++�
 use Rattle.std.specs.Char.{is_ascii_digit}
 use Rattle.std.specs.Str.{all_ascii_digits}
 use Rattle.std.specs.Str.Parse.{digits_value}
+use Rattle.dnw_codes.specs.Ascii.{lower_d, lower_h, lower_m, lower_s, lower_w, upper_d, upper_h, upper_m, upper_s, upper_w}
 
 -- The seconds of a unit: a second, a minute, an hour, a day or a week, in either case.
 abbrev pub unit_seconds : ℕ → Option ℕ
 unit_seconds c =
-    if c == 83 || c == 115 then Some 1
-    else (if c == 77 || c == 109 then Some 60
-    else (if c == 72 || c == 104 then Some 3600
-    else (if c == 68 || c == 100 then Some 86400
-    else (if c == 87 || c == 119 then Some 604800 else None))))
+    if c == upper_s || c == lower_s then Some 1
+    else (if c == upper_m || c == lower_m then Some 60
+    else (if c == upper_h || c == lower_h then Some 3600
+    else (if c == upper_d || c == lower_d then Some 86400
+    else (if c == upper_w || c == lower_w then Some 604800 else None))))
 
 -- At least one decimal digit.
 pub record IsNumber (digits : List ℕ) : Type 0 where
@@ -23,7 +24,8 @@ abbrev pub NoDigit : List ℕ → Type 0
 NoDigit [] = Unit {0}
 NoDigit (c ∷ cs) = is_ascii_digit c ≡ false
 
--- The digits at a text's front, which may be none, the number that they write, and what stands behind them.
+-- The digits at a text's front, which may be none, the number that they write, and what stands
+-- behind them.
 pub record DigitsAt (text : List ℕ) (n : ℕ) (behind : List ℕ) : Type 0 where
   pub digits : List ℕ
   pub all : all_ascii_digits digits ≡ true
@@ -42,5 +44,8 @@ pub record NumberAt (text : List ℕ) (n : ℕ) (behind : List ℕ) : Type 0 whe
 -- The seconds of a text: the sum of its groups. The last group may lack its unit.
 pub data TtlText : List ℕ → ℕ → Type 0 where
   last : (digits : List ℕ) → IsNumber digits → TtlText digits (digits_value 10 digits)
-  unit : (digits : List ℕ) (c seconds : ℕ) → IsNumber digits → unit_seconds c ≡ Some seconds → TtlText (digits ++ c ∷ []) (digits_value 10 digits * seconds)
-  more : (digits : List ℕ) (c seconds : ℕ) (rest : List ℕ) (n : ℕ) → IsNumber digits → unit_seconds c ≡ Some seconds → TtlText rest n → TtlText (digits ++ c ∷ rest) (digits_value 10 digits * seconds + n)
+  unit : (digits : List ℕ) (c seconds : ℕ) → IsNumber digits → unit_seconds c ≡ Some seconds
+      → TtlText (digits ++ c ∷ []) (digits_value 10 digits * seconds)
+  more : (digits : List ℕ) (c seconds : ℕ) (rest : List ℕ) (n : ℕ) → IsNumber digits
+      → unit_seconds c ≡ Some seconds → TtlText rest n
+      → TtlText (digits ++ c ∷ rest) (digits_value 10 digits * seconds + n)

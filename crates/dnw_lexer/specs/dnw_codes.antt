@@ -1,3 +1,4 @@
+pub use Rattle.dnw_codes.specs.Ascii
 pub use Rattle.dnw_codes.specs.Digits
 pub use Rattle.dnw_codes.specs.ProtoError
 pub use Rattle.dnw_codes.specs.declared

@@ -1,6 +1,7 @@
 //! What stands between words.
 ghost use Rattle.std.specs.Prelude.{◌≡◌, ◌∷◌, ◌||◌, ◌==◌, not, false, if◌then◌else◌, chars};
-ghost use Rattle.dnw_lexer.specs.Lexer.{is_blank, at_line_end, behind_line_end, without_blanks, line_end, without_comment, gap, begins_blank};
+ghost use Rattle.dnw_codes.specs.Ascii.{is_blank};
+ghost use Rattle.dnw_lexer.specs.Lexer.{at_line_end, behind_line_end, without_blanks, line_end, without_comment, after_gap, begins_blank};
 
 use crate::character::split_char;
 
@@ -81,7 +82,7 @@ pub fn without_comment(text: &str) -> &str
 
 /// The text without the blanks, comments and line ends at its front.
 pub fn behind_gap(text: &str) -> &str
-    ensures { chars result.now ≡ gap false (chars text.now) }
+    ensures { chars result.now ≡ after_gap false (chars text.now) }
 {
     let mut rest = text;
     let mut comment = false;

@@ -3,7 +3,8 @@ ghost use Rattle.std.specs.Prelude.{◌≡◌, ◌≢◌, ◌==◌, ◌&&◌, �
 ghost use Rattle.std.specs.Str.{encode_utf8_all};
 ghost use Rattle.std.specs.String.{string_bytes};
 ghost use Rattle.dnw_codes.specs.declared.error.LexerError.TheVariants.{Memory, EOF, UnrecognizedChar};
-ghost use Rattle.dnw_lexer.specs.Lexer.{PlainText, StringText, ends_word, unit, escape, octal_at, is_octal};
+ghost use Rattle.dnw_codes.specs.Ascii.{is_octal};
+ghost use Rattle.dnw_lexer.specs.Lexer.{PlainText, StringText, ends_word, plain_character, escape, octal_at};
 
 use crate::character::{push, split_char};
 use crate::gap::{at_line_end, is_blank};
@@ -63,7 +64,7 @@ fn plain_unit<'a>(c: char, behind: &'a str) -> Result<(Option<char>, &'a str), L
 
 // Puts a character at a word's end, and the one that stays with it.
 fn push_unit(word: &mut String, c: char, next: Option<char>) -> Result<(), LexerError>
-    ensures pushed { OnOk result (string_bytes word.new ≡ string_bytes word.old ++ encode_utf8_all (unit c next)) }
+    ensures pushed { OnOk result (string_bytes word.new ≡ string_bytes word.old ++ encode_utf8_all (plain_character c next)) }
     ensures refused { IfErr result (λ e. e ≡ Memory) }
 {
     match next {

@@ -11,10 +11,10 @@ use Rattle.std.specs.declared.cmp.Ordering.TheVariants.{Less, Equal, Greater}
 use Rattle.std.proofs.lemmas.Bool.{cases_lt}
 use Rattle.std.proofs.lemmas.Bool.Decides.{nat_tests}
 use Rattle.std.proofs.lemmas.List.{reverse-append, take-append-drop, length-reverse, length-drop}
-use Rattle.dnw_arpa.specs.dnw_label.Label.{label_cmp, label_eq}
+use Rattle.dnw_net.specs.dnw_label.Label.{label_cmp, label_eq}
 use Rattle.dnw_name.specs.DomainName.{DomainName, name_cmp, is_at_or_below}
 use Rattle.dnw_name.specs.NameKey.{rank, label_key, labels_key}
-use Rattle.dnw_name.specs.NameOrder.{label_eq-by_cmp, pointwise-reverse, and-assoc}
+use Rattle.dnw_name.specs.NameOrderLaws.{label_eq-by_cmp, pointwise-reverse, and-assoc}
 
 -- A list begins with the items of another.
 abbrev pub is_front : {K : Type 0} → (K → K → Bool) → List K → List K → Bool

@@ -10,8 +10,8 @@ use Rattle.std.proofs.lemmas.Bool.Decides.{nat_tests}
 use Rattle.std.proofs.Math.Seq.{take-append_seam}
 use Rattle.std.proofs.lemmas.Grind.{flat_map-append}
 use Rattle.std.proofs.lemmas.List.{append-nil, length-map}
-use Rattle.dnw_name.specs.NameOrder.{reverse-cons}
-use Rattle.dnw_arpa.specs.dnw_label.Label.{label_cmp}
+use Rattle.dnw_name.specs.NameOrderLaws.{reverse-cons}
+use Rattle.dnw_net.specs.dnw_label.Label.{label_cmp}
 use Rattle.dnw_name.specs.DomainName.{DomainName, domain_name, name_cmp}
 use Rattle.dnw_name.specs.NameKey.{rank, label_key, labels_key, name_key}
 

@@ -4,7 +4,7 @@ use Rattle.std.specs.Str.{str_to_ascii_lowercase}
 use Rattle.std.proofs.lemmas.List.{length-map}
 use Rattle.std.proofs.lemmas.List.Elements.{All-drop, All-map, All-cons, All-head, All-tail, All-weaker, All-push, All-append}
 use Rattle.std.proofs.lemmas.List.Sums.{sum_by-cons, sum_by-take-drop, sum_by_push, sum_by-append}
-use Rattle.dnw_arpa.specs.dnw_label.Label.{IsLabel, wildcard_label}
+use Rattle.dnw_net.specs.dnw_label.Label.{IsLabel, wildcard_label}
 use Rattle.dnw_name.specs.DomainName.{IsDomainName, domain_name, labels_len}
 
 pub labels_len-cons : (label : List ℕ) (labels : List (List ℕ)) → labels_len (label ∷ labels) ≡ length label + 1 + labels_len labels

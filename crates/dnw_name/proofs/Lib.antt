@@ -7,3 +7,4 @@ pub mod RoundTrip
 pub mod SuffixLemmas
 pub mod TextLemmas
 pub mod Taken
+pub use Rattle.dnw_net.proofs.dnw_label_lemmas

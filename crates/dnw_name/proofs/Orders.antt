@@ -4,9 +4,9 @@ use Rattle.std.specs.Cmp.Lexicographic.{slice_cmp, pointwise, same_text}
 use Rattle.std.specs.Char.{to_ascii_lowercase}
 use Rattle.std.specs.Str.{str_to_ascii_lowercase}
 use Rattle.std.specs.Ordering.{nat_cmp, bool_cmp, on, ordering_then}
-use Rattle.dnw_arpa.specs.dnw_label.Label.{label_cmp}
-use Rattle.dnw_arpa.proofs.dnw_label_lemmas.Orders.{slice_cmp-map, slice_cmp-same}
-use Rattle.dnw_name.specs.DomainName.{DomainName, domain_name, lowercased, name_cmp, name_cmp_by}
+use Rattle.dnw_net.specs.dnw_label.Label.{label_cmp}
+use Rattle.dnw_net.proofs.dnw_label_lemmas.Orders.{slice_cmp-map, slice_cmp-same}
+use Rattle.dnw_name.specs.DomainName.{DomainName, domain_name, lowercase_name, name_cmp, name_cmp_by}
 use Rattle.std.proofs.lemmas.Bool.Decides.{nat_tests}
 use Rattle.std.proofs.lemmas.List.{take_more}
 
@@ -47,5 +47,5 @@ labels-lower-lower (label ∷ labels) =
     ∙ ap (λ ls. str_to_ascii_lowercase label ∷ ls) (labels-lower-lower labels)
 
 -- A name in lower case stays in lower case.
-pub lowercased-lowercased : (name : DomainName) → lowercased (lowercased name) ≡ lowercased name
+pub lowercased-lowercased : (name : DomainName) → lowercase_name (lowercase_name name) ≡ lowercase_name name
 lowercased-lowercased name = ap (domain_name name.fqdn) (labels-lower-lower name.labels)

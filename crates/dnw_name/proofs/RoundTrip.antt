@@ -3,9 +3,9 @@ use Rattle.std.proofs.Common.{◌≡◌, ℕ, ◌++◌, Bool, true, false, cond,
 use Rattle.std.specs.Prelude.{Result, Ok, Err, IfOk}
 use Rattle.std.proofs.lemmas.List.{append_assoc, append-nil}
 use Rattle.std.proofs.lemmas.List.Elements.{All-head, All-tail}
-use Rattle.dnw_arpa.specs.dnw_label.LabelPrint.{label_print}
-use Rattle.dnw_arpa.specs.dnw_label.LabelText.{ends, dot, IsTextLabel}
-use Rattle.dnw_arpa.proofs.dnw_label_lemmas.LabelRoundTrip.{label-reads}
+use Rattle.dnw_net.specs.dnw_label.LabelPrint.{label_print}
+use Rattle.dnw_net.specs.dnw_label.LabelText.{ends, dot, IsTextLabel}
+use Rattle.dnw_net.proofs.dnw_label_lemmas.LabelRoundTrip.{label-reads}
 use Rattle.dnw_name.specs.DomainName.{DomainName, IsDomainName, domain_name}
 use Rattle.dnw_name.specs.NamePrint.{labels_print, name_print}
 use Rattle.dnw_name.specs.NameText.{LabelsText, last, closed, more, NameText, empty, root, labels as labels_text}

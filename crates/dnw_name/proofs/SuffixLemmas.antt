@@ -14,14 +14,14 @@ use Rattle.std.proofs.lemmas.Cmp.{nat_list_eq_equiv}
 use Rattle.std.proofs.lemmas.Grind.{flat_map-append}
 use Rattle.std.proofs.lemmas.List.{reverse-append, append-nil, append_assoc}
 use Rattle.std.proofs.lemmas.List.Concat.{flat_map_single}
-use Rattle.dnw_arpa.specs.dnw_label.Label.{label_eq}
-use Rattle.dnw_arpa.specs.dnw_net.Networks.{address_bits}
+use Rattle.dnw_net.specs.dnw_label.Label.{label_eq}
+use Rattle.dnw_net.specs.Networks.{address_bits}
 use Rattle.dnw_name.specs.DomainName.{DomainName, domain_name, name_eq}
-use Rattle.dnw_name.specs.NameOrder.{pointwise-reverse}
-use Rattle.dnw_arpa.specs.ArpaLabels.{zero_labels, digit_label, hex_digits, v4_labels, v6_labels, numbers, number_label, suffix_label, IsAddress, IsBelowSuffix}
+use Rattle.dnw_name.specs.NameOrderLaws.{pointwise-reverse}
+use Rattle.dnw_net.specs.ArpaLabels.{zero_labels, digit_label, hex_digits, v4_labels, v6_labels, address_numbers, number_label, suffix_label, IsAddress, IsBelowSuffix}
 use Rattle.dnw_name.specs.Arpa.{arpa_name, IsArpaName, EndsInArpa}
-use Rattle.dnw_arpa.proofs.NetworkLemmas.{sames, and-parts, and-both}
-use Rattle.dnw_arpa.proofs.SuffixLemmas.{network-one, suffix-either}
+use Rattle.dnw_net.proofs.NetworkLemmas.{sames, and-parts, and-both}
+use Rattle.dnw_net.proofs.SuffixLemmas.{network-one, suffix-either}
 
 pub lower-from : (xs ys : List ℕ) → label_eq xs ys ≡ true → str_to_ascii_lowercase xs ≡ str_to_ascii_lowercase ys
 lower-from xs ys e = same_text (str_to_ascii_lowercase xs) (str_to_ascii_lowercase ys) (sym e)
@@ -45,7 +45,7 @@ map-flat : (ns : List ℕ) → flat_map (λ n. digit_label (n / 16) ∷ digit_la
 map-flat [] = refl
 map-flat (n ∷ ns) = ap (λ xs. digit_label (n / 16) ∷ digit_label (n % 16) ∷ xs) (map-flat ns)
 
-arpa-reversed : (addr : IpAddr) → reverse (arpa_name addr).labels ≡ codes "arpa" ∷ suffix_label addr ∷ map (number_label addr) (numbers addr)
+arpa-reversed : (addr : IpAddr) → reverse (arpa_name addr).labels ≡ codes "arpa" ∷ suffix_label addr ∷ map (number_label addr) (address_numbers addr)
 arpa-reversed (V4 a) =
     reverse-append (flat_map v4_labels (reverse (ipv4_octets a))) (codes "in-addr" ∷ codes "arpa" ∷ [])
     ∙ ap (λ xs. codes "arpa" ∷ codes "in-addr" ∷ xs)
@@ -68,7 +68,7 @@ reverse-zeros zero = refl
 reverse-zeros (suc n) = reverse-append (codes "0" ∷ []) (zero_labels n) ∙ ap (λ xs. xs ++ codes "0" ∷ []) (reverse-zeros n) ∙ zeros-last n
 
 -- What a name of a network is, from the right.
-named-is : (name : DomainName) (missing : ℕ) (addr : IpAddr) → name_eq (domain_name name.fqdn (zero_labels missing ++ name.labels)) (arpa_name addr) ≡ (beq name.fqdn true && pointwise label_eq (reverse name.labels ++ zero_labels missing) (codes "arpa" ∷ suffix_label addr ∷ map (number_label addr) (numbers addr)))
+named-is : (name : DomainName) (missing : ℕ) (addr : IpAddr) → name_eq (domain_name name.fqdn (zero_labels missing ++ name.labels)) (arpa_name addr) ≡ (beq name.fqdn true && pointwise label_eq (reverse name.labels ++ zero_labels missing) (codes "arpa" ∷ suffix_label addr ∷ map (number_label addr) (address_numbers addr)))
 named-is name missing addr =
     ap (λ f. beq name.fqdn f && pointwise label_eq (zero_labels missing ++ name.labels) (arpa_name addr).labels) (arpa-fqdn addr)
     ∙ ap (λ b. beq name.fqdn true && b)
@@ -82,11 +82,11 @@ beq-true false = refl
 
 pub record Named (name : DomainName) (missing : ℕ) (addr : IpAddr) : Type 0 where
   pub fqdn : name.fqdn ≡ true
-  pub matches : pointwise label_eq (reverse name.labels ++ zero_labels missing) (codes "arpa" ∷ suffix_label addr ∷ map (number_label addr) (numbers addr)) ≡ true
+  pub matches : pointwise label_eq (reverse name.labels ++ zero_labels missing) (codes "arpa" ∷ suffix_label addr ∷ map (number_label addr) (address_numbers addr)) ≡ true
 
 named-parts : (name : DomainName) (addr : IpAddr) (prefix : ℕ) (h : IsArpaName name addr prefix) → Named name h.missing addr
 named-parts name addr prefix h =
-    let parts = and-parts (beq name.fqdn true) (pointwise label_eq (reverse name.labels ++ zero_labels h.missing) (codes "arpa" ∷ suffix_label addr ∷ map (number_label addr) (numbers addr))) (sym (named-is name h.missing addr) ∙ h.named) in
+    let parts = and-parts (beq name.fqdn true) (pointwise label_eq (reverse name.labels ++ zero_labels h.missing) (codes "arpa" ∷ suffix_label addr ∷ map (number_label addr) (address_numbers addr))) (sym (named-is name h.missing addr) ∙ h.named) in
     record { fqdn = sym (beq-true name.fqdn) ∙ parts.0; matches = parts.1 }
 
 -- Relative names, and names that end otherwise.
@@ -105,24 +105,24 @@ no-zero_suffix (V6 a) (suc n) rest e = absurd (cc)
 
 pub no-label : (name : DomainName) → name.labels ≡ [] → (addr : IpAddr) (prefix : ℕ) → IsArpaName name addr prefix → ⊥
 no-label name e addr prefix h =
-    no-zero_arpa h.missing (suffix_label addr ∷ map (number_label addr) (numbers addr))
-    (subst (λ xs. pointwise label_eq (reverse xs ++ zero_labels h.missing) (codes "arpa" ∷ suffix_label addr ∷ map (number_label addr) (numbers addr)) ≡ true) e (named-parts name addr prefix h).matches)
+    no-zero_arpa h.missing (suffix_label addr ∷ map (number_label addr) (address_numbers addr))
+    (subst (λ xs. pointwise label_eq (reverse xs ++ zero_labels h.missing) (codes "arpa" ∷ suffix_label addr ∷ map (number_label addr) (address_numbers addr)) ≡ true) e (named-parts name addr prefix h).matches)
 
 reversed-two : (behind : List (List ℕ)) (top : List ℕ) → reverse (behind ++ top ∷ []) ≡ top ∷ reverse behind
 reversed-two behind top = reverse-append behind (top ∷ [])
 
-top-parts : (name : DomainName) (behind : List (List ℕ)) (top : List ℕ) → name.labels ≡ behind ++ top ∷ [] → (addr : IpAddr) (prefix : ℕ) (h : IsArpaName name addr prefix) → (label_eq top (codes "arpa") ≡ true) × (pointwise label_eq (reverse behind ++ zero_labels h.missing) (suffix_label addr ∷ map (number_label addr) (numbers addr)) ≡ true)
+top-parts : (name : DomainName) (behind : List (List ℕ)) (top : List ℕ) → name.labels ≡ behind ++ top ∷ [] → (addr : IpAddr) (prefix : ℕ) (h : IsArpaName name addr prefix) → (label_eq top (codes "arpa") ≡ true) × (pointwise label_eq (reverse behind ++ zero_labels h.missing) (suffix_label addr ∷ map (number_label addr) (address_numbers addr)) ≡ true)
 top-parts name behind top e addr prefix h =
-    and-parts (label_eq top (codes "arpa")) (pointwise label_eq (reverse behind ++ zero_labels h.missing) (suffix_label addr ∷ map (number_label addr) (numbers addr)))
-    (subst (λ xs. pointwise label_eq (xs ++ zero_labels h.missing) (codes "arpa" ∷ suffix_label addr ∷ map (number_label addr) (numbers addr)) ≡ true) (ap reverse e ∙ reversed-two behind top) (named-parts name addr prefix h).matches)
+    and-parts (label_eq top (codes "arpa")) (pointwise label_eq (reverse behind ++ zero_labels h.missing) (suffix_label addr ∷ map (number_label addr) (address_numbers addr)))
+    (subst (λ xs. pointwise label_eq (xs ++ zero_labels h.missing) (codes "arpa" ∷ suffix_label addr ∷ map (number_label addr) (address_numbers addr)) ≡ true) (ap reverse e ∙ reversed-two behind top) (named-parts name addr prefix h).matches)
 
 pub no-arpa : (name : DomainName) (behind : List (List ℕ)) (top : List ℕ) → name.labels ≡ behind ++ top ∷ [] → (str_to_ascii_lowercase top ≡ codes "arpa" → ⊥) → (addr : IpAddr) (prefix : ℕ) → IsArpaName name addr prefix → ⊥
 no-arpa name behind top e other addr prefix h = other (lower-from top (codes "arpa") (top-parts name behind top e addr prefix h).0)
 
 pub no-second : (name : DomainName) (behind : List (List ℕ)) (top : List ℕ) → name.labels ≡ behind ++ top ∷ [] → behind ≡ [] → (addr : IpAddr) (prefix : ℕ) → IsArpaName name addr prefix → ⊥
 no-second name behind top e none addr prefix h =
-    no-zero_suffix addr h.missing (map (number_label addr) (numbers addr))
-    (subst (λ xs. pointwise label_eq (reverse xs ++ zero_labels h.missing) (suffix_label addr ∷ map (number_label addr) (numbers addr)) ≡ true) none (top-parts name behind top e addr prefix h).1)
+    no-zero_suffix addr h.missing (map (number_label addr) (address_numbers addr))
+    (subst (λ xs. pointwise label_eq (reverse xs ++ zero_labels h.missing) (suffix_label addr ∷ map (number_label addr) (address_numbers addr)) ≡ true) none (top-parts name behind top e addr prefix h).1)
 
 -- Between a name and the labels below its suffix.
 
@@ -136,23 +136,23 @@ two-labels below kind top = sym (append_assoc below (kind ∷ []) (top ∷ []))
 pub below-from : (name : DomainName) (below : List (List ℕ)) (kind : List ℕ) → EndsInArpa name below kind → (addr : IpAddr) (prefix : ℕ) → IsArpaName name addr prefix → Below below kind addr prefix
 below-from name below kind ends addr prefix h =
     let top = top-parts name (below ++ kind ∷ []) ends.top (ends.labels ∙ two-labels below kind ends.top) addr prefix h in
-    let parts = and-parts (label_eq kind (suffix_label addr)) (pointwise label_eq (reverse below ++ zero_labels h.missing) (map (number_label addr) (numbers addr)))
-    (subst (λ xs. pointwise label_eq (xs ++ zero_labels h.missing) (suffix_label addr ∷ map (number_label addr) (numbers addr)) ≡ true) (reversed-two below kind) top.1) in
+    let parts = and-parts (label_eq kind (suffix_label addr)) (pointwise label_eq (reverse below ++ zero_labels h.missing) (map (number_label addr) (address_numbers addr)))
+    (subst (λ xs. pointwise label_eq (xs ++ zero_labels h.missing) (suffix_label addr ∷ map (number_label addr) (address_numbers addr)) ≡ true) (reversed-two below kind) top.1) in
     record { suffix = parts.0; network = record { missing = h.missing; bits = h.bits; address = h.address; written = parts.1 } }
 
 pub name-from : (name : DomainName) (below : List (List ℕ)) (kind : List ℕ) → EndsInArpa name below kind → (addr : IpAddr) (prefix : ℕ) → label_eq kind (suffix_label addr) ≡ true → IsBelowSuffix below addr prefix → IsArpaName name addr prefix
 name-from name below kind ends addr prefix suffix h =
     let labels : reverse name.labels ≡ ends.top ∷ kind ∷ reverse below =
     ap reverse (ends.labels ∙ two-labels below kind ends.top) ∙ reversed-two (below ++ kind ∷ []) ends.top ∙ ap (λ xs. ends.top ∷ xs) (reversed-two below kind) in
-    let rest : pointwise label_eq (reverse name.labels ++ zero_labels h.missing) (codes "arpa" ∷ suffix_label addr ∷ map (number_label addr) (numbers addr)) ≡ true =
-    subst (λ xs. pointwise label_eq (xs ++ zero_labels h.missing) (codes "arpa" ∷ suffix_label addr ∷ map (number_label addr) (numbers addr)) ≡ true) (sym labels)
-    (and-both (label_eq ends.top (codes "arpa")) (label_eq kind (suffix_label addr) && pointwise label_eq (reverse below ++ zero_labels h.missing) (map (number_label addr) (numbers addr))) ends.arpa
-    (and-both (label_eq kind (suffix_label addr)) (pointwise label_eq (reverse below ++ zero_labels h.missing) (map (number_label addr) (numbers addr))) suffix h.written)) in
+    let rest : pointwise label_eq (reverse name.labels ++ zero_labels h.missing) (codes "arpa" ∷ suffix_label addr ∷ map (number_label addr) (address_numbers addr)) ≡ true =
+    subst (λ xs. pointwise label_eq (xs ++ zero_labels h.missing) (codes "arpa" ∷ suffix_label addr ∷ map (number_label addr) (address_numbers addr)) ≡ true) (sym labels)
+    (and-both (label_eq ends.top (codes "arpa")) (label_eq kind (suffix_label addr) && pointwise label_eq (reverse below ++ zero_labels h.missing) (map (number_label addr) (address_numbers addr))) ends.arpa
+    (and-both (label_eq kind (suffix_label addr)) (pointwise label_eq (reverse below ++ zero_labels h.missing) (map (number_label addr) (address_numbers addr))) suffix h.written)) in
     record {
       missing = h.missing;
       bits = h.bits;
       address = h.address;
-      named = named-is name h.missing addr ∙ and-both (beq name.fqdn true) (pointwise label_eq (reverse name.labels ++ zero_labels h.missing) (codes "arpa" ∷ suffix_label addr ∷ map (number_label addr) (numbers addr))) (beq-true name.fqdn ∙ ends.fqdn) rest;
+      named = named-is name h.missing addr ∙ and-both (beq name.fqdn true) (pointwise label_eq (reverse name.labels ++ zero_labels h.missing) (codes "arpa" ∷ suffix_label addr ∷ map (number_label addr) (address_numbers addr))) (beq-true name.fqdn ∙ ends.fqdn) rest;
     }
 
 -- What a reader of labels below a suffix says of the name.

@@ -4,10 +4,10 @@ use Rattle.std.specs.Prelude.{Option, Some, None}
 use Rattle.std.specs.Iterator.{Yields, Drains}
 use Rattle.std.proofs.lemmas.List.{map-append}
 use Rattle.std.proofs.lemmas.List.Elements.{All-nil, All-push, All-head, All-tail}
-use Rattle.dnw_arpa.specs.dnw_codes.declared.error.ProtoError.{ProtoError}
-use Rattle.dnw_arpa.specs.dnw_codes.declared.error.ProtoError.TheVariants.{CharacterDataTooLong, Decode, FormError, MaxBufferSizeExceeded, Message, Msg, NotAllRecordsWritten, NotAResponse, Utf8, FromUtf8, ParseInt, Memory}
-use Rattle.dnw_arpa.specs.dnw_codes.ProtoError.{IsMemory}
-use Rattle.dnw_arpa.specs.dnw_label.Label.{IsLabel}
+use Rattle.dnw_net.specs.dnw_codes.declared.error.ProtoError.{ProtoError}
+use Rattle.dnw_net.specs.dnw_codes.declared.error.ProtoError.TheVariants.{CharacterDataTooLong, Decode, FormError, MaxBufferSizeExceeded, Message, Msg, NotAllRecordsWritten, NotAResponse, Utf8, FromUtf8, ParseInt, Memory}
+use Rattle.dnw_net.specs.dnw_codes.ProtoError.{IsMemory}
+use Rattle.dnw_net.specs.dnw_label.Label.{IsLabel}
 use Rattle.dnw_name.specs.DomainName.{DomainName, IsDomainName, domain_name, labels_len}
 use Rattle.dnw_name.proofs.Lengths.{labels_len-cons}
 

@@ -2,16 +2,16 @@
 use Rattle.std.proofs.Common.{◌≡◌, ◌<◌, ◌++◌, ℕ, Bool, true, false, List, [], ◌∷◌, refl, ap, sym, ◌∙◌, subst, arith, length, ◌⊎◌, inl, inr, All, ◌+◌, ◌==◌}
 use Rattle.std.proofs.lemmas.List.Elements.{All-nil, All-cons, All-head, All-tail}
 use Rattle.std.proofs.lemmas.List.Sums.{sum_by-append, sum_by_push}
-use Rattle.dnw_arpa.specs.dnw_label.Label.{IsLabel}
+use Rattle.dnw_net.specs.dnw_label.Label.{IsLabel}
 use Rattle.dnw_name.specs.DomainName.{DomainName, IsDomainName, domain_name, labels_len}
 use Rattle.std.specs.Prelude.{Result, Ok, Err, IfOk, IfErr, Some, cond, ◌||◌, nat_eq}
 use Rattle.std.specs.Cmp.Lexicographic.{pointwise, same_text}
 use Rattle.std.proofs.lemmas.Bool.Decides.{nat_tests}
 use Rattle.std.proofs.lemmas.List.{append_assoc}
-use Rattle.dnw_arpa.specs.dnw_label.LabelText.{OctetText, LabelText, ends, dot, octet, IsTextLabel}
-use Rattle.dnw_arpa.specs.dnw_label.EscapeLaws.{no_octet_in_nothing}
-use Rattle.dnw_arpa.proofs.dnw_label_lemmas.LabelTextLemmas.{no_dot, label-same}
-use Rattle.dnw_name.specs.NameText.{LabelsText, last, closed, more, NameText, empty, root, labels as labels_text, completed}
+use Rattle.dnw_net.specs.dnw_label.LabelText.{OctetText, LabelText, ends, dot, octet, IsTextLabel}
+use Rattle.dnw_net.proofs.dnw_label_lemmas.EscapeLaws.{no_octet_in_nothing}
+use Rattle.dnw_net.proofs.dnw_label_lemmas.LabelTextLemmas.{no_dot, label-same}
+use Rattle.dnw_name.specs.NameText.{LabelsText, last, closed, more, NameText, empty, root, labels as labels_text, complete_name}
 
 -- What was read of a name's labels, and what is left of its text.
 pub record LabelsSoFar (text : List ℕ) (read : List (List ℕ)) (rest : List ℕ) : Type 0 where
@@ -191,19 +191,19 @@ name-same text n n' (labels_text _ f ls t is) (labels_text _ f' ls' t' is') =
 some_length : (n : ℕ) → 0 < n → (n == 0) ≡ false
 some_length n h = grind (arith, nat_tests)
 
-completed-long : (name origin : DomainName) → name.fqdn ≡ false → 0 < length name.labels → 255 < labels_len name.labels + labels_len origin.labels + 1 → IsDomainName (completed name (Some origin)) → ⊥
+completed-long : (name origin : DomainName) → name.fqdn ≡ false → 0 < length name.labels → 255 < labels_len name.labels + labels_len origin.labels + 1 → IsDomainName (complete_name name (Some origin)) → ⊥
 completed-long name origin flag more_labels long is =
     let tested = some_length (length name.labels) more_labels in
-    let chosen : completed name (Some origin) ≡ domain_name true (name.labels ++ origin.labels) =
+    let chosen : complete_name name (Some origin) ≡ domain_name true (name.labels ++ origin.labels) =
     ap (λ f. cond (f || (length name.labels == 0)) name (domain_name true (name.labels ++ origin.labels))) flag
     ∙ ap (λ b. cond b name (domain_name true (name.labels ++ origin.labels))) tested in
     let whole : IsDomainName (domain_name true (name.labels ++ origin.labels)) = subst IsDomainName chosen is in
     omega (arith, whole.short, sum_by-append (λ l. length l + 1) name.labels origin.labels, long)
 
 -- Where the completed name is too long, the text is none of a name.
-pub parse-refused : {E : Type 0} (M : E → Type 0) (r : Result DomainName E) (text : List ℕ) (name origin : DomainName) → NameText text name → name.fqdn ≡ false → 0 < length name.labels → IfErr r (λ e. M e ⊎ (255 < labels_len name.labels + labels_len origin.labels + 1)) → IfErr r (λ e. M e ⊎ ((read : DomainName) → NameText text read → IsDomainName (completed read (Some origin)) → ⊥))
+pub parse-refused : {E : Type 0} (M : E → Type 0) (r : Result DomainName E) (text : List ℕ) (name origin : DomainName) → NameText text name → name.fqdn ≡ false → 0 < length name.labels → IfErr r (λ e. M e ⊎ (255 < labels_len name.labels + labels_len origin.labels + 1)) → IfErr r (λ e. M e ⊎ ((read : DomainName) → NameText text read → IsDomainName (complete_name read (Some origin)) → ⊥))
 parse-refused M (Ok n) text name origin t flag more_labels h = tt
 parse-refused M (Err e) text name origin t flag more_labels (inl m) = inl m
 parse-refused M (Err e) text name origin t flag more_labels (inr long) =
     inr (λ read u is. completed-long name origin flag more_labels long
-    (subst (λ (n : DomainName). IsDomainName (completed n (Some origin))) (name-same text read name u t) is))
+    (subst (λ (n : DomainName). IsDomainName (complete_name n (Some origin))) (name-same text read name u t) is))

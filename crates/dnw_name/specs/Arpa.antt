@@ -3,23 +3,28 @@ use Rattle.std.specs.Prelude.{ℕ, ◌≡◌, ◌+◌, ◌*◌, ◌++◌, true, 
 use Rattle.std.specs.Net.Addr.{ipv4_octets, ipv6_octets}
 use Rattle.std.specs.declared.net.ip_addr.IpAddr.{IpAddr}
 use Rattle.std.specs.declared.net.ip_addr.IpAddr.TheVariants.{V4, V6}
-use Rattle.dnw_arpa.specs.dnw_label.Label.{label_eq}
-use Rattle.dnw_arpa.specs.dnw_net.Networks.{address_bits}
+use Rattle.dnw_net.specs.dnw_label.Label.{label_eq}
+use Rattle.dnw_net.specs.Networks.{address_bits}
 use Rattle.dnw_name.specs.DomainName.{DomainName, domain_name, name_eq}
-use Rattle.dnw_arpa.specs.ArpaLabels.{v4_labels, v6_labels, label_bits, IsAddress, zero_labels}
+use Rattle.dnw_net.specs.ArpaLabels.{v4_labels, v6_labels, label_bits, IsAddress, zero_labels}
 
 -- The name of an address, its last octet first.
 abbrev pub arpa_name : IpAddr → DomainName
-arpa_name (V4 a) = domain_name true (flat_map v4_labels (reverse (ipv4_octets a)) ++ codes "in-addr" ∷ codes "arpa" ∷ [])
-arpa_name (V6 a) = domain_name true (flat_map v6_labels (reverse (ipv6_octets a)) ++ codes "ip6" ∷ codes "arpa" ∷ [])
+arpa_name (V4 a) =
+    domain_name true
+    (flat_map v4_labels (reverse (ipv4_octets a)) ++ codes "in-addr" ∷ codes "arpa" ∷ [])
+arpa_name (V6 a) =
+    domain_name true
+    (flat_map v6_labels (reverse (ipv6_octets a)) ++ codes "ip6" ∷ codes "arpa" ∷ [])
 
--- The name of a network is that of its first address without the labels behind its prefix, which are `0`: with
--- them it is the name of the address.
+-- The name of a network is that of its first address without the labels behind its prefix, which
+-- are `0`: with them it is the name of the address.
 pub record IsArpaName (name : DomainName) (addr : IpAddr) (prefix : ℕ) : Type 0 where
   pub missing : ℕ
   pub bits : prefix + label_bits addr * missing ≡ address_bits addr
   pub address : IsAddress addr
-  pub named : name_eq (domain_name name.fqdn (zero_labels missing ++ name.labels)) (arpa_name addr) ≡ true
+  pub named : name_eq (domain_name name.fqdn (zero_labels missing ++ name.labels)) (arpa_name addr)
+      ≡ true
 
 -- The name ends in `arpa.`, behind this label and those below it.
 pub record EndsInArpa (name : DomainName) (below : List (List ℕ)) (kind : List ℕ) : Type 0 where

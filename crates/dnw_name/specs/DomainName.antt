@@ -8,10 +8,10 @@ use Rattle.std.specs.List.{ends_with, flat_map}
 use Rattle.std.specs.Ordering.{on, then_cmp, eq_of_both, bool_cmp}
 use Rattle.std.specs.declared.cmp.Ordering.{Ordering}
 use Rattle.std.specs.Str.{str_to_ascii_lowercase}
-use Rattle.dnw_arpa.specs.dnw_codes.declared.error.ProtoError.{ProtoError}
-use Rattle.dnw_arpa.specs.dnw_codes.declared.error.ProtoError.TheVariants.{Decode}
-use Rattle.dnw_arpa.specs.dnw_codes.declared.error.DecodeError.TheVariants.{DomainNameTooLong}
-use Rattle.dnw_arpa.specs.dnw_label.Label.{IsLabel, label_eq, label_cmp, is_wildcard_label, wildcard_label}
+use Rattle.dnw_net.specs.dnw_codes.declared.error.ProtoError.{ProtoError}
+use Rattle.dnw_net.specs.dnw_codes.declared.error.ProtoError.TheVariants.{Decode}
+use Rattle.dnw_net.specs.dnw_codes.declared.error.DecodeError.TheVariants.{DomainNameTooLong}
+use Rattle.dnw_net.specs.dnw_label.Label.{IsLabel, label_eq, label_cmp, is_wildcard_label, wildcard_label}
 
 -- A name: whether it ends at the root, and its labels from the left.
 pub record DomainName : Type 0 where
@@ -25,7 +25,8 @@ domain_name fqdn labels = record { fqdn = fqdn; labels = labels }
 abbrev pub labels_len : List (List ℕ) → ℕ
 labels_len labels = sum_by (λ label. length label + 1) labels
 
--- RFC 1035 2.3.4: labels of 1 to 63 octets, in all at most 255 octets with those of their lengths and of the end.
+-- RFC 1035 2.3.4: labels of 1 to 63 octets, in all at most 255 octets with those of their lengths
+-- and of the end.
 pub record IsDomainName (name : DomainName) : Type 0 where
   pub each : All IsLabel name.labels
   pub short : labels_len name.labels + 1 ≤ 255
@@ -40,7 +41,8 @@ name_eq = eq_of_both (on (λ name. name.fqdn) beq) (on (λ name. name.labels) (p
 
 -- A relative name before a fully qualified one; else label by label from the right (RFC 4034 6.1).
 abbrev pub name_cmp_by : (List ℕ → List ℕ → Ordering) → DomainName → DomainName → Ordering
-name_cmp_by R = then_cmp (on (λ name. name.fqdn) bool_cmp) (on (λ name. reverse name.labels) (slice_cmp R))
+name_cmp_by R =
+    then_cmp (on (λ name. name.fqdn) bool_cmp) (on (λ name. reverse name.labels) (slice_cmp R))
 
 abbrev pub name_cmp : DomainName → DomainName → Ordering
 name_cmp = name_cmp_by label_cmp
@@ -73,13 +75,14 @@ abbrev pub name_len : DomainName → ℕ
 name_len name = cond (length name.labels == 0) 1 (labels_len name.labels)
 
 -- The name in lower case.
-abbrev pub lowercased : DomainName → DomainName
-lowercased name = domain_name name.fqdn (map str_to_ascii_lowercase name.labels)
+abbrev pub lowercase_name : DomainName → DomainName
+lowercase_name name = domain_name name.fqdn (map str_to_ascii_lowercase name.labels)
 
 -- The name with an asterisk in place of its first label; the root where it has none.
 abbrev pub wildcard_of : DomainName → DomainName
 wildcard_of name =
-    cond (length name.labels == 0) (domain_name true []) (domain_name name.fqdn (wildcard_label ∷ drop 1 name.labels))
+    cond (length name.labels == 0) (domain_name true [])
+    (domain_name name.fqdn (wildcard_label ∷ drop 1 name.labels))
 
 -- The error for a name of so many octets, which are more than 255.
 abbrev pub too_long : ℕ → ProtoError

@@ -1,10 +1,11 @@
+pub mod NameHashLaws
 pub mod Arpa
 pub mod DomainName
 pub mod NameHash
 pub mod NameKey
-pub mod NameOrder
+pub mod NameOrderLaws
 pub mod NamePrint
 pub mod NameText
-pub use Rattle.dnw_arpa.specs.dnw_codes
-pub use Rattle.dnw_arpa.specs.dnw_label
-pub use Rattle.dnw_arpa.specs.dnw_net
+pub use Rattle.dnw_net.specs.dnw_codes
+pub use Rattle.dnw_net.specs.dnw_label
+pub mod dnw_net

@@ -4,7 +4,8 @@ use Rattle.std.specs.Char.{to_ascii_lowercase}
 use Rattle.std.specs.List.{flat_map}
 use Rattle.dnw_name.specs.DomainName.{DomainName}
 
--- The place of an octet among the octets without capitals, from 1 on, so that 0 is left for a label's end.
+-- The place of an octet among the octets without capitals, from 1 on, so that 0 is left for a
+-- label's end.
 unfoldable pub rank : ℕ → ℕ
 rank octet =
     let low = to_ascii_lowercase octet in

@@ -2,13 +2,13 @@
 ghost use Rattle.std.specs.Prelude.{◌≡◌, ◌+◌, ◌*◌, ◌≤◌, ◌<◌, ◌∷◌, ◌++◌, [], true, length, reverse, flat_map, codes, IfOk, IfErr};
 ghost use Rattle.std.specs.Char.{digit_char};
 ghost use Rattle.std.specs.declared.net.ip_addr.IpAddr.TheVariants.{V4, V6};
-ghost use Rattle.dnw_arpa.specs.dnw_codes.ProtoError.{IsMemory};
+ghost use Rattle.dnw_net.specs.dnw_codes.ProtoError.{IsMemory};
 ghost use Rattle.dnw_name.specs.DomainName.{domain_name, labels_len};
-ghost use Rattle.dnw_arpa.specs.ArpaLabels.{v4_labels, v6_labels};
+ghost use Rattle.dnw_net.specs.ArpaLabels.{v4_labels, v6_labels};
 ghost use Rattle.dnw_name.specs.Arpa.{arpa_name};
 
 use crate::name::Name;
-use dnw_arpa::{ProtoError, hex_digit};
+use dnw_net::{ProtoError, hex_digit};
 use std::alloc::Global;
 use std::net::IpAddr;
 

@@ -1,10 +1,10 @@
 //! Names that are made label by label.
 ghost use Rattle.std.specs.Prelude.{◌≡◌, ◌+◌, ◌<◌, ◌∷◌, ◌++◌, ◌⊎◌, [], length, IfOk, IfErr, IsErrOf, OnOk};
-ghost use Rattle.dnw_arpa.specs.dnw_codes.ProtoError.{IsMemory};
+ghost use Rattle.dnw_net.specs.dnw_codes.ProtoError.{IsMemory};
 ghost use Rattle.dnw_name.specs.DomainName.{IsDomainName, domain_name, labels_len, too_long};
 
 use crate::name::Name;
-use dnw_arpa::{DecodeError, IntoLabel, Label, ProtoError};
+use dnw_net::{DecodeError, IntoLabel, Label, ProtoError};
 use std::alloc::{AllocError, Global};
 use std::marker::Model;
 

@@ -1,12 +1,12 @@
 //! Names of labels that come one after another.
 ghost use Rattle.std.specs.Prelude.{◌≡◌, ◌⊎◌, true, List, map, All, IfOk, IfErr, OnSome};
 ghost use Rattle.std.specs.Iterator.{Drains, Yields};
-ghost use Rattle.dnw_arpa.specs.dnw_codes.ProtoError.{IsMemory};
+ghost use Rattle.dnw_net.specs.dnw_codes.ProtoError.{IsMemory};
 ghost use Rattle.dnw_name.specs.DomainName.{domain_name, IsDomainName};
 
 use crate::builder::NameBuilder;
 use crate::name::Name;
-use dnw_arpa::{DecodeError, IntoLabel, ProtoError};
+use dnw_net::{DecodeError, IntoLabel, ProtoError};
 use std::alloc::Global;
 
 impl Name {

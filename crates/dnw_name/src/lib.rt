@@ -7,7 +7,7 @@
 //! print texts, each exactly by its definition.
 #![tactic(auto)]
 
-pub use dnw_arpa::{
+pub use dnw_net::{
     CaseInsensitive, CaseSensitive, DNSClass, DecodeError, IntoLabel, IpNet, Label, LabelCmp,
     LabelIter, PrefixLenError, ProtoError, RecordType, Restrict, octet_at,
 };

@@ -4,13 +4,13 @@ ghost use Rattle.std.specs.Cmp.{partial_order_from_own_ties};
 ghost use Rattle.std.specs.Cmp.Rules.{comparing};
 ghost use Rattle.std.specs.Ordering.{as_partial_cmp};
 ghost use Rattle.std.proofs.Common.{rules};
-ghost use Rattle.dnw_name.specs.DomainName.{DomainName, domain_name, IsDomainName, lowercased, name_eq, name_cmp, name_len, num_labels, is_wildcard, is_at_or_below, wildcard_of};
-ghost use Rattle.dnw_arpa.specs.dnw_codes.ProtoError.{IsMemory};
+ghost use Rattle.dnw_name.specs.DomainName.{DomainName, domain_name, IsDomainName, lowercase_name, name_eq, name_cmp, name_len, num_labels, is_wildcard, is_at_or_below, wildcard_of};
+ghost use Rattle.dnw_net.specs.dnw_codes.ProtoError.{IsMemory};
 ghost use Rattle.dnw_name.specs.NameText.{NameText};
-ghost use Rattle.dnw_name.specs.NameOrder.{name_eq-by_cmp};
+ghost use Rattle.dnw_name.specs.NameOrderLaws.{name_eq-by_cmp};
 
 use crate::name::Name;
-use dnw_arpa::ProtoError;
+use dnw_net::ProtoError;
 use std::alloc::{AllocError, Global};
 use std::cmp::Ordering;
 use std::hash::{Hash, Hasher};
@@ -23,26 +23,26 @@ pub struct LowerName(Name);
 
 impl Model for LowerName {
     ghost use Rattle.std.specs.Prelude.{◌≡◌};
-    ghost use Rattle.dnw_name.specs.DomainName.{DomainName, lowercased};
+    ghost use Rattle.dnw_name.specs.DomainName.{DomainName, lowercase_name};
 
     ghost Value = { DomainName };
 
     ghost view = { λ name. name.0 };
 
-    ghost invariant = { λ name. lowercased name.0 ≡ name.0 };
+    ghost invariant = { λ name. lowercase_name name.0 ≡ name.0 };
 }
 
 impl LowerName {
     /// The name in lower case.
     pub fn new(name: &Name) -> Result<LowerName, AllocError>
-        ensures { IfOk result (λ lower. lower ≡ lowercased name.now) }
+        ensures { IfOk result (λ lower. lower ≡ lowercase_name name.now) }
     {
         Ok(LowerName(name.to_lowercase()?))
     }
 
     /// The name of a text by `Name::from_ascii`, in lower case.
     pub fn from_str(alloc: Global, text: &str) -> Result<LowerName, ProtoError>
-        ensures ok { IfOk result (λ lower. (name : DomainName) × NameText text.now name × (lower ≡ lowercased name)) }
+        ensures ok { IfOk result (λ lower. (name : DomainName) × NameText text.now name × (lower ≡ lowercase_name name)) }
         ensures refused { IfErr result (λ e. IsMemory e ⊎ ((name : DomainName) → NameText text.now name → ⊥)) }
     {
         match Name::from_ascii(alloc, text) {
@@ -97,7 +97,7 @@ impl LowerName {
     pub fn len(&self) -> usize
         ensures value { result ≡ name_len self.now }
         ensures name { IsDomainName self.now }
-        ensures lower { lowercased self.now ≡ self.now }
+        ensures lower { lowercase_name self.now ≡ self.now }
     {
         self.0.len()
     }
@@ -136,7 +136,7 @@ impl Deref for LowerName {
 }
 
 impl From<Name> for LowerName {
-    ghost from_gives = { λ name lower. lower ≡ lowercased name };
+    ghost from_gives = { λ name lower. lower ≡ lowercase_name name };
 
     fn from(name: Name) -> LowerName {
         let mut name = name;
@@ -201,7 +201,8 @@ impl PartialOrd for LowerName {
 }
 
 impl Hash for LowerName {
-    ghost use Rattle.dnw_name.specs.NameHash.{name_writes, name_writes-alike};
+    ghost use Rattle.dnw_name.specs.NameHash.{name_writes};
+    ghost use Rattle.dnw_name.specs.NameHashLaws.{name_writes-alike};
 
     ghost hash_input = { name_writes };
 

@@ -1,7 +1,7 @@
 //! Names.
 ghost use Rattle.std.specs.Prelude.{◌≡◌, ◌+◌, ◌-◌, ◌<◌, ◌&&◌, ◌==◌, ◌∷◌, [], ◌++◌, drop, true, false, length, IfOk, IfErr, IsErrOf, OnOk, ◌⊎◌};
-ghost use Rattle.dnw_arpa.specs.dnw_codes.ProtoError.{IsMemory};
-ghost use Rattle.dnw_name.specs.DomainName.{DomainName, domain_name, IsDomainName, labels_len, num_labels, name_len, too_long, lowercased, wildcard_of, is_at_or_below, is_wildcard, localhost};
+ghost use Rattle.dnw_net.specs.dnw_codes.ProtoError.{IsMemory};
+ghost use Rattle.dnw_name.specs.DomainName.{DomainName, domain_name, IsDomainName, labels_len, num_labels, name_len, too_long, lowercase_name, wildcard_of, is_at_or_below, is_wildcard, localhost};
 
 mod labels;
 mod order;
@@ -10,7 +10,7 @@ use crate::builder::NameBuilder;
 use crate::name::labels::{
     copies_of, labels_behind, lower_all, lower_copies_of, octets_of, push_copies,
 };
-use dnw_arpa::{DecodeError, IntoLabel, Label, LabelIter, ProtoError};
+use dnw_net::{DecodeError, IntoLabel, Label, LabelIter, ProtoError};
 use std::alloc::{AllocError, Global};
 use std::marker::Model;
 
@@ -171,7 +171,7 @@ impl Name {
 
     /// The name in lower case.
     pub fn to_lowercase(&self) -> Result<Name, AllocError>
-        ensures { IfOk result (λ name. name ≡ lowercased self.now) }
+        ensures { IfOk result (λ name. name ≡ lowercase_name self.now) }
     {
         let labels = lower_copies_of(*self.labels.allocator(), &self.labels)?;
         Ok(Name {
@@ -289,7 +289,7 @@ impl Name {
 
     // Puts the labels into lower case.
     pub(crate) fn make_lowercase(&mut self)
-        ensures { self.new ≡ lowercased self.old }
+        ensures { self.new ≡ lowercase_name self.old }
     {
         lower_all(&mut self.labels);
     }

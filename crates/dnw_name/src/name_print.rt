@@ -2,14 +2,14 @@
 ghost use Rattle.std.specs.Prelude.{◌≡◌, ◌∷◌, IfOk, All, Some};
 ghost use Rattle.std.specs.Fmt.{WritesOnOk};
 ghost use Rattle.std.specs.String.{string_bytes};
-ghost use Rattle.dnw_arpa.specs.dnw_label.LabelPrint.{label_print};
-ghost use Rattle.dnw_arpa.specs.dnw_label.LabelText.{IsTextLabel};
+ghost use Rattle.dnw_net.specs.dnw_label.LabelPrint.{label_print};
+ghost use Rattle.dnw_net.specs.dnw_label.LabelText.{IsTextLabel};
 ghost use Rattle.dnw_name.specs.NameText.{NameText};
 ghost use Rattle.dnw_name.specs.NamePrint.{labels_print, name_print};
 
 use crate::lower_name::LowerName;
 use crate::name::Name;
-use dnw_arpa::fmt_label;
+use dnw_net::fmt_label;
 use std::alloc::{AllocError, Global};
 use std::fmt;
 

@@ -1,14 +1,14 @@
 //! Names in texts.
 ghost use Rattle.std.specs.Prelude.{◌≡◌, ◌⊎◌, ℕ, Bool, List, IfOk, IfErr};
 ghost use Rattle.std.specs.Option.{option_copied};
-ghost use Rattle.dnw_arpa.specs.dnw_codes.ProtoError.{IsMemory};
+ghost use Rattle.dnw_net.specs.dnw_codes.ProtoError.{IsMemory};
 ghost use Rattle.dnw_name.specs.DomainName.{DomainName, domain_name, IsDomainName};
-ghost use Rattle.dnw_name.specs.NameText.{completed, LabelsText, NameText};
+ghost use Rattle.dnw_name.specs.NameText.{complete_name, LabelsText, NameText};
 
 use crate::builder::NameBuilder;
 use crate::lower_name::LowerName;
 use crate::name::Name;
-use dnw_arpa::{ProtoError, label_at};
+use dnw_net::{ProtoError, label_at};
 use std::alloc::Global;
 
 impl Name {
@@ -40,9 +40,9 @@ impl Name {
     /// (RFC 1035 5.1). Refused is what `from_ascii` refuses, and a completed name above 255 octets.
     pub fn parse(alloc: Global, local: &str, origin: Option<&Name>) -> Result<Name, ProtoError>
         ensures ok { IfOk result (λ name. (read : DomainName) × NameText local.now read
-            × (name ≡ completed read (option_copied origin.entry))) }
+            × (name ≡ complete_name read (option_copied origin.entry))) }
         ensures refused { IfErr result (λ e. IsMemory e
-            ⊎ ((read : DomainName) → NameText local.now read → IsDomainName (completed read (option_copied origin.entry)) → ⊥)) }
+            ⊎ ((read : DomainName) → NameText local.now read → IsDomainName (complete_name read (option_copied origin.entry)) → ⊥)) }
     {
         let name = match Name::from_ascii(alloc, local) {
             Ok(name) => name,

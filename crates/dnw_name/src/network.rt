@@ -2,14 +2,14 @@
 ghost use Rattle.std.specs.Prelude.{ℕ, ◌≡◌, ◌⊎◌, IfOk, IfErr, IfSome, IfNone};
 ghost use Rattle.std.specs.Result.{IsOkAnd};
 ghost use Rattle.std.specs.declared.net.ip_addr.IpAddr.{IpAddr as Address};
-ghost use Rattle.dnw_arpa.specs.dnw_codes.ProtoError.{IsMessage};
-ghost use Rattle.dnw_arpa.specs.dnw_codes.declared.error.ProtoError.TheVariants.{ParseInt};
-ghost use Rattle.dnw_arpa.specs.dnw_net.Networks.{address_bits};
-ghost use Rattle.dnw_arpa.specs.ArpaLabels.{IsAddress};
+ghost use Rattle.dnw_net.specs.dnw_codes.ProtoError.{IsMessage};
+ghost use Rattle.dnw_net.specs.dnw_codes.declared.error.ProtoError.TheVariants.{ParseInt};
+ghost use Rattle.dnw_net.specs.Networks.{address_bits};
+ghost use Rattle.dnw_net.specs.ArpaLabels.{IsAddress};
 ghost use Rattle.dnw_name.specs.Arpa.{arpa_name, IsArpaName, EndsInArpa};
 
 use crate::name::Name;
-use dnw_arpa::{IpNet, LabelIter, ProtoError, net_of_v4, net_of_v6};
+use dnw_net::{IpNet, LabelIter, ProtoError, net_of_v4, net_of_v6};
 
 impl Name {
     /// The network of a name below `in-addr.arpa.` or `ip6.arpa.`: a label for each octet, or hexadecimal digit, of

@@ -2,7 +2,7 @@
 ghost use Rattle.std.specs.Prelude.{◌≡◌};
 
 use crate::lower_name::LowerName;
-use dnw_arpa::RecordType;
+use dnw_net::RecordType;
 use std::alloc::AllocError;
 
 /// The owner and the type of a record set, in the order of owners and then of types.

@@ -12,6 +12,7 @@ address_bits (V6 a) = 128
 -- The address is of the network's kind, and their first bits are the same.
 abbrev pub in_network : IpAddr → ℕ → IpAddr → Bool
 in_network (V4 n) prefix (V4 a) = ipv4_bits a / 2 ^ (32 - prefix) == ipv4_bits n / 2 ^ (32 - prefix)
-in_network (V6 n) prefix (V6 a) = ipv6_bits a / 2 ^ (128 - prefix) == ipv6_bits n / 2 ^ (128 - prefix)
+in_network (V6 n) prefix (V6 a) =
+    ipv6_bits a / 2 ^ (128 - prefix) == ipv6_bits n / 2 ^ (128 - prefix)
 in_network (V4 n) prefix (V6 a) = false
 in_network (V6 n) prefix (V4 a) = false

@@ -5,7 +5,8 @@ use Rattle.std.specs.Prelude.{cond}
 use Rattle.std.proofs.lemmas.Bool.{and_parts, and_from, not-true}
 use Rattle.std.proofs.lemmas.List.{reverse-append, reverse-reverse}
 use Rattle.std.proofs.lemmas.List.Folds.{list_all-append}
-use Rattle.drd_caa.specs.Issue.{is_blank, behind_blanks, trimmed}
+use Rattle.drd_plain.specs.dnw_codes.Ascii.{is_blank}
+use Rattle.drd_caa.specs.Issue.{behind_blanks, trim}
 
 pub blanks-more : (c : ℕ) (cs : List ℕ) → is_blank c ≡ true → behind_blanks (c ∷ cs) ≡ behind_blanks cs
 blanks-more c cs h = ap (λ b. cond b (behind_blanks cs) (c ∷ cs)) h
@@ -40,8 +41,8 @@ module _ (q : ℕ → Bool) where
     all_behind (x ∷ xs) h = behind_step x xs (is_blank x) refl (all_behind xs) h
 
     -- What passes without the blanks passes with them.
-    pub all_trimmed : (xs : List ℕ) → list_all q (trimmed xs) ≡ true → list_all q xs ≡ true
-    unfolding trimmed
+    pub all_trimmed : (xs : List ℕ) → list_all q (trim xs) ≡ true → list_all q xs ≡ true
+    unfolding trim
     all_trimmed xs h =
         all_behind xs (sym (all_reverse (behind_blanks xs)) ∙ all_behind (reverse (behind_blanks xs)) (sym (all_reverse (behind_blanks (reverse (behind_blanks xs)))) ∙ h))
 
@@ -50,12 +51,12 @@ no_blanks [] h = refl
 no_blanks (x ∷ xs) h = blanks-end x xs (not-true (is_blank x) (and_parts (not (is_blank x)) (list_all (λ c. not (is_blank c)) xs) h).0)
 
 -- Octets that are no blanks stay.
-pub trimmed-same : (xs : List ℕ) → list_all (λ c. not (is_blank c)) xs ≡ true → trimmed xs ≡ xs
-unfolding trimmed
+pub trimmed-same : (xs : List ℕ) → list_all (λ c. not (is_blank c)) xs ≡ true → trim xs ≡ xs
+unfolding trim
 trimmed-same xs h =
     ap (λ s. reverse (behind_blanks (reverse s))) (no_blanks xs h)
     ∙ ap reverse (no_blanks (reverse xs) (all_reverse (λ c. not (is_blank c)) xs ∙ h)) ∙ reverse-reverse xs
 
-pub trimmed-space : (xs : List ℕ) → trimmed (32 ∷ xs) ≡ trimmed xs
-unfolding trimmed
+pub trimmed-space : (xs : List ℕ) → trim (32 ∷ xs) ≡ trim xs
+unfolding trim
 trimmed-space xs = refl

@@ -15,7 +15,8 @@ use Rattle.drd_plain.specs.dnw_name.NamePrint.{name_print, labels_print}
 use Rattle.drd_plain.specs.dnw_name.NameText.{NameText}
 use Rattle.drd_plain.proofs.dnw_name_lemmas.TextLemmas.{name-same}
 use Rattle.drd_plain.specs.drd_words.Words.{EachWord}
-use Rattle.drd_caa.specs.Issue.{Parameter, is_blank, trimmed, is_key, is_value, IsParameter, AreParameters, IsIssuer, AreIssueParts, IsIssueValue, parameter_print, issue_value, CanIssue, AreFit}
+use Rattle.drd_plain.specs.dnw_codes.Ascii.{is_blank}
+use Rattle.drd_caa.specs.Issue.{Parameter, trim, is_key, is_value, IsParameter, AreParameters, IsIssuer, AreIssueParts, IsIssueValue, parameter_print, issue_value, CanIssue, AreFit}
 use Rattle.drd_caa.proofs.Blanks.{all_trimmed, trimmed-same, trimmed-space}
 use Rattle.drd_caa.proofs.Cuts.{lacks, parts_of_one, parts_of_more}
 use Rattle.drd_caa.proofs.Parameters.{parts_of, parameter_once, all_weaker, in_key, in_value, key_octets, are_parameters, no_parameter}
@@ -146,7 +147,7 @@ issuer-once : (octets : List ℕ) (i j : Option DomainName) → IsIssuer i octet
 issuer-once octets None None h k = refl
 issuer-once octets None (Some m) h k = absurd (k.0 h)
 issuer-once octets (Some n) None h k = absurd (h.0 k)
-issuer-once octets (Some n) (Some m) h k = ap (λ x. Some x) (name-same (trimmed octets) n m h.1 k.1)
+issuer-once octets (Some n) (Some m) h k = ap (λ x. Some x) (name-same (trim octets) n m h.1 k.1)
 
 each-once : (ps qs : List Parameter) (parts : List (List ℕ)) → EachWord IsParameter ps parts → EachWord IsParameter qs parts → ps ≡ qs
 each-once [] [] parts h k = refl
@@ -160,7 +161,7 @@ each-once (p ∷ ps) (q ∷ qs) (o ∷ parts) h k = ap (λ x. x ∷ ps) (paramet
 blank-no_equals : (c : ℕ) → is_blank c ≡ true → not (c == 61) ≡ true
 blank-no_equals c h = grind (arith, nat_tests)
 
-no_parameter_blank : (octets : List ℕ) (p : Parameter) → trimmed octets ≡ [] → IsParameter p octets → ⊥
+no_parameter_blank : (octets : List ℕ) (p : Parameter) → trim octets ≡ [] → IsParameter p octets → ⊥
 no_parameter_blank octets p e h = no_parameter octets (all_trimmed (λ c. not (c == 61)) blank-no_equals octets (ap (lacks 61) e)) p h
 
 parameters-once : (parts : List (List ℕ)) (ps qs : List Parameter) → AreParameters parts ps → AreParameters parts qs → ps ≡ qs

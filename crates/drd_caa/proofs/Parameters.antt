@@ -16,7 +16,8 @@ use Rattle.std.specs.Prelude.{MatchOption, Option, None, Some, Result, Ok, Err, 
 use Rattle.std.specs.Borrow.{Bor}
 use Rattle.std.proofs.lemmas.List.Splits.{join_with_byte-slice_split}
 use Rattle.std.specs.List.{join_with_byte}
-use Rattle.drd_caa.specs.Issue.{Parameter, parameter, is_blank, trimmed, is_key, is_value, IsParameter, AreParameters}
+use Rattle.drd_plain.specs.dnw_codes.Ascii.{is_blank}
+use Rattle.drd_caa.specs.Issue.{Parameter, parameter, trim, is_key, is_value, IsParameter, AreParameters}
 use Rattle.drd_caa.proofs.Blanks.{all_trimmed}
 use Rattle.drd_caa.proofs.Cuts.{lacks, semicolon, cut_once, no_cut, parts_of_one, parts_of_more}
 
@@ -46,11 +47,11 @@ pub key-no_equals : (key : List ℕ) → is_key key ≡ true → lacks 61 key �
 key-no_equals key h = all_weaker in_key (λ c. not (c == 61)) in_key-no_equals key (key_octets key h)
 
 -- What stands before the first `=` is the key, what stands behind it the value.
-pub parameter_is : (octets front behind : List ℕ) → lacks 61 front ≡ true → octets ≡ front ++ 61 ∷ behind → (p : Parameter) → IsParameter p octets → (trimmed front ≡ p.key) × (trimmed behind ≡ p.value) × (is_key p.key ≡ true) × (is_value p.value ≡ true)
+pub parameter_is : (octets front behind : List ℕ) → lacks 61 front ≡ true → octets ≡ front ++ 61 ∷ behind → (p : Parameter) → IsParameter p octets → (trim front ≡ p.key) × (trim behind ≡ p.value) × (is_key p.key ≡ true) × (is_value p.value ≡ true)
 parameter_is octets front behind none e p (first, second, parts, key, value, fit, fits) =
     let lack : lacks 61 first ≡ true = all_trimmed (λ c. not (c == 61)) blank-no_equals first (ap (lacks 61) key ∙ key-no_equals p.key fit) in
     let same = cut_once 61 front first behind second none lack (sym e ∙ parts) in
-    (ap trimmed same.0 ∙ key, ap trimmed same.1 ∙ value, fit, fits)
+    (ap trim same.0 ∙ key, ap trim same.1 ∙ value, fit, fits)
 
 pub no_parameter : (octets : List ℕ) → lacks 61 octets ≡ true → (p : Parameter) → IsParameter p octets → ⊥
 no_parameter octets none p h = no_cut 61 octets h.0 h.1 none h.2
@@ -125,12 +126,12 @@ pub for_memory : {M N U : Type 0} → M ⊎ (N × (U → ⊥)) → U → M
 for_memory (inl m) u = m
 for_memory (inr h) u = absurd (h.1 u)
 
-pub bad_key : {M : Type 0} (octets front behind key : List ℕ) → lacks 61 front ≡ true → octets ≡ front ++ 61 ∷ behind → key ≡ trimmed front → is_key key ≡ false → M ⊎ ((p : Parameter) → IsParameter p octets → ⊥)
+pub bad_key : {M : Type 0} (octets front behind key : List ℕ) → lacks 61 front ≡ true → octets ≡ front ++ 61 ∷ behind → key ≡ trim front → is_key key ≡ false → M ⊎ ((p : Parameter) → IsParameter p octets → ⊥)
 bad_key octets front behind key none e is bad = inr (λ p h.
     let found = parameter_is octets front behind none e p h in
     both_ways (is_key p.key) (sym (ap is_key (is ∙ found.0)) ∙ bad) found.2)
 
-pub bad_value : {M : Type 0} (octets front behind value : List ℕ) → lacks 61 front ≡ true → octets ≡ front ++ 61 ∷ behind → value ≡ trimmed behind → is_value value ≡ false → M ⊎ ((p : Parameter) → IsParameter p octets → ⊥)
+pub bad_value : {M : Type 0} (octets front behind value : List ℕ) → lacks 61 front ≡ true → octets ≡ front ++ 61 ∷ behind → value ≡ trim behind → is_value value ≡ false → M ⊎ ((p : Parameter) → IsParameter p octets → ⊥)
 bad_value octets front behind value none e is bad = inr (λ p h.
     let found = parameter_is octets front behind none e p h in
     both_ways (is_value p.value) (sym (ap is_value (is ∙ found.1)) ∙ bad) found.3)
@@ -155,24 +156,24 @@ are_parameters (o ∷ []) (p ∷ ps) h = h
 are_parameters (o ∷ next ∷ parts) [] h = h
 are_parameters (o ∷ next ∷ parts) (p ∷ ps) h = h
 
-each_of : (octets : List ℕ) (parts : List (List ℕ)) → parts_of octets ≡ parts → (trimmed octets ≡ [] → ⊥) → (ps : List Parameter) → AreParameters parts ps → EachWord IsParameter ps parts
+each_of : (octets : List ℕ) (parts : List (List ℕ)) → parts_of octets ≡ parts → (trim octets ≡ [] → ⊥) → (ps : List Parameter) → AreParameters parts ps → EachWord IsParameter ps parts
 each_of octets [] e some [] h = tt
 each_of octets [] e some (p ∷ ps) h = absurd (cc)
 each_of octets (o ∷ []) e some [] h =
     let same : octets ≡ o = sym (join_with_byte-slice_split 59 octets) ∙ ap (join_with_byte 59) e in
-    some (ap trimmed same ∙ h)
+    some (ap trim same ∙ h)
 each_of octets (o ∷ []) e some (p ∷ ps) h = h
 each_of octets (o ∷ next ∷ parts) e some [] h = h
 each_of octets (o ∷ next ∷ parts) e some (p ∷ ps) h = h
 
-pub none_each : {M : Type 0} (octets : List ℕ) → (trimmed octets ≡ [] → ⊥) → M ⊎ ((ps : List Parameter) → EachWord IsParameter ps (parts_of octets) → ⊥) → M ⊎ ((ps : List Parameter) → AreParameters (parts_of octets) ps → ⊥)
+pub none_each : {M : Type 0} (octets : List ℕ) → (trim octets ≡ [] → ⊥) → M ⊎ ((ps : List Parameter) → EachWord IsParameter ps (parts_of octets) → ⊥) → M ⊎ ((ps : List Parameter) → AreParameters (parts_of octets) ps → ⊥)
 none_each octets some (inl m) = inl m
 none_each octets some (inr none) = inr (λ ps h. none ps (each_of octets (parts_of octets) refl some ps h))
 
 blank-no_semicolon : (c : ℕ) → is_blank c ≡ true → not (c == 59) ≡ true
 blank-no_semicolon c h = grind (arith, nat_tests)
 
-pub blanks_alone : (octets : List ℕ) → trimmed octets ≡ [] → AreParameters (parts_of octets) []
+pub blanks_alone : (octets : List ℕ) → trim octets ≡ [] → AreParameters (parts_of octets) []
 blanks_alone octets e =
     let none : lacks 59 octets ≡ true = all_trimmed (λ c. not (c == 59)) blank-no_semicolon octets (ap (lacks 59) e) in
     subst (λ (parts : List (List ℕ)). AreParameters parts []) (sym (parts_of_one octets none)) e
@@ -185,6 +186,6 @@ pub ok_parameters : {V E : Type 0} (items : V → List Parameter) (octets : List
 ok_parameters items octets (Ok v) h = are_parameters (parts_of octets) (items v) h
 ok_parameters items octets (Err e) h = tt
 
-pub refused_parameters : {V E : Type 0} (M : E → Type 0) (octets : List ℕ) (r : Result V E) → (trimmed octets ≡ [] → ⊥) → IfErr r (λ e. M e ⊎ ((ps : List Parameter) → EachWord IsParameter ps (parts_of octets) → ⊥)) → IfErr r (λ e. M e ⊎ ((ps : List Parameter) → AreParameters (parts_of octets) ps → ⊥))
+pub refused_parameters : {V E : Type 0} (M : E → Type 0) (octets : List ℕ) (r : Result V E) → (trim octets ≡ [] → ⊥) → IfErr r (λ e. M e ⊎ ((ps : List Parameter) → EachWord IsParameter ps (parts_of octets) → ⊥)) → IfErr r (λ e. M e ⊎ ((ps : List Parameter) → AreParameters (parts_of octets) ps → ⊥))
 refused_parameters M octets (Ok v) some h = tt
 refused_parameters M octets (Err e) some h = none_each octets some h

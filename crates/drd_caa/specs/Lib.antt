@@ -1,3 +1,4 @@
+pub mod IssueLaws
 pub mod Fields
 pub mod Issue
 pub mod Print

@@ -2,10 +2,12 @@
 use Rattle.std.specs.Prelude.{ℕ, List, [], ◌∷◌}
 use Rattle.std.specs.Fmt.{decimal}
 use Rattle.drd_plain.specs.drd_words.Print.{escaped_print}
-use Rattle.drd_plain.specs.Print.{spaced, quoted}
+use Rattle.drd_plain.specs.Print.{words_from, quotation}
 use Rattle.drd_caa.specs.declared.caa.CAA.{CAA}
 use Rattle.drd_caa.specs.Fields.{caa_flags}
 
 -- The flags, the tag and the value.
 abbrev pub caa_print : CAA → List ℕ
-caa_print caa = spaced (decimal (caa_flags caa)) (escaped_print caa.tag.items ∷ quoted caa.value.items ∷ [])
+caa_print caa =
+    words_from (decimal (caa_flags caa))
+    (escaped_print caa.tag.items ∷ quotation caa.value.items ∷ [])

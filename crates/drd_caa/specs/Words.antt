@@ -17,4 +17,5 @@ IsValueWord value word = value ≡ word
 abbrev pub IsCaaText : List (List ℕ) → CAA → Type 0
 IsCaaText words caa =
     (caa.reserved_flags < 128)
-    × OneThen (IsNumberWord 8 (caa_flags caa)) (OneThen (IsTagWord caa.tag.items) (OneThen (IsValueWord caa.value.items) NoWords)) words
+    × OneThen (IsNumberWord 8 (caa_flags caa))
+    (OneThen (IsTagWord caa.tag.items) (OneThen (IsValueWord caa.value.items) NoWords)) words

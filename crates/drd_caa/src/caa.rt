@@ -5,9 +5,9 @@ ghost use Rattle.std.specs.Cmp.{partial_equiv_from_equiv};
 ghost use Rattle.drd_plain.specs.dnw_decoder.Reading.{IsWantOfMemory};
 ghost use Rattle.drd_plain.specs.dnw_encoder.declared.modes.RDataEncoding.TheVariants.{Other};
 ghost use Rattle.drd_plain.specs.drd_fields.Fields.{Field, octet, string, rest, FieldsAt, kinds_of};
-ghost use Rattle.drd_plain.specs.drd_fields.Reading.{Stops};
+ghost use Rattle.drd_plain.specs.drd_fields.Reading.{StopsReading};
 ghost use Rattle.drd_plain.specs.drd_fields.Equality.{AreFull, Tells, fields_eq};
-ghost use Rattle.drd_plain.specs.drd_fields.EqualityLaws.{data_equiv};
+ghost use Rattle.drd_order.proofs.drd_fields_lemmas.EqualityLaws.{data_equiv};
 ghost use Rattle.drd_plain.specs.drd_fields.Writing.{EmitsData, RefusesFields, canonical_octets};
 ghost use Rattle.drd_caa.specs.Fields.{IsCaa, caa_fields, caa_flags, caa_kinds};
 ghost use Rattle.drd_caa.specs.Print.{caa_print};
@@ -122,7 +122,7 @@ fn read_parts(alloc: Global, decoder: &mut BinDecoder<'_>, len: u16) -> Result<C
     ensures same { decoder.new.octets ≡ decoder.old.octets }
     ensures forward { decoder.old.index ≤ decoder.new.index }
     ensures within { decoder.new.index ≤ length decoder.new.octets }
-    ensures refused { IfErr result (λ e. Stops decoder.old.octets (decoder.old.index + len) caa_kinds decoder.old.index e decoder.new.index) }
+    ensures refused { IfErr result (λ e. StopsReading decoder.old.octets (decoder.old.index + len) caa_kinds decoder.old.index e decoder.new.index) }
     ensures none { IfErr result (λ e. IsWantOfMemory e
         ⊎ ((fs : List Field) → kinds_of fs ≡ caa_kinds → FieldsAt decoder.old.octets decoder.old.index fs (decoder.old.index + len) → ⊥)) }
 {

@@ -7,7 +7,8 @@ ghost use Rattle.std.specs.Str.{IsUtf8};
 ghost use Rattle.drd_plain.specs.dnw_codes.ProtoError.{IsMemory};
 ghost use Rattle.drd_plain.specs.dnw_name.DomainName.{DomainName};
 ghost use Rattle.drd_plain.specs.drd_words.Words.{EachWord};
-ghost use Rattle.drd_caa.specs.Issue.{Parameter, parameter, is_blank, behind_blanks, trimmed, is_key, is_value, IsParameter, AreParameters, IsIssuer, IsIssueValue, issue_value, CanIssue, AreFit};
+ghost use Rattle.drd_plain.specs.dnw_codes.Ascii.{is_blank};
+ghost use Rattle.drd_caa.specs.Issue.{Parameter, parameter, behind_blanks, trim, is_key, is_value, IsParameter, AreParameters, IsIssuer, IsIssueValue, issue_value, CanIssue, AreFit};
 
 use crate::key_value::KeyValue;
 use drd_plain::{Name, ProtoError};
@@ -64,7 +65,7 @@ fn cut(octets: &[u8], mark: u8) -> (&[u8], Option<&[u8]>)
 
 // Without the blanks at both ends.
 fn trimmed(octets: &[u8]) -> &[u8]
-    ensures { result.now ≡ trimmed octets.now }
+    ensures { result.now ≡ trim octets.now }
 {
     trim_end(trim_start(octets))
 }

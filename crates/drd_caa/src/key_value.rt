@@ -2,7 +2,8 @@
 ghost use Rattle.std.specs.Prelude.{◌≡◌};
 ghost use Rattle.std.specs.String.{string_bytes};
 ghost use Rattle.std.specs.Cmp.{partial_equiv_from_equiv};
-ghost use Rattle.drd_caa.specs.Issue.{parameter, parameter_eq, parameter_equiv};
+ghost use Rattle.drd_caa.specs.Issue.{parameter, parameter_eq};
+ghost use Rattle.drd_caa.specs.IssueLaws.{parameter_equiv};
 
 use std::marker::Model;
 

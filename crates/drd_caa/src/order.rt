@@ -5,7 +5,7 @@ ghost use Rattle.std.specs.Cmp.{po};
 ghost use Rattle.drd_plain.specs.drd_fields.Equality.{AreFull};
 ghost use Rattle.drd_plain.specs.drd_fields.Writing.{canonical_octets};
 ghost use Rattle.drd_plain.specs.drd_order.Order.{Orders, fields_cmp, fields_input};
-ghost use Rattle.drd_plain.specs.drd_order.OrderLaws.{data_total, data_ties, fields-alike};
+ghost use Rattle.drd_order.proofs.OrderLaws.{data_total, data_ties, fields-alike};
 ghost use Rattle.drd_caa.specs.Fields.{caa_fields};
 
 use crate::CAA;

@@ -1,14 +1,14 @@
 -- The data in parts: the front, and the bit maps behind it.
 use Rattle.std.proofs.Common.{◌≡◌, ℕ, ◌+◌, ◌/◌, ◌%◌, ◌<◌, ◌≤◌, ◌⊎◌, inl, inr, List, [], ◌∷◌, length, refl, sym, subst, ◌∙◌, arith}
-use Rattle.dnw_types.specs.dnw_codes.declared.error.DecodeError.{DecodeError}
-use Rattle.dnw_types.specs.dnw_codes.declared.error.DecodeError.TheVariants.{NsecBitmapOutOfBounds}
-use Rattle.dnw_types.specs.dnw_decoder.Octets.{Stands, octets_16}
-use Rattle.dnw_types.specs.dnw_decoder.Reading.{IsWantOfMemory, Lacks, Reading}
-use Rattle.dnw_types.specs.dnw_decoder.Standing.{stands_same, length-octets_32}
-use Rattle.dnw_types.specs.BitMaps.{TypesAt}
+use Rattle.dnw_wire.specs.dnw_codes.declared.error.DecodeError.{DecodeError}
+use Rattle.dnw_wire.specs.dnw_codes.declared.error.DecodeError.TheVariants.{NsecBitmapOutOfBounds}
+use Rattle.dnw_wire.specs.dnw_decoder.Octets.{Stands, octets_16}
+use Rattle.dnw_wire.specs.dnw_decoder.Reading.{IsWantOfMemory, LacksOctets, Reading}
+use Rattle.dnw_wire.proofs.dnw_decoder_lemmas.Standing.{stands_same, length-octets_32}
+use Rattle.dnw_wire.specs.BitMaps.{TypesAt}
 use Rattle.drd_order.specs.drd_fields.Fields.{a_long, a_short, AreOrdered, FieldsAt}
 use Rattle.drd_order.specs.drd_fields.FieldLaws.{ordered_more, stops_none}
-use Rattle.drd_order.specs.drd_fields.Reading.{Stops}
+use Rattle.drd_order.specs.drd_fields.Reading.{StopsReading}
 use Rattle.drd_csync.specs.declared.csync.CSYNC.{CSYNC}
 use Rattle.drd_csync.specs.Data.{csync_flags, front_fields, front_kinds, MapsAt, CsyncAt}
 use Rattle.drd_csync.specs.OrderLaws.{few_flags}
@@ -78,7 +78,7 @@ front_ordered : AreOrdered front_kinds
 front_ordered = ordered_more a_long (a_short ∷ []) refl (ordered_more a_short [] refl tt)
 
 -- Where reading the front stops, there is none.
-pub stops_front : (message : List ℕ) (end place : ℕ) (e : DecodeError) (at : ℕ) → place ≤ length message → Stops message end front_kinds place e at → IsWantOfMemory e ⊎ ((serial flags behind : ℕ) → FieldsAt message place (front_fields serial flags) behind → ⊥)
+pub stops_front : (message : List ℕ) (end place : ℕ) (e : DecodeError) (at : ℕ) → place ≤ length message → StopsReading message end front_kinds place e at → IsWantOfMemory e ⊎ ((serial flags behind : ℕ) → FieldsAt message place (front_fields serial flags) behind → ⊥)
 stops_front message end place e at within stops =
     elim (stops_none message end front_kinds place e at within front_ordered stops) [
       | inl memory ↦ inl memory
@@ -106,7 +106,7 @@ no_memory : (e : DecodeError) → e ≡ NsecBitmapOutOfBounds → IsWantOfMemory
 no_memory e is memory = subst IsWantOfMemory is memory
 
 -- Why the bit maps are refused.
-pub maps_refused : (old new : Reading) (len end : ℕ) (e : DecodeError) → old.index + len ≡ end → IsWantOfMemory e ⊎ (Lacks old len new e ⊎ (e ≡ NsecBitmapOutOfBounds)) → IsWantOfMemory e ⊎ ((types : List ℕ) (behind : ℕ) → TypesAt old.octets old.index len types behind → ⊥) → RefusesMaps old.octets end old.index e
+pub maps_refused : (old new : Reading) (len end : ℕ) (e : DecodeError) → old.index + len ≡ end → IsWantOfMemory e ⊎ (LacksOctets old len new e ⊎ (e ≡ NsecBitmapOutOfBounds)) → IsWantOfMemory e ⊎ ((types : List ℕ) (behind : ℕ) → TypesAt old.octets old.index len types behind → ⊥) → RefusesMaps old.octets end old.index e
 maps_refused old new len end e size (inl memory) none = inl memory
 maps_refused old new len end e size (inr (inl lacks)) none = inr (inl (record { cause = lacks.cause; short = inr (omega (arith, lacks.short, size)) }))
 maps_refused old new len end e size (inr (inr is)) none =

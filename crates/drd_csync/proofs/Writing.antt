@@ -1,20 +1,20 @@
 -- The data as they are written.
 use Rattle.std.proofs.Common.{◌≡◌, ℕ, ◌+◌, ◌≤◌, inl, inr, List, [], ◌++◌, length, refl, sym, ap, subst, ◌∙◌, arith, append_assoc, append-nil}
 use Rattle.std.proofs.lemmas.List.{length-append}
-use Rattle.dnw_types.specs.dnw_codes.declared.error.ProtoError.{ProtoError}
-use Rattle.dnw_types.specs.dnw_decoder.Octets.{Stands, octets_16, octets_32}
-use Rattle.dnw_types.specs.dnw_decoder.Standing.{stands_split, length-octets_32}
-use Rattle.dnw_types.specs.dnw_encoder.Effects.{Puts, IsRefusal}
-use Rattle.dnw_types.specs.dnw_encoder.Laws.{holds_map, puts_stands}
-use Rattle.dnw_types.specs.dnw_encoder.State.{State}
-use Rattle.dnw_types.specs.BitMaps.{EmitsTypes, RefusesTypes}
-use Rattle.dnw_types.specs.BitMapLaws.{tight_reads}
+use Rattle.dnw_wire.specs.dnw_codes.declared.error.ProtoError.{ProtoError}
+use Rattle.dnw_wire.specs.dnw_decoder.Octets.{Stands, octets_16, octets_32}
+use Rattle.dnw_wire.proofs.dnw_decoder_lemmas.Standing.{stands_split, length-octets_32}
+use Rattle.dnw_wire.specs.dnw_encoder.Effects.{WritesOctets, IsRefusal}
+use Rattle.dnw_wire.proofs.dnw_encoder_lemmas.Laws.{holds_map, puts_stands}
+use Rattle.dnw_wire.specs.dnw_encoder.State.{State}
+use Rattle.dnw_wire.specs.BitMaps.{EmitsTypes, RefusesTypes}
+use Rattle.dnw_wire.specs.BitMapLaws.{tight_reads}
 use Rattle.drd_order.specs.drd_fields.Fields.{FieldsAt}
 use Rattle.drd_order.specs.drd_fields.Writing.{fields_octets}
-use Rattle.drd_order.specs.drd_fields.WritingLaws.{puts_then, refused_front, refused_later}
+use Rattle.drd_order.proofs.drd_fields_lemmas.WritingLaws.{puts_then, refused_front, refused_later}
 use Rattle.drd_csync.specs.declared.csync.CSYNC.{CSYNC}
 use Rattle.drd_csync.specs.Data.{csync_fields, csync_flags, CsyncAt}
-use Rattle.drd_csync.specs.Writing.{EmitsCsync, RefusesEmit}
+use Rattle.drd_csync.specs.Writing.{EmitsCsync, RefusesEmitCsync}
 
 abbrev pub front_octets : CSYNC → List ℕ
 front_octets csync = octets_32 csync.soa_serial ++ octets_16 (csync_flags csync)
@@ -36,10 +36,10 @@ fields_stand message place csync maps end there =
     (place + length (octets_32 csync.soa_serial), first.0, (behind, second.0, (end, subst (λ (o : List ℕ). Stands message behind o end) (append-nil maps) second.1, refl)))
 
 -- The front and the bit maps are the data.
-pub emitted : (csync : CSYNC) (old mid new : State) → old.offset ≤ length old.octets → Puts (front_octets csync) old mid → EmitsTypes csync.type_bit_maps mid new → EmitsCsync csync old new
+pub emitted : (csync : CSYNC) (old mid new : State) → old.offset ≤ length old.octets → WritesOctets (front_octets csync) old mid → EmitsTypes csync.type_bit_maps mid new → EmitsCsync csync old new
 emitted csync old mid new within front types =
-    let all : Puts (fields_octets (csync_fields csync types.octets)) old new =
-    subst (λ (o : List ℕ). Puts o old new) (together csync types.octets) (puts_then (front_octets csync) types.octets old mid new within front types.puts) in
+    let all : WritesOctets (fields_octets (csync_fields csync types.octets)) old new =
+    subst (λ (o : List ℕ). WritesOctets o old new) (together csync types.octets) (puts_then (front_octets csync) types.octets old mid new within front types.puts) in
     record {
       octets = types.octets;
       maps = types.maps;
@@ -56,15 +56,15 @@ emitted csync old mid new within front types =
 pub serial_refused : (old : State) (e : ProtoError) → IsRefusal old 4 e → IsRefusal old 6 e
 serial_refused old e refused = refused_front 4 2 old e refused
 
-pub flags_refused : (serial : ℕ) (old mid : State) (e : ProtoError) → Puts (octets_32 serial) old mid → IsRefusal mid 2 e → IsRefusal old 6 e
+pub flags_refused : (serial : ℕ) (old mid : State) (e : ProtoError) → WritesOctets (octets_32 serial) old mid → IsRefusal mid 2 e → IsRefusal old 6 e
 flags_refused serial old mid e put refused =
     refused_later 2 4 old mid e put.modes (omega (arith, put.offset, length-octets_32 serial)) refused
 
-pub front_put : (csync : CSYNC) (old mid new : State) → old.offset ≤ length old.octets → Puts (octets_32 csync.soa_serial) old mid → Puts (octets_16 (csync_flags csync)) mid new → Puts (front_octets csync) old new
+pub front_put : (csync : CSYNC) (old mid new : State) → old.offset ≤ length old.octets → WritesOctets (octets_32 csync.soa_serial) old mid → WritesOctets (octets_16 (csync_flags csync)) mid new → WritesOctets (front_octets csync) old new
 front_put csync old mid new within serial flags = puts_then (octets_32 csync.soa_serial) (octets_16 (csync_flags csync)) old mid new within serial flags
 
 -- Why the bit maps behind the front are.
-pub types_refused : (csync : CSYNC) (old mid new : State) (e : ProtoError) → Puts (front_octets csync) old mid → RefusesTypes csync.type_bit_maps mid e new → RefusesEmit csync old e
+pub types_refused : (csync : CSYNC) (old mid new : State) (e : ProtoError) → WritesOctets (front_octets csync) old mid → RefusesTypes csync.type_bit_maps mid e new → RefusesEmitCsync csync old e
 types_refused csync old mid new e front refused =
     elim refused.cause [
       | inl memory ↦ inl (inl memory)

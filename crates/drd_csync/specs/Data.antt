@@ -1,7 +1,7 @@
 -- The data of a CSYNC record (RFC 7477 2.1): which data of a child zone its parent is to copy.
 use Rattle.std.specs.Prelude.{ℕ, ◌+◌, List, [], ◌∷◌, cond}
-use Rattle.dnw_types.specs.dnw_decoder.Octets.{Stands}
-use Rattle.dnw_types.specs.BitMaps.{BitMaps, IsMap}
+use Rattle.dnw_wire.specs.dnw_decoder.Octets.{Stands}
+use Rattle.dnw_wire.specs.BitMaps.{BitMaps, IsMap}
 use Rattle.drd_order.specs.drd_fields.Fields.{Field, long, short, rest, Kind, a_long, a_short, FieldsAt}
 use Rattle.drd_csync.specs.declared.csync.CSYNC.{CSYNC}
 
@@ -26,8 +26,8 @@ pub record MapsAt (message : List ℕ) (place : ℕ) (types : List ℕ) (end : �
   pub maps : BitMaps IsMap 0 octets types
   pub there : Stands message place octets end
 
--- RFC 7477 2.1: the data stand at a place, up to their end: the serial number, the two flags and no others, and the bit
--- maps of the types.
+-- RFC 7477 2.1: the data stand at a place, up to their end: the serial number, the two flags and no
+-- others, and the bit maps of the types.
 pub record CsyncAt (message : List ℕ) (place : ℕ) (csync : CSYNC) (end : ℕ) : Type 0 where
   pub octets : List ℕ
   pub maps : BitMaps IsMap 0 octets csync.type_bit_maps

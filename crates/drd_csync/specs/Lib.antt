@@ -6,6 +6,6 @@ pub mod OrderLaws
 pub mod Reading
 pub mod Texts
 pub mod Writing
-pub use Rattle.dnw_types.specs.dnw_decoder
-pub use Rattle.dnw_types.specs.dnw_encoder
-pub mod dnw_types
+pub use Rattle.dnw_wire.specs.dnw_decoder
+pub use Rattle.dnw_wire.specs.dnw_encoder
+pub mod dnw_wire

@@ -4,7 +4,7 @@ use Rattle.std.specs.Hash as fed
 use Rattle.std.specs.Hash.{HashWrites}
 use Rattle.std.specs.Ordering.{nat_cmp, on, then_cmp}
 use Rattle.std.specs.declared.cmp.Ordering.{Ordering}
-use Rattle.dnw_types.specs.MapOrder.{types_cmp}
+use Rattle.dnw_wire.specs.MapOrder.{types_cmp}
 use Rattle.drd_csync.specs.declared.csync.CSYNC.{CSYNC}
 use Rattle.drd_csync.specs.Data.{csync_flags}
 
@@ -16,4 +16,6 @@ csync_cmp =
 
 -- The same where serial numbers, flags and types are.
 abbrev pub csync_input : CSYNC → HashWrites
-csync_input csync = fed.u32 csync.soa_serial ++ (fed.u16 (csync_flags csync) ++ fed.slice fed.u16 csync.type_bit_maps)
+csync_input csync =
+    fed.u32 csync.soa_serial
+    ++ (fed.u16 (csync_flags csync) ++ fed.slice fed.u16 csync.type_bit_maps)

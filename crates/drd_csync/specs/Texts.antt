@@ -2,8 +2,9 @@
 use Rattle.std.specs.Prelude.{ℕ, ◌≡◌, ◌==◌, List, ◌∷◌, ◌++◌, Some}
 use Rattle.std.specs.Fmt.{decimal}
 use Rattle.std.specs.List.{flat_map, list_any}
-use Rattle.dnw_types.specs.dnw_codes.RecordType.{record_type_number, record_type_of, record_type_of_text, record_type_text}
-use Rattle.dnw_types.specs.dnw_codes.declared.record_type.RecordType.{RecordType}
+use Rattle.drd_words.specs.dnw_codes.Ascii.{space}
+use Rattle.dnw_wire.specs.dnw_codes.RecordType.{record_type_number, record_type_of, record_type_of_text, record_type_text}
+use Rattle.dnw_wire.specs.dnw_codes.declared.record_type.RecordType.{RecordType}
 use Rattle.drd_words.specs.Word.{IsNumberWord}
 use Rattle.drd_words.specs.Words.{OneThen, EachWord}
 use Rattle.drd_csync.specs.declared.csync.CSYNC.{CSYNC}
@@ -11,11 +12,13 @@ use Rattle.drd_csync.specs.Data.{csync_flags}
 
 -- The types by rising number, each behind a space.
 abbrev pub types_print : List ℕ → List ℕ
-types_print types = flat_map (λ code. 32 ∷ record_type_text (record_type_of code)) types
+types_print types = flat_map (λ code. space ∷ record_type_text (record_type_of code)) types
 
 -- The serial number, the flags and the types.
 abbrev pub csync_print : CSYNC → List ℕ
-csync_print csync = decimal csync.soa_serial ++ 32 ∷ decimal (csync_flags csync) ++ types_print csync.type_bit_maps
+csync_print csync =
+    decimal csync.soa_serial ++ space ∷ decimal (csync_flags csync)
+    ++ types_print csync.type_bit_maps
 
 -- A word is the text of a type, in capitals.
 abbrev pub IsTypeWord : RecordType → List ℕ → Type 0
@@ -23,13 +26,16 @@ IsTypeWord record_type word = record_type_of_text word ≡ Some record_type
 
 -- These types, in any order and as often as one likes, and no others.
 pub record IsSetOf (given : List RecordType) (types : List ℕ) : Type 0 where
-  pub same : (code : ℕ) → list_any (λ c. c == code) types ≡ list_any (λ t. record_type_number t == code) given
+  pub same : (code : ℕ)
+      → list_any (λ c. c == code) types ≡ list_any (λ t. record_type_number t == code) given
 
 -- A word for each type, in any order.
 abbrev pub AreTypeWords : List ℕ → List (List ℕ) → Type 0
-AreTypeWords types words = (given : List RecordType) × EachWord IsTypeWord given words × IsSetOf given types
+AreTypeWords types words =
+    (given : List RecordType) × EachWord IsTypeWord given words × IsSetOf given types
 
 -- RFC 7477 2.1.2: the serial number, the flags as a number, and the types.
 abbrev pub IsCsyncText : List (List ℕ) → CSYNC → Type 0
 IsCsyncText words csync =
-    OneThen (IsNumberWord 32 csync.soa_serial) (OneThen (IsNumberWord 16 (csync_flags csync)) (AreTypeWords csync.type_bit_maps)) words
+    OneThen (IsNumberWord 32 csync.soa_serial)
+    (OneThen (IsNumberWord 16 (csync_flags csync)) (AreTypeWords csync.type_bit_maps)) words

@@ -6,24 +6,24 @@ ghost use Rattle.std.specs.Cmp.Rules.{comparing};
 ghost use Rattle.std.specs.Ordering.{as_partial_cmp};
 ghost use Rattle.std.proofs.Common.{rules};
 ghost use Rattle.drd_words.specs.Word.{IsOutOfMemory};
-ghost use Rattle.dnw_types.specs.dnw_decoder.Octets.{octets_16, octets_32};
-ghost use Rattle.dnw_types.specs.dnw_encoder.Encoders.{state};
-ghost use Rattle.dnw_types.specs.dnw_encoder.Effects.{Writes, Puts, IsRefusal};
+ghost use Rattle.dnw_wire.specs.dnw_decoder.Octets.{octets_16, octets_32};
+ghost use Rattle.dnw_wire.specs.dnw_encoder.Encoders.{state};
+ghost use Rattle.dnw_wire.specs.dnw_encoder.Effects.{Writes, WritesOctets, IsRefusal};
 ghost use Rattle.drd_order.specs.drd_fields.Equality.{Tells};
 ghost use Rattle.drd_order.specs.drd_fields.Writing.{fields_octets};
 ghost use Rattle.drd_order.specs.Order.{Orders};
 ghost use Rattle.drd_csync.specs.Data.{csync_fields, csync_flags, CsyncAt};
-ghost use Rattle.drd_csync.specs.Equality.{csync_eq, IsWritten};
+ghost use Rattle.drd_csync.specs.Equality.{csync_eq, AreWrittenMaps};
 ghost use Rattle.drd_csync.specs.EqualityLaws.{csync_equiv};
 ghost use Rattle.drd_csync.specs.Order.{csync_cmp, csync_input};
 ghost use Rattle.drd_csync.specs.OrderLaws.{csync_total, csync_ties, csync_fed};
 ghost use Rattle.drd_csync.specs.Reading.{RefusesCsync};
 ghost use Rattle.drd_csync.specs.Texts.{csync_print, IsCsyncText};
-ghost use Rattle.drd_csync.specs.Writing.{EmitsCsync, RefusesEmit};
+ghost use Rattle.drd_csync.specs.Writing.{EmitsCsync, RefusesEmitCsync};
 
 use crate::read::{read_front, read_maps};
 use crate::types::{TypeWords, fmt_types};
-use dnw_types::{
+use dnw_wire::{
     BinDecoder, BinEncodable, BinEncoder, DecodeError, ParseError, ProtoError, RecordTypeSet,
     Restrict,
 };
@@ -106,7 +106,7 @@ impl CSYNC {
     fn emit_front(&self, encoder: &mut BinEncoder<'_>) -> Result<(), ProtoError>
         ensures same_reference { encoder.new.buffer.ghost_name ≡ encoder.old.buffer.ghost_name }
         ensures writes { Writes (state encoder.old) (state encoder.new) }
-        ensures ok { OnOk result (Puts (octets_32 self.now.soa_serial ++ octets_16 (csync_flags self.now)) (state encoder.old) (state encoder.new)) }
+        ensures ok { OnOk result (WritesOctets (octets_32 self.now.soa_serial ++ octets_16 (csync_flags self.now)) (state encoder.old) (state encoder.new)) }
         ensures within { (state encoder.old).offset ≤ length (state encoder.old).octets }
         ensures cause { IfErr result (IsRefusal (state encoder.old) 6) }
     {
@@ -196,7 +196,7 @@ impl RecordDataDecodable for CSYNC {
 impl BinEncodable for CSYNC {
     ghost emits = { EmitsCsync };
 
-    ghost refuses = { λ csync old e new. RefusesEmit csync old e };
+    ghost refuses = { λ csync old e new. RefusesEmitCsync csync old e };
 
     /// Writes the data, the bit maps without zero octets at a window's end (RFC 4034 4.1.2).
     fn emit(&self, encoder: &mut BinEncoder<'_>) -> Result<(), ProtoError> {
@@ -220,7 +220,7 @@ impl PartialEq for CSYNC {
     /// (RFC 4034 6.3).
     fn eq(&self, other: &CSYNC) -> bool
         ensures value { result ≡ csync_eq self.now other.now }
-        ensures canonical { (xs ys : List ℕ) → IsWritten self.now xs → IsWritten other.now ys
+        ensures canonical { (xs ys : List ℕ) → AreWrittenMaps self.now xs → AreWrittenMaps other.now ys
             → Tells result (fields_octets (csync_fields self.now xs)) (fields_octets (csync_fields other.now ys)) }
     {
         self.is_same(other)
@@ -243,7 +243,7 @@ impl Ord for CSYNC {
     /// The order of the octets that are written, from the left (RFC 4034 6.3).
     fn cmp(&self, other: &CSYNC) -> Ordering
         ensures value { result ≡ csync_cmp self.now other.now }
-        ensures canonical { (xs ys : List ℕ) → IsWritten self.now xs → IsWritten other.now ys
+        ensures canonical { (xs ys : List ℕ) → AreWrittenMaps self.now xs → AreWrittenMaps other.now ys
             → Orders result (fields_octets (csync_fields self.now xs)) (fields_octets (csync_fields other.now ys)) }
     {
         self.cmp_parts(other)

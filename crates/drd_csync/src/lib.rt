@@ -1,7 +1,7 @@
 //! CSYNC record data (RFC 7477): which data of a child zone its parent is to copy.
 #![tactic(auto)]
 
-pub use dnw_types::{BinDecoder, BinEncodable, BinEncoder};
+pub use dnw_wire::{BinDecoder, BinEncodable, BinEncoder};
 
 mod csync;
 mod read;

@@ -1,12 +1,12 @@
 //! The parts of the data that are read.
 ghost use Rattle.std.specs.Prelude.{◌≡◌, ◌+◌, ◌<◌, ◌≤◌, ◌⊎◌, ℕ, List, length, IfOk, IfErr, OnOk, OnErr};
-ghost use Rattle.dnw_types.specs.dnw_decoder.Reading.{IsWantOfMemory};
+ghost use Rattle.dnw_wire.specs.dnw_decoder.Reading.{IsWantOfMemory};
 ghost use Rattle.drd_order.specs.drd_fields.Fields.{FieldsAt};
-ghost use Rattle.drd_order.specs.drd_fields.Reading.{Stops};
+ghost use Rattle.drd_order.specs.drd_fields.Reading.{StopsReading};
 ghost use Rattle.drd_csync.specs.Data.{front_fields, front_kinds, MapsAt};
 ghost use Rattle.drd_csync.specs.Reading.{RefusesMaps};
 
-use dnw_types::{BinDecoder, DecodeError, RecordTypeSet};
+use dnw_wire::{BinDecoder, DecodeError, RecordTypeSet};
 use drd_order::ReadFields;
 use std::alloc::Global;
 
@@ -20,7 +20,7 @@ pub(crate) fn read_front(
     ensures same { decoder.new.octets ≡ decoder.old.octets }
     ensures forward { decoder.old.index ≤ decoder.new.index }
     ensures within { decoder.new.index ≤ length decoder.new.octets }
-    ensures refused { IfErr result (λ e. Stops decoder.old.octets end front_kinds decoder.old.index e decoder.new.index) }
+    ensures refused { IfErr result (λ e. StopsReading decoder.old.octets end front_kinds decoder.old.index e decoder.new.index) }
     ensures none { IfErr result (λ e. IsWantOfMemory e
         ⊎ ((serial flags behind : ℕ) → FieldsAt decoder.old.octets decoder.old.index (front_fields serial flags) behind → ⊥)) }
 {

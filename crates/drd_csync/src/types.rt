@@ -3,7 +3,7 @@ ghost use Rattle.std.specs.Prelude.{IfOk};
 ghost use Rattle.std.specs.Fmt.{WritesOnOk};
 ghost use Rattle.drd_csync.specs.Texts.{AreTypeWords, IsSetOf, types_print};
 
-use dnw_types::{ParseError, RecordType, RecordTypeSet};
+use dnw_wire::{ParseError, RecordType, RecordTypeSet};
 use drd_words::{Name, Words};
 use std::alloc::{AllocError, Global};
 use std::fmt;

@@ -1,4 +1,5 @@
--- When record data are equal, and that this is so exactly where their canonical octets are the same (RFC 4034 6.3).
+-- When record data are equal, and that this is so exactly where their canonical octets are the same
+-- (RFC 4034 6.3).
 use Rattle.std.specs.Prelude.{◌≡◌, ℕ, ◌==◌, nat_eq, Bool, true, false, List, [], ◌∷◌, ◌++◌}
 use Rattle.std.specs.Cmp.Lexicographic.{pointwise}
 use Rattle.dnw_encoder.specs.dnw_name.DomainName.{name_eq}

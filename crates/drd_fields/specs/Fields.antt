@@ -1,11 +1,12 @@
--- Fields of record data (RFC 1035 3.3): what the octets of a record's data hold, one behind the other.
-use Rattle.std.specs.Prelude.{◌≡◌, ℕ, ◌≤◌, ◌||◌, Bool, true, false, List, [], ◌∷◌, length}
+-- Fields of record data (RFC 1035 3.3): what the octets of a record's data hold, one behind the
+-- other.
+use Rattle.std.specs.Prelude.{◌≡◌, ℕ, ◌≤◌, ◌<◌, ◌^◌, ◌||◌, Bool, true, false, List, [], ◌∷◌, length}
 use Rattle.dnw_encoder.specs.dnw_name.DomainName.{DomainName}
 use Rattle.dnw_encoder.specs.dnw_decoder.Octets.{octets_16, octets_32, Stands}
 use Rattle.dnw_encoder.specs.dnw_decoder.Spelling.{NameAt}
 
--- A number of one, two or four octets, a name, a string of at most 255 octets, strings up to the end of the data,
--- and the octets up to the end.
+-- A number of one, two or four octets, a name, a string of at most 255 octets, strings up to the
+-- end of the data, and the octets up to the end.
 pub data Field : Type 0 where
   octet : ℕ → Field
   short : ℕ → Field
@@ -55,7 +56,8 @@ pub record StringAt (message : List ℕ) (place : ℕ) (string : List ℕ) (end 
 
 abbrev pub StringsAt : List ℕ → ℕ → List (List ℕ) → ℕ → Type 0
 StringsAt message place [] end = end ≡ place
-StringsAt message place (s ∷ ss) end = (behind : ℕ) × StringAt message place s behind × StringsAt message behind ss end
+StringsAt message place (s ∷ ss) end =
+    (behind : ℕ) × StringAt message place s behind × StringsAt message behind ss end
 
 -- A field stands at a place of a message, and ends at another.
 abbrev pub FieldAt : List ℕ → ℕ → Field → ℕ → Type 0
@@ -70,9 +72,20 @@ FieldAt message place (rest octets) end = Stands message place octets end
 -- Fields stand one behind the other.
 abbrev pub FieldsAt : List ℕ → ℕ → List Field → ℕ → Type 0
 FieldsAt message place [] end = end ≡ place
-FieldsAt message place (f ∷ fs) end = (behind : ℕ) × FieldAt message place f behind × FieldsAt message behind fs end
+FieldsAt message place (f ∷ fs) end =
+    (behind : ℕ) × FieldAt message place f behind × FieldsAt message behind fs end
 
 -- A field that goes to the end of the data is the last one.
 abbrev pub AreOrdered : List Kind → Type 0
 AreOrdered [] = Unit {0}
 AreOrdered (k ∷ ks) = (is_open k ≡ true → ks ≡ []) × AreOrdered ks
+
+-- The number fits the octets that are kept for it.
+abbrev pub Fits : Field → Type 0
+Fits (short n) = n < 2 ^ 16
+Fits (long n) = n < 2 ^ 32
+Fits other = Unit {0}
+
+abbrev pub AllFit : List Field → Type 0
+AllFit [] = Unit {0}
+AllFit (f ∷ fs) = Fits f × AllFit fs

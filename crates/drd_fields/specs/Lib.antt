@@ -1,12 +1,8 @@
 pub mod Fields
-pub mod OnceLaws
 pub mod Reading
 pub mod FieldLaws
 pub mod Writing
-pub mod WritingLaws
 pub mod Equality
-pub mod EqualityLaws
-pub mod BackLaws
 pub use Rattle.dnw_encoder.specs.dnw_codes
 pub use Rattle.dnw_encoder.specs.dnw_decoder
 pub mod dnw_encoder

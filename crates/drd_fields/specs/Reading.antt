@@ -9,19 +9,23 @@ use Rattle.dnw_encoder.specs.dnw_decoder.Spelling.{NameAt}
 use Rattle.dnw_encoder.specs.dnw_name.DomainName.{DomainName}
 use Rattle.drd_fields.specs.Fields.{Field, Kind, an_octet, a_short, a_long, a_name, a_string, all_strings, the_rest, kind_of, kinds_of, StringsAt, FieldAt, FieldsAt}
 
--- The octets from a place to the end of the data are not there: the place is behind it, or the message ends before.
+-- The octets from a place to the end of the data are not there: the place is behind it, or the
+-- message ends before.
 pub record LacksRest (message : List ℕ) (end place : ℕ) (e : DecodeError) : Type 0 where
   pub cause : e ≡ InsufficientBytes
   pub short : (end < place) ⊎ (length message < end)
 
--- Strings stand up to a place before the end of the data, and the one there goes past that end, or past the message's;
--- or the first one would begin behind the end.
+-- Strings stand up to a place before the end of the data, and the one there goes past that end, or
+-- past the message's; or the first one would begin behind the end.
 pub record LacksStrings (message : List ℕ) (end place : ℕ) (e : DecodeError) : Type 0 where
   pub cause : e ≡ InsufficientBytes
   pub front : List (List ℕ)
   pub at : ℕ
   pub there : StringsAt message place front at
-  pub short : ((front ≡ []) × (end < at)) ⊎ ((at < end) × ((end < at + (1 + get_or message at 0)) ⊎ (length message < at + (1 + get_or message at 0))))
+  pub short : ((front ≡ []) × (end < at))
+      ⊎ ((at < end)
+      × ((end < at + (1 + get_or message at 0))
+      ⊎ (length message < at + (1 + get_or message at 0))))
 
 -- Reading a name reaches an element that can't be read, and none is spelled there.
 pub record LacksName (message : List ℕ) (place : ℕ) (e : DecodeError) : Type 0 where
@@ -38,21 +42,26 @@ RefusesKind message end a_string place e = IsCut (1 + get_or message place 0) me
 RefusesKind message end all_strings place e = LacksStrings message end place e
 RefusesKind message end the_rest place e = LacksRest message end place e
 
--- The first of these fields can't be read, or it stands and one behind it can't; reading stopped at a place.
-abbrev pub Stops : List ℕ → ℕ → List Kind → ℕ → DecodeError → ℕ → Type 0
-Stops message end [] place e at = ⊥
-Stops message end (k ∷ ks) place e at =
+-- The first of these fields can't be read, or it stands and one behind it can't; reading stopped at
+-- a place.
+abbrev pub StopsReading : List ℕ → ℕ → List Kind → ℕ → DecodeError → ℕ → Type 0
+StopsReading message end [] place e at = ⊥
+StopsReading message end (k ∷ ks) place e at =
     ((IsWantOfMemory e ⊎ RefusesKind message end k place e) × (at ≡ place))
-    ⊎ ((f : Field) × (behind : ℕ) × (kind_of f ≡ k) × FieldAt message place f behind × Stops message end ks behind e at)
+    ⊎ ((f : Field) × (behind : ℕ) × (kind_of f ≡ k) × FieldAt message place f behind
+    × StopsReading message end ks behind e at)
 
 -- All fields stand, and end before or behind the end of the data.
-pub record EndsElsewhere (message : List ℕ) (end : ℕ) (kinds : List Kind) (place : ℕ) (e : DecodeError) (at : ℕ) : Type 0 where
+pub record EndsElsewhere (message : List ℕ) (end : ℕ) (kinds : List Kind) (place : ℕ)
+    (e : DecodeError) (at : ℕ) : Type 0 where
   pub fields : List Field
   pub same : kinds_of fields ≡ kinds
   pub there : FieldsAt message place fields at
   pub other : at ≡ end → ⊥
   pub cause : e ≡ IncorrectRDataLengthRead (at - place) (end - place)
 
--- Data none of whose fields goes to their end don't fill it: a field can't be read, or they end elsewhere.
-abbrev pub Misses : List ℕ → ℕ → List Kind → ℕ → DecodeError → ℕ → Type 0
-Misses message end kinds place e at = Stops message end kinds place e at ⊎ EndsElsewhere message end kinds place e at
+-- Data none of whose fields goes to their end don't fill it: a field can't be read, or they end
+-- elsewhere.
+abbrev pub RefusesWindow : List ℕ → ℕ → List Kind → ℕ → DecodeError → ℕ → Type 0
+RefusesWindow message end kinds place e at =
+    StopsReading message end kinds place e at ⊎ EndsElsewhere message end kinds place e at

@@ -5,7 +5,7 @@ use Rattle.std.specs.List.{flat_map}
 use Rattle.dnw_encoder.specs.dnw_codes.declared.error.ProtoError.{ProtoError}
 use Rattle.dnw_encoder.specs.dnw_name.DomainName.{name_octets}
 use Rattle.dnw_encoder.specs.dnw_decoder.Octets.{octets_16, octets_32}
-use Rattle.dnw_encoder.specs.Effects.{Sound, Holds, Puts, IsRefusal}
+use Rattle.dnw_encoder.specs.Effects.{Sound, StaysTrue, WritesOctets, IsRefusal}
 use Rattle.dnw_encoder.specs.Names.{encoded_name}
 use Rattle.dnw_encoder.specs.State.{State, string_too_long, writes_pointers, rdata_encoding}
 use Rattle.dnw_encoder.specs.declared.modes.NameEncoding.{NameEncoding}
@@ -43,17 +43,23 @@ fields_octets (f ∷ fs) = field_octets f ++ fields_octets fs
 abbrev pub canonical_octets : List Field → List ℕ
 canonical_octets fs = fields_octets (encoded_fields UncompressedLowercase fs)
 
--- A field was written: it reads back at its place, in the finished message too, and takes at most its plain size; where
--- no pointers are written it stands in full.
+-- A field was written: it reads back at its place, in the finished message too, and takes at most
+-- its plain size; where no pointers are written it stands in full.
 pub record EmitsField (f : Field) (old new : State) : Type 0 where
-  pub stays : Sound old → Holds new new.offset (λ message. FieldAt message old.offset (encoded_field old.encoding f) new.offset)
+  pub stays : Sound old
+      → StaysTrue new new.offset
+      (λ message. FieldAt message old.offset (encoded_field old.encoding f) new.offset)
   pub size : new.offset ≤ old.offset + length (field_octets f)
-  pub exact : old.points ≡ false → Puts (field_octets (encoded_field old.encoding f)) old new
+  pub exact : old.points ≡ false
+      → WritesOctets (field_octets (encoded_field old.encoding f)) old new
 
 pub record EmitsFields (fs : List Field) (old new : State) : Type 0 where
-  pub stays : Sound old → Holds new new.offset (λ message. FieldsAt message old.offset (encoded_fields old.encoding fs) new.offset)
+  pub stays : Sound old
+      → StaysTrue new new.offset
+      (λ message. FieldsAt message old.offset (encoded_fields old.encoding fs) new.offset)
   pub size : new.offset ≤ old.offset + length (fields_octets fs)
-  pub exact : old.points ≡ false → Puts (fields_octets (encoded_fields old.encoding fs)) old new
+  pub exact : old.points ≡ false
+      → WritesOctets (fields_octets (encoded_fields old.encoding fs)) old new
 
 -- Some string of a field has more than 255 octets, and this one so many.
 abbrev pub IsTooLong : List ℕ → ProtoError → Type 0
@@ -80,10 +86,16 @@ RefusesFields fs old e = IsRefusal old (length (fields_octets fs)) e ⊎ HaveLon
 abbrev pub EndsWithin : State → State → Type 0
 EndsWithin old new = old.offset < new.offset → new.offset ≤ old.maximum
 
--- The data of a record were written, in the mode of their kind and within the maximum: they read back at their place, in the
--- finished message too, and take at most their plain size.
+-- The data of a record were written, in the mode of their kind and within the maximum: they read
+-- back at their place, in the finished message too, and take at most their plain size.
 pub record EmitsData (kind : RDataEncoding) (fs : List Field) (old new : State) : Type 0 where
-  pub stays : Sound old → Holds new new.offset (λ message. FieldsAt message old.offset (encoded_fields (rdata_encoding kind old.canonical old.encoding) fs) new.offset)
+  pub stays : Sound old
+      → StaysTrue new new.offset
+      (λ message. FieldsAt message old.offset
+      (encoded_fields (rdata_encoding kind old.canonical old.encoding) fs) new.offset)
   pub size : new.offset ≤ old.offset + length (fields_octets fs)
-  pub exact : writes_pointers (rdata_encoding kind old.canonical old.encoding) ≡ false → Puts (fields_octets (encoded_fields (rdata_encoding kind old.canonical old.encoding) fs)) old new
+  pub exact : writes_pointers (rdata_encoding kind old.canonical old.encoding) ≡ false
+      → WritesOctets
+      (fields_octets (encoded_fields (rdata_encoding kind old.canonical old.encoding) fs))
+      old new
   pub within : EndsWithin old new

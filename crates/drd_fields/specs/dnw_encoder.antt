@@ -1,9 +1,6 @@
 pub use Rattle.dnw_encoder.specs.Effects
 pub use Rattle.dnw_encoder.specs.Encoders
-pub use Rattle.dnw_encoder.specs.Laws
 pub use Rattle.dnw_encoder.specs.Members
-pub use Rattle.dnw_encoder.specs.NameLaws
 pub use Rattle.dnw_encoder.specs.Names
-pub use Rattle.dnw_encoder.specs.PlaceLaws
 pub use Rattle.dnw_encoder.specs.State
 pub use Rattle.dnw_encoder.specs.declared

@@ -78,12 +78,12 @@ pub struct RestField<'a>(pub &'a [u8]);
 impl DataField for u8 {
     ghost field = { octet };
 
-    #[tactic(auto, using(crate::specs::WritingLaws::puts_octet))]
+    #[tactic(auto, using(crate::proofs::WritingLaws::puts_octet))]
     fn emit_field(&self, encoder: &mut BinEncoder<'_>) -> Result<(), ProtoError> {
         encoder.emit_u8(*self)
     }
 
-    #[tactic(auto, using(crate::specs::EqualityLaws::octet_apart))]
+    #[tactic(auto, using(crate::proofs::EqualityLaws::octet_apart))]
     fn is_same(&self, other: &Self) -> bool {
         *self == *other
     }
@@ -92,12 +92,12 @@ impl DataField for u8 {
 impl DataField for u16 {
     ghost field = { short };
 
-    #[tactic(auto, using(crate::specs::WritingLaws::puts_short))]
+    #[tactic(auto, using(crate::proofs::WritingLaws::puts_short))]
     fn emit_field(&self, encoder: &mut BinEncoder<'_>) -> Result<(), ProtoError> {
         encoder.emit_u16(*self)
     }
 
-    #[tactic(auto, using(crate::specs::EqualityLaws::short_apart))]
+    #[tactic(auto, using(crate::proofs::EqualityLaws::short_apart))]
     fn is_same(&self, other: &Self) -> bool {
         *self == *other
     }
@@ -106,12 +106,12 @@ impl DataField for u16 {
 impl DataField for u32 {
     ghost field = { long };
 
-    #[tactic(auto, using(crate::specs::WritingLaws::puts_long, crate::specs::WritingLaws::refused_long))]
+    #[tactic(auto, using(crate::proofs::WritingLaws::puts_long, crate::proofs::WritingLaws::refused_long))]
     fn emit_field(&self, encoder: &mut BinEncoder<'_>) -> Result<(), ProtoError> {
         encoder.emit_u32(*self)
     }
 
-    #[tactic(auto, using(crate::specs::EqualityLaws::long_apart))]
+    #[tactic(auto, using(crate::proofs::EqualityLaws::long_apart))]
     fn is_same(&self, other: &Self) -> bool {
         *self == *other
     }
@@ -120,12 +120,12 @@ impl DataField for u32 {
 impl DataField for i32 {
     ghost field = { λ number. long (cast_unsigned w32 number) };
 
-    #[tactic(auto, using(crate::specs::WritingLaws::puts_long, crate::specs::WritingLaws::refused_long))]
+    #[tactic(auto, using(crate::proofs::WritingLaws::puts_long, crate::proofs::WritingLaws::refused_long))]
     fn emit_field(&self, encoder: &mut BinEncoder<'_>) -> Result<(), ProtoError> {
         encoder.emit_i32(*self)
     }
 
-    #[tactic(auto, using(crate::specs::EqualityLaws::long_apart))]
+    #[tactic(auto, using(crate::proofs::EqualityLaws::long_apart))]
     fn is_same(&self, other: &Self) -> bool {
         self.cast_unsigned() == other.cast_unsigned()
     }
@@ -138,7 +138,7 @@ impl DataField for &Name {
         (**self).emit(encoder)
     }
 
-    #[tactic(auto, using(crate::specs::EqualityLaws::name_apart))]
+    #[tactic(auto, using(crate::proofs::EqualityLaws::name_apart))]
     fn is_same(&self, other: &Self) -> bool {
         // Asked for their labels, both show that they are names.
         let _labels = self.iter();
@@ -150,12 +150,12 @@ impl DataField for &Name {
 impl DataField for StringField<'_> {
     ghost field = { λ value. string value.0.now };
 
-    #[tactic(auto, using(crate::specs::WritingLaws::puts_string))]
+    #[tactic(auto, using(crate::proofs::WritingLaws::puts_string))]
     fn emit_field(&self, encoder: &mut BinEncoder<'_>) -> Result<(), ProtoError> {
         encoder.emit_character_data(self.0)
     }
 
-    #[tactic(auto, using(crate::specs::EqualityLaws::string_apart))]
+    #[tactic(auto, using(crate::proofs::EqualityLaws::string_apart))]
     fn is_same(&self, other: &Self) -> bool {
         self.0 == other.0
     }
@@ -169,7 +169,7 @@ impl DataFields for () {
         Ok(())
     }
 
-    #[tactic(auto, using(crate::specs::EqualityLaws::nothing_tells))]
+    #[tactic(auto, using(crate::proofs::EqualityLaws::nothing_tells))]
     fn are_same(&self, _other: &Self) -> bool {
         true
     }
@@ -184,7 +184,7 @@ impl<A: DataField, B: DataFields> DataFields for (A, B) {
         self.1.emit_fields(encoder)
     }
 
-    #[tactic(auto, using(crate::specs::EqualityLaws::front_tells))]
+    #[tactic(auto, using(crate::proofs::EqualityLaws::front_tells))]
     fn are_same(&self, other: &Self) -> bool {
         self.0.is_same(&other.0) && self.1.are_same(&other.1)
     }
@@ -193,12 +193,12 @@ impl<A: DataField, B: DataFields> DataFields for (A, B) {
 impl DataFields for RestField<'_> {
     ghost fields = { λ value. rest value.0.now ∷ [] };
 
-    #[tactic(auto, using(crate::specs::WritingLaws::puts_rest, crate::specs::WritingLaws::emits_one))]
+    #[tactic(auto, using(crate::proofs::WritingLaws::puts_rest, crate::proofs::WritingLaws::emits_one))]
     fn emit_fields(&self, encoder: &mut BinEncoder<'_>) -> Result<(), ProtoError> {
         encoder.emit_vec(self.0)
     }
 
-    #[tactic(auto, using(crate::specs::EqualityLaws::rest_tells))]
+    #[tactic(auto, using(crate::proofs::EqualityLaws::rest_tells))]
     fn are_same(&self, other: &Self) -> bool {
         self.0 == other.0
     }
@@ -231,7 +231,7 @@ impl DataFields for StringFields<'_> {
         emit_strings(encoder, self.0)
     }
 
-    #[tactic(auto, using(crate::specs::EqualityLaws::strings_tell))]
+    #[tactic(auto, using(crate::proofs::EqualityLaws::strings_tell))]
     fn are_same(&self, other: &Self) -> bool {
         self.0 == other.0
     }
@@ -267,7 +267,9 @@ pub fn emit_three<A: DataField, B: DataField, C: DataFields>(
     ensures same_reference { encoder.new.buffer.ghost_name ≡ encoder.old.buffer.ghost_name }
     ensures writes { Writes (state encoder.old) (state encoder.new) }
     ensures within { EndsWithin (state encoder.old) (state encoder.new) }
-    ensures ok { OnOk result (EmitsData kind (A.field fields.now.0 ∷ B.field fields.now.1.0 ∷ C.fields fields.now.1.1) (state encoder.old) (state encoder.new)) }
+    ensures ok { OnOk result
+        (EmitsData kind (A.field fields.now.0 ∷ B.field fields.now.1.0 ∷ C.fields fields.now.1.1) (state encoder.old)
+        (state encoder.new)) }
     ensures cause { IfErr result (RefusesFields (A.field fields.now.0 ∷ B.field fields.now.1.0 ∷ C.fields fields.now.1.1) (state encoder.old)) }
 {
     emit_data(encoder, kind, fields)

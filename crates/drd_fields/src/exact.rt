@@ -2,7 +2,7 @@
 ghost use Rattle.std.specs.Prelude.{◌≡◌, ◌+◌, ◌≤◌, ◌⊎◌, List, false, length, IfOk, IfErr, OnOk};
 ghost use Rattle.dnw_encoder.specs.dnw_decoder.Reading.{IsWantOfMemory};
 ghost use Rattle.drd_fields.specs.Fields.{Field, kinds_of, are_open, FieldsAt};
-ghost use Rattle.drd_fields.specs.Reading.{Misses};
+ghost use Rattle.drd_fields.specs.Reading.{RefusesWindow};
 
 use crate::read::ReadFields;
 use dnw_encoder::{BinDecoder, DecodeError};
@@ -22,7 +22,7 @@ pub fn read_exactly<D: ReadFields + Drop>(
     ensures same { decoder.new.octets ≡ decoder.old.octets }
     ensures forward { decoder.old.index ≤ decoder.new.index }
     ensures within { decoder.new.index ≤ length decoder.new.octets }
-    ensures refused { IfErr result (λ e. Misses decoder.old.octets (decoder.old.index + len) D.kinds decoder.old.index e decoder.new.index) }
+    ensures refused { IfErr result (λ e. RefusesWindow decoder.old.octets (decoder.old.index + len) D.kinds decoder.old.index e decoder.new.index) }
     ensures none { IfErr result (λ e. IsWantOfMemory e
         ⊎ ((fs : List Field) → kinds_of fs ≡ D.kinds → FieldsAt decoder.old.octets decoder.old.index fs (decoder.old.index + len) → ⊥)) }
 {

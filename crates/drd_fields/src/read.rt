@@ -3,7 +3,7 @@ ghost use Rattle.std.specs.Prelude.{◌≡◌, ◌+◌, ◌<◌, ◌≤◌, ◌�
 ghost use Rattle.std.specs.Int.{w32, cast_unsigned};
 ghost use Rattle.dnw_encoder.specs.dnw_decoder.Reading.{IsWantOfMemory};
 ghost use Rattle.drd_fields.specs.Fields.{Field, octet, short, long, name, string, strings, rest, an_octet, a_short, a_long, a_name, a_string, all_strings, the_rest, kinds_of, are_open, FieldsAt};
-ghost use Rattle.drd_fields.specs.Reading.{Stops};
+ghost use Rattle.drd_fields.specs.Reading.{StopsReading};
 
 use crate::fields::{CharacterString, CharacterStrings, Rest};
 use crate::strings::read_strings;
@@ -37,7 +37,7 @@ pub trait ReadField: Sized {
 pub trait ReadFields: Sized {
     ghost use Rattle.std.specs.Prelude.{◌≡◌, ◌≤◌, List, true, length, IfOk, IfErr, OnOk};
     ghost use Rattle.drd_fields.specs.Fields.{Field, Kind, kinds_of, are_open, AreOrdered, FieldsAt};
-    ghost use Rattle.drd_fields.specs.Reading.{Stops};
+    ghost use Rattle.drd_fields.specs.Reading.{StopsReading};
 
     ghost fields: { Self → List Field };
 
@@ -57,7 +57,7 @@ pub trait ReadFields: Sized {
         ensures open { OnOk result (are_open kinds ≡ true → decoder.new.index ≡ end) }
         ensures same { decoder.new.octets ≡ decoder.old.octets }
         ensures within { decoder.new.index ≤ length decoder.new.octets }
-        ensures err { IfErr result (λ e. Stops decoder.old.octets end kinds decoder.old.index e decoder.new.index) };
+        ensures err { IfErr result (λ e. StopsReading decoder.old.octets end kinds decoder.old.index e decoder.new.index) };
 }
 
 impl ReadField for u8 {
@@ -247,7 +247,7 @@ pub fn read_data<D: ReadFields + Drop>(
     ensures forward { decoder.old.index ≤ decoder.new.index }
     ensures within { decoder.new.index ≤ length decoder.new.octets }
     ensures err { OnErr result (decoder.new ≡ decoder.old) }
-    ensures refused { IfErr result (λ e. (end at : ℕ) × Stops decoder.old.octets end D.kinds decoder.old.index e at) }
+    ensures refused { IfErr result (λ e. (end at : ℕ) × StopsReading decoder.old.octets end D.kinds decoder.old.index e at) }
     ensures none { IfErr result (λ e. IsWantOfMemory e
         ⊎ ((fs : List Field) (end : ℕ) → kinds_of fs ≡ D.kinds → FieldsAt decoder.old.octets decoder.old.index fs end → ⊥)) }
 {
@@ -275,7 +275,7 @@ pub fn read_data_within<D: ReadFields + Drop>(
     ensures same { decoder.new.octets ≡ decoder.old.octets }
     ensures forward { decoder.old.index ≤ decoder.new.index }
     ensures within { decoder.new.index ≤ length decoder.new.octets }
-    ensures refused { IfErr result (λ e. Stops decoder.old.octets (decoder.old.index + len) D.kinds decoder.old.index e decoder.new.index) }
+    ensures refused { IfErr result (λ e. StopsReading decoder.old.octets (decoder.old.index + len) D.kinds decoder.old.index e decoder.new.index) }
     ensures none { IfErr result (λ e. IsWantOfMemory e
         ⊎ ((fs : List Field) → kinds_of fs ≡ D.kinds → FieldsAt decoder.old.octets decoder.old.index fs (decoder.old.index + len) → ⊥)) }
 {

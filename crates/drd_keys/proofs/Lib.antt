@@ -1,2 +1,3 @@
+pub mod NamedLaws
 mod ReadLemmas
 mod WordLemmas

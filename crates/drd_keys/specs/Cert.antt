@@ -29,12 +29,16 @@ cert_type_number (cert_type.Unassigned number) = number
 -- The kinds that have a name, by rising number.
 abbrev pub named_cert_types : List CertType
 named_cert_types =
-    cert_type.Reserved0 ∷ cert_type.PKIX ∷ cert_type.SPKI ∷ cert_type.PGP ∷ cert_type.IPKIX ∷ cert_type.ISPKI ∷ cert_type.IPGP ∷ cert_type.ACPKIX ∷ cert_type.IACPKIX ∷ cert_type.URI ∷ cert_type.OID ∷ cert_type.Reserved255 ∷ cert_type.Reserved65535 ∷ []
+    cert_type.Reserved0 ∷ cert_type.PKIX ∷ cert_type.SPKI ∷ cert_type.PGP ∷ cert_type.IPKIX
+    ∷ cert_type.ISPKI ∷ cert_type.IPGP ∷ cert_type.ACPKIX ∷ cert_type.IACPKIX ∷ cert_type.URI
+    ∷ cert_type.OID ∷ cert_type.Reserved255 ∷ cert_type.Reserved65535 ∷ []
 
 -- The kind of a certificate that a number stands for.
 abbrev pub cert_type_of : ℕ → CertType
 cert_type_of number =
-    unwrap_or (find (λ named. cert_type_number named == number) named_cert_types) (if nat_le 65280 number && nat_le number 65534 then cert_type.Experimental number else cert_type.Unassigned number)
+    unwrap_or (find (λ named. cert_type_number named == number) named_cert_types)
+    (if nat_le 65280 number
+    && nat_le number 65534 then cert_type.Experimental number else cert_type.Unassigned number)
 
 -- Two are the same where their numbers are.
 abbrev pub same_cert_type : CertType → CertType → Bool
@@ -67,12 +71,18 @@ cert_algorithm_number (algorithm.Unassigned number) = number
 -- The algorithms that have a name, and the reserved numbers, by rising number.
 abbrev pub named_cert_algorithms : List Algorithm
 named_cert_algorithms =
-    algorithm.Reserved 0 ∷ algorithm.RSAMD5 ∷ algorithm.DH ∷ algorithm.DSA ∷ algorithm.ECC ∷ algorithm.RSASHA1 ∷ algorithm.DSANSEC3SHA1 ∷ algorithm.RSASHA1NSEC3SHA1 ∷ algorithm.RSASHA256 ∷ algorithm.Reserved 9 ∷ algorithm.RSASHA512 ∷ algorithm.Reserved 11 ∷ algorithm.ECCGOST ∷ algorithm.ECDSAP256SHA256 ∷ algorithm.ECDSAP384SHA384 ∷ algorithm.ED25519 ∷ algorithm.ED448 ∷ algorithm.SM2SM3 ∷ algorithm.ECCGOST12 ∷ algorithm.INDIRECT ∷ algorithm.PRIVATEDNS ∷ algorithm.PRIVATEOID ∷ algorithm.Reserved 255 ∷ []
+    algorithm.Reserved 0 ∷ algorithm.RSAMD5 ∷ algorithm.DH ∷ algorithm.DSA ∷ algorithm.ECC
+    ∷ algorithm.RSASHA1 ∷ algorithm.DSANSEC3SHA1 ∷ algorithm.RSASHA1NSEC3SHA1 ∷ algorithm.RSASHA256
+    ∷ algorithm.Reserved 9 ∷ algorithm.RSASHA512 ∷ algorithm.Reserved 11 ∷ algorithm.ECCGOST
+    ∷ algorithm.ECDSAP256SHA256 ∷ algorithm.ECDSAP384SHA384 ∷ algorithm.ED25519 ∷ algorithm.ED448
+    ∷ algorithm.SM2SM3 ∷ algorithm.ECCGOST12 ∷ algorithm.INDIRECT ∷ algorithm.PRIVATEDNS
+    ∷ algorithm.PRIVATEOID ∷ algorithm.Reserved 255 ∷ []
 
 -- The algorithm of a key that a number stands for.
 abbrev pub cert_algorithm_of : ℕ → Algorithm
 cert_algorithm_of number =
-    unwrap_or (find (λ named. cert_algorithm_number named == number) named_cert_algorithms) (algorithm.Unassigned number)
+    unwrap_or (find (λ named. cert_algorithm_number named == number) named_cert_algorithms)
+    (algorithm.Unassigned number)
 
 -- Two are the same where their numbers are.
 abbrev pub same_cert_algorithm : Algorithm → Algorithm → Bool
@@ -86,7 +96,8 @@ pub record CertTypeAt (message : List ℕ) (place : ℕ) (kind : CertType) (end 
   pub means : kind ≡ cert_type_of number
 
 -- An octet stands at a place, and is the number of an algorithm.
-pub record CertAlgorithmAt (message : List ℕ) (place : ℕ) (of_key : Algorithm) (end : ℕ) : Type 0 where
+pub record CertAlgorithmAt (message : List ℕ) (place : ℕ) (of_key : Algorithm)
+    (end : ℕ) : Type 0 where
   pub number : ℕ
   pub small : number < 2 ^ 8
   pub there : Stands message place (number ∷ []) end

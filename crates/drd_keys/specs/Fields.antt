@@ -14,7 +14,8 @@ use Rattle.drd_keys.specs.declared.tlsa.TLSA.{TLSA}
 -- RFC 4398 2: the certificate's kind, the key tag, the key's algorithm and the certificate.
 abbrev pub cert_fields : CERT → List Field
 cert_fields cert =
-    short (cert_type_number cert.cert_type) ∷ short cert.key_tag ∷ octet (cert_algorithm_number cert.algorithm) ∷ rest cert.cert_data.items ∷ []
+    short (cert_type_number cert.cert_type) ∷ short cert.key_tag
+    ∷ octet (cert_algorithm_number cert.algorithm) ∷ rest cert.cert_data.items ∷ []
 
 abbrev pub cert_kinds : List Kind
 cert_kinds = a_short ∷ a_short ∷ an_octet ∷ the_rest ∷ []
@@ -36,15 +37,18 @@ openpgpkey_kinds = the_rest ∷ []
 -- RFC 4255 3.1: the key's algorithm, the fingerprint's hash and the fingerprint.
 abbrev pub sshfp_fields : SSHFP → List Field
 sshfp_fields sshfp =
-    octet (sshfp_algorithm_number sshfp.algorithm) ∷ octet (fingerprint_type_number sshfp.fingerprint_type) ∷ rest sshfp.fingerprint.items ∷ []
+    octet (sshfp_algorithm_number sshfp.algorithm)
+    ∷ octet (fingerprint_type_number sshfp.fingerprint_type) ∷ rest sshfp.fingerprint.items ∷ []
 
 abbrev pub sshfp_kinds : List Kind
 sshfp_kinds = an_octet ∷ an_octet ∷ the_rest ∷ []
 
--- RFC 6698 2.1: the certificate's use, the part that is meant, its form and the octets in that form.
+-- RFC 6698 2.1: the certificate's use, the part that is meant, its form and the octets in that
+-- form.
 abbrev pub tlsa_fields : TLSA → List Field
 tlsa_fields tlsa =
-    octet (cert_usage_number tlsa.cert_usage) ∷ octet (selector_number tlsa.selector) ∷ octet (matching_number tlsa.matching) ∷ rest tlsa.cert_data.items ∷ []
+    octet (cert_usage_number tlsa.cert_usage) ∷ octet (selector_number tlsa.selector)
+    ∷ octet (matching_number tlsa.matching) ∷ rest tlsa.cert_data.items ∷ []
 
 abbrev pub tlsa_kinds : List Kind
 tlsa_kinds = an_octet ∷ an_octet ∷ an_octet ∷ the_rest ∷ []

@@ -1,6 +1,5 @@
 pub mod Cert
 pub mod Fields
-pub mod NamedLaws
 pub mod Print
 pub mod Sshfp
 pub mod Texts

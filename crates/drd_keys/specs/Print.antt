@@ -1,5 +1,5 @@
--- Printed record data of keys, certificates and fingerprints: decimal numbers, and octets in hex in lower case or in
--- base64, one space apart.
+-- Printed record data of keys, certificates and fingerprints: decimal numbers, and octets in hex in
+-- lower case or in base64, one space apart.
 use Rattle.std.specs.Prelude.{ℕ, List, ◌++◌, codes}
 use Rattle.std.specs.Fmt.{decimal}
 use Rattle.base64.specs.Engines.{standard}
@@ -19,7 +19,8 @@ use Rattle.drd_keys.specs.declared.tlsa.TLSA.{TLSA}
 abbrev pub cert_print : CERT → List ℕ
 cert_print cert =
     decimal (cert_type_number cert.cert_type) ++ codes " " ++ decimal cert.key_tag ++ codes " "
-    ++ decimal (cert_algorithm_number cert.algorithm) ++ codes " " ++ encode_of standard cert.cert_data.items
+    ++ decimal (cert_algorithm_number cert.algorithm) ++ codes " "
+    ++ encode_of standard cert.cert_data.items
 
 -- The octets in base64.
 abbrev pub null_print : NULL → List ℕ
@@ -32,13 +33,15 @@ openpgpkey_print key = encode_of standard key.public_key.items
 -- RFC 4255 3.2: two numbers, and the fingerprint in hex.
 abbrev pub sshfp_print : SSHFP → List ℕ
 sshfp_print sshfp =
-    decimal (sshfp_algorithm_number sshfp.algorithm) ++ codes " " ++ decimal (fingerprint_type_number sshfp.fingerprint_type)
+    decimal (sshfp_algorithm_number sshfp.algorithm) ++ codes " "
+    ++ decimal (fingerprint_type_number sshfp.fingerprint_type)
     ++ codes " " ++ encode_lower sshfp.fingerprint.items
 
 -- RFC 6698 2.2: three numbers, and the octets in hex.
 abbrev pub tlsa_print : TLSA → List ℕ
 tlsa_print tlsa =
-    decimal (cert_usage_number tlsa.cert_usage) ++ codes " " ++ decimal (selector_number tlsa.selector) ++ codes " "
+    decimal (cert_usage_number tlsa.cert_usage) ++ codes " "
+    ++ decimal (selector_number tlsa.selector) ++ codes " "
     ++ decimal (matching_number tlsa.matching) ++ codes " " ++ encode_lower tlsa.cert_data.items
 
 -- RFC 8162 2: that of TLSA.

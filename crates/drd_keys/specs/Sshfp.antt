@@ -20,12 +20,14 @@ sshfp_algorithm_number (algorithm.Unassigned number) = number
 -- The algorithms that have a name, by rising number.
 abbrev pub named_sshfp_algorithms : List Algorithm
 named_sshfp_algorithms =
-    algorithm.Reserved ∷ algorithm.RSA ∷ algorithm.DSA ∷ algorithm.ECDSA ∷ algorithm.Ed25519 ∷ algorithm.Ed448 ∷ []
+    algorithm.Reserved ∷ algorithm.RSA ∷ algorithm.DSA ∷ algorithm.ECDSA ∷ algorithm.Ed25519
+    ∷ algorithm.Ed448 ∷ []
 
 -- The algorithm that a number stands for.
 abbrev pub sshfp_algorithm_of : ℕ → Algorithm
 sshfp_algorithm_of number =
-    unwrap_or (find (λ named. sshfp_algorithm_number named == number) named_sshfp_algorithms) (algorithm.Unassigned number)
+    unwrap_or (find (λ named. sshfp_algorithm_number named == number) named_sshfp_algorithms)
+    (algorithm.Unassigned number)
 
 -- Two algorithms are the same where their numbers are.
 abbrev pub same_sshfp_algorithm : Algorithm → Algorithm → Bool
@@ -40,12 +42,14 @@ fingerprint_type_number (fingerprint_type.Unassigned number) = number
 
 -- The hashes that have a name, by rising number.
 abbrev pub named_fingerprint_types : List FingerprintType
-named_fingerprint_types = fingerprint_type.Reserved ∷ fingerprint_type.SHA1 ∷ fingerprint_type.SHA256 ∷ []
+named_fingerprint_types =
+    fingerprint_type.Reserved ∷ fingerprint_type.SHA1 ∷ fingerprint_type.SHA256 ∷ []
 
 -- The hash that a number stands for.
 abbrev pub fingerprint_type_of : ℕ → FingerprintType
 fingerprint_type_of number =
-    unwrap_or (find (λ named. fingerprint_type_number named == number) named_fingerprint_types) (fingerprint_type.Unassigned number)
+    unwrap_or (find (λ named. fingerprint_type_number named == number) named_fingerprint_types)
+    (fingerprint_type.Unassigned number)
 
 -- Two hashes are the same where their numbers are.
 abbrev pub same_fingerprint_type : FingerprintType → FingerprintType → Bool
@@ -54,4 +58,5 @@ same_fingerprint_type = on fingerprint_type_number ◌==◌
 -- The algorithm and the hash are those that their numbers stand for.
 pub record IsNamedSshfp (sshfp : SSHFP) : Type 0 where
   pub algorithm : sshfp.algorithm ≡ sshfp_algorithm_of (sshfp_algorithm_number sshfp.algorithm)
-  pub hash : sshfp.fingerprint_type ≡ fingerprint_type_of (fingerprint_type_number sshfp.fingerprint_type)
+  pub hash : sshfp.fingerprint_type
+      ≡ fingerprint_type_of (fingerprint_type_number sshfp.fingerprint_type)

@@ -1,5 +1,5 @@
--- The words of record data of keys, certificates and fingerprints: decimal numbers, and octets in base64 or in hex, in
--- one word or several, which are joined.
+-- The words of record data of keys, certificates and fingerprints: decimal numbers, and octets in
+-- base64 or in hex, in one word or several, which are joined.
 use Rattle.std.specs.Prelude.{ℕ, ◌≡◌, List}
 use Rattle.drd_words.specs.Data.{IsBase64Words, IsHexWords}
 use Rattle.drd_words.specs.Word.{IsNumberWord}
@@ -15,14 +15,17 @@ use Rattle.drd_keys.specs.declared.tlsa.TLSA.{TLSA}
 
 -- A word writes a number of so many bits, and this is what the number stands for.
 abbrev pub IsCodeWord : {X : Type 0} → ℕ → (ℕ → X) → X → List ℕ → Type 0
-IsCodeWord bits code_of code word = (number : ℕ) × IsNumberWord bits number word × (code ≡ code_of number)
+IsCodeWord bits code_of code word =
+    (number : ℕ) × IsNumberWord bits number word × (code ≡ code_of number)
 
--- RFC 4398 2.2: the certificate's kind, the key tag, the key's algorithm, and the certificate in base64.
+-- RFC 4398 2.2: the certificate's kind, the key tag, the key's algorithm, and the certificate in
+-- base64.
 abbrev pub IsCertText : List (List ℕ) → CERT → Type 0
 IsCertText words cert =
     OneThen (IsCodeWord 16 cert_type_of cert.cert_type)
     (OneThen (IsNumberWord 16 cert.key_tag)
-    (OneThen (IsCodeWord 8 cert_algorithm_of cert.algorithm) (IsBase64Words cert.cert_data.items))) words
+    (OneThen (IsCodeWord 8 cert_algorithm_of cert.algorithm)
+    (IsBase64Words cert.cert_data.items))) words
 
 -- RFC 7929 2.3: the key in base64.
 abbrev pub IsOpenpgpkeyText : List (List ℕ) → OPENPGPKEY → Type 0
@@ -32,7 +35,8 @@ IsOpenpgpkeyText words key = IsBase64Words key.public_key.items words
 abbrev pub IsSshfpText : List (List ℕ) → SSHFP → Type 0
 IsSshfpText words sshfp =
     OneThen (IsCodeWord 8 sshfp_algorithm_of sshfp.algorithm)
-    (OneThen (IsCodeWord 8 fingerprint_type_of sshfp.fingerprint_type) (IsHexWords sshfp.fingerprint.items)) words
+    (OneThen (IsCodeWord 8 fingerprint_type_of sshfp.fingerprint_type)
+    (IsHexWords sshfp.fingerprint.items)) words
 
 -- RFC 6698 2.2: the certificate's use, the part that is meant, its form, and the octets in hex.
 abbrev pub IsTlsaText : List (List ℕ) → TLSA → Type 0

@@ -26,7 +26,8 @@ named_cert_usages =
 -- The use of a certificate that a number stands for.
 abbrev pub cert_usage_of : ℕ → CertUsage
 cert_usage_of number =
-    unwrap_or (find (λ named. cert_usage_number named == number) named_cert_usages) (usage.Unassigned number)
+    unwrap_or (find (λ named. cert_usage_number named == number) named_cert_usages)
+    (usage.Unassigned number)
 
 -- Two are the same where their numbers are.
 abbrev pub same_cert_usage : CertUsage → CertUsage → Bool
@@ -47,7 +48,8 @@ named_selectors =
 -- The part of a certificate that a number stands for.
 abbrev pub selector_of : ℕ → Selector
 selector_of number =
-    unwrap_or (find (λ named. selector_number named == number) named_selectors) (selector.Unassigned number)
+    unwrap_or (find (λ named. selector_number named == number) named_selectors)
+    (selector.Unassigned number)
 
 -- Two are the same where their numbers are.
 abbrev pub same_selector : Selector → Selector → Bool
@@ -69,7 +71,8 @@ named_matchings =
 -- The form of that part that a number stands for.
 abbrev pub matching_of : ℕ → Matching
 matching_of number =
-    unwrap_or (find (λ named. matching_number named == number) named_matchings) (matching.Unassigned number)
+    unwrap_or (find (λ named. matching_number named == number) named_matchings)
+    (matching.Unassigned number)
 
 -- Two are the same where their numbers are.
 abbrev pub same_matching : Matching → Matching → Bool

@@ -5,8 +5,8 @@ ghost use Rattle.std.specs.Cmp.{partial_equiv_from_equiv};
 ghost use Rattle.drd_order.specs.dnw_encoder.declared.modes.RDataEncoding.TheVariants.{Other};
 ghost use Rattle.drd_order.specs.drd_fields.Fields.{octet, short, rest, FieldsAt};
 ghost use Rattle.drd_order.specs.drd_fields.Equality.{Tells, fields_eq};
-ghost use Rattle.drd_order.specs.drd_fields.EqualityLaws.{data_equiv};
-ghost use Rattle.drd_order.specs.drd_fields.Reading.{Stops};
+ghost use Rattle.drd_order.proofs.drd_fields_lemmas.EqualityLaws.{data_equiv};
+ghost use Rattle.drd_order.specs.drd_fields.Reading.{StopsReading};
 ghost use Rattle.drd_order.specs.drd_fields.Writing.{EmitsData, RefusesFields, canonical_octets};
 ghost use Rattle.base64.specs.Engines.{standard};
 ghost use Rattle.base64.specs.GeneralPurpose.{encode_of};
@@ -161,7 +161,7 @@ impl RecordDataDecodable for CERT {
 
     ghost reads = { λ message place cert end. FieldsAt message place (cert_fields cert) end × IsNamedCert cert };
 
-    ghost refuses = { λ message place end e at. Stops message end cert_kinds place e at };
+    ghost refuses = { λ message place end e at. StopsReading message end cert_kinds place e at };
 
     fn read_data(
         alloc: Global,
@@ -174,7 +174,7 @@ impl RecordDataDecodable for CERT {
         ensures same { decoder.new.octets ≡ decoder.old.octets }
         ensures forward { decoder.old.index ≤ decoder.new.index }
         ensures within { decoder.new.index ≤ size decoder.new.octets }
-        ensures refused { IfErr result (λ e. Stops decoder.old.octets (decoder.old.index + length) cert_kinds decoder.old.index e decoder.new.index) }
+        ensures refused { IfErr result (λ e. StopsReading decoder.old.octets (decoder.old.index + length) cert_kinds decoder.old.index e decoder.new.index) }
         ensures none { IfErr result (λ e. IsWantOfMemory e
             ⊎ ((cert : CERT) → FieldsAt decoder.old.octets decoder.old.index (cert_fields cert) (decoder.old.index + length) → ⊥)) }
     {

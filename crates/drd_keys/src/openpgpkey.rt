@@ -5,8 +5,8 @@ ghost use Rattle.std.specs.Cmp.{partial_equiv_from_equiv};
 ghost use Rattle.drd_order.specs.dnw_encoder.declared.modes.RDataEncoding.TheVariants.{Other};
 ghost use Rattle.drd_order.specs.drd_fields.Fields.{rest, FieldsAt};
 ghost use Rattle.drd_order.specs.drd_fields.Equality.{Tells, fields_eq};
-ghost use Rattle.drd_order.specs.drd_fields.EqualityLaws.{data_equiv};
-ghost use Rattle.drd_order.specs.drd_fields.Reading.{Stops};
+ghost use Rattle.drd_order.proofs.drd_fields_lemmas.EqualityLaws.{data_equiv};
+ghost use Rattle.drd_order.specs.drd_fields.Reading.{StopsReading};
 ghost use Rattle.drd_order.specs.drd_fields.Writing.{EmitsData, RefusesFields, canonical_octets};
 ghost use Rattle.drd_keys.specs.Fields.{openpgpkey_fields, openpgpkey_kinds};
 ghost use Rattle.drd_keys.specs.Print.{openpgpkey_print};
@@ -66,7 +66,7 @@ impl OPENPGPKEY {
 impl RecordDataDecodable for OPENPGPKEY {
     ghost reads = { λ message place key end. FieldsAt message place (openpgpkey_fields key) end };
 
-    ghost refuses = { λ message place end e at. Stops message end openpgpkey_kinds place e at };
+    ghost refuses = { λ message place end e at. StopsReading message end openpgpkey_kinds place e at };
 
     fn read_data(
         alloc: Global,

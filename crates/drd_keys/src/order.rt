@@ -4,7 +4,7 @@ ghost use Rattle.std.proofs.Common.{refl};
 ghost use Rattle.std.specs.Cmp.{po};
 ghost use Rattle.drd_order.specs.drd_fields.Writing.{canonical_octets};
 ghost use Rattle.drd_order.specs.Order.{Orders, fields_cmp, fields_input};
-ghost use Rattle.drd_order.specs.OrderLaws.{data_total, data_ties, fields-alike};
+ghost use Rattle.drd_order.proofs.OrderLaws.{data_total, data_ties, fields-alike};
 ghost use Rattle.drd_keys.specs.Fields.{cert_fields, null_fields, openpgpkey_fields, smimea_fields, sshfp_fields, tlsa_fields};
 
 use crate::{CERT, NULL, OPENPGPKEY, SMIMEA, SSHFP, TLSA};

@@ -4,9 +4,9 @@ ghost use Rattle.std.specs.Iterator.{Drains, IsFinite};
 ghost use Rattle.std.specs.Cmp.{partial_equiv_from_equiv};
 ghost use Rattle.drd_order.specs.dnw_encoder.declared.modes.RDataEncoding.TheVariants.{Other};
 ghost use Rattle.drd_order.specs.drd_fields.Equality.{Tells, fields_eq};
-ghost use Rattle.drd_order.specs.drd_fields.EqualityLaws.{data_equiv};
+ghost use Rattle.drd_order.proofs.drd_fields_lemmas.EqualityLaws.{data_equiv};
 ghost use Rattle.drd_order.specs.drd_fields.Fields.{FieldsAt};
-ghost use Rattle.drd_order.specs.drd_fields.Reading.{Stops};
+ghost use Rattle.drd_order.specs.drd_fields.Reading.{StopsReading};
 ghost use Rattle.drd_order.specs.drd_fields.Writing.{EmitsData, RefusesFields, canonical_octets};
 ghost use Rattle.drd_keys.specs.Fields.{smimea_fields, smimea_kinds};
 ghost use Rattle.drd_keys.specs.Print.{smimea_print};
@@ -75,7 +75,7 @@ impl RecordDataDecodable for SMIMEA {
 
     ghost reads = { λ message place smimea end. FieldsAt message place (smimea_fields smimea) end × IsNamedTlsa smimea.0 };
 
-    ghost refuses = { λ message place end e at. Stops message end smimea_kinds place e at };
+    ghost refuses = { λ message place end e at. StopsReading message end smimea_kinds place e at };
 
     fn read_data(
         alloc: Global,
@@ -88,7 +88,7 @@ impl RecordDataDecodable for SMIMEA {
         ensures same { decoder.new.octets ≡ decoder.old.octets }
         ensures forward { decoder.old.index ≤ decoder.new.index }
         ensures within { decoder.new.index ≤ size decoder.new.octets }
-        ensures refused { IfErr result (λ e. Stops decoder.old.octets (decoder.old.index + length) smimea_kinds decoder.old.index e decoder.new.index) }
+        ensures refused { IfErr result (λ e. StopsReading decoder.old.octets (decoder.old.index + length) smimea_kinds decoder.old.index e decoder.new.index) }
         ensures none { IfErr result (λ e. IsWantOfMemory e
             ⊎ ((smimea : SMIMEA) → FieldsAt decoder.old.octets decoder.old.index (smimea_fields smimea) (decoder.old.index + length) → ⊥)) }
     {

@@ -7,8 +7,8 @@ ghost use Rattle.std.specs.Cmp.{partial_equiv_from_equiv};
 ghost use Rattle.drd_order.specs.dnw_encoder.declared.modes.RDataEncoding.TheVariants.{Other};
 ghost use Rattle.drd_order.specs.drd_fields.Fields.{octet, rest, FieldsAt};
 ghost use Rattle.drd_order.specs.drd_fields.Equality.{Tells, fields_eq};
-ghost use Rattle.drd_order.specs.drd_fields.EqualityLaws.{data_equiv};
-ghost use Rattle.drd_order.specs.drd_fields.Reading.{Stops};
+ghost use Rattle.drd_order.proofs.drd_fields_lemmas.EqualityLaws.{data_equiv};
+ghost use Rattle.drd_order.specs.drd_fields.Reading.{StopsReading};
 ghost use Rattle.drd_order.specs.drd_fields.Writing.{EmitsData, RefusesFields, canonical_octets};
 ghost use Rattle.drd_keys.specs.Fields.{sshfp_fields, sshfp_kinds};
 ghost use Rattle.drd_keys.specs.Print.{sshfp_print};
@@ -212,7 +212,7 @@ impl RecordDataDecodable for SSHFP {
 
     ghost reads = { λ message place sshfp end. FieldsAt message place (sshfp_fields sshfp) end × IsNamedSshfp sshfp };
 
-    ghost refuses = { λ message place end e at. Stops message end sshfp_kinds place e at };
+    ghost refuses = { λ message place end e at. StopsReading message end sshfp_kinds place e at };
 
     fn read_data(
         alloc: Global,
@@ -225,7 +225,7 @@ impl RecordDataDecodable for SSHFP {
         ensures same { decoder.new.octets ≡ decoder.old.octets }
         ensures forward { decoder.old.index ≤ decoder.new.index }
         ensures within { decoder.new.index ≤ size decoder.new.octets }
-        ensures refused { IfErr result (λ e. Stops decoder.old.octets (decoder.old.index + length) sshfp_kinds decoder.old.index e decoder.new.index) }
+        ensures refused { IfErr result (λ e. StopsReading decoder.old.octets (decoder.old.index + length) sshfp_kinds decoder.old.index e decoder.new.index) }
         ensures none { IfErr result (λ e. IsWantOfMemory e
             ⊎ ((sshfp : SSHFP) → FieldsAt decoder.old.octets decoder.old.index (sshfp_fields sshfp) (decoder.old.index + length) → ⊥)) }
     {

@@ -7,8 +7,8 @@ ghost use Rattle.std.specs.Cmp.{partial_equiv_from_equiv};
 ghost use Rattle.drd_order.specs.dnw_encoder.declared.modes.RDataEncoding.TheVariants.{Other};
 ghost use Rattle.drd_order.specs.drd_fields.Fields.{octet, rest, FieldsAt};
 ghost use Rattle.drd_order.specs.drd_fields.Equality.{Tells, fields_eq};
-ghost use Rattle.drd_order.specs.drd_fields.EqualityLaws.{data_equiv};
-ghost use Rattle.drd_order.specs.drd_fields.Reading.{Stops};
+ghost use Rattle.drd_order.proofs.drd_fields_lemmas.EqualityLaws.{data_equiv};
+ghost use Rattle.drd_order.specs.drd_fields.Reading.{StopsReading};
 ghost use Rattle.drd_order.specs.drd_fields.Writing.{EmitsData, RefusesFields, canonical_octets};
 ghost use Rattle.drd_keys.specs.Fields.{tlsa_fields, tlsa_kinds};
 ghost use Rattle.drd_keys.specs.Print.{tlsa_print};
@@ -284,7 +284,7 @@ impl RecordDataDecodable for TLSA {
 
     ghost reads = { λ message place tlsa end. FieldsAt message place (tlsa_fields tlsa) end × IsNamedTlsa tlsa };
 
-    ghost refuses = { λ message place end e at. Stops message end tlsa_kinds place e at };
+    ghost refuses = { λ message place end e at. StopsReading message end tlsa_kinds place e at };
 
     fn read_data(
         alloc: Global,
@@ -297,7 +297,7 @@ impl RecordDataDecodable for TLSA {
         ensures same { decoder.new.octets ≡ decoder.old.octets }
         ensures forward { decoder.old.index ≤ decoder.new.index }
         ensures within { decoder.new.index ≤ size decoder.new.octets }
-        ensures refused { IfErr result (λ e. Stops decoder.old.octets (decoder.old.index + length) tlsa_kinds decoder.old.index e decoder.new.index) }
+        ensures refused { IfErr result (λ e. StopsReading decoder.old.octets (decoder.old.index + length) tlsa_kinds decoder.old.index e decoder.new.index) }
         ensures none { IfErr result (λ e. IsWantOfMemory e
             ⊎ ((tlsa : TLSA) → FieldsAt decoder.old.octets decoder.old.index (tlsa_fields tlsa) (decoder.old.index + length) → ⊥)) }
     {

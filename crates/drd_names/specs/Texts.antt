@@ -2,6 +2,7 @@
 use Rattle.std.specs.Prelude.{ℕ, List, [], ◌∷◌, ◌++◌, Option}
 use Rattle.std.specs.Fmt.{decimal, signed_decimal}
 use Rattle.std.specs.List.{flat_map}
+use Rattle.drd_words.specs.dnw_codes.Ascii.{space}
 use Rattle.drd_words.specs.dnw_name.DomainName.{DomainName}
 use Rattle.drd_words.specs.dnw_name.NamePrint.{name_print}
 use Rattle.drd_words.specs.Word.{IsNumberWord, IsTtlWord, IsIntervalWord, IsNameWord}
@@ -42,32 +43,44 @@ IsMxText words origin mx =
 -- RFC 2782: priority, weight, port and target.
 abbrev pub IsSrvText : List (List ℕ) → Option DomainName → SRV → Type 0
 IsSrvText words origin srv =
-    OneThen (IsNumberWord 16 srv.priority) (OneThen (IsNumberWord 16 srv.weight) (OneThen (IsNumberWord 16 srv.port) (OneThen (IsNameWord origin srv.target) NoWords))) words
+    OneThen (IsNumberWord 16 srv.priority)
+    (OneThen (IsNumberWord 16 srv.weight)
+    (OneThen (IsNumberWord 16 srv.port) (OneThen (IsNameWord origin srv.target) NoWords))) words
 
--- RFC 1035 3.3.13: the primary server, the mailbox, the serial number and four intervals, each a time to live. Three of
--- the intervals are held as signed numbers and have at most 31 bits.
+-- RFC 1035 3.3.13: the primary server, the mailbox, the serial number and four intervals, each a
+-- time to live. Three of the intervals are held as signed numbers and have at most 31 bits.
 abbrev pub IsSoaText : List (List ℕ) → Option DomainName → SOA → Type 0
 IsSoaText words origin soa =
-    OneThen (IsNameWord origin soa.mname) (OneThen (IsNameWord origin soa.rname) (OneThen (IsNumberWord 32 soa.serial) (OneThen (IsIntervalWord soa.refresh) (OneThen (IsIntervalWord soa.retry) (OneThen (IsIntervalWord soa.expire) (OneThen (IsTtlWord soa.minimum) NoWords)))))) words
+    OneThen (IsNameWord origin soa.mname)
+    (OneThen (IsNameWord origin soa.rname)
+    (OneThen (IsNumberWord 32 soa.serial)
+    (OneThen (IsIntervalWord soa.refresh)
+    (OneThen (IsIntervalWord soa.retry)
+    (OneThen (IsIntervalWord soa.expire) (OneThen (IsTtlWord soa.minimum) NoWords)))))) words
 
 -- Printed words, one space apart.
-abbrev pub spaced : List (List ℕ) → List ℕ
-spaced [] = []
-spaced (word ∷ words) = word ++ flat_map (λ later. 32 ∷ later) words
+abbrev pub spaces_between : List (List ℕ) → List ℕ
+spaces_between [] = []
+spaces_between (word ∷ words) = word ++ flat_map (λ later. space ∷ later) words
 
 -- RFC 1035 3.3.9.
 abbrev pub mx_print : MX → List ℕ
-mx_print mx = spaced (decimal mx.preference ∷ name_print mx.exchange ∷ [])
+mx_print mx = spaces_between (decimal mx.preference ∷ name_print mx.exchange ∷ [])
 
 -- RFC 2782.
 abbrev pub srv_print : SRV → List ℕ
-srv_print srv = spaced (decimal srv.priority ∷ decimal srv.weight ∷ decimal srv.port ∷ name_print srv.target ∷ [])
+srv_print srv =
+    spaces_between
+    (decimal srv.priority ∷ decimal srv.weight ∷ decimal srv.port ∷ name_print srv.target ∷ [])
 
 -- The serial number and the four intervals, in decimal digits.
 abbrev pub numbers_print : SOA → List ℕ
 numbers_print soa =
-    spaced (decimal soa.serial ∷ signed_decimal soa.refresh ∷ signed_decimal soa.retry ∷ signed_decimal soa.expire ∷ decimal soa.minimum ∷ [])
+    spaces_between
+    (decimal soa.serial ∷ signed_decimal soa.refresh ∷ signed_decimal soa.retry
+    ∷ signed_decimal soa.expire ∷ decimal soa.minimum ∷ [])
 
 -- RFC 1035 3.3.13: the two names, and the numbers.
 abbrev pub soa_print : SOA → List ℕ
-soa_print soa = name_print soa.mname ++ (32 ∷ name_print soa.rname) ++ (32 ∷ numbers_print soa)
+soa_print soa =
+    name_print soa.mname ++ (space ∷ name_print soa.rname) ++ (space ∷ numbers_print soa)

@@ -5,9 +5,9 @@ ghost use Rattle.std.specs.Option.{option_copied};
 ghost use Rattle.std.specs.Cmp.{partial_equiv_from_equiv};
 ghost use Rattle.drd_order.specs.dnw_encoder.declared.modes.RDataEncoding.TheVariants.{StandardRecord};
 ghost use Rattle.drd_order.specs.drd_fields.Fields.{short, name, FieldsAt};
-ghost use Rattle.drd_order.specs.drd_fields.Reading.{Misses, Stops};
+ghost use Rattle.drd_order.specs.drd_fields.Reading.{RefusesWindow, StopsReading};
 ghost use Rattle.drd_order.specs.drd_fields.Equality.{AreFull, Tells, fields_eq};
-ghost use Rattle.drd_order.specs.drd_fields.EqualityLaws.{data_equiv};
+ghost use Rattle.drd_order.proofs.drd_fields_lemmas.EqualityLaws.{data_equiv};
 ghost use Rattle.drd_order.specs.drd_fields.Writing.{EmitsData, RefusesFields, canonical_octets};
 ghost use Rattle.drd_names.specs.Fields.{mx_fields, mx_kinds};
 ghost use Rattle.drd_names.specs.Texts.{mx_print, IsMxText};
@@ -73,7 +73,7 @@ impl MX {
 impl BinDecodable for MX {
     ghost reads = { λ message place mx end. FieldsAt message place (mx_fields mx) end };
 
-    ghost refuses = { λ message place e. (end at : ℕ) × Stops message end mx_kinds place e at };
+    ghost refuses = { λ message place e. (end at : ℕ) × StopsReading message end mx_kinds place e at };
 
     fn read(alloc: Global, decoder: &mut BinDecoder<'_>) -> Result<MX, DecodeError> {
         let (preference, (exchange, ())) = read_data(alloc, decoder)?;
@@ -84,7 +84,7 @@ impl BinDecodable for MX {
 impl RecordDataDecodable for MX {
     ghost reads = { λ message place mx end. FieldsAt message place (mx_fields mx) end };
 
-    ghost refuses = { λ message place end e at. Misses message end mx_kinds place e at };
+    ghost refuses = { λ message place end e at. RefusesWindow message end mx_kinds place e at };
 
     fn read_data(
         alloc: Global,

@@ -6,9 +6,9 @@ ghost use Rattle.std.specs.Cmp.{partial_equiv_from_equiv};
 ghost use Rattle.drd_order.specs.dnw_encoder.declared.modes.RDataEncoding.TheVariants.{StandardRecord};
 ghost use Rattle.drd_words.specs.dnw_name.NamePrint.{name_print};
 ghost use Rattle.drd_order.specs.drd_fields.Fields.{name, FieldsAt};
-ghost use Rattle.drd_order.specs.drd_fields.Reading.{Misses, Stops};
+ghost use Rattle.drd_order.specs.drd_fields.Reading.{RefusesWindow, StopsReading};
 ghost use Rattle.drd_order.specs.drd_fields.Equality.{AreFull, Tells, fields_eq};
-ghost use Rattle.drd_order.specs.drd_fields.EqualityLaws.{data_equiv};
+ghost use Rattle.drd_order.proofs.drd_fields_lemmas.EqualityLaws.{data_equiv};
 ghost use Rattle.drd_order.specs.drd_fields.Writing.{EmitsData, RefusesFields, canonical_octets};
 ghost use Rattle.drd_names.specs.Fields.{ns_fields, one_name};
 ghost use Rattle.drd_names.specs.Texts.{IsNsText};
@@ -72,7 +72,7 @@ impl Deref for NS {
 impl BinDecodable for NS {
     ghost reads = { λ message place ns end. FieldsAt message place (ns_fields ns) end };
 
-    ghost refuses = { λ message place e. (end at : ℕ) × Stops message end one_name place e at };
+    ghost refuses = { λ message place e. (end at : ℕ) × StopsReading message end one_name place e at };
 
     fn read(alloc: Global, decoder: &mut BinDecoder<'_>) -> Result<NS, DecodeError> {
         let (name, ()) = read_data(alloc, decoder)?;
@@ -83,7 +83,7 @@ impl BinDecodable for NS {
 impl RecordDataDecodable for NS {
     ghost reads = { λ message place ns end. FieldsAt message place (ns_fields ns) end };
 
-    ghost refuses = { λ message place end e at. Misses message end one_name place e at };
+    ghost refuses = { λ message place end e at. RefusesWindow message end one_name place e at };
 
     fn read_data(
         alloc: Global,

@@ -5,7 +5,7 @@ ghost use Rattle.std.specs.Cmp.{po};
 ghost use Rattle.drd_order.specs.drd_fields.Equality.{AreFull};
 ghost use Rattle.drd_order.specs.drd_fields.Writing.{canonical_octets};
 ghost use Rattle.drd_order.specs.Order.{Orders, fields_cmp, fields_input};
-ghost use Rattle.drd_order.specs.OrderLaws.{data_total, data_ties, fields-alike};
+ghost use Rattle.drd_order.proofs.OrderLaws.{data_total, data_ties, fields-alike};
 ghost use Rattle.drd_names.specs.Fields.{aname_fields, cname_fields, mx_fields, ns_fields, ptr_fields, soa_fields, srv_fields};
 
 use crate::{ANAME, CNAME, MX, NS, PTR, SOA, SRV};

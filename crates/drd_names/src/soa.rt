@@ -7,9 +7,9 @@ ghost use Rattle.std.specs.Option.{option_copied};
 ghost use Rattle.std.specs.Cmp.{partial_equiv_from_equiv};
 ghost use Rattle.drd_order.specs.dnw_encoder.declared.modes.RDataEncoding.TheVariants.{StandardRecord};
 ghost use Rattle.drd_order.specs.drd_fields.Fields.{long, name, FieldsAt};
-ghost use Rattle.drd_order.specs.drd_fields.Reading.{Misses, Stops};
+ghost use Rattle.drd_order.specs.drd_fields.Reading.{RefusesWindow, StopsReading};
 ghost use Rattle.drd_order.specs.drd_fields.Equality.{AreFull, Tells, fields_eq};
-ghost use Rattle.drd_order.specs.drd_fields.EqualityLaws.{data_equiv};
+ghost use Rattle.drd_order.proofs.drd_fields_lemmas.EqualityLaws.{data_equiv};
 ghost use Rattle.drd_order.specs.drd_fields.Writing.{EmitsData, RefusesFields, canonical_octets};
 ghost use Rattle.drd_names.specs.Fields.{soa_fields, soa_kinds};
 ghost use Rattle.drd_names.specs.Serials.{next_serial};
@@ -151,7 +151,7 @@ impl SOA {
 impl BinDecodable for SOA {
     ghost reads = { λ message place soa end. FieldsAt message place (soa_fields soa) end };
 
-    ghost refuses = { λ message place e. (end at : ℕ) × Stops message end soa_kinds place e at };
+    ghost refuses = { λ message place e. (end at : ℕ) × StopsReading message end soa_kinds place e at };
 
     fn read(alloc: Global, decoder: &mut BinDecoder<'_>) -> Result<SOA, DecodeError> {
         let (mname, (rname, (serial, (refresh, (retry, (expire, (minimum, ()))))))) = read_data(
@@ -164,7 +164,7 @@ impl BinDecodable for SOA {
 impl RecordDataDecodable for SOA {
     ghost reads = { λ message place soa end. FieldsAt message place (soa_fields soa) end };
 
-    ghost refuses = { λ message place end e at. Misses message end soa_kinds place e at };
+    ghost refuses = { λ message place end e at. RefusesWindow message end soa_kinds place e at };
 
     fn read_data(
         alloc: Global,

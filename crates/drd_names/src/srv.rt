@@ -5,9 +5,9 @@ ghost use Rattle.std.specs.Option.{option_copied};
 ghost use Rattle.std.specs.Cmp.{partial_equiv_from_equiv};
 ghost use Rattle.drd_order.specs.dnw_encoder.declared.modes.RDataEncoding.TheVariants.{Canonical};
 ghost use Rattle.drd_order.specs.drd_fields.Fields.{short, name, FieldsAt};
-ghost use Rattle.drd_order.specs.drd_fields.Reading.{Misses, Stops};
+ghost use Rattle.drd_order.specs.drd_fields.Reading.{RefusesWindow, StopsReading};
 ghost use Rattle.drd_order.specs.drd_fields.Equality.{AreFull, Tells, fields_eq};
-ghost use Rattle.drd_order.specs.drd_fields.EqualityLaws.{data_equiv};
+ghost use Rattle.drd_order.proofs.drd_fields_lemmas.EqualityLaws.{data_equiv};
 ghost use Rattle.drd_order.specs.drd_fields.Writing.{EmitsData, RefusesFields, canonical_octets};
 ghost use Rattle.drd_names.specs.Fields.{srv_fields, srv_kinds};
 ghost use Rattle.drd_names.specs.Texts.{srv_print, IsSrvText};
@@ -85,7 +85,7 @@ impl SRV {
 impl BinDecodable for SRV {
     ghost reads = { λ message place srv end. FieldsAt message place (srv_fields srv) end };
 
-    ghost refuses = { λ message place e. (end at : ℕ) × Stops message end srv_kinds place e at };
+    ghost refuses = { λ message place e. (end at : ℕ) × StopsReading message end srv_kinds place e at };
 
     fn read(alloc: Global, decoder: &mut BinDecoder<'_>) -> Result<SRV, DecodeError> {
         let (priority, (weight, (port, (target, ())))) = read_data(alloc, decoder)?;
@@ -96,7 +96,7 @@ impl BinDecodable for SRV {
 impl RecordDataDecodable for SRV {
     ghost reads = { λ message place srv end. FieldsAt message place (srv_fields srv) end };
 
-    ghost refuses = { λ message place end e at. Misses message end srv_kinds place e at };
+    ghost refuses = { λ message place end e at. RefusesWindow message end srv_kinds place e at };
 
     fn read_data(
         alloc: Global,

@@ -1,2 +1,8 @@
+pub mod BackLaws
+pub mod FitLaws
+pub mod OnceLaws
+pub mod ReadingLaws
 pub mod OrderLemmas
 pub mod WriteLemmas
+pub mod drd_fields_lemmas
+pub mod drd_order_lemmas

@@ -10,7 +10,7 @@ use Rattle.std.specs.declared.cmp.Ordering.TheVariants.{Less, Equal, Greater}
 use Rattle.drd_opt.specs.Entries.{Entry, RawOption, raw_of}
 use Rattle.drd_opt.specs.Equality.{same_raw}
 use Rattle.drd_opt.specs.EqualityLaws.{raw_same}
-use Rattle.drd_opt.specs.Order.{raw_cmp, is_lower, IsMore, IsLeastMore}
+use Rattle.drd_opt.specs.Order.{raw_cmp, is_below, IsMore, IsLeastMore}
 use Rattle.drd_opt.specs.OrderLaws.{raw_ranks}
 use Rattle.drd_opt.specs.SortedLaws.{Leads, HasNoMore, count_cons}
 
@@ -63,7 +63,7 @@ itself_not_above x = no_lower x x (by (raw_cmp x x) (raw_ranks.total.antisymm x 
     by Equal e = refl
     by Greater e = refl
 
-pub lower_leads : (done xs ys : List RawOption) (x : RawOption) (o : Option RawOption) → is_lower x o ≡ true → IsMore xs ys x → IsLeastMore done xs ys o → IsLeastMore (done ++ x ∷ []) xs ys (Some x)
+pub lower_leads : (done xs ys : List RawOption) (x : RawOption) (o : Option RawOption) → is_below x o ≡ true → IsMore xs ys x → IsLeastMore done xs ys o → IsLeastMore (done ++ x ∷ []) xs ys (Some x)
 lower_leads done xs ys x None lower more least = (
   more,
   λ y there is. elim (in_more y x done there) [
@@ -79,7 +79,7 @@ lower_leads done xs ys x (Some z) lower more least = (
   ],
 )
 
-pub higher_stays : (done xs ys : List RawOption) (x : RawOption) (o : Option RawOption) → is_lower x o ≡ false → IsLeastMore done xs ys o → IsLeastMore (done ++ x ∷ []) xs ys o
+pub higher_stays : (done xs ys : List RawOption) (x : RawOption) (o : Option RawOption) → is_below x o ≡ false → IsLeastMore done xs ys o → IsLeastMore (done ++ x ∷ []) xs ys o
 higher_stays done xs ys x None lower least = absurd (cc lower)
 higher_stays done xs ys x (Some z) lower least = (
   least.0,

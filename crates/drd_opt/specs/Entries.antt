@@ -19,14 +19,14 @@ pub record RawOption : Type 0 where
   pub code : ℕ
   pub octets : List ℕ
 
-abbrev pub raw : ℕ → List ℕ → RawOption
-raw code octets = record { code = code; octets = octets }
+abbrev pub raw_option : ℕ → List ℕ → RawOption
+raw_option code octets = record { code = code; octets = octets }
 
 abbrev pub raw_of : Entry → RawOption
-raw_of entry = raw (edns_code_number entry.0) (option_octets entry.1)
+raw_of entry = raw_option (edns_code_number entry.0) (option_octets entry.1)
 
 -- 16 bits hold the code and the number of octets.
-pub record Fits (option : RawOption) : Type 0 where
+pub record FitsLengths (option : RawOption) : Type 0 where
   pub code : option.code < 2 ^ 16
   pub octets : length option.octets < 2 ^ 16
 
@@ -35,11 +35,11 @@ abbrev pub raw_octets : RawOption → List ℕ
 raw_octets option = octets_16 option.code ++ octets_16 (length option.octets) ++ option.octets
 
 -- Options one behind the other.
-abbrev pub joined : List RawOption → List ℕ
-joined raws = flat_map raw_octets raws
+abbrev pub options_octets : List RawOption → List ℕ
+options_octets raws = flat_map raw_octets raws
 
 abbrev pub entries_octets : List Entry → List ℕ
-entries_octets entries = joined (map raw_of entries)
+entries_octets entries = options_octets (map raw_of entries)
 
 -- Some option has more octets than 16 bits can count.
 abbrev pub HasLong : List Entry → ProtoError → Type 0
@@ -64,9 +64,11 @@ entries_without code entries = filter (λ entry. not (has_code code entry)) entr
 
 -- A code in decimal, a colon, and octets in hex.
 abbrev pub entry_print : Entry → List ℕ
-entry_print entry = decimal (edns_code_number entry.0) ++ codes ":" ++ encode_lower (option_octets entry.1)
+entry_print entry =
+    decimal (edns_code_number entry.0) ++ codes ":" ++ encode_lower (option_octets entry.1)
 
 -- The entries, one space apart.
 abbrev pub entries_print : List Entry → List ℕ
 entries_print [] = []
-entries_print (entry ∷ later) = entry_print entry ++ flat_map (λ next. codes " " ++ entry_print next) later
+entries_print (entry ∷ later) =
+    entry_print entry ++ flat_map (λ next. codes " " ++ entry_print next) later

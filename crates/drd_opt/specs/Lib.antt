@@ -1,14 +1,10 @@
-pub mod BackLaws
 pub mod Entries
 pub mod Equality
 pub mod EqualityLaws
-pub mod FitLaws
 pub mod Lending
-pub mod OnceLaws
 pub mod Order
 pub mod OrderLaws
 pub mod Reading
-pub mod ReadingLaws
 pub mod SortedLaws
 pub use Rattle.drd_option.specs.drd_fields
 pub mod drd_option

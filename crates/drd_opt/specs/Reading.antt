@@ -8,7 +8,7 @@ use Rattle.drd_option.specs.dnw_decoder.Octets.{number_16, Stands}
 use Rattle.drd_option.specs.dnw_decoder.Reading.{IsWantOfMemory}
 use Rattle.drd_option.specs.Codes.{edns_code_number}
 use Rattle.drd_option.specs.Options.{IsOptionOf}
-use Rattle.drd_opt.specs.Entries.{Entry, RawOption, Fits, joined}
+use Rattle.drd_opt.specs.Entries.{Entry, RawOption, FitsLengths, options_octets}
 
 -- An entry is the option of a code and octets, under that code.
 pub record IsEntryOf (written : RawOption) (entry : Entry) : Type 0 where
@@ -32,16 +32,16 @@ EndsInside left = (length left ≡ 1) ⊎ (length left ≡ 3)
 -- Options that fill the octets, and the entries of all of them.
 pub record HoldsAll (octets : List ℕ) (entries : List Entry) : Type 0 where
   pub raws : List RawOption
-  pub fit : All Fits raws
-  pub whole : octets ≡ joined raws
+  pub fit : All FitsLengths raws
+  pub whole : octets ≡ options_octets raws
   pub entries_of : AreEntriesOf raws entries
 
 -- Options, and octets behind them that break off: there are no entries.
 pub record HoldsNone (octets : List ℕ) (entries : List Entry) : Type 0 where
   pub raws : List RawOption
   pub left : List ℕ
-  pub fit : All Fits raws
-  pub whole : octets ≡ joined raws ++ left
+  pub fit : All FitsLengths raws
+  pub whole : octets ≡ options_octets raws ++ left
   pub breaks : BreaksOff left
   pub none : entries ≡ []
 
@@ -49,8 +49,8 @@ pub record HoldsNone (octets : List ℕ) (entries : List Entry) : Type 0 where
 pub record IsRefused (octets : List ℕ) : Type 0 where
   pub raws : List RawOption
   pub left : List ℕ
-  pub fit : All Fits raws
-  pub whole : octets ≡ joined raws ++ left
+  pub fit : All FitsLengths raws
+  pub whole : octets ≡ options_octets raws ++ left
   pub inside : EndsInside left
 
 abbrev pub HoldsEntries : List ℕ → List Entry → Type 0
@@ -59,8 +59,8 @@ HoldsEntries octets entries = HoldsAll octets entries ⊎ HoldsNone octets entri
 -- The options up to an index of some octets, and their entries.
 pub record HasRead (octets : List ℕ) (index : ℕ) (entries : List Entry) : Type 0 where
   pub raws : List RawOption
-  pub fit : All Fits raws
-  pub there : Stands octets 0 (joined raws) index
+  pub fit : All FitsLengths raws
+  pub there : Stands octets 0 (options_octets raws) index
   pub entries_of : AreEntriesOf raws entries
 
 -- Data that hold entries stand in a message from a place to an end.
@@ -72,8 +72,10 @@ pub record EntriesAt (message : List ℕ) (place : ℕ) (entries : List Entry) (
 -- The data are cut, or end inside a number.
 pub record LacksData (message : List ℕ) (place end : ℕ) (e : DecodeError) : Type 0 where
   pub cause : e ≡ InsufficientBytes
-  pub short : (length message < end) ⊎ ((octets : List ℕ) × Stands message place octets end × IsRefused octets)
+  pub short : (length message < end)
+      ⊎ ((octets : List ℕ) × Stands message place octets end × IsRefused octets)
 
 -- Why no data can be read from a place to an end; the decoder stays.
 abbrev pub RefusesEntries : List ℕ → ℕ → ℕ → DecodeError → ℕ → Type 0
-RefusesEntries message place end e at = (IsWantOfMemory e ⊎ LacksData message place end e) × (at ≡ place)
+RefusesEntries message place end e at =
+    (IsWantOfMemory e ⊎ LacksData message place end e) × (at ≡ place)

@@ -2,7 +2,7 @@
 ghost use Rattle.std.specs.Prelude.{◌≡◌, ◌≤◌, ◌⊎◌, length, IfErr, OnOk};
 ghost use Rattle.std.specs.Fmt.{WritesOnOk};
 ghost use Rattle.drd_option.specs.dnw_encoder.Encoders.{state};
-ghost use Rattle.drd_option.specs.dnw_encoder.Effects.{Writes, Puts, IsRefusal};
+ghost use Rattle.drd_option.specs.dnw_encoder.Effects.{Writes, WritesOctets, IsRefusal};
 ghost use Rattle.drd_option.specs.Options.{option_octets, IsLong};
 ghost use Rattle.drd_opt.specs.Entries.{raw_of, raw_octets, entry_print};
 
@@ -16,7 +16,7 @@ pub(crate) fn emit_entry(
 ) -> Result<(), ProtoError>
     ensures same_reference { encoder.new.buffer.ghost_name ≡ encoder.old.buffer.ghost_name }
     ensures writes { Writes (state encoder.old) (state encoder.new) }
-    ensures ok { OnOk result (Puts (raw_octets (raw_of entry.now)) (state encoder.old) (state encoder.new)) }
+    ensures ok { OnOk result (WritesOctets (raw_octets (raw_of entry.now)) (state encoder.old) (state encoder.new)) }
     ensures fits { OnOk result ((state encoder.new).offset ≤ (state encoder.old).maximum) }
     ensures few { OnOk result (length (option_octets entry.now.1) ≤ 65535) }
     ensures cause { IfErr result (λ e. IsRefusal (state encoder.old) (length (raw_octets (raw_of entry.now))) e

@@ -2,7 +2,7 @@
 ghost use Rattle.std.specs.Prelude.{◌≡◌, ◌==◌, ◌%◌, ◌^◌, map};
 ghost use Rattle.std.specs.List.{count_by, list_all, sum_by};
 ghost use Rattle.drd_opt.specs.Entries.{raw_of};
-ghost use Rattle.drd_opt.specs.Equality.{same_entries, same_raw, weight};
+ghost use Rattle.drd_opt.specs.Equality.{same_entries, same_raw, hash_number};
 
 use drd_option::{EdnsCode, EdnsOption};
 use std::hash::{FoldHasher, Hash, Hasher};
@@ -39,7 +39,10 @@ pub(crate) fn are_same(
 
 // Whether each of these is as often in the others.
 fn all_as_often(entries: &[(EdnsCode, EdnsOption)], others: &[(EdnsCode, EdnsOption)]) -> bool
-    ensures { result ≡ list_all (λ x. count_by (same_raw x) (map raw_of entries.now) == count_by (same_raw x) (map raw_of others.now)) (map raw_of entries.now) }
+    ensures { result
+        ≡ list_all
+        (λ x. count_by (same_raw x) (map raw_of entries.now) == count_by (same_raw x) (map raw_of others.now))
+        (map raw_of entries.now) }
 {
     'entries: for entry in entries {
         if count_of(entry, entries) != count_of(entry, others) {
@@ -51,7 +54,7 @@ fn all_as_often(entries: &[(EdnsCode, EdnsOption)], others: &[(EdnsCode, EdnsOpt
 
 // A number made of an option's code and octets.
 fn weight_of(entry: &(EdnsCode, EdnsOption)) -> u64
-    ensures { result ≡ weight (raw_of entry.now) }
+    ensures { result ≡ hash_number (raw_of entry.now) }
 {
     let mut hasher = FoldHasher::default();
     entry.0.hash(&mut hasher);
@@ -61,7 +64,7 @@ fn weight_of(entry: &(EdnsCode, EdnsOption)) -> u64
 
 // The sum of these numbers, which wraps.
 pub(crate) fn sum_of_weights(entries: &[(EdnsCode, EdnsOption)]) -> u64
-    ensures { result ≡ sum_by weight (map raw_of entries.now) % 2 ^ 64 }
+    ensures { result ≡ sum_by hash_number (map raw_of entries.now) % 2 ^ 64 }
 {
     let mut sum: u64 = 0;
     'entries: for entry in entries {

@@ -9,7 +9,7 @@ ghost use Rattle.drd_option.specs.drd_fields.Fields.{rest};
 ghost use Rattle.drd_option.specs.drd_fields.Writing.{EmitsData, RefusesFields};
 ghost use Rattle.drd_option.specs.Codes.{edns_code_number};
 ghost use Rattle.drd_option.specs.Options.{option_code, option_octets};
-ghost use Rattle.drd_opt.specs.Entries.{Entry, entries_octets, entries_print, entries_without, options_of, raw_of, AreCountable, Fits, HasLong};
+ghost use Rattle.drd_opt.specs.Entries.{Entry, entries_octets, entries_print, entries_without, options_of, raw_of, AreCountable, FitsLengths, HasLong};
 ghost use Rattle.drd_opt.specs.Equality.{same_entries, entries_input};
 ghost use Rattle.drd_opt.specs.EqualityLaws.{entries_equiv, entries_fed};
 ghost use Rattle.drd_opt.specs.Lending.{LendsOptions};
@@ -179,7 +179,7 @@ impl Ord for OPT {
     /// order.
     fn cmp(&self, other: &OPT) -> Ordering
         ensures value { result ≡ entries_cmp self.now.options.items other.now.options.items }
-        ensures canonical { All Fits (map raw_of self.now.options.items) → All Fits (map raw_of other.now.options.items)
+        ensures canonical { All FitsLengths (map raw_of self.now.options.items) → All FitsLengths (map raw_of other.now.options.items)
             → result ≡ octets_cmp (canonical_entries self.now.options.items) (canonical_entries other.now.options.items) }
         ensures read { (octets other_octets : List ℕ)
             → HoldsEntries octets self.now.options.items → HoldsEntries other_octets other.now.options.items

@@ -5,7 +5,7 @@ ghost use Rattle.std.specs.List.{list_any};
 ghost use Rattle.std.specs.Ordering.{is_lt};
 ghost use Rattle.drd_opt.specs.Entries.{Entry, raw_of};
 ghost use Rattle.drd_opt.specs.Equality.{same_raw};
-ghost use Rattle.drd_opt.specs.Order.{raw_cmp, entries_cmp, is_lower, IsLeastMore};
+ghost use Rattle.drd_opt.specs.Order.{raw_cmp, entries_cmp, is_below, IsLeastMore};
 
 use crate::equality::{count_of, is_same};
 use drd_option::{EdnsCode, EdnsOption};
@@ -58,7 +58,7 @@ fn common_front(entries: &[(EdnsCode, EdnsOption)], others: &[(EdnsCode, EdnsOpt
 
 // Whether an option stands before another, if there is one.
 fn is_lower(entry: &(EdnsCode, EdnsOption), least: Option<&(EdnsCode, EdnsOption)>) -> bool
-    ensures { result ≡ is_lower (raw_of entry.now) (option_map (λ other. raw_of other.now) least.entry) }
+    ensures { result ≡ is_below (raw_of entry.now) (option_map (λ other. raw_of other.now) least.entry) }
 {
     match least {
         Some(least) => is_below(entry, least),

@@ -3,7 +3,7 @@ ghost use Rattle.std.specs.Prelude.{◌≡◌, ◌+◌, ◌<◌, ◌≤◌, ◌�
 ghost use Rattle.drd_option.specs.dnw_codes.declared.error.DecodeError.TheVariants.{InsufficientBytes};
 ghost use Rattle.drd_option.specs.dnw_decoder.Octets.{Stands};
 ghost use Rattle.drd_option.specs.dnw_decoder.Reading.{IsWantOfMemory};
-ghost use Rattle.drd_opt.specs.Entries.{Entry, RawOption, Fits, raw, raw_octets};
+ghost use Rattle.drd_opt.specs.Entries.{Entry, RawOption, FitsLengths, raw_option, raw_octets};
 ghost use Rattle.drd_opt.specs.Reading.{HoldsEntries, IsEntryOf, IsRefused, EntriesAt, RefusesEntries, BreaksOff, EndsInside};
 
 use drd_option::{BinDecoder, DecodeError, EdnsCode, EdnsOption, ProtoError};
@@ -13,8 +13,8 @@ use std::alloc::Global;
 fn read_raw<'a>(decoder: &mut BinDecoder<'a>) -> Result<Option<(u16, &'a [u8])>, DecodeError>
     requires { decoder.old.index < length decoder.old.octets }
     ensures some { IfOk result (λ found. MatchOption found (BreaksOff (drop decoder.old.index decoder.old.octets))
-        (λ option. Stands decoder.old.octets decoder.old.index (raw_octets (raw option.0 option.1.now)) decoder.new.index
-        × Fits (raw option.0 option.1.now))) }
+        (λ option. Stands decoder.old.octets decoder.old.index (raw_octets (raw_option option.0 option.1.now)) decoder.new.index
+        × FitsLengths (raw_option option.0 option.1.now))) }
     ensures same { decoder.new.octets ≡ decoder.old.octets }
     ensures forward { IfOk result (λ found. MatchOption found (decoder.old.index ≤ decoder.new.index) (λ option. decoder.old.index < decoder.new.index)) }
     ensures cause { IfErr result (λ e. (e ≡ InsufficientBytes) × EndsInside (drop decoder.old.index decoder.old.octets)) }
@@ -39,7 +39,7 @@ fn read_raw<'a>(decoder: &mut BinDecoder<'a>) -> Result<Option<(u16, &'a [u8])>,
 // The option of a code and octets, under the code.
 fn entry_of(alloc: Global, code: u16, octets: &[u8]) -> Result<(EdnsCode, EdnsOption), DecodeError>
     requires { length octets.now < 65536 }
-    ensures ok { IfOk result (IsEntryOf (raw code octets.now)) }
+    ensures ok { IfOk result (IsEntryOf (raw_option code octets.now)) }
     ensures refused { IfErr result IsWantOfMemory }
 {
     let code = EdnsCode::from(code);

@@ -9,7 +9,7 @@ use Rattle.std.specs.declared.net.ip_addr.IpAddr.TheVariants.{V4, V6}
 use Rattle.drd_fields.specs.dnw_codes.declared.error.DecodeError.{DecodeError}
 use Rattle.drd_fields.specs.dnw_decoder.Octets.{Stands}
 use Rattle.drd_fields.specs.dnw_decoder.Reading.{IsCut}
-use Rattle.drd_fields.specs.dnw_decoder.Standing.{stands_same, stands_within, cut_none}
+use Rattle.drd_fields.proofs.dnw_decoder_lemmas.Standing.{stands_same, stands_within, cut_none}
 use Rattle.drd_option.specs.Subnets.{family_of, address_size, prefix_octets, subnet_head, AddressAt, SubnetAt, RefusesAddress}
 use Rattle.drd_option.specs.declared.subnet.ClientSubnet.{ClientSubnet}
 

@@ -25,7 +25,8 @@ edns_code_number (Unknown number) = number
 -- The codes that have a name, by rising number.
 abbrev pub named_edns_codes : List EdnsCode
 named_edns_codes =
-    Zero ∷ LLQ ∷ UL ∷ NSID ∷ DAU ∷ DHU ∷ N3U ∷ Subnet ∷ Expire ∷ Cookie ∷ Keepalive ∷ Padding ∷ Chain ∷ []
+    Zero ∷ LLQ ∷ UL ∷ NSID ∷ DAU ∷ DHU ∷ N3U ∷ Subnet ∷ Expire ∷ Cookie ∷ Keepalive ∷ Padding
+    ∷ Chain ∷ []
 
 -- The code that a number stands for.
 abbrev pub edns_code_of : ℕ → EdnsCode

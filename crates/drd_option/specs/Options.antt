@@ -31,19 +31,23 @@ pub record HasNoForm (code : ℕ) (octets : List ℕ) : Type 0 where
   pub no_algorithms : code ≡ 5 → ⊥
   pub no_subnet : code ≡ 8 → (subnet : ClientSubnet) (end : ℕ) → SubnetAt octets 0 subnet end → ⊥
 
--- The option of a code and octets: an identifier (RFC 5001 2.3), algorithms (RFC 6975 3), or a subnet, whose octets may
--- have others behind them (RFC 7871 6); otherwise the code and the octets as they are.
+-- The option of a code and octets: an identifier (RFC 5001 2.3), algorithms (RFC 6975 3), or a
+-- subnet, whose octets may have others behind them (RFC 7871 6); otherwise the code and the octets
+-- as they are.
 abbrev pub IsOptionOf : ℕ → List ℕ → EdnsOption → Type 0
 IsOptionOf code octets (NSID payload) = (code ≡ 3) × (payload ≡ octets)
 IsOptionOf code octets (DAU algorithms) = (code ≡ 5) × (algorithms.items ≡ octets)
 IsOptionOf code octets (Subnet subnet) = (code ≡ 8) × ((end : ℕ) × SubnetAt octets 0 subnet end)
-IsOptionOf code octets (Unknown number kept) = (number ≡ code) × (kept.items ≡ octets) × HasNoForm code octets
+IsOptionOf code octets (Unknown number kept) =
+    (number ≡ code) × (kept.items ≡ octets) × HasNoForm code octets
 
 -- Two options are the same where their codes and their octets are.
 abbrev pub same_option : EdnsOption → EdnsOption → Bool
-same_option a b = (option_code a == option_code b) && pointwise nat_eq (option_octets a) (option_octets b)
+same_option a b =
+    (option_code a == option_code b) && pointwise nat_eq (option_octets a) (option_octets b)
 
--- Octets behind their number: those that are fewer stand first, and those that are as many stand as numbers from the left.
+-- Octets behind their number: those that are fewer stand first, and those that are as many stand as
+-- numbers from the left.
 abbrev pub counted_cmp : List ℕ → List ℕ → Ordering
 counted_cmp = then_cmp (on length nat_cmp) (slice_cmp nat_cmp)
 

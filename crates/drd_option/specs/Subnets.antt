@@ -42,7 +42,8 @@ subnet_octets subnet =
     ++ take (prefix_size subnet.address subnet.source_prefix) (address_octets subnet.address)
 
 -- As many octets as hold the prefix stand at a place; with zeros behind them they are the address.
-pub record AddressAt (message : List ℕ) (place : ℕ) (prefix : ℕ) (address : IpAddr) (end : ℕ) : Type 0 where
+pub record AddressAt (message : List ℕ) (place : ℕ) (prefix : ℕ) (address : IpAddr) (end : ℕ) : Type
+    0 where
   pub front : List ℕ
   pub long : length front ≡ prefix_size address prefix
   pub there : Stands message place front end
@@ -51,7 +52,8 @@ pub record AddressAt (message : List ℕ) (place : ℕ) (prefix : ℕ) (address 
 -- A subnet stands at a place of a message.
 abbrev pub SubnetAt : List ℕ → ℕ → ClientSubnet → ℕ → Type 0
 SubnetAt message place subnet end =
-    Stands message place (subnet_head (family_of subnet.address) subnet.source_prefix subnet.scope_prefix) (place + 4)
+    Stands message place
+    (subnet_head (family_of subnet.address) subnet.source_prefix subnet.scope_prefix) (place + 4)
     × AddressAt message (place + 4) subnet.source_prefix subnet.address end
 
 -- No address of a family can be read at a place: its octets are cut, or there is no such family.
@@ -61,9 +63,11 @@ RefusesAddress message place family prefix e =
     ⊎ ((family ≡ 2) × IsCut (prefix_octets prefix 16) message place e))
     ⊎ ((e ≡ UnknownAddressFamily family) × (family ≡ 1 → ⊥) × (family ≡ 2 → ⊥))
 
--- No subnet can be read at a place: the octets before the address are cut, or no address can be read.
+-- No subnet can be read at a place: the octets before the address are cut, or no address can be
+-- read.
 abbrev pub RefusesSubnet : List ℕ → ℕ → DecodeError → Type 0
 RefusesSubnet message place e =
     IsCut 4 message place e
-    ⊎ ((family source scope : ℕ) × Stands message place (subnet_head family source scope) (place + 4)
+    ⊎ ((family source scope : ℕ)
+    × Stands message place (subnet_head family source scope) (place + 4)
     × RefusesAddress message (place + 4) family source e)

@@ -1,5 +1,4 @@
 pub mod Order
-pub mod OrderLaws
 pub use Rattle.drd_fields.specs.dnw_decoder
 pub use Rattle.drd_fields.specs.dnw_encoder
 pub mod drd_fields

@@ -12,7 +12,8 @@ use Rattle.drd_fields.specs.Fields.{Field, octet, short, long, name, string, str
 use Rattle.drd_fields.specs.Writing.{string_octets}
 use Rattle.drd_fields.specs.Equality.{canonical_field}
 
--- Fields of different kinds, which the data of one type never have at the same place, stand by their kinds.
+-- Fields of different kinds, which the data of one type never have at the same place, stand by
+-- their kinds.
 abbrev pub kind_rank : Field → ℕ
 kind_rank (octet n) = 0
 kind_rank (short n) = 1
@@ -26,8 +27,8 @@ abbrev pub flag_rank : Bool → ℕ
 flag_rank false = 0
 flag_rank true = 1
 
--- A field as numbers whose order is that of its canonical octets: a number as it is, a relative name before all that
--- are fully qualified.
+-- A field as numbers whose order is that of its canonical octets: a number as it is, a relative
+-- name before all that are fully qualified.
 abbrev pub field_key : Field → List ℕ
 field_key (octet n) = n ∷ []
 field_key (short n) = n ∷ []
@@ -54,7 +55,9 @@ Orders o xs ys = o ≡ octets_cmp xs ys
 
 -- An answer is the order of octets, and decides whatever is behind them.
 pub record OrdersFronts (o : Ordering) (xs ys : List ℕ) : Type 0 where
-  pub decides : (behind_xs behind_ys : List ℕ) → octets_cmp (xs ++ behind_xs) (ys ++ behind_ys) ≡ ordering_then o (octets_cmp behind_xs behind_ys)
+  pub decides : (behind_xs behind_ys : List ℕ)
+      → octets_cmp (xs ++ behind_xs) (ys ++ behind_ys)
+      ≡ ordering_then o (octets_cmp behind_xs behind_ys)
 
 -- What of a field is fed to a hasher: the same where fields are equal.
 abbrev pub string_input : List ℕ → HashWrites

@@ -1,7 +1,5 @@
 pub use Rattle.drd_fields.specs.Equality
-pub use Rattle.drd_fields.specs.EqualityLaws
 pub use Rattle.drd_fields.specs.FieldLaws
 pub use Rattle.drd_fields.specs.Fields
 pub use Rattle.drd_fields.specs.Reading
 pub use Rattle.drd_fields.specs.Writing
-pub use Rattle.drd_fields.specs.WritingLaws

@@ -30,7 +30,7 @@ pub trait OrderField: DataField {
 }
 
 impl OrderField for u8 {
-    #[tactic(auto, using(crate::specs::OrderLaws::octet_orders, crate::specs::OrderLaws::cmp_one))]
+    #[tactic(auto, using(crate::proofs::OrderLaws::octet_orders, crate::proofs::OrderLaws::cmp_one))]
     fn cmp_field(&self, other: &Self) -> Ordering {
         self.cmp(other)
     }
@@ -41,7 +41,7 @@ impl OrderField for u8 {
 }
 
 impl OrderField for u16 {
-    #[tactic(auto, using(crate::specs::OrderLaws::short_orders, crate::specs::OrderLaws::cmp_one))]
+    #[tactic(auto, using(crate::proofs::OrderLaws::short_orders, crate::proofs::OrderLaws::cmp_one))]
     fn cmp_field(&self, other: &Self) -> Ordering {
         let (n, m) = (*self, *other);
         n.cmp(&m)
@@ -53,7 +53,7 @@ impl OrderField for u16 {
 }
 
 impl OrderField for u32 {
-    #[tactic(auto, using(crate::specs::OrderLaws::cmp_one))]
+    #[tactic(auto, using(crate::proofs::OrderLaws::cmp_one))]
     fn cmp_field(&self, other: &Self) -> Ordering {
         cmp_long(*self, *other)
     }
@@ -64,7 +64,7 @@ impl OrderField for u32 {
 }
 
 impl OrderField for i32 {
-    #[tactic(auto, using(crate::specs::OrderLaws::cmp_one))]
+    #[tactic(auto, using(crate::proofs::OrderLaws::cmp_one))]
     fn cmp_field(&self, other: &Self) -> Ordering {
         cmp_long(self.cast_unsigned(), other.cast_unsigned())
     }
@@ -75,7 +75,7 @@ impl OrderField for i32 {
 }
 
 // The order of two numbers, which is that of their four octets.
-#[tactic(auto, using(crate::specs::OrderLaws::long_orders))]
+#[tactic(auto, using(crate::proofs::OrderLaws::long_orders))]
 fn cmp_long(n: u32, m: u32) -> Ordering
     ensures value { result ≡ nat_cmp n m }
     ensures octets { OrdersFronts result (octets_32 n) (octets_32 m) }
@@ -84,7 +84,7 @@ fn cmp_long(n: u32, m: u32) -> Ordering
 }
 
 impl OrderField for &Name {
-    #[tactic(auto, using(crate::specs::OrderLaws::name_orders))]
+    #[tactic(auto, using(crate::proofs::OrderLaws::name_orders))]
     fn cmp_field(&self, other: &Self) -> Ordering {
         match self.is_fqdn().cmp(&other.is_fqdn()) {
             Ordering::Equal => cmp_labels(self.iter(), other.iter()),
@@ -98,7 +98,7 @@ impl OrderField for &Name {
 }
 
 impl OrderField for StringField<'_> {
-    #[tactic(auto, using(crate::specs::OrderLaws::string_orders))]
+    #[tactic(auto, using(crate::proofs::OrderLaws::string_orders))]
     fn cmp_field(&self, other: &Self) -> Ordering {
         cmp_string(self.0, other.0)
     }

@@ -21,7 +21,7 @@ pub(crate) fn cmp_string(s: &[u8], t: &[u8]) -> Ordering
 }
 
 // The order of strings one behind the other, each behind its length.
-#[tactic(auto, using(crate::specs::OrderLaws::cmp_strings))]
+#[tactic(auto, using(crate::proofs::OrderLaws::cmp_strings))]
 pub(crate) fn cmp_strings(s: &[Vec<u8>], t: &[Vec<u8>]) -> Ordering
     ensures { result ≡ octets_cmp (flat_map string_octets (map (λ v. v.items) s.now)) (flat_map string_octets (map (λ v. v.items) t.now)) }
 {
@@ -40,7 +40,7 @@ pub(crate) fn cmp_strings(s: &[Vec<u8>], t: &[Vec<u8>]) -> Ordering
 }
 
 // The order of labels from the left, in lower case and behind their lengths, up to the end of each.
-#[tactic(auto, using(crate::specs::OrderLaws::cmp_more, crate::specs::OrderLaws::cmp_ends, crate::specs::OrderLaws::cmp_ended))]
+#[tactic(auto, using(crate::proofs::OrderLaws::cmp_more, crate::proofs::OrderLaws::cmp_ends, crate::proofs::OrderLaws::cmp_ended))]
 pub(crate) fn cmp_labels(s: LabelIter<'_>, t: LabelIter<'_>) -> Ordering
     ensures { result ≡ octets_cmp (labels_octets s.entry) (labels_octets t.entry) }
 {

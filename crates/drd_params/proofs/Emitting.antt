@@ -8,15 +8,15 @@ use Rattle.std.proofs.lemmas.List.Elements.{Contains-get_or}
 use Rattle.std.proofs.lemmas.List.Folds.{length-flat_map-take}
 use Rattle.drd_plain.specs.dnw_codes.declared.error.ProtoError.{ProtoError}
 use Rattle.drd_plain.specs.dnw_codes.declared.error.ProtoError.TheVariants.{MaxBufferSizeExceeded}
-use Rattle.drd_plain.specs.dnw_encoder.Effects.{IsRefusal, Puts, Writes}
-use Rattle.drd_plain.specs.dnw_encoder.Laws.{writes_then, writes_same}
+use Rattle.drd_plain.specs.dnw_encoder.Effects.{IsRefusal, WritesOctets, Writes}
+use Rattle.drd_plain.proofs.dnw_encoder_lemmas.Laws.{writes_then, writes_same}
 use Rattle.drd_plain.specs.dnw_encoder.State.{State}
 use Rattle.std.specs.Prelude.{String, Result, Ok, Err, IfErr, OnOk}
 use Rattle.std.specs.String.{string_bytes}
 use Rattle.std.specs.declared.alloc.Global.{Global}
 use Rattle.drd_plain.specs.dnw_decoder.Octets.{octets_16}
 use Rattle.drd_plain.specs.drd_fields.Writing.{IsTooLong}
-use Rattle.drd_plain.specs.drd_fields.WritingLaws.{puts_then, puts_none}
+use Rattle.drd_plain.proofs.drd_fields_lemmas.WritingLaws.{puts_then, puts_none}
 use Rattle.drd_params.specs.Writing.{RefusesValueWriting}
 use Rattle.drd_params.specs.declared.value.Alpn.{Alpn}
 use Rattle.drd_params.specs.declared.value.SvcParamValue.TheVariants as value
@@ -32,15 +32,15 @@ module _ {T : Type 0} (spelled : T → List ℕ) where
   -- The first entries were put.
   pub record Put (entries : List T) (i : ℕ) (old new : State) : Type 0 where
     pub writes : Writes old new
-    pub puts : Puts (flat_map spelled (take i entries)) old new
+    pub puts : WritesOctets (flat_map spelled (take i entries)) old new
 
   pub put-none : (entries : List T) (s : State) → s.offset ≤ length s.octets → Put entries 0 s s
   put-none entries s le = record { writes = writes_same s; puts = puts_none s le }
 
-  pub put-more : (entries : List T) (i : ℕ) (d : T) (x : T) (old mid new : State) → i < length entries → old.offset ≤ length old.octets → x ≡ get_or entries i d → Put entries i old mid → Puts (spelled x) mid new → Writes mid new → Put entries (i + 1) old new
+  pub put-more : (entries : List T) (i : ℕ) (d : T) (x : T) (old mid new : State) → i < length entries → old.offset ≤ length old.octets → x ≡ get_or entries i d → Put entries i old mid → WritesOctets (spelled x) mid new → Writes mid new → Put entries (i + 1) old new
   put-more entries i d x old mid new small le is put one writes = record {
     writes = writes_then old mid new put.writes writes;
-    puts = subst (λ (o : List ℕ). Puts o old new) (sym whole) (puts_then (flat_map spelled (take i entries)) (spelled x) old mid new le put.puts one);
+    puts = subst (λ (o : List ℕ). WritesOctets o old new) (sym whole) (puts_then (flat_map spelled (take i entries)) (spelled x) old mid new le put.puts one);
   }
     where
       whole : flat_map spelled (take (i + 1) entries) ≡ flat_map spelled (take i entries) ++ spelled x
@@ -61,6 +61,6 @@ alpn-refused r alpn texts old same why =
     subst (λ (ts : List (String Global)). IfErr r (λ e. IsRefusal old (length (flat_map spelled_text ts)) e ⊎ ((text : String Global) × Contains ts text × IsTooLong (string_bytes text) e))) same why
 
 -- A value was put behind its length.
-pub value-put : {V E : Type 0} (r : Result V E) (n : ℕ) (octets : List ℕ) (old mid new : State) → n ≡ length octets → old.offset ≤ length old.octets → Puts (octets_16 n) old mid → OnOk r (Puts octets mid new) → OnOk r (Puts (octets_16 (length octets) ++ octets) old new)
-value-put (Ok v) n octets old mid new same le first put = puts_then (octets_16 (length octets)) octets old mid new le (subst (λ (k : ℕ). Puts (octets_16 k) old mid) same first) put
+pub value-put : {V E : Type 0} (r : Result V E) (n : ℕ) (octets : List ℕ) (old mid new : State) → n ≡ length octets → old.offset ≤ length old.octets → WritesOctets (octets_16 n) old mid → OnOk r (WritesOctets octets mid new) → OnOk r (WritesOctets (octets_16 (length octets) ++ octets) old new)
+value-put (Ok v) n octets old mid new same le first put = puts_then (octets_16 (length octets)) octets old mid new le (subst (λ (k : ℕ). WritesOctets (octets_16 k) old mid) same first) put
 value-put (Err e) n octets old mid new same le first put = tt

@@ -1,3 +1,4 @@
+pub mod WritingLaws
 mod NumberOctets
 pub mod Canonical
 mod Emitting
@@ -10,3 +11,7 @@ mod ReadParams
 mod Strings
 mod SameLemmas
 pub use Rattle.drd_plain.proofs.drd_words_lemmas
+pub use Rattle.drd_plain.proofs.dnw_decoder_lemmas
+pub use Rattle.drd_plain.proofs.dnw_label_lemmas
+pub use Rattle.drd_plain.proofs.drd_fields_lemmas
+pub use Rattle.drd_plain.proofs.drd_order_lemmas

@@ -5,9 +5,9 @@ use Rattle.drd_plain.specs.dnw_codes.declared.error.DecodeError.{DecodeError}
 use Rattle.drd_plain.specs.dnw_codes.declared.error.DecodeError.TheVariants.{InsufficientBytes}
 use Rattle.drd_plain.specs.dnw_decoder.Octets.{octets_16, octets_32, Stands}
 use Rattle.drd_plain.specs.dnw_decoder.Reading.{IsWantOfMemory}
-use Rattle.drd_plain.specs.dnw_decoder.Standing.{stands_joined, stands_split}
+use Rattle.drd_plain.proofs.dnw_decoder_lemmas.Standing.{stands_joined, stands_split}
 use Rattle.drd_plain.specs.drd_fields.Fields.{Field, octet, short, long, name, string, strings, rest, Kind, an_octet, a_short, a_long, a_name, a_string, all_strings, the_rest, kinds_of, FieldsAt}
-use Rattle.drd_plain.specs.drd_fields.Reading.{Stops}
+use Rattle.drd_plain.specs.drd_fields.Reading.{StopsReading}
 use Rattle.drd_plain.specs.drd_fields.Writing.{fields_octets}
 
 abbrev pub AreNumbers : List Kind → Type 0
@@ -47,7 +47,7 @@ stand_numbers message place (strings ts ∷ fs) end are s = absurd are
 stand_numbers message place (rest o ∷ fs) end are s = absurd are
 
 -- Where a number can't be read, the octets end too early.
-pub numbers_cause : (message : List ℕ) (end : ℕ) (ks : List Kind) (place : ℕ) (e : DecodeError) (at : ℕ) → AreNumbers ks → Stops message end ks place e at → IsWantOfMemory e ⊎ (e ≡ InsufficientBytes)
+pub numbers_cause : (message : List ℕ) (end : ℕ) (ks : List Kind) (place : ℕ) (e : DecodeError) (at : ℕ) → AreNumbers ks → StopsReading message end ks place e at → IsWantOfMemory e ⊎ (e ≡ InsufficientBytes)
 numbers_cause message end [] place e at are s = absurd s
 numbers_cause message end (an_octet ∷ ks) place e at are (inl (inl m, here)) = inl m
 numbers_cause message end (an_octet ∷ ks) place e at are (inl (inr cut, here)) = inr cut.0
@@ -70,7 +70,7 @@ stands_first octets front behind is = record {
 }
 
 -- Octets that no such numbers are read from begin with none.
-pub numbers-refused : {X : Type 0} (fields : X → List Field) (kinds : List Kind) (message : List ℕ) (place : ℕ) (octets : List ℕ) (e : DecodeError) → ((x : X) → AreNumbers (kinds_of (fields x))) → AreNumbers kinds → message ≡ octets → place ≡ 0 → ((end at : ℕ) × Stops message end kinds place e at) → IsWantOfMemory e ⊎ ((x : X) (end : ℕ) → FieldsAt message place (fields x) end → ⊥) → IsWantOfMemory e ⊎ ((e ≡ InsufficientBytes) × ((x : X) (behind : List ℕ) → octets ≡ fields_octets (fields x) ++ behind → ⊥))
+pub numbers-refused : {X : Type 0} (fields : X → List Field) (kinds : List Kind) (message : List ℕ) (place : ℕ) (octets : List ℕ) (e : DecodeError) → ((x : X) → AreNumbers (kinds_of (fields x))) → AreNumbers kinds → message ≡ octets → place ≡ 0 → ((end at : ℕ) × StopsReading message end kinds place e at) → IsWantOfMemory e ⊎ ((x : X) (end : ℕ) → FieldsAt message place (fields x) end → ⊥) → IsWantOfMemory e ⊎ ((e ≡ InsufficientBytes) × ((x : X) (behind : List ℕ) → octets ≡ fields_octets (fields x) ++ behind → ⊥))
 numbers-refused fields kinds message place octets e are kind_are same start stops (inl m) = inl m
 numbers-refused fields kinds message place octets e are kind_are same start stops (inr none) =
     elim (numbers_cause message stops.0 kinds place e stops.1 kind_are stops.2) [

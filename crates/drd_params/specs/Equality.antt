@@ -19,13 +19,16 @@ value_kind (value.EchConfigList ech) = 5
 value_kind (value.Ipv6Hint hint) = 6
 value_kind (value.Unknown unknown) = 7
 
--- How many octets there are, as far as two octets tell; one more for all that are longer (RFC 9460 2.2).
+-- How many octets there are, as far as two octets tell; one more for all that are longer (RFC 9460
+-- 2.2).
 abbrev pub told_length : List ℕ → ℕ
 told_length octets = if nat_le (length octets) 65535 then length octets else 65536
 
 -- What two equal values share: their kind and their octets, behind their number.
 abbrev pub value_code : SvcParamValue → List Field
-value_code value = short (value_kind value) ∷ short (told_length (value_octets value)) ∷ rest (value_octets value) ∷ []
+value_code value =
+    short (value_kind value) ∷ short (told_length (value_octets value)) ∷ rest (value_octets value)
+    ∷ []
 
 -- What two equal parameters share: their key's number, and what equal values do.
 abbrev pub param_code : Param → List Field

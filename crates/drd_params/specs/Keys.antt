@@ -24,12 +24,14 @@ key_number (Unknown number) = number
 
 -- The keys that have a name, by rising number.
 abbrev pub named_keys : List SvcParamKey
-named_keys = Mandatory ∷ Alpn ∷ NoDefaultAlpn ∷ Port ∷ Ipv4Hint ∷ EchConfigList ∷ Ipv6Hint ∷ Key65535 ∷ []
+named_keys =
+    Mandatory ∷ Alpn ∷ NoDefaultAlpn ∷ Port ∷ Ipv4Hint ∷ EchConfigList ∷ Ipv6Hint ∷ Key65535 ∷ []
 
 -- The key that a number stands for.
 abbrev pub key_of : ℕ → SvcParamKey
 key_of number =
-    unwrap_or (find (λ named. key_number named == number) named_keys) (if nat_le 65280 number && nat_le number 65534 then Key number else Unknown number)
+    unwrap_or (find (λ named. key_number named == number) named_keys)
+    (if nat_le 65280 number && nat_le number 65534 then Key number else Unknown number)
 
 -- A key's name; those without one have the front of their text.
 abbrev pub key_name : SvcParamKey → List ℕ

@@ -5,7 +5,6 @@ pub mod Reading
 pub mod EntryLaws
 pub mod Params
 pub mod Writing
-pub mod WritingLaws
 pub mod Hashing
 pub mod Texts
 pub mod Print

@@ -44,24 +44,29 @@ AreParams params = (above : ℕ) × Rise 0 params above
 -- Octets end inside the first parameter, whatever it is.
 abbrev pub BeginsNoPart : List ℕ → Type 0
 BeginsNoPart octets =
-    (number : ℕ) (value behind : List ℕ) → length value < 65536 → octets ≡ part_octets number value ++ behind → ⊥
+    (number : ℕ) (value behind : List ℕ) → length value < 65536
+    → octets ≡ part_octets number value ++ behind → ⊥
 
--- The first parameter is cut, and all octets are left, or its value is refused, and those behind it are left.
+-- The first parameter is cut, and all octets are left, or its value is refused, and those behind it
+-- are left.
 abbrev pub RefusesParam : List ℕ → DecodeError → List ℕ → Type 0
 RefusesParam octets e behind =
     ((e ≡ InsufficientBytes) × BeginsNoPart octets × (behind ≡ octets))
-    ⊎ ((key : SvcParamKey) × (value : List ℕ) × (octets ≡ part_octets (key_number key) value ++ behind) × RefusesValue key value e)
+    ⊎ ((key : SvcParamKey) × (value : List ℕ)
+    × (octets ≡ part_octets (key_number key) value ++ behind) × RefusesValue key value e)
 
 -- The first parameter is refused, and octets begin with none.
 abbrev pub NoParam : List ℕ → DecodeError → List ℕ → Type 0
 NoParam octets e behind =
-    RefusesParam octets e behind × ((param : Param) (after : List ℕ) → IsParam param → octets ≡ param_octets param ++ after → ⊥)
+    RefusesParam octets e behind
+    × ((param : Param) (after : List ℕ) → IsParam param → octets ≡ param_octets param ++ after → ⊥)
 
 -- A key is below the least one that may stand there; the octets behind its value are left.
 abbrev pub IsOutOfOrder : ℕ → List ℕ → DecodeError → List ℕ → Type 0
 IsOutOfOrder least octets e behind =
     (e ≡ SvcParamsOutOfOrder)
-    × (param : Param) × IsParam param × (octets ≡ param_octets param ++ behind) × (key_number param.0 < least)
+    × (param : Param) × IsParam param × (octets ≡ param_octets param ++ behind)
+    × (key_number param.0 < least)
 
 -- Behind parameters whose keys rise, one is refused, or its key is out of order.
 pub record RefusesParams (octets : List ℕ) (e : DecodeError) (behind : List ℕ) : Type 0 where
@@ -75,4 +80,5 @@ pub record RefusesParams (octets : List ℕ) (e : DecodeError) (behind : List �
 -- The octets are refused as parameters, and are none.
 abbrev pub NoParams : List ℕ → DecodeError → List ℕ → Type 0
 NoParams octets e behind =
-    RefusesParams octets e behind × ((params : List Param) → AreParams params → params_octets params ≡ octets → ⊥)
+    RefusesParams octets e behind
+    × ((params : List Param) → AreParams params → params_octets params ≡ octets → ⊥)

@@ -3,6 +3,7 @@ use Rattle.std.specs.Prelude.{ℕ, List, [], ◌∷◌, ◌++◌}
 use Rattle.std.specs.Fmt.{decimal}
 use Rattle.std.specs.List.{flat_map}
 use Rattle.std.specs.String.{string_bytes}
+use Rattle.drd_plain.specs.dnw_codes.Ascii.{comma, equals_sign}
 use Rattle.base64.specs.Engines.{standard}
 use Rattle.base64.specs.GeneralPurpose.{encode_of}
 use Rattle.drd_plain.specs.Print.{a_print, aaaa_print}
@@ -14,7 +15,7 @@ use Rattle.drd_params.specs.declared.value.SvcParamValue.TheVariants as value
 
 -- Texts with commas between them.
 abbrev pub later_listed : {T : Type 0} → (T → List ℕ) → List T → List ℕ
-later_listed shown later = flat_map (λ x. 44 ∷ shown x) later
+later_listed shown later = flat_map (λ x. comma ∷ shown x) later
 
 abbrev pub listed : {T : Type 0} → (T → List ℕ) → List T → List ℕ
 listed shown [] = []
@@ -34,7 +35,7 @@ value_print (value.Unknown unknown) = escaped_print unknown.0.items
 -- `=` and a value; nothing for the value without octets.
 abbrev pub value_behind : SvcParamValue → List ℕ
 value_behind value.NoDefaultAlpn = []
-value_behind value = 61 ∷ value_print value
+value_behind value = equals_sign ∷ value_print value
 
 -- A key and its value.
 abbrev pub param_print : Param → List ℕ

@@ -11,17 +11,20 @@ use Rattle.drd_params.specs.declared.key.SvcParamKey.{SvcParamKey}
 use Rattle.drd_params.specs.declared.value.SvcParamValue.{SvcParamValue}
 
 -- The octets fill a message from a place on.
-abbrev pub Fills : List ℕ → ℕ → List ℕ → ℕ → Type 0
-Fills message place octets end = Stands message place octets end × (end ≡ length message)
+abbrev pub FillsMessage : List ℕ → ℕ → List ℕ → ℕ → Type 0
+FillsMessage message place octets end = Stands message place octets end × (end ≡ length message)
 
 -- A value of a key fills it.
 abbrev pub ValueAt : SvcParamKey → List ℕ → ℕ → SvcParamValue → ℕ → Type 0
-ValueAt key message place value end = IsValueOf key value × Fills message place (value_octets value) end
+ValueAt key message place value end =
+    IsValueOf key value × FillsMessage message place (value_octets value) end
 
 -- A growth was refused, or the octets are as a value of a key.
 abbrev pub RefusesAt : SvcParamKey → List ℕ → ℕ → DecodeError → Type 0
 RefusesAt key message place e =
-    IsWantOfMemory e ⊎ ((octets : List ℕ) × Fills message place octets (length message) × RefusesValue key octets e)
+    IsWantOfMemory e
+    ⊎ ((octets : List ℕ) × FillsMessage message place octets (length message)
+    × RefusesValue key octets e)
 
 -- The key whose number stands there.
 pub record KeyAt (message : List ℕ) (place : ℕ) (key : SvcParamKey) (end : ℕ) : Type 0 where

@@ -14,7 +14,8 @@ IsKeyText k text = key_of_text text ≡ Some k
 
 -- A protocol's octets as they are, 1 to 255 of them (RFC 9460 7.1).
 abbrev pub IsProtocolText : String Global → List ℕ → Type 0
-IsProtocolText protocol text = (string_bytes protocol ≡ text) × (0 < length text) × (length text ≤ 255)
+IsProtocolText protocol text =
+    (string_bytes protocol ≡ text) × (0 < length text) × (length text ≤ 255)
 
 abbrev pub IsAEntry : A → List ℕ → Type 0
 IsAEntry a text = IsIpv4Text text a.0

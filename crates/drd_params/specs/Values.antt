@@ -21,9 +21,11 @@ a_octets a = fields_octets (a_fields a)
 abbrev pub aaaa_octets : AAAA → List ℕ
 aaaa_octets aaaa = fields_octets (aaaa_fields aaaa)
 
--- The octets of a value: keys, strings behind their lengths, a port, addresses, or octets as they are.
+-- The octets of a value: keys, strings behind their lengths, a port, addresses, or octets as they
+-- are.
 abbrev pub value_octets : SvcParamValue → List ℕ
-value_octets (value.Mandatory mandatory) = flat_map (λ k. octets_16 (key_number k)) mandatory.0.items
+value_octets (value.Mandatory mandatory) =
+    flat_map (λ k. octets_16 (key_number k)) mandatory.0.items
 value_octets (value.Alpn alpn) = flat_map (λ text. string_octets (string_bytes text)) alpn.0.items
 value_octets value.NoDefaultAlpn = []
 value_octets (value.Port port) = octets_16 port
@@ -40,7 +42,8 @@ IsUnknown other = ⊥
 abbrev pub IsShortText : String Global → Type 0
 IsShortText text = length (string_bytes text) ≤ 255
 
--- A value is one of its key. Lists of keys and of protocols are not empty, and a protocol has at most 255 octets.
+-- A value is one of its key. Lists of keys and of protocols are not empty, and a protocol has at
+-- most 255 octets.
 abbrev pub IsValueOf : SvcParamKey → SvcParamValue → Type 0
 IsValueOf key.Mandatory (value.Mandatory mandatory) = 0 < length mandatory.0.items
 IsValueOf key.Alpn (value.Alpn alpn) = (0 < length alpn.0.items) × All IsShortText alpn.0.items

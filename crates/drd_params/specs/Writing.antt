@@ -17,7 +17,8 @@ use Rattle.drd_params.specs.declared.value.SvcParamValue.TheVariants as value
 
 -- A protocol has more than 255 octets, and this one so many.
 abbrev pub HasLongText : SvcParamValue → ProtoError → Type 0
-HasLongText (value.Alpn alpn) e = (text : String Global) × Contains alpn.0.items text × IsTooLong (string_bytes text) e
+HasLongText (value.Alpn alpn) e =
+    (text : String Global) × Contains alpn.0.items text × IsTooLong (string_bytes text) e
 HasLongText other e = ⊥
 
 -- A value has more octets than its length can tell (RFC 9460 2.2).
@@ -29,10 +30,13 @@ abbrev pub RefusesWriting : List Param → ProtoError → Type 0
 RefusesWriting params e =
     (param : Param) × Contains params param × (HasLongText param.1 e ⊎ IsOversized param.1 e)
 
--- A value is refused where it stands: for its size, for want of memory, or for a protocol that is too long.
+-- A value is refused where it stands: for its size, for want of memory, or for a protocol that is
+-- too long.
 abbrev pub RefusesValueWriting : SvcParamValue → State → ProtoError → Type 0
-RefusesValueWriting value old e = IsRefusal old (length (value_octets value)) e ⊎ HasLongText value e
+RefusesValueWriting value old e =
+    IsRefusal old (length (value_octets value)) e ⊎ HasLongText value e
 
 -- And behind its length, for its length too.
-abbrev pub RefusesEmit : SvcParamValue → State → ProtoError → Type 0
-RefusesEmit value old e = IsRefusal old (2 + length (value_octets value)) e ⊎ (HasLongText value e ⊎ IsOversized value e)
+abbrev pub RefusesEmitParams : SvcParamValue → State → ProtoError → Type 0
+RefusesEmitParams value old e =
+    IsRefusal old (2 + length (value_octets value)) e ⊎ (HasLongText value e ⊎ IsOversized value e)

@@ -3,9 +3,9 @@ ghost use Rattle.std.specs.Prelude.{◌≡◌, ◌++◌, ◌⊎◌, length, IfEr
 ghost use Rattle.std.specs.List.{Contains, flat_map};
 ghost use Rattle.drd_plain.specs.dnw_decoder.Octets.{octets_16};
 ghost use Rattle.drd_plain.specs.dnw_encoder.Encoders.{state};
-ghost use Rattle.drd_plain.specs.dnw_encoder.Effects.{IsRefusal, Puts, Writes};
+ghost use Rattle.drd_plain.specs.dnw_encoder.Effects.{IsRefusal, WritesOctets, Writes};
 ghost use Rattle.drd_params.specs.Keys.{key_number};
-ghost use Rattle.drd_params.specs.Writing.{RefusesEmit, RefusesValueWriting};
+ghost use Rattle.drd_params.specs.Writing.{RefusesEmitParams, RefusesValueWriting};
 ghost use Rattle.drd_params.specs.declared.value.SvcParamValue.TheVariants as value;
 ghost use Rattle.drd_params.specs.Values.{value_octets};
 
@@ -18,7 +18,7 @@ use drd_plain::{BinEncodable, BinEncoder, ProtoError};
 fn emit_entries<T: Entry>(encoder: &mut BinEncoder<'_>, entries: &[T]) -> Result<(), ProtoError>
     ensures same_reference { encoder.new.buffer.ghost_name ≡ encoder.old.buffer.ghost_name }
     ensures writes { Writes (state encoder.old) (state encoder.new) }
-    ensures ok { OnOk result (Puts (flat_map T.spelled entries.now) (state encoder.old) (state encoder.new)) }
+    ensures ok { OnOk result (WritesOctets (flat_map T.spelled entries.now) (state encoder.old) (state encoder.new)) }
     ensures refused { IfErr result (λ e. IsRefusal (state encoder.old) (length (flat_map T.spelled entries.now)) e
         ⊎ ((entry : T) × Contains entries.now entry × T.too_long entry e)) }
 {
@@ -33,7 +33,7 @@ fn emit_entries<T: Entry>(encoder: &mut BinEncoder<'_>, entries: &[T]) -> Result
 }
 
 impl BinEncodable for SvcParamKey {
-    ghost emits = { λ key. Puts (octets_16 (key_number key)) };
+    ghost emits = { λ key. WritesOctets (octets_16 (key_number key)) };
 
     ghost refuses = { λ key old e new. IsRefusal old 2 e };
 
@@ -47,7 +47,7 @@ impl BinEncodable for SvcParamKey {
 }
 
 impl BinEncodable for Mandatory {
-    ghost emits = { λ mandatory. Puts (value_octets (value.Mandatory mandatory)) };
+    ghost emits = { λ mandatory. WritesOctets (value_octets (value.Mandatory mandatory)) };
 
     ghost refuses = { λ mandatory old e new. RefusesValueWriting (value.Mandatory mandatory) old e };
 
@@ -59,7 +59,7 @@ impl BinEncodable for Mandatory {
 }
 
 impl BinEncodable for Alpn {
-    ghost emits = { λ alpn. Puts (value_octets (value.Alpn alpn)) };
+    ghost emits = { λ alpn. WritesOctets (value_octets (value.Alpn alpn)) };
 
     ghost refuses = { λ alpn old e new. RefusesValueWriting (value.Alpn alpn) old e };
 
@@ -71,7 +71,7 @@ impl BinEncodable for Alpn {
 }
 
 impl<T: Entry> BinEncodable for IpHint<T> {
-    ghost emits = { λ hint. Puts (flat_map T.spelled hint.0.items) };
+    ghost emits = { λ hint. WritesOctets (flat_map T.spelled hint.0.items) };
 
     ghost refuses = { λ hint old e new. IsRefusal old (length (flat_map T.spelled hint.0.items)) e
         ⊎ ((entry : T) × Contains hint.0.items entry × T.too_long entry e) };
@@ -84,7 +84,7 @@ impl<T: Entry> BinEncodable for IpHint<T> {
 }
 
 impl BinEncodable for EchConfigList {
-    ghost emits = { λ ech. Puts ech.0.items };
+    ghost emits = { λ ech. WritesOctets ech.0.items };
 
     ghost refuses = { λ ech old e new. IsRefusal old (length ech.0.items) e };
 
@@ -99,7 +99,7 @@ impl BinEncodable for EchConfigList {
 }
 
 impl BinEncodable for Unknown {
-    ghost emits = { λ unknown. Puts unknown.0.items };
+    ghost emits = { λ unknown. WritesOctets unknown.0.items };
 
     ghost refuses = { λ unknown old e new. IsRefusal old (length unknown.0.items) e };
 
@@ -116,7 +116,7 @@ impl BinEncodable for Unknown {
 fn emit_octets(encoder: &mut BinEncoder<'_>, value: &SvcParamValue) -> Result<(), ProtoError>
     ensures same_reference { encoder.new.buffer.ghost_name ≡ encoder.old.buffer.ghost_name }
     ensures writes { Writes (state encoder.old) (state encoder.new) }
-    ensures ok { OnOk result (Puts (value_octets value.now) (state encoder.old) (state encoder.new)) }
+    ensures ok { OnOk result (WritesOctets (value_octets value.now) (state encoder.old) (state encoder.new)) }
     ensures refused { IfErr result (RefusesValueWriting value.now (state encoder.old)) }
 {
     match value {
@@ -144,9 +144,9 @@ fn emit_octets(encoder: &mut BinEncoder<'_>, value: &SvcParamValue) -> Result<()
 }
 
 impl BinEncodable for SvcParamValue {
-    ghost emits = { λ value. Puts (octets_16 (length (value_octets value)) ++ value_octets value) };
+    ghost emits = { λ value. WritesOctets (octets_16 (length (value_octets value)) ++ value_octets value) };
 
-    ghost refuses = { λ value old e new. RefusesEmit value old e };
+    ghost refuses = { λ value old e new. RefusesEmitParams value old e };
 
     /// Writes the value behind its length (RFC 9460 2.2). Refused are more than 65,535 octets, and a protocol of more than
     /// 255.

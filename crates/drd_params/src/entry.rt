@@ -27,7 +27,7 @@ pub trait Entry: Sized + Drop {
     ghost use Rattle.drd_plain.specs.dnw_codes.declared.error.ProtoError.{ProtoError as WriteError};
     ghost use Rattle.drd_plain.specs.dnw_decoder.Reading.{IsWantOfMemory};
     ghost use Rattle.drd_plain.specs.dnw_encoder.Encoders.{state};
-    ghost use Rattle.drd_plain.specs.dnw_encoder.Effects.{IsRefusal, Puts, Writes};
+    ghost use Rattle.drd_plain.specs.dnw_encoder.Effects.{IsRefusal, WritesOctets, Writes};
     ghost use Rattle.drd_plain.specs.drd_fields.Equality.{TellsApart};
     ghost use Rattle.drd_plain.specs.drd_words.Word.{IsOutOfMemory};
     ghost use Rattle.drd_plain.specs.drd_order.Order.{OrdersFronts};
@@ -74,7 +74,7 @@ pub trait Entry: Sized + Drop {
     fn emit_entry(&self, encoder: &mut BinEncoder<'_>) -> Result<(), ProtoError>
         ensures same_reference { encoder.new.buffer.ghost_name ≡ encoder.old.buffer.ghost_name }
         ensures writes { Writes (state encoder.old) (state encoder.new) }
-        ensures ok { OnOk result (Puts (spelled self.now) (state encoder.old) (state encoder.new)) }
+        ensures ok { OnOk result (WritesOctets (spelled self.now) (state encoder.old) (state encoder.new)) }
         ensures refused { IfErr result (λ e. IsRefusal (state encoder.old) (length (spelled self.now)) e ⊎ too_long self.now e) };
 
     /// How many octets the entry takes.

@@ -5,7 +5,7 @@ ghost use Rattle.drd_plain.specs.dnw_decoder.Octets.{Stands};
 ghost use Rattle.drd_plain.specs.dnw_decoder.Reading.{IsCut, IsWantOfMemory};
 ghost use Rattle.drd_params.specs.declared.key.SvcParamKey.TheVariants as of;
 ghost use Rattle.drd_params.specs.declared.value.SvcParamValue.TheVariants as value;
-ghost use Rattle.drd_params.specs.Reading.{Fills, KeyAt, RefusesAt, ValueAt};
+ghost use Rattle.drd_params.specs.Reading.{FillsMessage, KeyAt, RefusesAt, ValueAt};
 
 use crate::entry::{Entry, read_all};
 use crate::key::SvcParamKey;
@@ -15,7 +15,7 @@ use std::alloc::Global;
 
 // Takes the octets that are left.
 fn take_rest<'a>(decoder: &mut BinDecoder<'a>) -> &'a [u8]
-    ensures fills { Fills decoder.old.octets decoder.old.index result.now decoder.new.index }
+    ensures fills { FillsMessage decoder.old.octets decoder.old.index result.now decoder.new.index }
     ensures same { decoder.new.octets ≡ decoder.old.octets }
     ensures forward { decoder.old.index ≤ decoder.new.index }
 {
@@ -77,7 +77,7 @@ impl BinDecodable for Alpn {
 }
 
 impl<T: Entry> BinDecodable for IpHint<T> {
-    ghost reads = { λ message place hint end. Fills message place (flat_map T.spelled hint.0.items) end };
+    ghost reads = { λ message place hint end. FillsMessage message place (flat_map T.spelled hint.0.items) end };
 
     ghost refuses = { λ message place e. IsWantOfMemory e ⊎ T.refuses e };
 
@@ -95,7 +95,7 @@ impl<T: Entry> BinDecodable for IpHint<T> {
 }
 
 impl BinDecodable for EchConfigList {
-    ghost reads = { λ message place ech end. Fills message place ech.0.items end };
+    ghost reads = { λ message place ech end. FillsMessage message place ech.0.items end };
 
     ghost refuses = { λ message place e. IsWantOfMemory e };
 
@@ -113,7 +113,7 @@ impl BinDecodable for EchConfigList {
 }
 
 impl BinDecodable for Unknown {
-    ghost reads = { λ message place unknown end. Fills message place unknown.0.items end };
+    ghost reads = { λ message place unknown end. FillsMessage message place unknown.0.items end };
 
     ghost refuses = { λ message place e. IsWantOfMemory e };
 

@@ -23,7 +23,9 @@ group aaaa i = short (get_or (ipv6_segments aaaa.0) i 0)
 
 -- RFC 3596 2.2: an address of 128 bits, its greatest octet first.
 abbrev pub aaaa_fields : AAAA → List Field
-aaaa_fields x = group x 0 ∷ group x 1 ∷ group x 2 ∷ group x 3 ∷ group x 4 ∷ group x 5 ∷ group x 6 ∷ group x 7 ∷ []
+aaaa_fields x =
+    group x 0 ∷ group x 1 ∷ group x 2 ∷ group x 3 ∷ group x 4 ∷ group x 5 ∷ group x 6 ∷ group x 7
+    ∷ []
 
 abbrev pub aaaa_kinds : List Kind
 aaaa_kinds = a_short ∷ a_short ∷ a_short ∷ a_short ∷ a_short ∷ a_short ∷ a_short ∷ a_short ∷ []
@@ -53,7 +55,8 @@ are_alphanumeric octets = list_all is_ascii_alphanumeric octets
 -- RFC 3403 4.1: order, preference, flags, services, regexp and replacement.
 abbrev pub naptr_fields : NAPTR → List Field
 naptr_fields n =
-    short n.order ∷ short n.preference ∷ string n.flags.items ∷ string n.services.items ∷ string n.regexp.items ∷ name n.replacement ∷ []
+    short n.order ∷ short n.preference ∷ string n.flags.items ∷ string n.services.items
+    ∷ string n.regexp.items ∷ name n.replacement ∷ []
 
 abbrev pub naptr_kinds : List Kind
 naptr_kinds = a_short ∷ a_short ∷ a_string ∷ a_string ∷ a_string ∷ a_name ∷ []

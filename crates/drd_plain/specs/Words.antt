@@ -35,4 +35,9 @@ IsFlagsWord flags word = IsStringWord flags word × (are_alphanumeric flags ≡ 
 -- RFC 3403 4.1: order, preference, flags, services, regexp and replacement.
 abbrev pub IsNaptrText : List (List ℕ) → Option DomainName → NAPTR → Type 0
 IsNaptrText words origin naptr =
-    OneThen (IsNumberWord 16 naptr.order) (OneThen (IsNumberWord 16 naptr.preference) (OneThen (IsFlagsWord naptr.flags.items) (OneThen (IsStringWord naptr.services.items) (OneThen (IsStringWord naptr.regexp.items) (OneThen (IsNameWord origin naptr.replacement) NoWords))))) words
+    OneThen (IsNumberWord 16 naptr.order)
+    (OneThen (IsNumberWord 16 naptr.preference)
+    (OneThen (IsFlagsWord naptr.flags.items)
+    (OneThen (IsStringWord naptr.services.items)
+    (OneThen (IsStringWord naptr.regexp.items)
+    (OneThen (IsNameWord origin naptr.replacement) NoWords))))) words

@@ -1,2 +1,1 @@
 pub use Rattle.drd_order.specs.Order
-pub use Rattle.drd_order.specs.OrderLaws

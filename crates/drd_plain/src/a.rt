@@ -5,9 +5,9 @@ ghost use Rattle.std.specs.Net.Grammar.{Parses, IsIpv4Text};
 ghost use Rattle.std.specs.Cmp.{partial_equiv_from_equiv};
 ghost use Rattle.drd_order.specs.dnw_encoder.declared.modes.RDataEncoding.TheVariants.{Other};
 ghost use Rattle.drd_order.specs.drd_fields.Fields.{long, FieldsAt};
-ghost use Rattle.drd_order.specs.drd_fields.Reading.{Misses, Stops};
+ghost use Rattle.drd_order.specs.drd_fields.Reading.{RefusesWindow, StopsReading};
 ghost use Rattle.drd_order.specs.drd_fields.Equality.{AreFull, Tells, fields_eq};
-ghost use Rattle.drd_order.specs.drd_fields.EqualityLaws.{data_equiv};
+ghost use Rattle.drd_order.proofs.drd_fields_lemmas.EqualityLaws.{data_equiv};
 ghost use Rattle.drd_order.specs.drd_fields.Writing.{EmitsData, RefusesFields, canonical_octets};
 ghost use Rattle.drd_plain.specs.Fields.{a_fields, a_kinds};
 ghost use Rattle.std.specs.Iterator.{Drains, IsFinite};
@@ -111,7 +111,7 @@ impl Deref for A {
 impl BinDecodable for A {
     ghost reads = { λ message place a end. FieldsAt message place (a_fields a) end };
 
-    ghost refuses = { λ message place e. (end at : ℕ) × Stops message end a_kinds place e at };
+    ghost refuses = { λ message place e. (end at : ℕ) × StopsReading message end a_kinds place e at };
 
     #[tactic(auto, using(crate::proofs::Addresses::bits_back))]
     fn read(alloc: Global, decoder: &mut BinDecoder<'_>) -> Result<A, DecodeError> {
@@ -125,7 +125,7 @@ impl BinDecodable for A {
 impl RecordDataDecodable for A {
     ghost reads = { λ message place a end. FieldsAt message place (a_fields a) end };
 
-    ghost refuses = { λ message place end e at. Misses message end a_kinds place e at };
+    ghost refuses = { λ message place end e at. RefusesWindow message end a_kinds place e at };
 
     #[tactic(auto, using(crate::proofs::Addresses::bits_back))]
     fn read_data(

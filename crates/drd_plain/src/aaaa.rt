@@ -5,9 +5,9 @@ ghost use Rattle.std.specs.Net.Grammar.{Parses, IsIpv6Text};
 ghost use Rattle.std.specs.Cmp.{partial_equiv_from_equiv};
 ghost use Rattle.drd_order.specs.dnw_encoder.declared.modes.RDataEncoding.TheVariants.{Other};
 ghost use Rattle.drd_order.specs.drd_fields.Fields.{short, FieldsAt};
-ghost use Rattle.drd_order.specs.drd_fields.Reading.{Misses, Stops};
+ghost use Rattle.drd_order.specs.drd_fields.Reading.{RefusesWindow, StopsReading};
 ghost use Rattle.drd_order.specs.drd_fields.Equality.{AreFull, Tells, fields_eq};
-ghost use Rattle.drd_order.specs.drd_fields.EqualityLaws.{data_equiv};
+ghost use Rattle.drd_order.proofs.drd_fields_lemmas.EqualityLaws.{data_equiv};
 ghost use Rattle.drd_order.specs.drd_fields.Writing.{EmitsData, RefusesFields, canonical_octets};
 ghost use Rattle.drd_plain.specs.Fields.{aaaa_fields, aaaa_kinds, group};
 ghost use Rattle.std.specs.Iterator.{Drains, IsFinite};
@@ -116,7 +116,7 @@ impl Deref for AAAA {
 impl BinDecodable for AAAA {
     ghost reads = { λ message place aaaa end. FieldsAt message place (aaaa_fields aaaa) end };
 
-    ghost refuses = { λ message place e. (end at : ℕ) × Stops message end aaaa_kinds place e at };
+    ghost refuses = { λ message place e. (end at : ℕ) × StopsReading message end aaaa_kinds place e at };
 
     fn read(alloc: Global, decoder: &mut BinDecoder<'_>) -> Result<AAAA, DecodeError> {
         match read_data::<Groups>(alloc, decoder) {
@@ -129,7 +129,7 @@ impl BinDecodable for AAAA {
 impl RecordDataDecodable for AAAA {
     ghost reads = { λ message place aaaa end. FieldsAt message place (aaaa_fields aaaa) end };
 
-    ghost refuses = { λ message place end e at. Misses message end aaaa_kinds place e at };
+    ghost refuses = { λ message place end e at. RefusesWindow message end aaaa_kinds place e at };
 
     fn read_data(
         alloc: Global,

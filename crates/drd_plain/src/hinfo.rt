@@ -3,9 +3,9 @@ ghost use Rattle.std.specs.Prelude.{◌≡◌, ◌∷◌, [], ◌++◌, ℕ, Lis
 ghost use Rattle.std.specs.Cmp.{partial_equiv_from_equiv};
 ghost use Rattle.drd_order.specs.dnw_encoder.declared.modes.RDataEncoding.TheVariants.{Other};
 ghost use Rattle.drd_order.specs.drd_fields.Fields.{string, FieldsAt};
-ghost use Rattle.drd_order.specs.drd_fields.Reading.{Misses, Stops};
+ghost use Rattle.drd_order.specs.drd_fields.Reading.{RefusesWindow, StopsReading};
 ghost use Rattle.drd_order.specs.drd_fields.Equality.{AreFull, Tells, fields_eq};
-ghost use Rattle.drd_order.specs.drd_fields.EqualityLaws.{data_equiv};
+ghost use Rattle.drd_order.proofs.drd_fields_lemmas.EqualityLaws.{data_equiv};
 ghost use Rattle.drd_order.specs.drd_fields.Writing.{EmitsData, RefusesFields, canonical_octets};
 ghost use Rattle.drd_plain.specs.Fields.{hinfo_fields, hinfo_kinds};
 ghost use Rattle.std.specs.Iterator.{Drains, IsFinite};
@@ -82,7 +82,7 @@ impl HINFO {
 impl BinDecodable for HINFO {
     ghost reads = { λ message place hinfo end. FieldsAt message place (hinfo_fields hinfo) end };
 
-    ghost refuses = { λ message place e. (end at : ℕ) × Stops message end hinfo_kinds place e at };
+    ghost refuses = { λ message place e. (end at : ℕ) × StopsReading message end hinfo_kinds place e at };
 
     fn read(alloc: Global, decoder: &mut BinDecoder<'_>) -> Result<HINFO, DecodeError> {
         let (CharacterString(cpu), (CharacterString(os), ())) = read_data(alloc, decoder)?;
@@ -93,7 +93,7 @@ impl BinDecodable for HINFO {
 impl RecordDataDecodable for HINFO {
     ghost reads = { λ message place hinfo end. FieldsAt message place (hinfo_fields hinfo) end };
 
-    ghost refuses = { λ message place end e at. Misses message end hinfo_kinds place e at };
+    ghost refuses = { λ message place end e at. RefusesWindow message end hinfo_kinds place e at };
 
     fn read_data(
         alloc: Global,

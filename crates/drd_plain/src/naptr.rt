@@ -10,12 +10,12 @@ ghost use Rattle.drd_order.specs.dnw_encoder.Effects.{Writes};
 ghost use Rattle.drd_order.specs.dnw_encoder.Encoders.{state};
 ghost use Rattle.drd_order.specs.dnw_encoder.declared.modes.RDataEncoding.TheVariants.{Canonical};
 ghost use Rattle.drd_order.specs.drd_fields.Fields.{Field, short, string, name, FieldsAt, kinds_of};
-ghost use Rattle.drd_order.specs.drd_fields.Reading.{Misses, Stops};
+ghost use Rattle.drd_order.specs.drd_fields.Reading.{RefusesWindow, StopsReading};
 ghost use Rattle.drd_order.specs.drd_fields.Equality.{AreFull, Tells, fields_eq};
-ghost use Rattle.drd_order.specs.drd_fields.EqualityLaws.{data_equiv};
+ghost use Rattle.drd_order.proofs.drd_fields_lemmas.EqualityLaws.{data_equiv};
 ghost use Rattle.drd_order.specs.drd_fields.Writing.{EmitsData, RefusesFields, canonical_octets};
 ghost use Rattle.drd_plain.specs.Fields.{naptr_fields, naptr_kinds, are_alphanumeric};
-ghost use Rattle.drd_plain.specs.Print.{naptr_print, naptr_strings, quoted};
+ghost use Rattle.drd_plain.specs.Print.{naptr_print, naptr_strings, quotation};
 ghost use Rattle.drd_plain.specs.Reading.{MissesNaptr, RefusesNaptr};
 ghost use Rattle.drd_plain.specs.Words.{IsNaptrText};
 
@@ -166,7 +166,7 @@ fn read_parts(alloc: Global, decoder: &mut BinDecoder<'_>) -> Result<NAPTR, Deco
     ensures forward { decoder.old.index ≤ decoder.new.index }
     ensures within { decoder.new.index ≤ length decoder.new.octets }
     ensures err { OnErr result (decoder.new ≡ decoder.old) }
-    ensures refused { IfErr result (λ e. (end at : ℕ) × Stops decoder.old.octets end naptr_kinds decoder.old.index e at) }
+    ensures refused { IfErr result (λ e. (end at : ℕ) × StopsReading decoder.old.octets end naptr_kinds decoder.old.index e at) }
     ensures none { IfErr result (λ e. IsWantOfMemory e
         ⊎ ((fs : List Field) (end : ℕ) → kinds_of fs ≡ naptr_kinds → FieldsAt decoder.old.octets decoder.old.index fs end → ⊥)) }
 {
@@ -216,7 +216,7 @@ fn read_exact_parts(
     ensures same { decoder.new.octets ≡ decoder.old.octets }
     ensures forward { decoder.old.index ≤ decoder.new.index }
     ensures within { decoder.new.index ≤ length decoder.new.octets }
-    ensures refused { IfErr result (λ e. Misses decoder.old.octets (decoder.old.index + len) naptr_kinds decoder.old.index e decoder.new.index) }
+    ensures refused { IfErr result (λ e. RefusesWindow decoder.old.octets (decoder.old.index + len) naptr_kinds decoder.old.index e decoder.new.index) }
     ensures none { IfErr result (λ e. IsWantOfMemory e
         ⊎ ((fs : List Field) → kinds_of fs ≡ naptr_kinds → FieldsAt decoder.old.octets decoder.old.index fs (decoder.old.index + len) → ⊥)) }
 {
@@ -314,7 +314,7 @@ fn fmt_strings<W: fmt::Write>(
 
 // Writes a space and a string between quotes.
 fn fmt_behind_space<W: fmt::Write>(f: &mut fmt::Formatter<W>, octets: &[u8]) -> fmt::Result
-    ensures { WritesOnOk W.write_str_gives f.old result (32 ∷ quoted octets.now) f.new }
+    ensures { WritesOnOk W.write_str_gives f.old result (32 ∷ quotation octets.now) f.new }
 {
     f.write_char(' ')?;
     fmt_quoted(f, octets)

@@ -3,9 +3,9 @@ ghost use Rattle.std.specs.Prelude.{◌≡◌, ◌∷◌, [], ◌++◌, ℕ, Lis
 ghost use Rattle.std.specs.Cmp.{partial_equiv_from_equiv};
 ghost use Rattle.drd_order.specs.dnw_encoder.declared.modes.RDataEncoding.TheVariants.{Other};
 ghost use Rattle.drd_order.specs.drd_fields.Fields.{strings, FieldsAt};
-ghost use Rattle.drd_order.specs.drd_fields.Reading.{Stops};
+ghost use Rattle.drd_order.specs.drd_fields.Reading.{StopsReading};
 ghost use Rattle.drd_order.specs.drd_fields.Equality.{AreFull, Tells, fields_eq};
-ghost use Rattle.drd_order.specs.drd_fields.EqualityLaws.{data_equiv};
+ghost use Rattle.drd_order.proofs.drd_fields_lemmas.EqualityLaws.{data_equiv};
 ghost use Rattle.drd_order.specs.drd_fields.Writing.{EmitsData, RefusesFields, canonical_octets};
 ghost use Rattle.drd_plain.specs.Fields.{txt_fields, txt_kinds, txt_strings};
 ghost use Rattle.std.specs.Iterator.{Drains, IsFinite};
@@ -112,7 +112,7 @@ impl Words for StringWords {
 impl RecordDataDecodable for TXT {
     ghost reads = { λ message place txt end. FieldsAt message place (txt_fields txt) end };
 
-    ghost refuses = { λ message place end e at. Stops message end txt_kinds place e at };
+    ghost refuses = { λ message place end e at. StopsReading message end txt_kinds place e at };
 
     /// The strings in so many octets.
     fn read_data(

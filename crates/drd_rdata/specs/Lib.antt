@@ -1,16 +1,12 @@
 pub mod Types
 pub mod Reading
 pub mod Writing
-pub mod WritingLaws
 pub mod Texts
 pub mod Once
-pub mod OnceLaws
 pub mod Order
 pub mod OrderLaws
-pub mod BackLaws
-pub mod WrittenLaws
 pub mod dnw_codes
-pub use Rattle.drd_types.specs.dnw_types
+pub use Rattle.drd_types.specs.dnw_wire
 pub use Rattle.drd_types.specs.drd_caa
 pub use Rattle.drd_types.specs.drd_csync
 pub use Rattle.drd_types.specs.drd_keys

@@ -5,7 +5,7 @@ use Rattle.std.specs.Net.Addr.{ipv4_octets, ipv6_segments}
 use Rattle.std.specs.declared.net.ipv4_addr.Ipv4Addr.{Ipv4Addr}
 use Rattle.std.specs.declared.net.ipv6_addr.Ipv6Addr.{Ipv6Addr}
 use Rattle.drd_types.specs.drd_caa.declared.caa.CAA.{CAA}
-use Rattle.drd_types.specs.drd_fields.OnceLaws.{AllFit}
+use Rattle.drd_types.specs.drd_fields.Fields.{AllFit}
 use Rattle.drd_types.specs.drd_keys.declared.tlsa.TLSA.{TLSA}
 use Rattle.drd_types.specs.drd_names.declared.soa.SOA.{SOA}
 use Rattle.drd_types.specs.drd_opt.Entries.{raw_of}
@@ -48,7 +48,8 @@ SameCaa a b =
 
 abbrev pub SameTlsa : TLSA → TLSA → Type 0
 SameTlsa a b =
-    (a.cert_usage ≡ b.cert_usage) × (a.selector ≡ b.selector) × (a.matching ≡ b.matching) × (a.cert_data.items ≡ b.cert_data.items)
+    (a.cert_usage ≡ b.cert_usage) × (a.selector ≡ b.selector) × (a.matching ≡ b.matching)
+    × (a.cert_data.items ≡ b.cert_data.items)
 
 -- The octets of the parameters are the same.
 abbrev pub SameSvcb : SVCB → SVCB → Type 0
@@ -56,24 +57,29 @@ SameSvcb a b =
     (a.svc_priority ≡ b.svc_priority) × (a.target_name ≡ b.target_name)
     × (params_octets a.svc_params.items ≡ params_octets b.svc_params.items)
 
--- Data without a Vec are the same, and of others what a Vec holds is. Options are so by their codes' numbers and octets.
+-- Data without a Vec are the same, and of others what a Vec holds is. Options are so by their
+-- codes' numbers and octets.
 abbrev pub SameData : RData → RData → Type 0
 SameData (rdata.CAA a) (rdata.CAA b) = SameCaa a b
 SameData (rdata.CERT a) (rdata.CERT b) =
-    (a.cert_type ≡ b.cert_type) × (a.key_tag ≡ b.key_tag) × (a.algorithm ≡ b.algorithm) × (a.cert_data.items ≡ b.cert_data.items)
+    (a.cert_type ≡ b.cert_type) × (a.key_tag ≡ b.key_tag) × (a.algorithm ≡ b.algorithm)
+    × (a.cert_data.items ≡ b.cert_data.items)
 SameData (rdata.HINFO a) (rdata.HINFO b) = (a.cpu.items ≡ b.cpu.items) × (a.os.items ≡ b.os.items)
 SameData (rdata.HTTPS a) (rdata.HTTPS b) = SameSvcb a.0 b.0
 SameData (rdata.NAPTR a) (rdata.NAPTR b) =
     (a.order ≡ b.order) × (a.preference ≡ b.preference) × (a.flags.items ≡ b.flags.items)
-    × (a.services.items ≡ b.services.items) × (a.regexp.items ≡ b.regexp.items) × (a.replacement ≡ b.replacement)
+    × (a.services.items ≡ b.services.items) × (a.regexp.items ≡ b.regexp.items)
+    × (a.replacement ≡ b.replacement)
 SameData (rdata.NULL a) (rdata.NULL b) = a.anything.items ≡ b.anything.items
 SameData (rdata.OPENPGPKEY a) (rdata.OPENPGPKEY b) = a.public_key.items ≡ b.public_key.items
 SameData (rdata.OPT a) (rdata.OPT b) = map raw_of a.options.items ≡ map raw_of b.options.items
 SameData (rdata.SMIMEA a) (rdata.SMIMEA b) = SameTlsa a.0 b.0
 SameData (rdata.SSHFP a) (rdata.SSHFP b) =
-    (a.algorithm ≡ b.algorithm) × (a.fingerprint_type ≡ b.fingerprint_type) × (a.fingerprint.items ≡ b.fingerprint.items)
+    (a.algorithm ≡ b.algorithm) × (a.fingerprint_type ≡ b.fingerprint_type)
+    × (a.fingerprint.items ≡ b.fingerprint.items)
 SameData (rdata.SVCB a) (rdata.SVCB b) = SameSvcb a b
 SameData (rdata.TLSA a) (rdata.TLSA b) = SameTlsa a b
 SameData (rdata.TXT a) (rdata.TXT b) = txt_strings a ≡ txt_strings b
-SameData (rdata.Unknown code a) (rdata.Unknown other b) = (code ≡ other) × (a.anything.items ≡ b.anything.items)
+SameData (rdata.Unknown code a) (rdata.Unknown other b) =
+    (code ≡ other) × (a.anything.items ≡ b.anything.items)
 SameData a b = a ≡ b

@@ -1,5 +1,5 @@
--- The order of record data of every type, and what of them is fed to a hasher: by the number of the type, then by form, then
--- as the type orders its own data (RFC 4034 6.3).
+-- The order of record data of every type, and what of them is fed to a hasher: by the number of the
+-- type, then by form, then as the type orders its own data (RFC 4034 6.3).
 use Rattle.std.specs.Prelude.{ℕ, ◌≡◌, ◌++◌, Bool, List, [], map, Option, Some, None}
 use Rattle.std.specs.List.{All}
 use Rattle.std.specs.Hash as fed
@@ -19,10 +19,10 @@ use Rattle.drd_types.specs.drd_caa.Fields.{caa_fields}
 use Rattle.drd_svcb.specs.Fields.{svcb_code, svcb_fields}
 use Rattle.drd_types.specs.drd_csync.declared.csync.CSYNC.{CSYNC}
 use Rattle.drd_types.specs.drd_csync.Data.{csync_fields}
-use Rattle.drd_types.specs.drd_csync.Equality.{IsWritten}
+use Rattle.drd_types.specs.drd_csync.Equality.{AreWrittenMaps}
 use Rattle.drd_types.specs.drd_csync.Order.{csync_cmp, csync_input}
 use Rattle.drd_types.specs.drd_opt.declared.opt.OPT.{OPT}
-use Rattle.drd_types.specs.drd_opt.Entries.{Fits, raw_of}
+use Rattle.drd_types.specs.drd_opt.Entries.{FitsLengths, raw_of}
 use Rattle.drd_types.specs.drd_opt.Equality.{entries_input}
 use Rattle.drd_types.specs.drd_opt.Order.{entries_cmp, canonical_entries}
 use Rattle.drd_svcb.specs.drd_params.Params.{AreParams}
@@ -36,12 +36,12 @@ use Rattle.drd_rdata.specs.Types.{type_of}
 abbrev pub type_number : RData → ℕ
 type_number value = record_type_number (type_of value)
 
--- Data of an update, which have no octets, stand before those of the same type in a form of its own, and these before octets
--- of which only the type is known.
-abbrev pub form : RData → ℕ
-form (rdata.Update0 code) = 0
-form (rdata.Unknown code null) = 2
-form other = 1
+-- Data of an update, which have no octets, stand before those of the same type in a form of its
+-- own, and these before octets of which only the type is known.
+abbrev pub data_form : RData → ℕ
+data_form (rdata.Update0 code) = 0
+data_form (rdata.Unknown code null) = 2
+data_form other = 1
 
 -- The data field by field, but those of types that hold a set, options in no order, or parameters.
 abbrev pub rdata_fields : RData → List Field
@@ -93,22 +93,33 @@ opt_cmp a b = entries_cmp a.options.items b.options.items
 
 -- Data of one type and form.
 abbrev pub data_cmp : RData → RData → Ordering
-data_cmp = then_cmp (on rdata_fields fields_cmp) (then_cmp (on csync_of (option_cmp csync_cmp)) (then_cmp (on opt_of (option_cmp opt_cmp)) (on svcb_of (option_cmp svcb_cmp))))
+data_cmp =
+    then_cmp (on rdata_fields fields_cmp)
+    (then_cmp (on csync_of (option_cmp csync_cmp))
+    (then_cmp (on opt_of (option_cmp opt_cmp)) (on svcb_of (option_cmp svcb_cmp))))
 
 abbrev pub rdata_cmp : RData → RData → Ordering
-rdata_cmp = then_cmp (on type_number nat_cmp) (then_cmp (on form nat_cmp) data_cmp)
+rdata_cmp = then_cmp (on type_number nat_cmp) (then_cmp (on data_form nat_cmp) data_cmp)
 
 abbrev pub rdata_eq : RData → RData → Bool
 rdata_eq = eq_by_cmp rdata_cmp
 
--- The canonical octets of data whose names are fully qualified, whose parameters rise, and whose options 16 bits can count, as
--- in all data that were read: names in lower case, bit maps from their types, options in the order of their octets.
+-- The canonical octets of data whose names are fully qualified, whose parameters rise, and whose
+-- options 16 bits can count, as in all data that were read: names in lower case, bit maps from
+-- their types, options in the order of their octets.
 abbrev pub HasCanonical : RData → List ℕ → Type 0
-HasCanonical (rdata.CSYNC csync) octets = (maps : List ℕ) × IsWritten csync maps × (octets ≡ fields_octets (csync_fields csync maps))
-HasCanonical (rdata.OPT opt) octets = All Fits (map raw_of opt.options.items) × (octets ≡ canonical_entries opt.options.items)
-HasCanonical (rdata.SVCB svcb) octets = AreFull (svcb_fields svcb) × AreParams svcb.svc_params.items × (octets ≡ canonical_octets (svcb_fields svcb))
-HasCanonical (rdata.HTTPS https) octets = AreFull (svcb_fields https.0) × AreParams https.0.svc_params.items × (octets ≡ canonical_octets (svcb_fields https.0))
-HasCanonical other octets = AreFull (rdata_fields other) × (octets ≡ canonical_octets (rdata_fields other))
+HasCanonical (rdata.CSYNC csync) octets =
+    (maps : List ℕ) × AreWrittenMaps csync maps × (octets ≡ fields_octets (csync_fields csync maps))
+HasCanonical (rdata.OPT opt) octets =
+    All FitsLengths (map raw_of opt.options.items) × (octets ≡ canonical_entries opt.options.items)
+HasCanonical (rdata.SVCB svcb) octets =
+    AreFull (svcb_fields svcb) × AreParams svcb.svc_params.items
+    × (octets ≡ canonical_octets (svcb_fields svcb))
+HasCanonical (rdata.HTTPS https) octets =
+    AreFull (svcb_fields https.0) × AreParams https.0.svc_params.items
+    × (octets ≡ canonical_octets (svcb_fields https.0))
+HasCanonical other octets =
+    AreFull (rdata_fields other) × (octets ≡ canonical_octets (rdata_fields other))
 
 -- The type and the form, and what a hasher is fed of the data of the type.
 abbrev pub data_input : RData → HashWrites
@@ -119,4 +130,4 @@ data_input (rdata.HTTPS https) = svcb_input https.0
 data_input other = fields_input (rdata_fields other)
 
 abbrev pub rdata_input : RData → HashWrites
-rdata_input value = fed.u16 (type_number value) ++ (fed.u8 (form value) ++ data_input value)
+rdata_input value = fed.u16 (type_number value) ++ (fed.u8 (data_form value) ++ data_input value)

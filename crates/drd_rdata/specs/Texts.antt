@@ -19,23 +19,30 @@ use Rattle.drd_rdata.specs.Reading.{Is}
 use Rattle.drd_rdata.specs.declared.rdata.RData.{RData}
 use Rattle.drd_rdata.specs.declared.rdata.RData.TheVariants as rdata
 
--- The words write these data of a record of this type; an origin completes relative names. Other types have no text.
+-- The words write these data of a record of this type; an origin completes relative names. Other
+-- types have no text.
 abbrev pub IsTextOf : RecordType → List (List ℕ) → Option DomainName → RData → Type 0
 IsTextOf kind.A words origin value = Is rdata.A (λ a. IsAText words a) value
 IsTextOf kind.AAAA words origin value = Is rdata.AAAA (λ aaaa. IsAaaaText words aaaa) value
-IsTextOf kind.ANAME words origin value = Is rdata.ANAME (λ aname. IsAnameText words origin aname) value
+IsTextOf kind.ANAME words origin value =
+    Is rdata.ANAME (λ aname. IsAnameText words origin aname) value
 IsTextOf kind.CAA words origin value = Is rdata.CAA (λ caa. IsCaaText words caa) value
 IsTextOf kind.CERT words origin value = Is rdata.CERT (λ cert. IsCertText words cert) value
-IsTextOf kind.CNAME words origin value = Is rdata.CNAME (λ cname. IsCnameText words origin cname) value
+IsTextOf kind.CNAME words origin value =
+    Is rdata.CNAME (λ cname. IsCnameText words origin cname) value
 IsTextOf kind.CSYNC words origin value = Is rdata.CSYNC (λ csync. IsCsyncText words csync) value
 IsTextOf kind.HINFO words origin value = Is rdata.HINFO (λ hinfo. IsHinfoText words hinfo) value
-IsTextOf kind.HTTPS words origin value = Is rdata.HTTPS (λ https. IsSvcbText words origin https.0) value
+IsTextOf kind.HTTPS words origin value =
+    Is rdata.HTTPS (λ https. IsSvcbText words origin https.0) value
 IsTextOf kind.MX words origin value = Is rdata.MX (λ mx. IsMxText words origin mx) value
-IsTextOf kind.NAPTR words origin value = Is rdata.NAPTR (λ naptr. IsNaptrText words origin naptr) value
+IsTextOf kind.NAPTR words origin value =
+    Is rdata.NAPTR (λ naptr. IsNaptrText words origin naptr) value
 IsTextOf kind.NS words origin value = Is rdata.NS (λ ns. IsNsText words origin ns) value
-IsTextOf kind.OPENPGPKEY words origin value = Is rdata.OPENPGPKEY (λ openpgpkey. IsOpenpgpkeyText words openpgpkey) value
+IsTextOf kind.OPENPGPKEY words origin value =
+    Is rdata.OPENPGPKEY (λ openpgpkey. IsOpenpgpkeyText words openpgpkey) value
 IsTextOf kind.PTR words origin value = Is rdata.PTR (λ ptr. IsPtrText words origin ptr) value
-IsTextOf kind.SMIMEA words origin value = Is rdata.SMIMEA (λ smimea. IsSmimeaText words smimea) value
+IsTextOf kind.SMIMEA words origin value =
+    Is rdata.SMIMEA (λ smimea. IsSmimeaText words smimea) value
 IsTextOf kind.SOA words origin value = Is rdata.SOA (λ soa. IsSoaText words origin soa) value
 IsTextOf kind.SRV words origin value = Is rdata.SRV (λ srv. IsSrvText words origin srv) value
 IsTextOf kind.SSHFP words origin value = Is rdata.SSHFP (λ sshfp. IsSshfpText words sshfp) value
@@ -69,7 +76,8 @@ has_text kind.TLSA = true
 has_text kind.TXT = true
 has_text other = false
 
--- What is printed of the data. Those of an update that has none are a word of their own, those of type 0 nothing.
+-- What is printed of the data. Those of an update that has none are a word of their own, those of
+-- type 0 nothing.
 abbrev pub rdata_print : RData → List ℕ
 rdata_print (rdata.A a) = a_print a
 rdata_print (rdata.AAAA aaaa) = aaaa_print aaaa

@@ -1,7 +1,7 @@
 //! What was written reads back.
 ghost use Rattle.std.specs.Prelude.{◌≡◌, ℕ, List, true};
 ghost use Rattle.dnw_codes.specs.declared.record_type.RecordType.{RecordType as Kind};
-ghost use Rattle.drd_types.specs.dnw_encoder.Effects.{Sound, Holds};
+ghost use Rattle.drd_types.specs.dnw_encoder.Effects.{Sound, StaysTrue};
 ghost use Rattle.drd_types.specs.dnw_encoder.State.{State};
 ghost use Rattle.drd_rdata.specs.Order.{rdata_eq};
 ghost use Rattle.drd_rdata.specs.Reading.{HoldsAs};
@@ -18,7 +18,7 @@ pub fn is_read_back(written: &RData, read: &RData) -> bool
         → HoldsAs record_type source start written.now stop
         → Sound old
         → EmitsRData written.now old new
-        → Holds new new.offset (λ message. HoldsAs record_type message old.offset read.now new.offset → result ≡ true) }
+        → StaysTrue new new.offset (λ message. HoldsAs record_type message old.offset read.now new.offset → result ≡ true) }
 {
     *written == *read
 }

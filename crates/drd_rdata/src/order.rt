@@ -9,7 +9,7 @@ ghost use Rattle.drd_types.specs.drd_keys.Fields.{null_fields};
 ghost use Rattle.drd_types.specs.drd_order.Order.{Orders, fields_cmp};
 ghost use Rattle.drd_types.specs.drd_fields.Writing.{canonical_octets};
 ghost use Rattle.drd_rdata.specs.declared.rdata.RData.TheVariants.{Unknown};
-ghost use Rattle.drd_rdata.specs.Order.{type_number, form, data_cmp, rdata_cmp, rdata_eq, HasCanonical, data_input, rdata_input};
+ghost use Rattle.drd_rdata.specs.Order.{type_number, data_form, data_cmp, rdata_cmp, rdata_eq, HasCanonical, data_input, rdata_input};
 ghost use Rattle.drd_rdata.specs.OrderLaws.{rdata_total, rdata_equiv, rdata_ties, rdata_fed};
 
 use crate::rdata::RData;
@@ -26,7 +26,7 @@ impl RData {
     // Whether the data are those of an update without octets, have the form of their type, or are octets of which only the
     // type is known.
     fn form(&self) -> u8
-        ensures { result ≡ form self.now }
+        ensures { result ≡ data_form self.now }
     {
         match self {
             RData::Update0(_) => 0,
@@ -38,7 +38,7 @@ impl RData {
     // The order of data of one type and form.
     fn cmp_data(&self, other: &RData) -> Ordering
         requires number { type_number self.now ≡ type_number other.now }
-        requires form { form self.now ≡ form other.now }
+        requires form { data_form self.now ≡ data_form other.now }
         ensures value { result ≡ data_cmp self.now other.now }
         ensures canonical { (xs ys : List ℕ) → HasCanonical self.now xs → HasCanonical other.now ys → Orders result xs ys }
     {
@@ -74,7 +74,7 @@ impl RData {
     // The order by the numbers of the types, then by form, then of the data.
     fn cmp_all(&self, other: &RData) -> Ordering
         ensures value { result ≡ rdata_cmp self.now other.now }
-        ensures canonical { (xs ys : List ℕ) → type_number self.now ≡ type_number other.now → form self.now ≡ form other.now
+        ensures canonical { (xs ys : List ℕ) → type_number self.now ≡ type_number other.now → data_form self.now ≡ data_form other.now
             → HasCanonical self.now xs → HasCanonical other.now ys → Orders result xs ys }
     {
         let number = u16::from(self.record_type());
@@ -308,7 +308,7 @@ impl PartialEq for RData {
     /// octets are the same (RFC 4034 6.3).
     fn eq(&self, other: &RData) -> bool
         ensures value { result ≡ rdata_eq self.now other.now }
-        ensures canonical { (xs ys : List ℕ) → type_number self.now ≡ type_number other.now → form self.now ≡ form other.now
+        ensures canonical { (xs ys : List ℕ) → type_number self.now ≡ type_number other.now → data_form self.now ≡ data_form other.now
             → HasCanonical self.now xs → HasCanonical other.now ys → Tells result xs ys }
     {
         self.cmp(other).is_eq()
@@ -332,7 +332,7 @@ impl Ord for RData {
     /// read are in the order of their canonical octets, from the left (RFC 4034 6.3). No memory is taken.
     fn cmp(&self, other: &RData) -> Ordering
         ensures value { result ≡ rdata_cmp self.now other.now }
-        ensures canonical { (xs ys : List ℕ) → type_number self.now ≡ type_number other.now → form self.now ≡ form other.now
+        ensures canonical { (xs ys : List ℕ) → type_number self.now ≡ type_number other.now → data_form self.now ≡ data_form other.now
             → HasCanonical self.now xs → HasCanonical other.now ys → Orders result xs ys }
     {
         self.cmp_all(other)

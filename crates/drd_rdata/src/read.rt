@@ -6,7 +6,7 @@ ghost use Rattle.dnw_codes.specs.declared.error.DecodeError.{DecodeError as Erro
 ghost use Rattle.drd_types.specs.dnw_decoder.Reading.{IsWantOfMemory};
 ghost use Rattle.drd_rdata.specs.declared.rdata.RData.{RData as Rdata};
 ghost use Rattle.drd_types.specs.drd_fields.Fields.{FieldsAt};
-ghost use Rattle.drd_types.specs.drd_fields.Reading.{Stops};
+ghost use Rattle.drd_types.specs.drd_fields.Reading.{StopsReading};
 ghost use Rattle.drd_types.specs.drd_keys.Fields.{null_fields, null_kinds};
 ghost use Rattle.drd_rdata.specs.declared.rdata.RData.TheVariants.{Unknown};
 ghost use Rattle.dnw_codes.specs.declared.error.ProtoError.{ProtoError as WritingError};
@@ -29,7 +29,7 @@ impl RData {
     /// The data of a record of this type, so many octets at the decoder's index, which moves behind them. No octets are
     /// `Update0`, for OPT no options. Refused are octets that aren't data of the type: by their number, where reading
     /// stopped before their end or behind it, else by the cause. On an error the decoder is where reading stopped.
-    #[tactic(auto, using(crate::specs::WritingLaws::read_room))]
+    #[tactic(auto, using(crate::proofs::WritingLaws::read_room))]
     pub fn read(
         alloc: Global,
         decoder: &mut BinDecoder<'_>,
@@ -187,13 +187,15 @@ fn read_unknown(
     code: RecordType,
     length: Restrict<u16>,
 ) -> Result<RData, DecodeError>
-    ensures ok { IfOk result (λ value. Is (Unknown code) (λ null. FieldsAt decoder.old.octets decoder.old.index (null_fields null) (decoder.old.index + length)) value) }
+    ensures ok { IfOk result
+        (λ value. Is (Unknown code)
+        (λ null. FieldsAt decoder.old.octets decoder.old.index (null_fields null) (decoder.old.index + length)) value) }
     ensures end { OnOk result (decoder.new.index ≡ decoder.old.index + length) }
     ensures same { decoder.new.octets ≡ decoder.old.octets }
     ensures forward { decoder.old.index ≤ decoder.new.index }
     ensures within { decoder.new.index ≤ size decoder.new.octets }
     ensures refused { IfErr result (λ e. IsWantOfMemory e ⊎ ((cause : Error) × (at : ℕ)
-        × Stops decoder.old.octets (decoder.old.index + length) null_kinds decoder.old.index cause at × Shows decoder.old.index length cause at e)) }
+        × StopsReading decoder.old.octets (decoder.old.index + length) null_kinds decoder.old.index cause at × Shows decoder.old.index length cause at e)) }
     ensures none { IfErr result (λ e. IsWantOfMemory e ⊎ ((value : Rdata)
         → Is (Unknown code) (λ null. FieldsAt decoder.old.octets decoder.old.index (null_fields null) (decoder.old.index + length)) value → ⊥)) }
 {

@@ -3,7 +3,7 @@ ghost use Rattle.std.specs.Prelude.{◌≡◌, ◌⊎◌, ℕ, List, None, Ok, E
 ghost use Rattle.std.specs.Iterator.{Drains, IsFinite};
 ghost use Rattle.std.specs.Option.{option_copied};
 ghost use Rattle.dnw_codes.specs.declared.error.ParseError.TheVariants.{UnsupportedRecordType};
-ghost use Rattle.drd_svcb.specs.drd_words.Text.{TextWords, TextRefused};
+ghost use Rattle.drd_svcb.specs.drd_words.Text.{IsSplitInto, TextRefused};
 ghost use Rattle.drd_svcb.specs.drd_words.Word.{IsOutOfMemory};
 ghost use Rattle.drd_rdata.specs.declared.rdata.RData.{RData as Rdata};
 ghost use Rattle.drd_rdata.specs.Types.{type_of};
@@ -74,13 +74,13 @@ impl RData {
         record_type: RecordType,
         text: &str,
     ) -> Result<RData, ParseError>
-        ensures ok { IfOk result (λ value. (words : List (List ℕ)) × TextWords text.now words × IsTextOf record_type words None value) }
+        ensures ok { IfOk result (λ value. (words : List (List ℕ)) × IsSplitInto text.now words × IsTextOf record_type words None value) }
         ensures kind { IfOk result (λ value. type_of value ≡ record_type) }
         ensures refused { IfErr result (λ e. IsOutOfMemory e ⊎ TextRefused text.now e
-            ⊎ ((words : List (List ℕ)) × TextWords text.now words × ((value : Rdata) → IsTextOf record_type words None value → ⊥))) }
+            ⊎ ((words : List (List ℕ)) × IsSplitInto text.now words × ((value : Rdata) → IsTextOf record_type words None value → ⊥))) }
 
         // The words are those of the text and no others; where it has none, the error is that of the text.
-        ensures only { (words : List (List ℕ)) → TextWords text.now words
+        ensures only { (words : List (List ℕ)) → IsSplitInto text.now words
             → MatchResult result (λ value. IsTextOf record_type words None value)
             (λ e. IsOutOfMemory e ⊎ ((value : Rdata) → IsTextOf record_type words None value → ⊥)) }
         ensures cause { (e : ParseError) → TextRefused text.now e → MatchResult result (λ value. ⊥) (λ given. IsOutOfMemory given ⊎ (given ≡ e)) }

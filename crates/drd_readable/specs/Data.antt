@@ -3,7 +3,7 @@ use Rattle.std.specs.Prelude.{◌≡◌, ◌<◌, true, length}
 use Rattle.std.specs.List.{All}
 use Rattle.drd_rdata.specs.dnw_codes.declared.record_type.RecordType.{RecordType}
 use Rattle.drd_rdata.specs.dnw_codes.declared.record_type.RecordType.TheVariants as kind
-use Rattle.drd_rdata.specs.dnw_types.BitMaps.{Rises}
+use Rattle.drd_rdata.specs.dnw_wire.BitMaps.{Rises}
 use Rattle.drd_params.specs.drd_plain.Fields.{are_alphanumeric}
 use Rattle.drd_params.specs.drd_plain.declared.naptr.NAPTR.{NAPTR}
 use Rattle.drd_rdata.specs.drd_keys.Cert.{IsNamedCert}
@@ -52,12 +52,15 @@ IsOther other = Unit {0}
 abbrev pub IsService : SVCB → Type 0
 IsService svcb = EndsAtRoot svcb.target_name × AreParams svcb.svc_params.items
 
--- The strings are short, the flags letters and digits, and the replacement ends at the root (RFC 3403 4.1).
-abbrev pub IsRule : NAPTR → Type 0
-IsRule naptr =
-    IsShort naptr.flags.items × IsShort naptr.services.items × IsShort naptr.regexp.items × (are_alphanumeric naptr.flags.items ≡ true) × EndsAtRoot naptr.replacement
+-- The strings are short, the flags letters and digits, and the replacement ends at the root (RFC
+-- 3403 4.1).
+abbrev pub IsReadableNaptr : NAPTR → Type 0
+IsReadableNaptr naptr =
+    IsShort naptr.flags.items × IsShort naptr.services.items × IsShort naptr.regexp.items
+    × (are_alphanumeric naptr.flags.items ≡ true) × EndsAtRoot naptr.replacement
 
--- What data must hold to be read from some message, by their type. Those that may be without octets have some.
+-- What data must hold to be read from some message, by their type. Those that may be without octets
+-- have some.
 abbrev pub CanBeRead : RData → Type 0
 CanBeRead (rdata.ANAME aname) = EndsAtRoot aname.0
 CanBeRead (rdata.CAA caa) = IsCaa caa
@@ -67,7 +70,7 @@ CanBeRead (rdata.CSYNC csync) = Rises 0 csync.type_bit_maps 65536
 CanBeRead (rdata.HINFO hinfo) = IsShort hinfo.cpu.items × IsShort hinfo.os.items
 CanBeRead (rdata.HTTPS https) = IsService https.0
 CanBeRead (rdata.MX mx) = EndsAtRoot mx.exchange
-CanBeRead (rdata.NAPTR naptr) = IsRule naptr
+CanBeRead (rdata.NAPTR naptr) = IsReadableNaptr naptr
 CanBeRead (rdata.NULL null) = 0 < length null.anything.items
 CanBeRead (rdata.NS ns) = EndsAtRoot ns.0
 CanBeRead (rdata.OPENPGPKEY openpgpkey) = 0 < length openpgpkey.public_key.items
@@ -79,7 +82,8 @@ CanBeRead (rdata.SRV srv) = EndsAtRoot srv.target
 CanBeRead (rdata.SSHFP sshfp) = IsNamedSshfp sshfp
 CanBeRead (rdata.SVCB svcb) = IsService svcb
 CanBeRead (rdata.TLSA tlsa) = IsNamedTlsa tlsa
-CanBeRead (rdata.TXT txt) = All (λ s. IsShort s.items) txt.txt_data.items × (0 < length txt.txt_data.items)
+CanBeRead (rdata.TXT txt) =
+    All (λ s. IsShort s.items) txt.txt_data.items × (0 < length txt.txt_data.items)
 CanBeRead (rdata.Unknown code null) = IsOther code × (0 < length null.anything.items)
 CanBeRead (rdata.Update0 code) = ⊥
 CanBeRead rdata.ZERO = ⊥

@@ -1,9 +1,6 @@
 pub mod Alone
-pub mod AloneLaws
 pub mod Options
-pub mod OptionLaws
 pub mod Data
-pub mod DataLaws
 pub use Rattle.drd_rdata.specs.dnw_codes
 pub use Rattle.drd_option.specs.dnw_decoder
 pub use Rattle.drd_option.specs.dnw_encoder

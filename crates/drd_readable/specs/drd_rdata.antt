@@ -3,5 +3,4 @@ pub use Rattle.drd_rdata.specs.Reading
 pub use Rattle.drd_rdata.specs.Texts
 pub use Rattle.drd_rdata.specs.Types
 pub use Rattle.drd_rdata.specs.Writing
-pub use Rattle.drd_rdata.specs.WrittenLaws
 pub use Rattle.drd_rdata.specs.declared

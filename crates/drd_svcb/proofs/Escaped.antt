@@ -1,7 +1,7 @@
 -- What texts with escapes begin with.
 use Rattle.std.proofs.Common.{◌≡◌, ◌<◌, ◌++◌, ℕ, List, [], ◌∷◌, refl, ap, sym, ◌∙◌, subst, arith, length}
 use Rattle.std.proofs.lemmas.List.{append_assoc, append-nil}
-use Rattle.drd_params.specs.dnw_label.EscapeLaws.{octet-same, no_octet_in_nothing}
+use Rattle.drd_params.proofs.dnw_label_lemmas.EscapeLaws.{octet-same, no_octet_in_nothing}
 use Rattle.drd_params.specs.dnw_label.LabelText.{OctetText}
 use Rattle.drd_svcb.specs.Escapes.{EscapedText, ends, more}
 

@@ -5,15 +5,15 @@ use Rattle.drd_params.specs.dnw_codes.declared.error.ProtoError.{ProtoError}
 use Rattle.drd_params.specs.dnw_codes.ProtoError.{IsMemory}
 use Rattle.drd_params.specs.dnw_encoder.State.{State}
 use Rattle.drd_params.specs.Writing.{RefusesWriting}
-use Rattle.drd_svcb.specs.Writing.{RefusesEmit}
+use Rattle.drd_svcb.specs.Writing.{RefusesEmitSvcb}
 use Rattle.drd_params.specs.dnw_decoder.Octets.{Stands, octets_16}
 use Rattle.drd_params.specs.dnw_decoder.Reading.{IsWantOfMemory}
 use Rattle.drd_params.specs.dnw_decoder.Spelling.{NameAt}
-use Rattle.drd_params.specs.dnw_decoder.SpellingLaws.{name_once, spelled_within}
-use Rattle.drd_params.specs.dnw_decoder.Standing.{stands_same}
+use Rattle.drd_params.proofs.dnw_decoder_lemmas.SpellingLaws.{name_once, spelled_within}
+use Rattle.drd_params.proofs.dnw_decoder_lemmas.Standing.{stands_same}
 use Rattle.drd_params.specs.dnw_name.DomainName.{DomainName}
 use Rattle.drd_params.specs.drd_fields.Equality.{Tells, TellsApart, canonical_field}
-use Rattle.drd_params.specs.drd_fields.EqualityLaws.{front_tells}
+use Rattle.drd_params.proofs.drd_fields_lemmas.EqualityLaws.{front_tells}
 use Rattle.drd_params.specs.drd_fields.Fields.{FieldsAt, name}
 use Rattle.drd_params.specs.drd_fields.Writing.{canonical_octets}
 use Rattle.drd_params.specs.Params.{Param, AreParams, NoParams, params_octets}
@@ -58,7 +58,7 @@ svcb-tells t a b n m ps qs one two three =
     (front_tells true t (canonical_field (name n)) (canonical_field (name m)) (params_octets ps ++ []) (params_octets qs ++ []) two three)
 
 -- Parameters that are not written.
-pub params-refused : (svcb : SVCB) (old : State) (params : List Param) (e : ProtoError) → params ≡ svcb.svc_params.items → IsMemory e ⊎ RefusesWriting params e → (AreParams params → IsMemory e) → RefusesEmit svcb old e
+pub params-refused : (svcb : SVCB) (old : State) (params : List Param) (e : ProtoError) → params ≡ svcb.svc_params.items → IsMemory e ⊎ RefusesWriting params e → (AreParams params → IsMemory e) → RefusesEmitSvcb svcb old e
 params-refused svcb old params e same (inl m) read = record { cause = inl (inl (inl m)); read = λ are. inl m }
 params-refused svcb old params e same (inr why) read = record {
   cause = inr (subst (λ (ps : List Param). RefusesWriting ps e) same why);

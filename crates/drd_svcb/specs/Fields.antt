@@ -11,7 +11,8 @@ abbrev pub svcb_parts : ℕ → DomainName → List ℕ → List Field
 svcb_parts priority target octets = short priority ∷ name target ∷ rest octets ∷ []
 
 abbrev pub svcb_fields : SVCB → List Field
-svcb_fields svcb = svcb_parts svcb.svc_priority svcb.target_name (params_octets svcb.svc_params.items)
+svcb_fields svcb =
+    svcb_parts svcb.svc_priority svcb.target_name (params_octets svcb.svc_params.items)
 
 abbrev pub svcb_kinds : List Kind
 svcb_kinds = a_short ∷ a_name ∷ the_rest ∷ []

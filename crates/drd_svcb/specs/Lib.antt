@@ -1,3 +1,4 @@
+pub mod HashingLaws
 pub mod Fields
 pub mod Reading
 pub mod Escapes

@@ -15,17 +15,19 @@ use Rattle.drd_params.specs.declared.value.SvcParamValue.{SvcParamValue}
 use Rattle.drd_params.specs.declared.value.SvcParamValue.TheVariants as value
 
 -- The number of entries, and each.
-abbrev pub entries_input : {T : Type 0} → (T → HashWrites) → List T → HashWrites
-entries_input fed_entry entries = fed.usize (length entries) ++ flat_map fed_entry entries
+abbrev pub list_input : {T : Type 0} → (T → HashWrites) → List T → HashWrites
+list_input fed_entry entries = fed.usize (length entries) ++ flat_map fed_entry entries
 
 abbrev pub value_input : SvcParamValue → HashWrites
-value_input (value.Mandatory mandatory) = entries_input (λ k. one_write (octets_16 (key_number k))) mandatory.0.items
-value_input (value.Alpn alpn) = entries_input (λ text. string_write (string_octets (string_bytes text))) alpn.0.items
+value_input (value.Mandatory mandatory) =
+    list_input (λ k. one_write (octets_16 (key_number k))) mandatory.0.items
+value_input (value.Alpn alpn) =
+    list_input (λ text. string_write (string_octets (string_bytes text))) alpn.0.items
 value_input value.NoDefaultAlpn = []
 value_input (value.Port port) = one_write (octets_16 port)
-value_input (value.Ipv4Hint hint) = entries_input (λ a. one_write (a_octets a)) hint.0.items
+value_input (value.Ipv4Hint hint) = list_input (λ a. one_write (a_octets a)) hint.0.items
 value_input (value.EchConfigList ech) = string_input ech.0.items
-value_input (value.Ipv6Hint hint) = entries_input (λ a. one_write (aaaa_octets a)) hint.0.items
+value_input (value.Ipv6Hint hint) = list_input (λ a. one_write (aaaa_octets a)) hint.0.items
 value_input (value.Unknown unknown) = string_input unknown.0.items
 
 -- A key's number and its value.
@@ -33,4 +35,4 @@ abbrev pub param_input : Param → HashWrites
 param_input param = fed.u16 (key_number param.0) ++ value_input param.1
 
 abbrev pub params_input : List Param → HashWrites
-params_input params = entries_input param_input params
+params_input params = list_input param_input params

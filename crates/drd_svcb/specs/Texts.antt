@@ -2,6 +2,7 @@
 use Rattle.std.specs.Prelude.{ℕ, ◌≡◌, ◌≢◌, ◌<◌, ◌==◌, Bool, List, [], ◌∷◌, ◌++◌, length, Option}
 use Rattle.std.proofs.Common.{◌⊎◌}
 use Rattle.std.specs.List.{before_first, after_first, slice_split}
+use Rattle.drd_params.specs.dnw_codes.Ascii.{comma, double_quote, equals_sign}
 use Rattle.drd_params.specs.dnw_name.DomainName.{DomainName}
 use Rattle.drd_params.specs.drd_words.Data.{IsBase64Text}
 use Rattle.drd_params.specs.drd_words.Word.{IsNumberWord, IsNameWord}
@@ -16,24 +17,26 @@ use Rattle.drd_svcb.specs.Escapes.{EscapedText}
 use Rattle.drd_svcb.specs.declared.svcb.SVCB.{SVCB}
 
 abbrev pub is_comma : ℕ → Bool
-is_comma c = c == 44
+is_comma c = c == comma
 
 abbrev pub is_equals : ℕ → Bool
-is_equals c = c == 61
+is_equals c = c == equals_sign
 
 -- Entries with commas between them, at least one. None has a comma in it.
 abbrev pub IsListText : {T : Type 0} → (T → List ℕ → Type 0) → List T → List ℕ → Type 0
 IsListText Written entries text = EachWord Written entries (slice_split is_comma text)
 
--- What the value of a key is written as: lists by commas, a port in decimal digits, configurations in base64, and the
--- octets of a key without a form of its own as a text with escapes.
+-- What the value of a key is written as: lists by commas, a port in decimal digits, configurations
+-- in base64, and the octets of a key without a form of its own as a text with escapes.
 abbrev pub IsValueText : SvcParamKey → SvcParamValue → List ℕ → Type 0
-IsValueText key.Mandatory (value.Mandatory mandatory) text = IsListText IsKeyText mandatory.0.items text
+IsValueText key.Mandatory (value.Mandatory mandatory) text =
+    IsListText IsKeyText mandatory.0.items text
 IsValueText key.Alpn (value.Alpn alpn) text = IsListText IsProtocolText alpn.0.items text
 IsValueText key.NoDefaultAlpn value.NoDefaultAlpn text = length text ≡ 0
 IsValueText key.Port (value.Port port) text = IsNumberWord 16 port text
 IsValueText key.Ipv4Hint (value.Ipv4Hint hint) text = IsListText IsAEntry hint.0.items text
-IsValueText key.EchConfigList (value.EchConfigList ech) text = (0 < length text) × IsBase64Text ech.0.items text
+IsValueText key.EchConfigList (value.EchConfigList ech) text =
+    (0 < length text) × IsBase64Text ech.0.items text
 IsValueText key.Ipv6Hint (value.Ipv6Hint hint) text = IsListText IsAaaaEntry hint.0.items text
 IsValueText (key.Key number) (value.Unknown unknown) text = EscapedText text unknown.0.items
 IsValueText key.Key65535 (value.Unknown unknown) text = EscapedText text unknown.0.items
@@ -43,10 +46,11 @@ IsValueText other another text = ⊥
 -- What stands between two quotes; a text that stands between none is itself.
 abbrev pub IsUnquoted : List ℕ → List ℕ → Type 0
 IsUnquoted text inner =
-    (text ≡ 34 ∷ (inner ++ 34 ∷ []))
-    ⊎ ((text ≡ inner) × ((between : List ℕ) → text ≢ 34 ∷ (between ++ 34 ∷ [])))
+    (text ≡ double_quote ∷ (inner ++ double_quote ∷ []))
+    ⊎ ((text ≡ inner) × ((between : List ℕ) → text ≢ double_quote ∷ (between ++ double_quote ∷ [])))
 
--- A key, and behind `=` the text of its value, which quotes may stand around. A key alone has the empty text.
+-- A key, and behind `=` the text of its value, which quotes may stand around. A key alone has the
+-- empty text.
 pub record IsParamText (param : Param) (word : List ℕ) : Type 0 where
   pub key : IsKeyText param.0 (before_first is_equals word)
   pub text : List ℕ
@@ -60,4 +64,5 @@ AreParamTexts params words = EachWord IsParamText params words × AreParams para
 -- The priority, the target, completed by the origin if it is relative, and the parameters.
 abbrev pub IsSvcbText : List (List ℕ) → Option DomainName → SVCB → Type 0
 IsSvcbText words origin svcb =
-    OneThen (IsNumberWord 16 svcb.svc_priority) (OneThen (IsNameWord origin svcb.target_name) (AreParamTexts svcb.svc_params.items)) words
+    OneThen (IsNumberWord 16 svcb.svc_priority)
+    (OneThen (IsNameWord origin svcb.target_name) (AreParamTexts svcb.svc_params.items)) words

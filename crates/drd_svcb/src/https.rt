@@ -8,13 +8,13 @@ ghost use Rattle.std.specs.Cmp.{partial_equiv_from_equiv};
 ghost use Rattle.drd_params.specs.dnw_encoder.declared.modes.RDataEncoding.TheVariants.{Other};
 ghost use Rattle.drd_params.specs.drd_fields.Fields.{FieldsAt};
 ghost use Rattle.drd_params.specs.drd_fields.Equality.{AreFull, Tells, fields_eq};
-ghost use Rattle.drd_params.specs.drd_fields.EqualityLaws.{data_equiv};
+ghost use Rattle.drd_order.proofs.drd_fields_lemmas.EqualityLaws.{data_equiv};
 ghost use Rattle.drd_params.specs.drd_fields.Writing.{EmitsData, canonical_octets};
 ghost use Rattle.drd_params.specs.Params.{AreParams};
 ghost use Rattle.drd_svcb.specs.Fields.{svcb_code, svcb_fields};
 ghost use Rattle.drd_svcb.specs.Print.{svcb_print};
 ghost use Rattle.drd_svcb.specs.Reading.{RefusesSvcb};
-ghost use Rattle.drd_svcb.specs.Writing.{RefusesEmit};
+ghost use Rattle.drd_svcb.specs.Writing.{RefusesEmitSvcb};
 
 use crate::svcb::SVCB;
 use drd_params::{
@@ -85,7 +85,7 @@ impl RecordDataDecodable for HTTPS {
 impl BinEncodable for HTTPS {
     ghost emits = { λ https. EmitsData Other (svcb_fields https.0) };
 
-    ghost refuses = { λ https old e new. RefusesEmit https.0 old e };
+    ghost refuses = { λ https old e new. RefusesEmitSvcb https.0 old e };
 
     /// Writes the data of SVCB.
     fn emit(&self, encoder: &mut BinEncoder<'_>) -> Result<(), ProtoError> {

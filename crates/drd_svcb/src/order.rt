@@ -5,10 +5,11 @@ ghost use Rattle.std.specs.Cmp.{po};
 ghost use Rattle.drd_params.specs.drd_fields.Equality.{AreFull};
 ghost use Rattle.drd_params.specs.drd_fields.Writing.{canonical_octets};
 ghost use Rattle.drd_params.specs.drd_order.Order.{Orders, fields_cmp};
-ghost use Rattle.drd_params.specs.drd_order.OrderLaws.{data_total, data_ties};
+ghost use Rattle.drd_order.proofs.OrderLaws.{data_total, data_ties};
 ghost use Rattle.drd_params.specs.Params.{AreParams};
 ghost use Rattle.drd_svcb.specs.Fields.{svcb_code, svcb_fields};
-ghost use Rattle.drd_svcb.specs.Hashing.{svcb_input, svcb-alike};
+ghost use Rattle.drd_svcb.specs.Hashing.{svcb_input};
+ghost use Rattle.drd_svcb.specs.HashingLaws.{svcb-alike};
 
 use crate::params_hash::hash_params;
 use crate::params_order::cmp_params;

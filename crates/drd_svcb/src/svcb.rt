@@ -3,9 +3,9 @@ ghost use Rattle.std.specs.Prelude.{◌≡◌, ◌∷◌, [], ℕ, List, ◌⊎�
 ghost use Rattle.drd_params.specs.dnw_decoder.Reading.{IsWantOfMemory};
 ghost use Rattle.drd_params.specs.dnw_encoder.declared.modes.RDataEncoding.TheVariants.{Other};
 ghost use Rattle.drd_params.specs.drd_fields.Fields.{Field, FieldsAt, kinds_of};
-ghost use Rattle.drd_params.specs.drd_fields.Reading.{Stops};
+ghost use Rattle.drd_params.specs.drd_fields.Reading.{StopsReading};
 ghost use Rattle.drd_params.specs.drd_fields.Equality.{AreFull, Tells, fields_eq};
-ghost use Rattle.drd_params.specs.drd_fields.EqualityLaws.{data_equiv};
+ghost use Rattle.drd_order.proofs.drd_fields_lemmas.EqualityLaws.{data_equiv};
 ghost use Rattle.drd_params.specs.drd_fields.Writing.{EmitsData, canonical_octets};
 ghost use Rattle.drd_params.specs.Params.{AreParams};
 ghost use Rattle.std.specs.Cmp.{partial_equiv_from_equiv};
@@ -14,7 +14,7 @@ ghost use Rattle.std.specs.Fmt.{WritesOnOk};
 ghost use Rattle.drd_params.specs.Print.{param_print};
 ghost use Rattle.drd_svcb.specs.Print.{params_print, svcb_print};
 ghost use Rattle.drd_svcb.specs.Reading.{RefusesSvcb};
-ghost use Rattle.drd_svcb.specs.Writing.{RefusesEmit};
+ghost use Rattle.drd_svcb.specs.Writing.{RefusesEmitSvcb};
 ghost use Rattle.std.specs.Iterator.{Drains, IsFinite};
 ghost use Rattle.std.specs.Option.{option_copied};
 ghost use Rattle.drd_params.specs.drd_words.Word.{IsOutOfMemory};
@@ -129,7 +129,7 @@ fn read_parts(
     ensures same { decoder.new.octets ≡ decoder.old.octets }
     ensures forward { decoder.old.index ≤ decoder.new.index }
     ensures within { decoder.new.index ≤ length decoder.new.octets }
-    ensures refused { IfErr result (λ e. Stops decoder.old.octets (decoder.old.index + len) svcb_kinds decoder.old.index e decoder.new.index) }
+    ensures refused { IfErr result (λ e. StopsReading decoder.old.octets (decoder.old.index + len) svcb_kinds decoder.old.index e decoder.new.index) }
     ensures none { IfErr result (λ e. IsWantOfMemory e
         ⊎ ((fs : List Field) → kinds_of fs ≡ svcb_kinds → FieldsAt decoder.old.octets decoder.old.index fs (decoder.old.index + len) → ⊥)) }
 {
@@ -169,7 +169,7 @@ impl RecordDataDecodable for SVCB {
 impl BinEncodable for SVCB {
     ghost emits = { λ svcb. EmitsData Other (svcb_fields svcb) };
 
-    ghost refuses = { λ svcb old e new. RefusesEmit svcb old e };
+    ghost refuses = { λ svcb old e new. RefusesEmitSvcb svcb old e };
 
     /// Writes the priority, the target in full, and the parameters. Data that were read are refused only for want of memory
     /// or of space.

@@ -1,6 +1,6 @@
 pub use Rattle.drd_names_keys.specs.dnw_decoder
 pub use Rattle.drd_names_keys.specs.dnw_encoder
-pub use Rattle.drd_names_keys.specs.dnw_types
+pub use Rattle.drd_names_keys.specs.dnw_wire
 pub mod drd_caa
 pub use Rattle.drd_names_keys.specs.drd_csync
 pub use Rattle.drd_opt.specs.drd_fields

@@ -1,9 +1,6 @@
-pub use Rattle.drd_opt.specs.BackLaws
 pub use Rattle.drd_opt.specs.Entries
 pub use Rattle.drd_opt.specs.Equality
 pub use Rattle.drd_opt.specs.EqualityLaws
-pub use Rattle.drd_opt.specs.FitLaws
-pub use Rattle.drd_opt.specs.OnceLaws
 pub use Rattle.drd_opt.specs.Order
 pub use Rattle.drd_opt.specs.OrderLaws
 pub use Rattle.drd_opt.specs.Reading

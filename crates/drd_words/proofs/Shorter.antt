@@ -2,8 +2,9 @@
 use Rattle.std.proofs.Common.{◌≡◌, ℕ, ◌<◌, ◌≤◌, suc, ◌&&◌, ◌||◌, ◌==◌, Bool, true, false, cond, List, [], ◌∷◌, length, refl, ap, arith}
 use Rattle.std.specs.Prelude.{Result, Ok, Err, Option, Some, None, MatchBool}
 use Rattle.dnw_lexer.specs.dnw_codes.declared.error.LexerError.{LexerError}
-use Rattle.dnw_lexer.specs.Lexer.{Reading, Words, words_before, is_blank, at_line_end, behind_line_end, begins_blank, without_blanks, line_end, without_comment, ends_word, StringText, ListText, closes, word, refused, unclosed, Lexeme, blank, end_of_line, Unread, unread, Given, lexeme_given, bare_lexeme, bare_given, string_given, list_given, BareToken, StringToken, ListToken, WordToken, LineToken, IsToken}
-use Rattle.dnw_lexer.specs.LeftLaws.{left, plain-shorter, string-left, gap-left, list-shorter}
+use Rattle.dnw_lexer.specs.dnw_codes.Ascii.{is_blank}
+use Rattle.dnw_lexer.specs.Lexer.{WordResult, Words, words_before, at_line_end, behind_line_end, begins_blank, without_blanks, line_end, without_comment, ends_word, StringText, ListText, closes, word, refused, unclosed, Lexeme, blank, end_of_line, Unread, unread, Given, lexeme_given, bare_lexeme, bare_given, string_given, list_given, BareToken, StringToken, ListToken, WordToken, LineToken, IsToken}
+use Rattle.dnw_lexer.proofs.LeftLaws.{left, plain-shorter, string-left, gap-left, list-shorter}
 
 abbrev words_left : Words → ℕ
 words_left (Ok found) = length found.1
@@ -119,11 +120,11 @@ lexeme-left : (x : Result Lexeme LexerError) (behind : List ℕ) → given_left 
 lexeme-left (Ok l) behind = omega arith
 lexeme-left (Err e) behind = omega arith
 
-bare_given-left : (r : Reading) → given_left (bare_given r) ≤ left r
+bare_given-left : (r : WordResult) → given_left (bare_given r) ≤ left r
 bare_given-left (Ok found) = lexeme-left (bare_lexeme found.0) found.1
 bare_given-left (Err e) = omega arith
 
-string_given-left : (r : Reading) → given_left (string_given r) ≡ left r
+string_given-left : (r : WordResult) → given_left (string_given r) ≡ left r
 string_given-left (Ok found) = refl
 string_given-left (Err e) = refl
 

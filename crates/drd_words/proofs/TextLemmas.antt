@@ -11,27 +11,27 @@ use Rattle.dnw_lexer.specs.Tokens.{IsLexeme, AreLexemes}
 use Rattle.dnw_lexer.specs.declared.token.Token.{Token}
 use Rattle.dnw_lexer.proofs.Unique.{is_token-one}
 use Rattle.drd_words.specs.Word.{IsOutOfMemory}
-use Rattle.drd_words.specs.Text.{lexeme_words, Reading, behind, TextReading, ends, more, misplaced, unreadable}
+use Rattle.drd_words.specs.Text.{lexeme_words, WordsResult, words_after, TextReading, ends, more, misplaced, unreadable}
 
-behind-nothing : (r : Reading) → behind [] r ≡ r
+behind-nothing : (r : WordsResult) → words_after [] r ≡ r
 behind-nothing (Ok words) = refl
 behind-nothing (Err e) = refl
 
-behind-behind : (v w : List (List ℕ)) (r : Reading) → behind v (behind w r) ≡ behind (v ++ w) r
+behind-behind : (v w : List (List ℕ)) (r : WordsResult) → words_after v (words_after w r) ≡ words_after (v ++ w) r
 behind-behind v w (Ok words) = ap (λ (x : List (List ℕ)). Ok x) (sym (append_assoc v w words))
 behind-behind v w (Err e) = refl
 
 -- What was read, and what is left of the text.
 pub record SoFar (start : Unread) (words : List (List ℕ)) (left : Unread) : Type 0 where
-  pub sound : (r : Reading) → TextReading left r → TextReading start (behind words r)
+  pub sound : (r : WordsResult) → TextReading left r → TextReading start (words_after words r)
 
 pub so_far-start : (start : Unread) (words : List (List ℕ)) → words ≡ [] → SoFar start words start
 so_far-start start words e =
-    record { sound = λ r h. subst (TextReading start) (sym (behind-nothing r) ∙ ap (λ (w : List (List ℕ)). behind w r) (sym e)) h }
+    record { sound = λ r h. subst (TextReading start) (sym (behind-nothing r) ∙ ap (λ (w : List (List ℕ)). words_after w r) (sym e)) h }
 
 pub so_far-more : (start : Unread) (words : List (List ℕ)) (left after : Unread) (lexeme : Lexeme) (next longer : List (List ℕ)) → SoFar start words left → IsToken left (Ok (Some lexeme, after)) → lexeme_words lexeme ≡ Some next → longer ≡ words ++ next → SoFar start longer after
 so_far-more start words left after lexeme next longer h at is e =
-    record { sound = λ r p. subst (TextReading start) (behind-behind words next r ∙ ap (λ (w : List (List ℕ)). behind w r) (sym e)) (h.sound (behind next r) (more left after lexeme next r at is p)) }
+    record { sound = λ r p. subst (TextReading start) (behind-behind words next r ∙ ap (λ (w : List (List ℕ)). words_after w r) (sym e)) (h.sound (words_after next r) (more left after lexeme next r at is p)) }
 
 pub so_far-ends : (start : Unread) (words : List (List ℕ)) (left after : Unread) → SoFar start words left → IsToken left (Ok (None, after)) → TextReading start (Ok words)
 so_far-ends start words left after h at =
@@ -79,7 +79,7 @@ some-none : (a b : Option (List (List ℕ))) (x : List (List ℕ)) → a ≡ b �
 some-none a b x e f g = absurd (cc)
 
 -- A text has one reading.
-pub reading-one : (left : Unread) (r r' : Reading) → TextReading left r → TextReading left r' → r ≡ r'
+pub reading-one : (left : Unread) (r r' : WordsResult) → TextReading left r → TextReading left r' → r ≡ r'
 reading-one left r r' (ends _ after at) (ends _ later at') = refl
 reading-one left r r' (ends _ after at) (more _ later l ws s at' is h) = absurd (no-token left after later l at at')
 reading-one left r r' (ends _ after at) (misplaced _ later l at' is) = absurd (no-token left after later l at at')
@@ -88,7 +88,7 @@ reading-one left r r' (more _ after l ws s at is h) (ends _ later at') = absurd 
 reading-one left r r' (more _ after l ws s at is h) (more _ later k vs s' at' is' h') =
     let same = same-token left after later l k at at' in
     let words : ws ≡ vs = some-one (lexeme_words l) (lexeme_words k) ws vs (ap lexeme_words (sym same.0)) is is' in
-    ap (behind ws) (reading-one after s s' h (subst (λ (u : Unread). TextReading u s') same.1 h')) ∙ ap (λ (w : List (List ℕ)). behind w s') words
+    ap (words_after ws) (reading-one after s s' h (subst (λ (u : Unread). TextReading u s') same.1 h')) ∙ ap (λ (w : List (List ℕ)). words_after w s') words
 reading-one left r r' (more _ after l ws s at is h) (misplaced _ later k at' is') =
     absurd (some-none (lexeme_words l) (lexeme_words k) ws (ap lexeme_words (sym (same-token left after later l k at at').0)) is is')
 reading-one left r r' (more _ after l ws s at is h) (unreadable _ f at') = absurd (no-error left (Some l, after) f at at')

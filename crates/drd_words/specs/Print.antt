@@ -1,15 +1,16 @@
 -- Printed character strings (RFC 1035 5.1, with octal digits in escapes), and octets in hex.
 use Rattle.std.specs.Prelude.{ℕ, ◌/◌, ◌%◌, ◌==◌, ◌&&◌, ◌||◌, nat_le, List, [], ◌∷◌, if◌then◌else◌, slice_index}
 use Rattle.std.specs.List.{flat_map}
+use Rattle.dnw_lexer.specs.dnw_codes.Ascii.{backslash, double_quote}
 use Rattle.dnw_name.specs.dnw_label.LabelPrint.{octal_print}
 use Rattle.hex.specs.Hex.{lower_digits}
 
--- A quote and a backslash stand behind a backslash, other printed characters and the space for themselves, all
--- else as a backslash and three octal digits.
+-- A quote and a backslash stand behind a backslash, other printed characters and the space for
+-- themselves, all else as a backslash and three octal digits.
 abbrev pub escaped_octet : ℕ → List ℕ
 escaped_octet c =
-    if c == 34 || c == 92 then 92 ∷ c ∷ []
-    else (if nat_le 32 c && nat_le c 126 then c ∷ [] else 92 ∷ octal_print c)
+    if c == double_quote || c == backslash then backslash ∷ c ∷ []
+    else (if nat_le 32 c && nat_le c 126 then c ∷ [] else backslash ∷ octal_print c)
 
 abbrev pub escaped_print : List ℕ → List ℕ
 escaped_print octets = flat_map escaped_octet octets

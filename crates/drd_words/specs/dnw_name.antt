@@ -1,5 +1,5 @@
 pub use Rattle.dnw_name.specs.DomainName
 pub use Rattle.dnw_name.specs.NameKey
-pub use Rattle.dnw_name.specs.NameOrder
+pub use Rattle.dnw_name.specs.NameOrderLaws
 pub use Rattle.dnw_name.specs.NamePrint
 pub use Rattle.dnw_name.specs.NameText

@@ -5,7 +5,7 @@ ghost use Rattle.dnw_lexer.specs.dnw_codes.declared.error.ParseError.TheVariants
 ghost use Rattle.dnw_lexer.specs.dnw_codes.declared.error.LexerError.TheVariants.{Memory};
 ghost use Rattle.dnw_lexer.specs.Lexer.{Lexeme, unread};
 ghost use Rattle.dnw_lexer.specs.Tokens.{IsLexeme};
-ghost use Rattle.drd_words.specs.Text.{lexeme_words, TextWords, TextRefused};
+ghost use Rattle.drd_words.specs.Text.{lexeme_words, IsSplitInto, TextRefused};
 ghost use Rattle.drd_words.specs.Word.{IsOutOfMemory};
 
 use crate::words::{Words, push, texts};
@@ -15,12 +15,12 @@ use std::alloc::{AllocError, Global};
 /// Reads the words of a text, those of a list in its place. Blanks at a line's front and line ends are passed over.
 /// Refused are another token, a text that can't be told into words, and words that stand for no value.
 pub fn read_text<T: Words>(alloc: Global, text: &str) -> Result<T, ParseError>
-    ensures ok { IfOk result (λ value. (words : List (List ℕ)) × TextWords text.now words × T.written words None value) }
+    ensures ok { IfOk result (λ value. (words : List (List ℕ)) × IsSplitInto text.now words × T.written words None value) }
     ensures refused { IfErr result (λ e. IsOutOfMemory e
-        ⊎ ((words : List (List ℕ)) (value : T) → TextWords text.now words → T.written words None value → ⊥)) }
+        ⊎ ((words : List (List ℕ)) (value : T) → IsSplitInto text.now words → T.written words None value → ⊥)) }
 
     // The words are those of the text and no others; where it has none, the error is that of the text.
-    ensures only { (words : List (List ℕ)) → TextWords text.now words
+    ensures only { (words : List (List ℕ)) → IsSplitInto text.now words
         → MatchResult result (λ value. T.written words None value) (λ e. IsOutOfMemory e ⊎ ((value : T) → T.written words None value → ⊥)) }
     ensures cause { (e : ParseError) → TextRefused text.now e → MatchResult result (λ value. ⊥) (λ given. IsOutOfMemory given ⊎ (given ≡ e)) }
 {
@@ -38,11 +38,11 @@ pub fn read_text<T: Words>(alloc: Global, text: &str) -> Result<T, ParseError>
 /// The words of a text, those of a list in its place. Blanks at a line's front and line ends are passed over. Refused are
 /// another token, and a text that can't be told into words (RFC 1035 5.1).
 pub fn words_of_text(alloc: Global, text: &str) -> Result<Vec<String>, ParseError>
-    ensures ok { IfOk result (λ words. TextWords text.now (map string_bytes words.items)) }
+    ensures ok { IfOk result (λ words. IsSplitInto text.now (map string_bytes words.items)) }
     ensures refused { IfErr result (λ e. IsOutOfMemory e ⊎ TextRefused text.now e) }
 
     // The words are those of the text and no others; where it has none, the error is that of the text.
-    ensures only { (parts : List (List ℕ)) → TextWords text.now parts
+    ensures only { (parts : List (List ℕ)) → IsSplitInto text.now parts
         → MatchResult result (λ words. map string_bytes words.items ≡ parts) (λ e. IsOutOfMemory e) }
     ensures cause { (e : ParseError) → TextRefused text.now e → MatchResult result (λ words. ⊥) (λ given. IsOutOfMemory given ⊎ (given ≡ e)) }
 {

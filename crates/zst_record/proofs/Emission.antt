@@ -7,26 +7,26 @@ use Rattle.drd_readable.specs.dnw_codes.declared.error.ProtoError.{ProtoError}
 use Rattle.drd_readable.specs.dnw_codes.declared.record_type.RecordType.TheVariants.{OPT}
 use Rattle.drd_readable.specs.dnw_decoder.Octets.{octets_16, octets_32, Stands}
 use Rattle.drd_readable.specs.dnw_decoder.Spelling.{NameAt}
-use Rattle.drd_readable.specs.dnw_decoder.Standing.{stands_joined, length-octets_32}
-use Rattle.drd_readable.specs.dnw_encoder.Effects.{Holds, Keeps, Writes, Puts, Opens, Fills, IsRefusal, place_of}
-use Rattle.drd_readable.specs.dnw_encoder.Laws.{holds_more, holds_same, holds_written, keeps_then, modes_then, puts_stands, writes_then}
+use Rattle.drd_readable.proofs.dnw_decoder_lemmas.Standing.{stands_joined, length-octets_32}
+use Rattle.drd_readable.specs.dnw_encoder.Effects.{StaysTrue, Keeps, Writes, WritesOctets, Opens, Fills, IsRefusal, place_of}
+use Rattle.drd_readable.proofs.dnw_encoder_lemmas.Laws.{holds_more, holds_same, holds_written, keeps_then, modes_then, puts_stands, writes_then}
 use Rattle.drd_readable.specs.dnw_encoder.Members.{In}
 use Rattle.drd_readable.specs.dnw_encoder.Names.{EmitsName}
-use Rattle.drd_readable.specs.dnw_encoder.PlaceLaws.{opens_open}
+use Rattle.drd_readable.proofs.dnw_encoder_lemmas.PlaceLaws.{opens_open}
 use Rattle.drd_readable.specs.dnw_encoder.State.{State, is_lower}
 use Rattle.drd_readable.specs.dnw_name.DomainName.{DomainName, name_octets}
-use Rattle.drd_readable.specs.drd_fields.WritingLaws.{refused_front, refused_later, within_then}
+use Rattle.drd_readable.proofs.drd_fields_lemmas.WritingLaws.{refused_front, refused_later, within_then}
 use Rattle.drd_readable.specs.drd_rdata.Reading.{HoldsAs, IsReadable}
 use Rattle.drd_readable.specs.drd_rdata.Types.{type_of}
 use Rattle.drd_readable.specs.drd_rdata.Writing.{EmitsRData, RefusesRData, WritesInFull, written_octets}
-use Rattle.drd_readable.specs.drd_rdata.WrittenLaws.{HoldsSome, data_within, encoded_full, written_holds, written_size, written_refused}
+use Rattle.drd_readable.proofs.drd_rdata_lemmas.WrittenLaws.{HoldsSome, data_within, encoded_full, written_holds, written_size, written_refused}
 use Rattle.drd_readable.specs.drd_rdata.declared.rdata.RData.{RData}
 use Rattle.zst_record.specs.Records.{head_octets}
 use Rattle.zst_record.specs.Writing.{HeadAt, EmitsHead, DataAt, EmitsBehindLength, EmitsRecord, RefusesBehindLength, RefusesRecord}
 use Rattle.zst_record.specs.declared.records.Record.{Record}
 
 -- What stands behind one call stands behind a later one.
-later_holds : (bound : ℕ) (a b : State) (P : List ℕ → Type 0) → Writes a b → bound ≤ a.offset → Holds a bound P → Holds b b.offset P
+later_holds : (bound : ℕ) (a b : State) (P : List ℕ → Type 0) → Writes a b → bound ≤ a.offset → StaysTrue a bound P → StaysTrue b b.offset P
 later_holds bound a b P w le h = holds_more bound b.offset b P (omega (arith, le, w.forward)) (holds_written bound a b P w le h)
 
 -- The encoder goes on writing names in full.
@@ -38,11 +38,11 @@ full_after a b w full = record {
 }
 
 -- ---- owner, type, class and time to live
-pub head_emitted : (r : Record) (a b c d e : State) → EmitsName r.name a b → Writes a b → Puts (octets_16 (record_type_number (type_of r.rdata))) b c → Writes b c → Puts (octets_16 (class_number r.dns_class)) c d → Writes c d → Puts (octets_32 r.ttl) d e → Writes d e → EmitsHead r a e
+pub head_emitted : (r : Record) (a b c d e : State) → EmitsName r.name a b → Writes a b → WritesOctets (octets_16 (record_type_number (type_of r.rdata))) b c → Writes b c → WritesOctets (octets_16 (class_number r.dns_class)) c d → Writes c d → WritesOctets (octets_32 r.ttl) d e → Writes d e → EmitsHead r a e
 head_emitted r a b c d e name ab kind bc class cd ttl de = record {
   stays = λ full_name full.
       let be = writes_then b c e bc (writes_then c d e cd de) in
-      let named : Holds b b.offset (λ m. NameAt m a.offset r.name b.offset) = subst (λ (n : DomainName). Holds b b.offset (λ m. NameAt m a.offset n b.offset)) (encoded_full a.encoding r.name full.same_case full_name) (name.stays full.sound) in
+      let named : StaysTrue b b.offset (λ m. NameAt m a.offset r.name b.offset) = subst (λ (n : DomainName). StaysTrue b b.offset (λ m. NameAt m a.offset n b.offset)) (encoded_full a.encoding r.name full.same_case full_name) (name.stays full.sound) in
       let sound_b = ab.sound full.sound in
       let sound_c = bc.sound sound_b in
       let sound_d = cd.sound sound_c in
@@ -79,7 +79,7 @@ pub replaced_writes : (p : ℕ) (more : List ℕ) (a b c : State) (r : Result (U
 replaced_writes p more a b c (Ok done) at w fills same = filled_writes p more a b c at w fills
 replaced_writes p more a b c (Err e) at w fills same = subst (λ (s : State). Writes a s) (sym same) w
 
-data_filled : (v : RData) (n : ℕ) (a b c d : State) → Opens a.offset 2 a b → Writes a b → EmitsRData v b c → Writes b c → Fills a.offset (octets_16 n) c d → a.offset + 2 + n ≡ c.offset → IsReadable v → (type_of v ≡ OPT → ⊥) → WritesInFull a → Holds d d.offset (λ message. DataAt message a.offset v d.offset)
+data_filled : (v : RData) (n : ℕ) (a b c d : State) → Opens a.offset 2 a b → Writes a b → EmitsRData v b c → Writes b c → Fills a.offset (octets_16 n) c d → a.offset + 2 + n ≡ c.offset → IsReadable v → (type_of v ≡ OPT → ⊥) → WritesInFull a → StaysTrue d d.offset (λ message. DataAt message a.offset v d.offset)
 data_filled v n a b c d opens ab emits bc fills long readable none full =
     let written = written_holds (type_of v) readable.message readable.place v readable.end readable.holds readable.some none b c (full_after a b ab full) emits in
     let stays = holds_more c.offset d.offset d (λ m. HoldsSome (type_of v) m b.offset v c.offset) (omega (arith, fills.offset)) (holds_same c.offset c.offset c d (λ m. HoldsSome (type_of v) m b.offset v c.offset) (fills.same c.offset) (omega arith) written) in

@@ -3,3 +3,6 @@ pub mod PutRecords
 pub mod Emission
 pub use Rattle.drd_readable.proofs.dnw_name_lemmas
 pub use Rattle.drd_readable.proofs.drd_words_lemmas
+pub use Rattle.drd_readable.proofs.dnw_decoder_lemmas
+pub use Rattle.drd_readable.proofs.dnw_encoder_lemmas
+pub mod drd_readable_lemmas

@@ -6,5 +6,4 @@ pub use Rattle.drd_readable.specs.dnw_encoder
 pub use Rattle.drd_readable.specs.dnw_name
 pub use Rattle.drd_readable.specs.drd_names
 pub use Rattle.drd_readable.specs.drd_rdata
-pub mod drd_readable
 pub use Rattle.drd_readable.specs.drd_words

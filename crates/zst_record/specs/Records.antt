@@ -19,13 +19,16 @@ use Rattle.zst_record.specs.declared.records.Record.{Record}
 
 -- Behind the owner: type, class and time to live.
 abbrev pub head_octets : Record → List ℕ
-head_octets r = octets_16 (record_type_number (type_of r.rdata)) ++ octets_16 (class_number r.dns_class) ++ octets_32 r.ttl
+head_octets r =
+    octets_16 (record_type_number (type_of r.rdata)) ++ octets_16 (class_number r.dns_class)
+    ++ octets_32 r.ttl
 
 -- Between owner and data: these, and the number of the data's octets.
 abbrev pub fixed_octets : Record → ℕ → List ℕ
 fixed_octets r len = head_octets r ++ octets_16 len
 
--- A record at a place: its owner; its type, class and time to live; its data, which fill the length before them.
+-- A record at a place: its owner; its type, class and time to live; its data, which fill the length
+-- before them.
 pub record RecordAt (message : List ℕ) (place : ℕ) (r : Record) (end : ℕ) : Type 0 where
   pub middle : ℕ
   pub first : ℕ
@@ -49,8 +52,9 @@ IsOwnClass (class.OPT payload) = ⊥
 IsOwnClass (class.Unknown number) = class_of number ≡ class.Unknown number
 IsOwnClass named = Unit {0}
 
--- Record and data can be read alone: the owner is fully qualified, type and class are those of their numbers, and the data
--- stand in some message. Options of a message are no record of a zone (RFC 6891 6.1.1).
+-- Record and data can be read alone: the owner is fully qualified, type and class are those of
+-- their numbers, and the data stand in some message. Options of a message are no record of a zone
+-- (RFC 6891 6.1.1).
 pub record ReadsBackAlone (r : Record) : Type 0 where
   pub owner : r.name.fqdn ≡ true
   pub own_type : IsOwnType (type_of r.rdata)
@@ -83,4 +87,8 @@ put_record (s ∷ ss) r = if rdata_eq s.rdata r.rdata then r ∷ ss else s ∷ p
 -- The set that a record makes, alone or with those stored.
 abbrev pub set_with : Option RRset → Record → RRset
 set_with None r = record { owner = r.name; record_type = type_of r.rdata; records = r ∷ [] }
-set_with (Some set) r = record { owner = set.owner; record_type = set.record_type; records = put_record set.records r }
+set_with (Some set) r = record {
+  owner = set.owner;
+  record_type = set.record_type;
+  records = put_record set.records r;
+}

@@ -4,7 +4,7 @@ use Rattle.drd_readable.specs.dnw_codes.declared.error.ProtoError.{ProtoError}
 use Rattle.drd_readable.specs.dnw_codes.declared.record_type.RecordType.TheVariants.{OPT}
 use Rattle.drd_readable.specs.dnw_decoder.Octets.{octets_16, Stands}
 use Rattle.drd_readable.specs.dnw_decoder.Spelling.{NameAt}
-use Rattle.drd_readable.specs.dnw_encoder.Effects.{Holds, IsRefusal}
+use Rattle.drd_readable.specs.dnw_encoder.Effects.{StaysTrue, IsRefusal}
 use Rattle.drd_readable.specs.dnw_encoder.State.{State}
 use Rattle.drd_readable.specs.dnw_name.DomainName.{name_octets}
 use Rattle.drd_readable.specs.drd_rdata.Reading.{ReadsAs, IsReadable}
@@ -14,14 +14,16 @@ use Rattle.drd_readable.specs.drd_rdata.declared.rdata.RData.{RData}
 use Rattle.zst_record.specs.Records.{RecordAt, ReadsBackAlone, head_octets, plain}
 use Rattle.zst_record.specs.declared.records.Record.{Record}
 
--- A record was written, within the maximum. One that reads back alone stands there, in the finished message too, and takes its
--- plain size at most. A maximum that was set is a number of 16 bits.
+-- A record was written, within the maximum. One that reads back alone stands there, in the finished
+-- message too, and takes its plain size at most. A maximum that was set is a number of 16 bits.
 pub record EmitsRecord (r : Record) (old new : State) : Type 0 where
-  pub stays : ReadsBackAlone r → WritesInFull old → old.maximum < 2 ^ 16 → Holds new new.offset (λ message. RecordAt message old.offset r new.offset)
+  pub stays : ReadsBackAlone r → WritesInFull old → old.maximum < 2 ^ 16
+      → StaysTrue new new.offset (λ message. RecordAt message old.offset r new.offset)
   pub size : ReadsBackAlone r → new.offset ≤ old.offset + plain r
   pub fits : new.offset ≤ old.maximum
 
--- A record that reads back alone is refused for want of memory, or where its plain size would pass the maximum.
+-- A record that reads back alone is refused for want of memory, or where its plain size would pass
+-- the maximum.
 abbrev pub RefusesRecord : Record → State → ProtoError → Type 0
 RefusesRecord r old e = ReadsBackAlone r → old.maximum < 2 ^ 16 → IsRefusal old (plain r) e
 
@@ -33,7 +35,8 @@ pub record HeadAt (message : List ℕ) (place : ℕ) (r : Record) (end : ℕ) : 
 
 -- They were written.
 pub record EmitsHead (r : Record) (old new : State) : Type 0 where
-  pub stays : r.name.fqdn ≡ true → WritesInFull old → Holds new new.offset (λ message. HeadAt message old.offset r new.offset)
+  pub stays : r.name.fqdn ≡ true → WritesInFull old
+      → StaysTrue new new.offset (λ message. HeadAt message old.offset r new.offset)
   pub size : new.offset ≤ old.offset + (length (name_octets r.name) + 8)
 
 -- Data at a place, behind the number of their octets.
@@ -45,10 +48,13 @@ pub record DataAt (message : List ℕ) (place : ℕ) (value : RData) (end : ℕ)
 
 -- Data that can be read, other than options, were written behind their length.
 pub record EmitsBehindLength (value : RData) (old new : State) : Type 0 where
-  pub stays : IsReadable value → (type_of value ≡ OPT → ⊥) → WritesInFull old → old.maximum < 2 ^ 16 → Holds new new.offset (λ message. DataAt message old.offset value new.offset)
+  pub stays : IsReadable value → (type_of value ≡ OPT → ⊥) → WritesInFull old → old.maximum < 2 ^ 16
+      → StaysTrue new new.offset (λ message. DataAt message old.offset value new.offset)
   pub size : IsReadable value → new.offset ≤ old.offset + (2 + length (written_octets value))
   pub fits : new.offset ≤ old.maximum
 
 -- They were refused.
 abbrev pub RefusesBehindLength : RData → State → ProtoError → Type 0
-RefusesBehindLength value old e = IsReadable value → (type_of value ≡ OPT → ⊥) → old.maximum < 2 ^ 16 → IsRefusal old (2 + length (written_octets value)) e
+RefusesBehindLength value old e =
+    IsReadable value → (type_of value ≡ OPT → ⊥) → old.maximum < 2 ^ 16
+    → IsRefusal old (2 + length (written_octets value)) e

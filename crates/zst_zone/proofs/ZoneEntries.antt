@@ -19,7 +19,7 @@ use Rattle.dnw_codes.specs.RecordType.{same_record_type}
 use Rattle.zst_record.specs.dnw_name.NameKey.{name_key}
 use Rattle.zst_record.specs.drd_rdata.Types.{type_of}
 use Rattle.zst_record.specs.Records.{RRset}
-use Rattle.zst_zone.specs.Zones.{stored, Adds}
+use Rattle.zst_zone.specs.Zones.{rrset_at, Adds}
 use Rattle.zst_record.specs.Records.{set_with}
 use Rattle.zst_zone.specs.ZoneMaps.{IsNode, IsZone, TypesRise, sets_of, with_record}
 use Rattle.zst_zone.proofs.Keys.{same_key}
@@ -159,11 +159,11 @@ module _ {K V : Type 0} (octets : K → List ℕ) (sets : V → List RRset) wher
       by : (name : DomainName) (t : RecordType) (b : Bool) → bytes_eq (name_key name) (name_key r.name) ≡ b
           → set_in octets sets (cond b (Some w) (lookup (at_key (name_key name)) old)) t
           ≡ cond (name_eq name r.name && same_record_type (type_of r.rdata) t)
-          (Some (set_with (stored (sets_of octets sets old) name t) r)) (stored (sets_of octets sets old) name t)
+          (Some (set_with (rrset_at (sets_of octets sets old) name t) r)) (rrset_at (sets_of octets sets old) name t)
       by name t true e =
           let there : List RRset = node_sets (lookup (at_key (name_key r.name)) old) in
           let named : name_eq name r.name ≡ true = sym (same_key name r.name) ∙ e in
-          let before : stored (sets_of octets sets old) name t ≡ find (is_of_type t) there
+          let before : rrset_at (sets_of octets sets old) name t ≡ find (is_of_type t) there
           = stored_in octets sets name t old was.nodes was.ordered
           ∙ ap (λ (q : List ℕ). set_in octets sets (lookup (at_key q) old) t) (same_octets (name_key name) (name_key r.name) e)
           ∙ find_in_node (lookup (at_key (name_key r.name)) old) t in

@@ -12,7 +12,7 @@ use Rattle.zst_record.specs.dnw_name.DomainName.{DomainName}
 use Rattle.zst_record.specs.dnw_name.NameKey.{name_key}
 use Rattle.zst_zone.proofs.Keys.{begins}
 use Rattle.zst_record.specs.Records.{RRset}
-use Rattle.zst_zone.specs.Zones.{stored, exists_in}
+use Rattle.zst_zone.specs.Zones.{rrset_at, exists_in}
 use Rattle.zst_zone.specs.ZoneMaps.{IsZone, sets_of}
 use Rattle.zst_zone.proofs.Keys.{begins-starts_with}
 use Rattle.zst_zone.proofs.ZoneNodes.{set_in, stored_in, exists_from, first_begins, first_at, from_key, lookup_first}
@@ -31,15 +31,15 @@ sets node = node.items
 
 pub stored_by : (entries : List (Key × Node)) (zone : List RRset) (key : List ℕ) (t : RecordType) (found : Option Node)
     → IsZone octets sets entries → sets_of octets sets entries ≡ zone → found ≡ lookup (is_at (λ (k : Key). slice_cmp nat_cmp key k.items)) entries
-    → (name : DomainName) → key ≡ name_key name → set_in octets sets found t ≡ stored zone name t
+    → (name : DomainName) → key ≡ name_key name → set_in octets sets found t ≡ rrset_at zone name t
 stored_by entries zone key t found is view e name same =
     ap (λ o. set_in octets sets o t) (e ∙ ap (λ (q : List ℕ). lookup (is_at (λ (k : Key). slice_cmp nat_cmp q k.items)) entries) same)
     ∙ sym (stored_in octets sets name t entries is.nodes is.ordered)
-    ∙ ap (λ (z : List RRset). stored z name t) view
+    ∙ ap (λ (z : List RRset). rrset_at z name t) view
 
 pub first_by : (entries : List (Key × Node)) (zone : List RRset) (key : List ℕ) (t : RecordType) (found : Option Node)
     → IsZone octets sets entries → sets_of octets sets entries ≡ zone → found ≡ first_at octets sets key (from_key octets sets key entries)
-    → (name : DomainName) → key ≡ name_key name → set_in octets sets found t ≡ stored zone name t
+    → (name : DomainName) → key ≡ name_key name → set_in octets sets found t ≡ rrset_at zone name t
 first_by entries zone key t found is view e =
     stored_by entries zone key t found is view (e ∙ sym (lookup_first octets sets key entries is.ordered))
 
@@ -54,7 +54,7 @@ exists_by entries zone key result is view e name full same =
 -- ---- by the first entry from the key on
 pub set_at : (entries : List (Key × Node)) (zone : List RRset) (key : List ℕ) (t : RecordType) (owner : Key) (node : Node) (rest : List (Key × Node)) (b : Bool)
     → IsZone octets sets entries → sets_of octets sets entries ≡ zone → from_key octets sets key entries ≡ (owner, node) ∷ rest → bytes_eq key owner.items ≡ b
-    → (name : DomainName) → key ≡ name_key name → set_in octets sets (cond b (Some node) None) t ≡ stored zone name t
+    → (name : DomainName) → key ≡ name_key name → set_in octets sets (cond b (Some node) None) t ≡ rrset_at zone name t
 set_at entries zone key t owner node rest b is view first same =
     first_by entries zone key t (cond b (Some node) None) is view
     (sym (ap (first_at octets sets key) first ∙ ap (λ (u : Bool). cond u (Some node) None) same))

@@ -20,7 +20,7 @@ use Rattle.dnw_codes.specs.RecordType.{same_record_type}
 use Rattle.zst_record.specs.dnw_name.NameKey.{name_key}
 use Rattle.zst_zone.proofs.Keys.{begins}
 use Rattle.zst_record.specs.Records.{RRset}
-use Rattle.zst_zone.specs.Zones.{stored, exists_in}
+use Rattle.zst_zone.specs.Zones.{rrset_at, exists_in}
 use Rattle.zst_zone.specs.ZoneMaps.{IsOwnedAt, IsNode, sets_of}
 use Rattle.zst_zone.proofs.Keys.{same_key, above_begins}
 
@@ -201,7 +201,7 @@ module _ {K V : Type 0} (octets : K → List ℕ) (sets : V → List RRset) wher
       find_append (is_set_at name t) (sets entry.1) (sets_of octets sets es) ∙ rw (first, rest) refl
 
   pub stored_in : (name : DomainName) (t : RecordType) (es : List (K × V)) → AreNodes es → IsStrictlySortedBy key_cmp (keys_of es)
-      → stored (sets_of octets sets es) name t ≡ set_in (lookup (is_at (λ k. slice_cmp nat_cmp (name_key name) (octets k))) es) t
+      → rrset_at (sets_of octets sets es) name t ≡ set_in (lookup (is_at (λ k. slice_cmp nat_cmp (name_key name) (octets k))) es) t
   unfolding IsStrictlySortedBy
   stored_in name t [] nodes ordered = refl
   stored_in name t (entry ∷ es) nodes ordered =

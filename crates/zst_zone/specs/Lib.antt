@@ -5,6 +5,5 @@ pub mod dnw_codes
 pub use Rattle.zst_record.specs.dnw_name
 pub use Rattle.zst_record.specs.drd_names
 pub use Rattle.zst_record.specs.drd_rdata
-pub use Rattle.zst_record.specs.drd_readable
 pub use Rattle.zst_record.specs.drd_words
 pub mod zst_record

@@ -21,7 +21,10 @@ pub record IsOwnedAt (key : List ℕ) (set : RRset) : Type 0 where
 -- Each type is above those before it.
 abbrev pub TypesRise : List RRset → Type 0
 TypesRise [] = Unit {0}
-TypesRise (set ∷ sets) = AllByRecursion (λ later. record_type_number set.record_type < record_type_number later.record_type) sets × TypesRise sets
+TypesRise (set ∷ sets) =
+    AllByRecursion
+    (λ later. record_type_number set.record_type < record_type_number later.record_type) sets
+    × TypesRise sets
 
 -- What stands under a key: at least one set, the sets of the owner of that key, by rising type.
 pub record IsNode (key : List ℕ) (sets : List RRset) : Type 0 where
@@ -33,7 +36,8 @@ pub record IsNode (key : List ℕ) (sets : List RRset) : Type 0 where
 abbrev pub with_record : List RRset → Record → List RRset
 with_record [] r = set_with None r ∷ []
 with_record (set ∷ sets) r =
-    if nat_lt (record_type_number set.record_type) (record_type_number (type_of r.rdata)) then set ∷ with_record sets r
+    if nat_lt (record_type_number set.record_type) (record_type_number (type_of r.rdata)) then set
+    ∷ with_record sets r
     else if same_record_type set.record_type (type_of r.rdata) then set_with (Some set) r ∷ sets
     else set_with None r ∷ set ∷ sets
 
@@ -52,7 +56,8 @@ module _ {K V : Type 0} (octets : K → List ℕ) (sets : V → List RRset) wher
   -- Each entry is a node, and the keys rise.
   pub record IsZone (entries : List (K × V)) : Type 0 where
     pub nodes : AllByRecursion (λ entry. IsNode (octets entry.0) (sets entry.1)) entries
-    pub ordered : IsStrictlySortedBy (λ a b. slice_cmp nat_cmp (octets a) (octets b)) (keys_of entries)
+    pub ordered : IsStrictlySortedBy (λ a b. slice_cmp nat_cmp (octets a) (octets b))
+        (keys_of entries)
 
 -- The origin ends at the root, and has this key.
 pub record IsOrigin (origin : DomainName) (key : List ℕ) : Type 0 where

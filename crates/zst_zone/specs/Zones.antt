@@ -1,4 +1,5 @@
--- A zone: a finite map from owner and type to the set of records stored there (RFC 1035, section 4.3.2).
+-- A zone: a finite map from owner and type to the set of records stored there (RFC 1035, section
+-- 4.3.2).
 use Rattle.std.specs.Prelude.{◌≡◌, Bool, List, [], Option, Some, None, ◌&&◌, find, if◌then◌else◌}
 use Rattle.std.specs.List.{list_any}
 use Rattle.dnw_codes.specs.declared.record_type.RecordType.{RecordType}
@@ -13,8 +14,9 @@ use Rattle.zst_record.specs.drd_rdata.Types.{type_of}
 use Rattle.zst_record.specs.Records.{RRset, set_with}
 
 -- The set of a type at a name.
-abbrev pub stored : List RRset → DomainName → RecordType → Option RRset
-stored sets name record_type = find (λ set. name_eq name set.owner && same_record_type set.record_type record_type) sets
+abbrev pub rrset_at : List RRset → DomainName → RecordType → Option RRset
+rrset_at sets name record_type =
+    find (λ set. name_eq name set.owner && same_record_type set.record_type record_type) sets
 
 -- A name exists where an owner equals it or lies below it (RFC 4592, section 2.2.2).
 abbrev pub exists_in : List RRset → DomainName → Bool
@@ -23,8 +25,10 @@ exists_in sets name = list_any (λ set. is_at_or_below set.owner name) sets
 -- The sets after are those before with this record added, and every other set as it was.
 abbrev pub Adds : List RRset → Record → List RRset → Type 0
 Adds old r new =
-    (name : DomainName) (record_type : RecordType) → stored new name record_type
-    ≡ (if name_eq name r.name && same_record_type (type_of r.rdata) record_type then Some (set_with (stored old name record_type) r) else stored old name record_type)
+    (name : DomainName) (record_type : RecordType) → rrset_at new name record_type
+    ≡ (if name_eq name r.name
+    && same_record_type (type_of r.rdata) record_type then Some
+    (set_with (rrset_at old name record_type) r) else rrset_at old name record_type)
 
 -- What a zone means: where it begins, how it may be used, and its sets.
 pub record View : Type 0 where
@@ -37,7 +41,13 @@ pub record View : Type 0 where
 -- A zone without records.
 abbrev pub empty_zone : DomainName → ZoneSettings → View
 empty_zone name settings =
-    record { origin = name; zone_type = settings.zone_type; axfr_policy = settings.axfr_policy; nx_proof_kind = settings.nx_proof_kind; sets = [] }
+    record {
+      origin = name;
+      zone_type = settings.zone_type;
+      axfr_policy = settings.axfr_policy;
+      nx_proof_kind = settings.nx_proof_kind;
+      sets = [];
+    }
 
 -- The zone after is the one before with this record added.
 pub record AddsTo (old : View) (r : Record) (new : View) : Type 0 where
@@ -50,15 +60,15 @@ pub data Outcome : Type 0 where
   name_exists name_error out_of_zone : Outcome
 
 -- Where nothing is stored at the name.
-abbrev pub denied : View → DomainName → Outcome
-denied view name =
+abbrev pub denial : View → DomainName → Outcome
+denial view name =
     if exists_in view.sets name then name_exists
     else if is_at_or_below name view.origin then name_error else out_of_zone
 
 abbrev pub lookup_from : View → DomainName → Option RRset → Outcome
-lookup_from view name None = denied view name
+lookup_from view name None = denial view name
 lookup_from view name (Some set) = answered set.records
 
 -- The set of the type at the name, or why there is none.
 abbrev pub lookup_result : View → DomainName → RecordType → Outcome
-lookup_result view name record_type = lookup_from view name (stored view.sets name record_type)
+lookup_result view name record_type = lookup_from view name (rrset_at view.sets name record_type)

@@ -4,7 +4,7 @@ ghost use Rattle.std.specs.Prelude.{◌≡◌, true, option_copied, IfOk, OnOk, 
 ghost use Rattle.zst_record.specs.dnw_name.DomainName.{DomainName, is_at_or_below};
 ghost use Rattle.zst_record.specs.dnw_name.NameKey.{name_key};
 ghost use Rattle.zst_record.specs.Records.{ReadsBackAlone};
-ghost use Rattle.zst_zone.specs.Zones.{stored, lookup_result, empty_zone, AddsTo};
+ghost use Rattle.zst_zone.specs.Zones.{rrset_at, lookup_result, empty_zone, AddsTo};
 ghost use Rattle.zst_zone.specs.Lookups.{outcome};
 
 use crate::map::{Found, ZoneMap};
@@ -103,7 +103,7 @@ impl<K> InMemoryZoneHandler<K> {
 
     /// The set of a type at the origin.
     pub fn apex(&self, record_type: RecordType) -> Option<&RecordSet>
-        ensures { option_copied result ≡ stored self.now.sets self.now.origin record_type }
+        ensures { option_copied result ≡ rrset_at self.now.sets self.now.origin record_type }
     {
         self.sets.get(&self.origin_key, record_type)
     }
@@ -117,7 +117,7 @@ impl<K> InMemoryZoneHandler<K> {
 
     /// The set of an owner and a type.
     pub fn get(&self, alloc: Global, at: &RrKey) -> Result<Option<&RecordSet>, AllocError>
-        ensures { IfOk result (λ found. option_copied found ≡ stored self.now.sets at.now.name at.now.record_type) }
+        ensures { IfOk result (λ found. option_copied found ≡ rrset_at self.now.sets at.now.name at.now.record_type) }
     {
         let key = key_of(alloc, &at.name)?;
         Ok(self.sets.get(&key, at.record_type))

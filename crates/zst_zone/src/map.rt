@@ -6,7 +6,7 @@ ghost use Rattle.zst_record.specs.dnw_name.DomainName.{DomainName, name_eq};
 ghost use Rattle.zst_record.specs.dnw_name.NameKey.{name_key};
 ghost use Rattle.dnw_codes.specs.RecordType.{record_type_number, same_record_type};
 ghost use Rattle.zst_record.specs.Records.{ReadsBackAlone};
-ghost use Rattle.zst_zone.specs.Zones.{stored, exists_in, Adds};
+ghost use Rattle.zst_zone.specs.Zones.{rrset_at, exists_in, Adds};
 ghost use Rattle.zst_record.specs.Records.{set_with};
 ghost use Rattle.zst_zone.specs.ZoneMaps.{with_record, place_from};
 ghost use Rattle.zst_zone.specs.Lookups.{set_found, name_found};
@@ -59,7 +59,7 @@ impl ZoneMap {
 
     /// The set of a type at the name of a key.
     pub fn get(&self, key: &[u8], record_type: RecordType) -> Option<&RecordSet>
-        ensures { (name : DomainName) → key.now ≡ name_key name → option_copied result ≡ stored self.now name record_type }
+        ensures { (name : DomainName) → key.now ≡ name_key name → option_copied result ≡ rrset_at self.now name record_type }
     {
         match self.nodes.get(key) {
             Some(sets) => find_set(sets, record_type),
@@ -70,7 +70,7 @@ impl ZoneMap {
     /// The set of a type at the name of a key, which ends at the root; else whether the name exists: whether an owner
     /// equals it or lies below it (RFC 4592 section 2.2.2). The first key that is not before this one tells both.
     pub fn find(&self, key: &Vec<u8>, record_type: RecordType) -> Found<'_>
-        ensures set { (name : DomainName) → key.now.items ≡ name_key name → set_found result ≡ stored self.now name record_type }
+        ensures set { (name : DomainName) → key.now.items ≡ name_key name → set_found result ≡ rrset_at self.now name record_type }
         ensures name { (name : DomainName) → name.fqdn ≡ true → key.now.items ≡ name_key name → name_found result ≡ exists_in self.now name }
     {
         let Some((owner, sets)) = self.nodes.range(key..).next() else {

@@ -10,17 +10,17 @@ use Rattle.std.proofs.lemmas.List.{length-append}
 use Rattle.zst_record.specs.dnw_codes.ProtoError.{IsMemory}
 use Rattle.zst_record.specs.dnw_codes.declared.error.ProtoError.{ProtoError}
 use Rattle.zst_record.specs.dnw_codes.declared.error.ProtoError.TheVariants.{MaxBufferSizeExceeded, NotAllRecordsWritten}
-use Rattle.zst_record.specs.dnw_decoder.SpellingLaws.{spelled_within}
-use Rattle.zst_record.specs.dnw_decoder.Standing.{length-octets_32}
-use Rattle.zst_record.specs.dnw_encoder.Effects.{Holds, Writes, Emitted, WroteAll, WroteFront, IsRefusal, IsSizeError}
-use Rattle.zst_record.specs.dnw_encoder.Laws.{holds_now, holds_more, holds_written, writes_same, writes_then}
+use Rattle.zst_record.proofs.dnw_decoder_lemmas.SpellingLaws.{spelled_within}
+use Rattle.zst_record.proofs.dnw_decoder_lemmas.Standing.{length-octets_32}
+use Rattle.zst_record.specs.dnw_encoder.Effects.{StaysTrue, Writes, Emitted, WroteAll, WroteFront, IsRefusal, IsSizeError}
+use Rattle.zst_record.proofs.dnw_encoder_lemmas.Laws.{holds_now, holds_more, holds_written, writes_same, writes_then}
 use Rattle.zst_record.specs.dnw_encoder.State.{State, is_lower}
 use Rattle.zst_record.specs.drd_rdata.Writing.{WritesInFull}
 use Rattle.zst_record.specs.Records.{RecordAt, ReadsBackAlone, fixed_octets, plain}
 use Rattle.zst_record.specs.Writing.{EmitsRecord, RefusesRecord}
 use Rattle.zst_record.specs.declared.records.Record.{Record}
 use Rattle.zsv_message.specs.Replies.{Front}
-use Rattle.zsv_message.specs.Writing.{counted, EmitsFront}
+use Rattle.zsv_message.specs.Writing.{written_count, EmitsFront}
 
 -- What an encoder does with references to records.
 abbrev pub emits : Bor Record → State → State → Type 0
@@ -96,7 +96,7 @@ all_rest (r ∷ rs) ss all = all_rest rs ss all.1
 
 -- The records that were written stand as a front, if the list may be cut behind them.
 front_holds : (limit : ℕ) (items : List (Bor Record)) (rest : List Record) (old new : State) → AllByRecursion ReadsBackAlone (found items) → WritesInFull old → old.maximum < 2 ^ 16 → Emitted emits old items new →
-    ((message : List ℕ) → Front message limit new.offset rest [] new.offset) → Holds new new.offset (λ message. Front message limit old.offset (found items ++ rest) (found items) new.offset)
+    ((message : List ℕ) → Front message limit new.offset rest [] new.offset) → StaysTrue new new.offset (λ message. Front message limit old.offset (found items ++ rest) (found items) new.offset)
 front_holds limit [] rest old new alone full small e cut = record {
   of = λ later a. subst (λ (s : State). Front later limit s.offset rest [] new.offset) e (cut later);
 }
@@ -116,8 +116,8 @@ memory_left s size e (inl memory) other = memory
 memory_left s size e (inr refused) other = absurd (other (subst IsSizeError (sym refused.0) tt))
 
 few_written : (records : List Record) (items : List (Bor Record)) (rest : List Record) (count : ℕ) (old mid : State) → records ≡ found items ++ rest → length items ≡ count → AllByRecursion ReadsBackAlone records → WritesInFull old → old.maximum < 2 ^ 16 → Emitted emits old items mid → 11 * count ≤ old.maximum
-few_written records items rest count old mid is counted all full small e =
-    omega (arith, counted, emitted_few items old mid (all_front (found items) rest (subst (λ (rs : List Record). AllByRecursion ReadsBackAlone rs) is all)) full small e)
+few_written records items rest count old mid is written_count all full small e =
+    omega (arith, written_count, emitted_few items old mid (all_front (found items) rest (subst (λ (rs : List Record). AllByRecursion ReadsBackAlone rs) is all)) full small e)
 
 nothing_left : (message : List ℕ) (limit place : ℕ) (rest : List Record) → length rest ≡ 0 → Front message limit place rest [] place
 nothing_left message limit place [] none = refl
@@ -126,13 +126,13 @@ nothing_left message limit place (r ∷ rs) none = absurd (omega (arith, none))
 -- The front that was written, from what is left of the list.
 written_front : (records : List Record) (items : List (Bor Record)) (rest : List Record) (count : ℕ) (old mid new : State) → records ≡ found items ++ rest → length items ≡ count → AllByRecursion ReadsBackAlone records → WritesInFull old → old.maximum < 2 ^ 16 → Emitted emits old items mid → Writes mid new → new.offset ≡ mid.offset →
     ((message : List ℕ) → Front message old.maximum mid.offset rest [] mid.offset) → EmitsFront records count old new
-written_front records items rest count old mid new is counted all full small e w same cut =
+written_front records items rest count old mid new is written_count all full small e w same cut =
     let alone = all_front (found items) rest (subst (λ (rs : List Record). AllByRecursion ReadsBackAlone rs) is all) in
     let holds = holds_written mid.offset mid new _ w (omega arith) (front_holds old.maximum items rest old mid alone full small e cut) in
     record {
       kept = found items;
-      counted = long items ∙ counted;
-      stays = rw is (subst (λ (end : ℕ). Holds new end (λ message. Front message old.maximum old.offset (found items ++ rest) (found items) end)) (sym same) holds);
+      counted = long items ∙ written_count;
+      stays = rw is (subst (λ (end : ℕ). StaysTrue new end (λ message. Front message old.maximum old.offset (found items ++ rest) (found items) end)) (sym same) holds);
       fits = λ within. omega (arith, same, emitted_fits items old mid within e);
     }
 
@@ -173,7 +173,7 @@ pub record Told (records : List Record) (old new : State) (count : ℕ) : Type 0
 
 pub front_told : (records : List Record) (from : Iter Record) (old new : State) (r : Result ℕ ProtoError) → iter_rest from ≡ records → AllByRecursion ReadsBackAlone records → WritesInFull old → old.maximum < 2 ^ 16 →
     IfOk r (λ count. (left : Iter Record) × WroteAll iter_steps emits from left count old new) → IfErr r (λ e. (left : Iter Record) × WroteFront iter_steps emits refuses from left old e new) →
-    IfOk (counted r) (Told records old new) × IfErr (counted r) IsMemory
+    IfOk (written_count r) (Told records old new) × IfErr (written_count r) IsMemory
 front_told records from old new (Ok count) is all full small ok err =
     let f = front_all records from ok.0 count old new is all full small ok.1 in
     (record { front = f.0; few = f.1 }, tt)

@@ -3,7 +3,7 @@ use Rattle.std.proofs.Common.{◌≡◌, ℕ, ◌+◌, ◌-◌, ◌<◌, ◌≤�
 use Rattle.std.proofs.lemmas.List.{drop-drop, drop-append-le, append_cancel_right}
 use Rattle.zst_record.specs.dnw_decoder.Octets.{Stands}
 use Rattle.zst_record.specs.dnw_decoder.Spelling.{pointer_octets, Spelled, at_end, at_label, at_pointer}
-use Rattle.zst_record.specs.dnw_decoder.SpellingLaws.{spelled_within}
+use Rattle.zst_record.proofs.dnw_decoder_lemmas.SpellingLaws.{spelled_within}
 use Rattle.zsv_message.specs.Wire.{PointsFrom}
 
 -- Between two places, two messages have the same octets.

@@ -11,14 +11,14 @@ use Rattle.zst_record.specs.dnw_decoder.Codes.{RecordTypeAt, ClassAt}
 use Rattle.zst_record.specs.dnw_decoder.Octets.{octets_16}
 use Rattle.zst_record.specs.dnw_decoder.Reading.{IsWantOfMemory}
 use Rattle.zst_record.specs.dnw_decoder.Spelling.{NameAt}
-use Rattle.zst_record.specs.dnw_decoder.SpellingLaws.{name_once}
-use Rattle.zst_record.specs.dnw_decoder.Standing.{stands_same}
+use Rattle.zst_record.proofs.dnw_decoder_lemmas.SpellingLaws.{name_once}
+use Rattle.zst_record.proofs.dnw_decoder_lemmas.Standing.{stands_same}
 use Rattle.zsv_message.specs.declared.read.ReadError.{ReadError}
 use Rattle.zsv_message.specs.declared.read.ReadError.TheVariants as errors
 use Rattle.zsv_message.specs.declared.request.Query.{Query}
 use Rattle.zsv_message.specs.Headers.{header_of}
 use Rattle.zsv_message.specs.Requests.{QuestionAt, QuestionsAt, OpensRequest, ReadsRequest}
-use Rattle.zsv_message.specs.Wire.{Entries, Reads, ReadsAs, TellsCause}
+use Rattle.zsv_message.specs.Wire.{Entries, Reads, DecodesTo, TellsReadCause}
 
 -- Two numbers of 16 bits in the same octets are the same.
 number_once : (a b : ℕ) → a < 65536 → b < 65536 → octets_16 a ≡ octets_16 b → a ≡ b
@@ -54,19 +54,19 @@ question_once message place a b e f p q =
     )
 
 -- A reader that is refused one part of a question says so of the question.
-pub name_err : (message : List ℕ) (place end : ℕ) (cause : DecodeError) (e : ReadError) → TellsCause cause e → IsWantOfMemory cause ⊎ ((name : DomainName) (behind : ℕ) → NameAt message place name behind → ⊥) → Reads (QuestionAt message place) (Err e) end
+pub name_err : (message : List ℕ) (place end : ℕ) (cause : DecodeError) (e : ReadError) → TellsReadCause cause e → IsWantOfMemory cause ⊎ ((name : DomainName) (behind : ℕ) → NameAt message place name behind → ⊥) → Reads (QuestionAt message place) (Err e) end
 name_err message place end cause errors.Malformed tells (inl memory) = absurd (tells memory)
 name_err message place end cause errors.Malformed tells (inr none) = λ q behind at. none q.name at.middle at.name
 name_err message place end cause errors.Memory tells why = tt
 
-pub type_err : (message : List ℕ) (place middle end : ℕ) (name : DomainName) (cause : DecodeError) (e : ReadError) → NameAt message place name middle → TellsCause cause e → IsWantOfMemory cause ⊎ ((t : RecordType) (behind : ℕ) → RecordTypeAt message middle t behind → ⊥) → Reads (QuestionAt message place) (Err e) end
+pub type_err : (message : List ℕ) (place middle end : ℕ) (name : DomainName) (cause : DecodeError) (e : ReadError) → NameAt message place name middle → TellsReadCause cause e → IsWantOfMemory cause ⊎ ((t : RecordType) (behind : ℕ) → RecordTypeAt message middle t behind → ⊥) → Reads (QuestionAt message place) (Err e) end
 type_err message place middle end name cause errors.Malformed here tells (inl memory) = absurd (tells memory)
 type_err message place middle end name cause errors.Malformed here tells (inr none) = λ q behind at.
     let same = name_once message place q.name name at.middle middle at.name here in
     none q.query_type at.last (subst (λ (m : ℕ). RecordTypeAt message m q.query_type at.last) same.1 at.query_type)
 type_err message place middle end name cause errors.Memory here tells why = tt
 
-pub class_err : (message : List ℕ) (place middle last end : ℕ) (name : DomainName) (t : RecordType) (cause : DecodeError) (e : ReadError) → NameAt message place name middle → RecordTypeAt message middle t last → TellsCause cause e → IsWantOfMemory cause ⊎ ((c : DNSClass) (behind : ℕ) → ClassAt message last c behind → ⊥) → Reads (QuestionAt message place) (Err e) end
+pub class_err : (message : List ℕ) (place middle last end : ℕ) (name : DomainName) (t : RecordType) (cause : DecodeError) (e : ReadError) → NameAt message place name middle → RecordTypeAt message middle t last → TellsReadCause cause e → IsWantOfMemory cause ⊎ ((c : DNSClass) (behind : ℕ) → ClassAt message last c behind → ⊥) → Reads (QuestionAt message place) (Err e) end
 class_err message place middle last end name t cause errors.Malformed here typed tells (inl memory) = absurd (tells memory)
 class_err message place middle last end name t cause errors.Malformed here typed tells (inr none) = λ q behind at.
     let same = name_once message place q.name name at.middle middle at.name here in
@@ -116,13 +116,13 @@ entries_none At place before at a none all end e long =
     none_first At at end none found.0 found.2 (longer before found.0 all found.1 long)
 
 -- A reader that finds no further question says so of all.
-pub questions_err : (message : List ℕ) (place count : ℕ) (before : List Query) (at : ℕ) (end last : ℕ) → EntriesAhead (QuestionAt message) place before at → length before < count → (e : ReadError) → Reads (QuestionAt message at) (Err e) end → ReadsAs {X = Vec Query Global} (λ qs. qs.items) (QuestionsAt message place count) (Err e) last
+pub questions_err : (message : List ℕ) (place count : ℕ) (before : List Query) (at : ℕ) (end last : ℕ) → EntriesAhead (QuestionAt message) place before at → length before < count → (e : ReadError) → Reads (QuestionAt message at) (Err e) end → DecodesTo {X = Vec Query Global} (λ qs. qs.items) (QuestionsAt message place count) (Err e) last
 questions_err message place count before at end last a more errors.Malformed none = λ qs behind there.
     entries_none (QuestionAt message) place before at a none qs behind there.0 (omega (arith, there.1))
 questions_err message place count before at end last a more errors.Memory none = tt
 
 -- A message whose questions can't be read is no request, or memory is wanted behind its header.
-pub request_err : (message : List ℕ) (count end : ℕ) → OpensRequest message → count ≡ (header_of message).counts.queries → (e : ReadError) → ReadsAs {X = Vec Query Global} (λ qs. qs.items) (QuestionsAt message 12 count) (Err e) end → ReadsRequest message (Err e)
+pub request_err : (message : List ℕ) (count end : ℕ) → OpensRequest message → count ≡ (header_of message).counts.queries → (e : ReadError) → DecodesTo {X = Vec Query Global} (λ qs. qs.items) (QuestionsAt message 12 count) (Err e) end → ReadsRequest message (Err e)
 request_err message count end opens counted errors.Malformed none = λ request is.
     none request.questions is.end (is.questions.0, is.questions.1 ∙ sym counted)
 request_err message count end opens counted errors.Memory none = opens

@@ -1,15 +1,15 @@
 -- The sections of a reply, written one behind the other, and the header that is filled in last.
 use Rattle.std.proofs.Common.{◌≡◌, ℕ, ◌+◌, ◌≤◌, ◌||◌, false, List, ◌++◌, length, drop, nat_lt, sym, ap, subst, ◌∙◌, arith}
 use Rattle.zst_record.specs.dnw_decoder.Octets.{Stands}
-use Rattle.zst_record.specs.dnw_encoder.Effects.{Holds, Writes, Puts, Fills, Sound, place_of}
-use Rattle.zst_record.specs.dnw_encoder.Laws.{holds_now, holds_same, holds_written, puts_stands, writes_same, writes_then}
+use Rattle.zst_record.specs.dnw_encoder.Effects.{StaysTrue, Writes, WritesOctets, Fills, Sound, place_of}
+use Rattle.zst_record.proofs.dnw_encoder_lemmas.Laws.{holds_now, holds_same, holds_written, puts_stands, writes_same, writes_then}
 use Rattle.zst_record.specs.dnw_encoder.Members.{In}
 use Rattle.zst_record.specs.dnw_encoder.State.{State}
 use Rattle.zst_record.specs.declared.records.Record.{Record}
 use Rattle.zsv_message.specs.declared.header.Header.{Header}
 use Rattle.zsv_message.specs.declared.header.Metadata.{Metadata}
 use Rattle.zsv_message.specs.Headers.{header_of, header_octets, reserved_bit}
-use Rattle.zsv_message.specs.Replies.{Front, header_with}
+use Rattle.zsv_message.specs.Replies.{Front, header_of_reply}
 use Rattle.zsv_message.specs.Writing.{EmitsFront, IsWritten}
 use Rattle.zsv_message.proofs.Flags.{reserved_zero}
 
@@ -18,7 +18,7 @@ pub stays_open : (p size : ℕ) (old new : State) → Writes old new → p + siz
 stays_open p size old new w before is_open = w.keeps.stay_open (place_of p size) is_open before
 
 -- What stood when it was written stands in the octets once the header is filled.
-stands_at_last : (bound : ℕ) (P : List ℕ → Type 0) (more : List ℕ) (s last filled : State) → Writes s last → bound ≤ s.offset → Fills 0 more last filled → Holds s bound P → P filled.octets
+stands_at_last : (bound : ℕ) (P : List ℕ → Type 0) (more : List ℕ) (s last filled : State) → Writes s last → bound ≤ s.offset → Fills 0 more last filled → StaysTrue s bound P → P filled.octets
 stands_at_last bound P more s last filled w le f h =
     holds_now bound filled P (holds_same bound bound last filled P (f.same bound) (omega arith) (holds_written bound s last P w le h))
 
@@ -38,7 +38,7 @@ reserved_at_last h last filled sound f =
 pub record Steps (h : Header) (m n : ℕ) (question_octets : List ℕ) (answers authorities : List Record) (opened asked answered told filled : State) : Type 0 where
   pub sound : Sound opened
   pub twelve : opened.offset ≡ 12
-  pub question : Puts question_octets opened asked
+  pub question : WritesOctets question_octets opened asked
   pub asks : Writes opened asked
   pub answers_front : EmitsFront answers m asked answered
   pub answers_writes : Writes asked answered
@@ -49,7 +49,7 @@ pub record Steps (h : Header) (m n : ℕ) (question_octets : List ℕ) (answers 
 
 -- They write the reply.
 pub steps_write : (metadata : Metadata) (questions limit m n : ℕ) (h : Header) (question_octets : List ℕ) (answers authorities : List Record) (opened asked answered told filled : State) → Steps h m n question_octets answers authorities opened asked answered told filled →
-    opened.maximum ≡ limit → 12 + length question_octets ≤ limit → h ≡ header_with metadata (nat_lt m (length answers) || nat_lt n (length authorities)) questions m n →
+    opened.maximum ≡ limit → 12 + length question_octets ≤ limit → h ≡ header_of_reply metadata (nat_lt m (length answers) || nat_lt n (length authorities)) questions m n →
     IsWritten filled.octets metadata answers authorities questions question_octets limit
 steps_write metadata questions limit m n h question_octets answers authorities opened asked answered told filled s maximum room is =
     let one = s.answers_front in
@@ -70,7 +70,7 @@ steps_write metadata questions limit m n h question_octets answers authorities o
       asked = rw (sym first) (subst (λ (p : ℕ). Stands filled.octets p question_octets asked.offset) s.twelve question);
       answers_front = rw (sym first, sym asked_maximum) answered_front;
       authorities_front = rw last (subst (λ (k : ℕ). Front filled.octets k answered.offset authorities other.kept told.offset) answered_maximum told_front);
-      header = header_at_last h told filled sound s.header s.back ∙ is ∙ (λ i. header_with metadata (nat_lt (sym one.counted i) (length answers) || nat_lt (sym other.counted i) (length authorities)) questions (sym one.counted i) (sym other.counted i));
+      header = header_at_last h told filled sound s.header s.back ∙ is ∙ (λ i. header_of_reply metadata (nat_lt (sym one.counted i) (length answers) || nat_lt (sym other.counted i) (length authorities)) questions (sym one.counted i) (sym other.counted i));
       reserved = reserved_at_last h told filled sound s.header;
       within = omega (arith, last, other.fits (omega (arith, one.fits (omega (arith, first, asked_maximum, room)), answered_maximum, asked_maximum)), answered_maximum);
     }

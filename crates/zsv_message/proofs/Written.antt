@@ -2,7 +2,7 @@
 use Rattle.std.proofs.Common.{◌≡◌, ℕ, ◌+◌, ◌<◌, ◌≤◌, List, [], ◌∷◌, length, refl, subst, arith}
 use Rattle.std.specs.List.{AllByRecursion}
 use Rattle.zst_record.specs.dnw_decoder.Octets.{Stands}
-use Rattle.zst_record.specs.dnw_decoder.SpellingLaws.{spelled_within}
+use Rattle.zst_record.proofs.dnw_decoder_lemmas.SpellingLaws.{spelled_within}
 use Rattle.zst_record.specs.Records.{ReadsBackAlone}
 use Rattle.zsv_message.specs.declared.request.Query.{Query}
 use Rattle.zsv_message.specs.Replies.{ReplyParts, IsReply}

@@ -21,7 +21,8 @@ op_code_number (operations.Unknown n) = n
 
 abbrev pub op_code_of : ℕ → OpCode
 op_code_of n =
-    if n == 0 then operations.Query else if n == 2 then operations.Status else if n == 4 then operations.Notify
+    if n == 0 then operations.Query else if n == 2 then operations.Status else if n
+    == 4 then operations.Notify
     else if n == 5 then operations.Update else operations.Unknown n
 
 -- The number of a response code, and the response code of a number.
@@ -36,8 +37,10 @@ response_code_number (responses.Unknown n) = n
 
 abbrev pub response_code_of : ℕ → ResponseCode
 response_code_of n =
-    if n == 0 then responses.NoError else if n == 1 then responses.FormErr else if n == 2 then responses.ServFail
-    else if n == 3 then responses.NXDomain else if n == 4 then responses.NotImp else if n == 5 then responses.Refused
+    if n == 0 then responses.NoError else if n == 1 then responses.FormErr else if n
+    == 2 then responses.ServFail
+    else if n == 3 then responses.NXDomain else if n == 4 then responses.NotImp else if n
+    == 5 then responses.Refused
     else responses.Unknown n
 
 -- Whether the bit of weight 2 ^ k is set.
@@ -48,8 +51,8 @@ bit octet k = octet / 2 ^ k % 2 == 1
 abbrev pub reserved_bit : List ℕ → Bool
 reserved_bit message = bit (get_or message 3 0) 6
 
--- What the third and the fourth octet say, behind the identifier: QR, four bits of operation, AA, TC, RD;
--- RA, a bit that nobody reads, AD, CD, four bits of response.
+-- What the third and the fourth octet say, behind the identifier: QR, four bits of operation, AA,
+-- TC, RD; RA, a bit that nobody reads, AD, CD, four bits of response.
 abbrev pub metadata_of : ℕ → ℕ → ℕ → Metadata
 metadata_of id high low = record {
   id = id;
@@ -87,10 +90,12 @@ abbrev pub is_response : MessageType → Bool
 is_response types.Query = false
 is_response types.Response = true
 
--- The third and the fourth octet, with the bit that nobody reads zero. Of operation and response four bits stand there.
+-- The third and the fourth octet, with the bit that nobody reads zero. Of operation and response
+-- four bits stand there.
 abbrev pub high_octet : Metadata → ℕ
 high_octet m =
-    128 * flag (is_response m.message_type) + 8 * (op_code_number m.op_code % 16) + 4 * flag m.authoritative
+    128 * flag (is_response m.message_type) + 8 * (op_code_number m.op_code % 16) + 4
+    * flag m.authoritative
     + 2 * flag m.truncation + flag m.recursion_desired
 
 abbrev pub low_octet : Metadata → ℕ
@@ -101,8 +106,10 @@ low_octet m =
 -- The twelve octets of a header.
 abbrev pub header_octets : Header → List ℕ
 header_octets h =
-    octets_16 h.metadata.id ++ high_octet h.metadata ∷ low_octet h.metadata ∷ octets_16 h.counts.queries
-    ++ octets_16 h.counts.answers ++ octets_16 h.counts.authorities ++ octets_16 h.counts.additionals
+    octets_16 h.metadata.id
+    ++ high_octet h.metadata ∷ low_octet h.metadata ∷ octets_16 h.counts.queries
+    ++ octets_16 h.counts.answers ++ octets_16 h.counts.authorities
+    ++ octets_16 h.counts.additionals
 
 -- An operation and a response that four bits hold.
 pub record FitsHeader (m : Metadata) : Type 0 where

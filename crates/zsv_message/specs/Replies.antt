@@ -1,5 +1,5 @@
--- A reply: what it holds in full, and how that stands in octets, cut at a limit (RFC 1035, section 4.1;
--- RFC 2181, section 9).
+-- A reply: what it holds in full, and how that stands in octets, cut at a limit (RFC 1035, section
+-- 4.1; RFC 2181, section 9).
 use Rattle.std.specs.Prelude.{◌≡◌, ℕ, ◌+◌, ◌<◌, ◌≤◌, Bool, false, ◌||◌, List, [], ◌∷◌, length, nat_lt}
 use Rattle.zst_record.specs.declared.records.Record.{Record}
 use Rattle.zsv_message.specs.declared.header.Metadata.{Metadata}
@@ -19,33 +19,48 @@ pub record ReplyParts : Type 0 where
   pub answers : List Record
   pub authorities : List Record
 
--- The front of a list that stands in a reply from a place on: it ends early only at a record that would pass
--- the limit, even written plainly, and no record takes more than that.
+-- The front of a list that stands in a reply from a place on: it ends early only at a record that
+-- would pass the limit, even written plainly, and no record takes more than that.
 abbrev pub Front : List ℕ → ℕ → ℕ → List Record → List Record → ℕ → Type 0
 Front reply limit place [] [] end = end ≡ place
 Front reply limit place (r ∷ rs) [] end = (end ≡ place) × (limit < place + plain r)
-Front reply limit place (r ∷ rs) (k ∷ ks) end = (behind : ℕ) × (k ≡ r) × RecordAt reply place k behind × (behind ≤ place + plain k) × Front reply limit behind rs ks end
+Front reply limit place (r ∷ rs) (k ∷ ks) end =
+    (behind : ℕ) × (k ≡ r) × RecordAt reply place k behind × (behind ≤ place + plain k)
+    × Front reply limit behind rs ks end
 Front reply limit place [] (k ∷ ks) end = ⊥
 
 -- A header with these counts, that says whether something was left out.
-abbrev pub header_with : Metadata → Bool → ℕ → ℕ → ℕ → Header
-header_with m truncated questions answers authorities = record {
+abbrev pub header_of_reply : Metadata → Bool → ℕ → ℕ → ℕ → Header
+header_of_reply m truncated questions answers authorities = record {
   metadata = record m { truncation = truncated };
-  counts = record { queries = questions; answers = answers; authorities = authorities; additionals = 0 };
+  counts = record {
+    queries = questions;
+    answers = answers;
+    authorities = authorities;
+    additionals = 0;
+  };
 }
 
--- The reply in which the question section fits: its octets as sent, which are the same questions unless a pointer of
--- theirs goes into the message's header; a front of each list; and nothing behind.
-pub record IsWholeReply (message reply : List ℕ) (parts : ReplyParts) (request : Request) (limit : ℕ) : Type 0 where
+-- The reply in which the question section fits: its octets as sent, which are the same questions
+-- unless a pointer of theirs goes into the message's header; a front of each list; and nothing
+-- behind.
+pub record IsWholeReply (message reply : List ℕ) (parts : ReplyParts) (request : Request)
+    (limit : ℕ) : Type 0 where
   pub questions_end : ℕ
   pub answers : List Record
   pub answers_end : ℕ
   pub authorities : List Record
   pub question_octets : Stands reply 12 request.question_octets questions_end
-  pub questions : (there : Entries (QuestionAt message) 12 request.questions questions_end) → AvoidsHeader message 12 request.questions questions_end there → QuestionsAt reply 12 (length request.questions) request.questions questions_end
+  pub questions : (there : Entries (QuestionAt message) 12 request.questions questions_end)
+      → AvoidsHeader message 12 request.questions questions_end there
+      → QuestionsAt reply 12 (length request.questions) request.questions questions_end
   pub answers_front : Front reply limit questions_end parts.answers answers answers_end
   pub authorities_front : Front reply limit answers_end parts.authorities authorities (length reply)
-  pub header : header_of reply ≡ header_with parts.metadata (nat_lt (length answers) (length parts.answers) || nat_lt (length authorities) (length parts.authorities)) (length request.questions) (length answers) (length authorities)
+  pub header : header_of reply
+      ≡ header_of_reply parts.metadata
+      (nat_lt (length answers) (length parts.answers)
+      || nat_lt (length authorities) (length parts.authorities)) (length request.questions)
+      (length answers) (length authorities)
 
 -- What is left to say where not even the questions fit.
 abbrev pub bare_failure : ℕ → Metadata
@@ -63,8 +78,12 @@ bare_failure id = record {
 }
 
 -- A reply of these parts to the request that a message is, within the limit.
-pub record IsReply (message reply : List ℕ) (parts : ReplyParts) (request : Request) (limit : ℕ) : Type 0 where
+pub record IsReply (message reply : List ℕ) (parts : ReplyParts) (request : Request) (limit : ℕ) :
+    Type 0 where
   pub within : length reply ≤ limit
   pub reserved : reserved_bit reply ≡ false
-  pub whole : 12 + length request.question_octets ≤ limit → IsWholeReply message reply parts request limit
-  pub bare : limit < 12 + length request.question_octets → (length reply ≡ 12) × (header_of reply ≡ header_with (bare_failure request.metadata.id) false 0 0 0)
+  pub whole : 12 + length request.question_octets ≤ limit
+      → IsWholeReply message reply parts request limit
+  pub bare : limit < 12 + length request.question_octets
+      → (length reply ≡ 12)
+      × (header_of reply ≡ header_of_reply (bare_failure request.metadata.id) false 0 0 0)

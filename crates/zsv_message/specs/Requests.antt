@@ -20,7 +20,8 @@ pub record QuestionAt (message : List ℕ) (place : ℕ) (question : Query) (end
 
 -- So many questions from a place on.
 abbrev pub QuestionsAt : List ℕ → ℕ → ℕ → List Query → ℕ → Type 0
-QuestionsAt message place count questions end = Entries (QuestionAt message) place questions end × (length questions ≡ count)
+QuestionsAt message place count questions end =
+    Entries (QuestionAt message) place questions end × (length questions ≡ count)
 
 -- What a request asks: its header's part, its questions, and the octets in which they stand.
 pub record Request : Type 0 where
@@ -35,8 +36,8 @@ pub record OpensRequest (message : List ℕ) : Type 0 where
   pub no_authorities : (header_of message).counts.authorities ≡ 0
   pub no_additionals : (header_of message).counts.additionals ≡ 0
 
--- The request grammar: a header, as many questions as it counts, and no records. What stands behind the
--- last question is free.
+-- The request grammar: a header, as many questions as it counts, and no records. What stands behind
+-- the last question is free.
 pub record IsRequest (message : List ℕ) (request : Request) : Type 0 where
   pub opening : OpensRequest message
   pub metadata : request.metadata ≡ (header_of message).metadata
@@ -51,6 +52,8 @@ ReadsRequest message (Err errors.Malformed) = (request : Request) → IsRequest 
 ReadsRequest message (Err errors.Memory) = OpensRequest message
 
 -- No pointer that the questions follow has its target in the header.
-abbrev pub AvoidsHeader : (message : List ℕ) (place : ℕ) (questions : List Query) (end : ℕ) → Entries (QuestionAt message) place questions end → Type 0
+abbrev pub AvoidsHeader : (message : List ℕ) (place : ℕ) (questions : List Query) (end : ℕ)
+    → Entries (QuestionAt message) place questions end → Type 0
 AvoidsHeader message place [] end there = Unit {0}
-AvoidsHeader message place (q ∷ qs) end (behind, at, more) = PointsFrom 12 at.name.spelled × AvoidsHeader message behind qs end more
+AvoidsHeader message place (q ∷ qs) end (behind, at, more) =
+    PointsFrom 12 at.name.spelled × AvoidsHeader message behind qs end more

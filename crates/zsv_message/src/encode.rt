@@ -8,7 +8,7 @@ ghost use Rattle.zst_record.specs.dnw_encoder.Encoders.{state};
 ghost use Rattle.zst_record.specs.drd_rdata.Writing.{WritesInFull};
 ghost use Rattle.zst_record.specs.Records.{ReadsBackAlone};
 ghost use Rattle.zsv_message.specs.Headers.{header_of, reserved_bit, FitsHeader};
-ghost use Rattle.zsv_message.specs.Writing.{counted, EmitsFront, IsWritten};
+ghost use Rattle.zsv_message.specs.Writing.{written_count, EmitsFront, IsWritten};
 
 use crate::header::{Header, HeaderCounts, Metadata};
 use std::alloc::{AllocError, Global};
@@ -27,7 +27,7 @@ pub struct MessageResponse<'a> {
 
 // How many records were written: all, or those before one that didn't fit.
 fn count_written(written: Result<usize, ProtoError>) -> Result<usize, ProtoError>
-    ensures { result ≡ counted written }
+    ensures { result ≡ written_count written }
 {
     match written {
         Err(ProtoError::NotAllRecordsWritten { count }) => Ok(count),
@@ -73,8 +73,13 @@ impl MessageResponse<'_> {
         requires small { (state encoder.old).maximum < 2 ^ 16 }
         requires room { 12 + length question_octets.now ≤ (state encoder.old).maximum }
         ensures same_reference { encoder.new.buffer.ghost_name ≡ encoder.old.buffer.ghost_name }
-        ensures ok { OnOk result (AllByRecursion ReadsBackAlone self.now.answers.now → AllByRecursion ReadsBackAlone self.now.authorities.now → IsWritten (state encoder.new).octets self.now.metadata self.now.answers.now self.now.authorities.now questions question_octets.now (state encoder.old).maximum) }
-        ensures cause { IfErr result (λ e. AllByRecursion ReadsBackAlone self.now.answers.now → AllByRecursion ReadsBackAlone self.now.authorities.now → IsMemory e) }
+        ensures ok { OnOk result
+            (AllByRecursion ReadsBackAlone self.now.answers.now → AllByRecursion ReadsBackAlone self.now.authorities.now
+            → IsWritten (state encoder.new).octets self.now.metadata self.now.answers.now self.now.authorities.now
+            questions question_octets.now (state encoder.old).maximum) }
+        ensures cause { IfErr result
+            (λ e. AllByRecursion ReadsBackAlone self.now.answers.now
+            → AllByRecursion ReadsBackAlone self.now.authorities.now → IsMemory e) }
     {
         let place = encoder.place::<Header>()?;
         encoder.emit_vec(question_octets)?;
@@ -97,8 +102,14 @@ impl MessageResponse<'_> {
         requires metadata { FitsHeader self.now.metadata }
         requires limit { limit < 2 ^ 16 }
         requires room { 12 + length question_octets.now ≤ limit }
-        ensures written { IfOk result (λ reply. AllByRecursion ReadsBackAlone self.now.answers.now → AllByRecursion ReadsBackAlone self.now.authorities.now → IsWritten reply.items self.now.metadata self.now.answers.now self.now.authorities.now questions question_octets.now limit) }
-        ensures cause { IfErr result (λ e. AllByRecursion ReadsBackAlone self.now.answers.now → AllByRecursion ReadsBackAlone self.now.authorities.now → IsMemory e) }
+        ensures written { IfOk result
+            (λ reply. AllByRecursion ReadsBackAlone self.now.answers.now
+            → AllByRecursion ReadsBackAlone self.now.authorities.now
+            → IsWritten reply.items self.now.metadata self.now.answers.now self.now.authorities.now questions
+            question_octets.now limit) }
+        ensures cause { IfErr result
+            (λ e. AllByRecursion ReadsBackAlone self.now.answers.now
+            → AllByRecursion ReadsBackAlone self.now.authorities.now → IsMemory e) }
     {
         let mut reply = match Vec::with_capacity(alloc, 512) {
             Ok(reply) => reply,
@@ -117,7 +128,12 @@ pub fn encode_header(alloc: Global, metadata: Metadata) -> Result<Vec<u8>, Alloc
     requires { FitsHeader metadata }
     ensures long { IfOk result (λ reply. length reply.items ≡ 12) }
     ensures reserved { IfOk result (λ reply. reserved_bit reply.items ≡ false) }
-    ensures header { IfOk result (λ reply. header_of reply.items ≡ record { metadata = metadata; counts = record { queries = 0; answers = 0; authorities = 0; additionals = 0 } }) }
+    ensures header { IfOk result
+        (λ reply. header_of reply.items
+        ≡ record {
+          metadata = metadata;
+          counts = record { queries = 0; answers = 0; authorities = 0; additionals = 0 };
+        }) }
 {
     let counts = HeaderCounts {
         queries: 0,

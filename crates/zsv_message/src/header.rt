@@ -2,10 +2,10 @@
 
 ghost use Rattle.std.specs.Prelude.{◌≡◌, ◌+◌, ◌<◌, ◌≤◌, ◌%◌, ◌/◌, ◌++◌, ℕ, List, length, get_or, IfErr, OnOk, OnErr};
 ghost use Rattle.zst_record.specs.dnw_decoder.Octets.{number_16};
-ghost use Rattle.zst_record.specs.dnw_encoder.Effects.{Writes, Puts, IsRefusal};
+ghost use Rattle.zst_record.specs.dnw_encoder.Effects.{Writes, WritesOctets, IsRefusal};
 ghost use Rattle.zst_record.specs.dnw_encoder.Encoders.{state};
 ghost use Rattle.zsv_message.specs.Headers.{op_code_of, op_code_number, response_code_of, response_code_number, bit, metadata_of, counts_of, header_of, high_octet, low_octet, header_octets, FitsHeader};
-ghost use Rattle.zsv_message.specs.Replies.{header_with};
+ghost use Rattle.zsv_message.specs.Replies.{header_of_reply};
 
 use zst_record::{BinEncodable, BinEncoder, EncodedSize, ProtoError};
 
@@ -245,7 +245,7 @@ impl Header {
         answers: u16,
         authorities: u16,
     ) -> Header
-        ensures value { result ≡ header_with metadata truncation queries answers authorities }
+        ensures value { result ≡ header_of_reply metadata truncation queries answers authorities }
         ensures back { FitsHeader metadata → (rest : List ℕ) → header_of (header_octets result ++ rest) ≡ result }
     {
         let mut metadata = metadata;
@@ -289,7 +289,7 @@ impl Header {
 }
 
 impl BinEncodable for Header {
-    ghost emits = { λ header old new. Puts (header_octets header) old new };
+    ghost emits = { λ header old new. WritesOctets (header_octets header) old new };
 
     ghost refuses = { λ header old e new. (new ≡ old) × IsRefusal old 12 e };
 
@@ -297,7 +297,7 @@ impl BinEncodable for Header {
     fn emit(&self, encoder: &mut BinEncoder<'_>) -> Result<(), ProtoError>
         ensures same_reference { encoder.new.buffer.ghost_name ≡ encoder.old.buffer.ghost_name }
         ensures writes { Writes (state encoder.old) (state encoder.new) }
-        ensures ok { OnOk result (Puts (header_octets self.now) (state encoder.old) (state encoder.new)) }
+        ensures ok { OnOk result (WritesOctets (header_octets self.now) (state encoder.old) (state encoder.new)) }
         ensures fits { OnOk result ((state encoder.old).offset + 12 ≤ (state encoder.old).maximum) }
         ensures err { OnErr result (state encoder.new ≡ state encoder.old) }
         ensures cause { IfErr result (IsRefusal (state encoder.old) 12) }

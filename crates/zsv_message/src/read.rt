@@ -35,9 +35,9 @@ impl<T: Drop> From<AllocFailed<T>> for ReadError {
 }
 
 impl From<DecodeError> for ReadError {
-    ghost use Rattle.zsv_message.specs.Wire.{TellsCause};
+    ghost use Rattle.zsv_message.specs.Wire.{TellsReadCause};
 
-    ghost from_gives = { TellsCause };
+    ghost from_gives = { TellsReadCause };
 
     fn from(cause: DecodeError) -> ReadError {
         match cause {

@@ -1,7 +1,7 @@
 //! Requests and their questions (RFC 1035 section 4.1.2).
 
 ghost use Rattle.std.specs.Prelude.{◌≡◌, ◌≤◌, length};
-ghost use Rattle.zsv_message.specs.Wire.{Reads, ReadsAs};
+ghost use Rattle.zsv_message.specs.Wire.{Reads, DecodesTo};
 ghost use Rattle.zsv_message.specs.Requests.{QuestionAt, QuestionsAt, Request, IsRequest, ReadsRequest};
 
 use crate::header::{Header, Metadata};
@@ -46,7 +46,7 @@ fn read_questions(
     decoder: &mut BinDecoder<'_>,
     count: u16,
 ) -> Result<Vec<Query>, ReadError>
-    ensures questions { ReadsAs (λ qs. qs.items) (QuestionsAt decoder.old.octets decoder.old.index count) result decoder.new.index }
+    ensures questions { DecodesTo (λ qs. qs.items) (QuestionsAt decoder.old.octets decoder.old.index count) result decoder.new.index }
     ensures same { decoder.new.octets ≡ decoder.old.octets }
     ensures forward { decoder.old.index ≤ decoder.new.index }
     ensures within { decoder.old.index ≤ length decoder.old.octets → decoder.new.index ≤ length decoder.new.octets }

@@ -2,16 +2,16 @@
 
 ghost use Rattle.std.specs.Prelude.{◌≡◌, ◌^◌, ◌<◌, ◌≤◌, true, [], Ok, IfOk, IfErr, length, option_copied};
 ghost use Rattle.std.specs.List.{AllByRecursion};
-ghost use Rattle.authority_text.specs.dnw_codes.ProtoError.{IsMemory};
+ghost use Rattle.authority_load.specs.dnw_codes.ProtoError.{IsMemory};
 ghost use Rattle.zsv_message.specs.Headers.{FitsHeader, response_code_of, response_code_number};
 ghost use Rattle.zsv_message.specs.zst_record.Records.{ReadsBackAlone};
-ghost use Rattle.authority_text.specs.zst_zone.Lookups.{outcome};
+ghost use Rattle.authority_load.specs.zst_zone.Lookups.{outcome};
 ghost use Rattle.zsv_message.specs.Replies.{bare_failure, IsReply};
 ghost use Rattle.zsv_message.specs.Requests.{IsRequest};
 ghost use Rattle.authority.specs.Serving.{reply_metadata, error_parts, records_of, apex, beside_answer, outcome_parts, question_parts, query_parts, operation_parts, reply_parts};
 ghost use Rattle.authority.specs.Servers.{parts_of, IsSound, IsKnown, AsksFullNames};
 
-use authority_text::{InMemoryZoneHandler, Lookup, ProtoError, key_of};
+use authority_load::{InMemoryZoneHandler, Lookup, ProtoError, key_of};
 use std::alloc::{AllocError, Global};
 use zsv_message::{
     MessageRequest, MessageResponse, MessageType, Metadata, OpCode, Query, Record, RecordSet,

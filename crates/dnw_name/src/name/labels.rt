@@ -4,7 +4,7 @@ ghost use Rattle.std.specs.Cmp.Lexicographic.{slice_cmp};
 ghost use Rattle.std.specs.Str.{str_to_ascii_lowercase};
 ghost use Rattle.dnw_name.specs.DomainName.{labels_len};
 
-use dnw_arpa::{Label, LabelCmp};
+use dnw_net::{Label, LabelCmp};
 use std::alloc::{AllocError, Global};
 use std::cmp::Ordering;
 

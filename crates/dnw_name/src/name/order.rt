@@ -5,13 +5,13 @@ ghost use Rattle.std.specs.Cmp.Lexicographic.{slice_cmp, pointwise};
 ghost use Rattle.std.specs.Cmp.Rules.{comparing};
 ghost use Rattle.std.specs.Ordering.{as_partial_cmp, nat_cmp, is_le};
 ghost use Rattle.std.proofs.Common.{rules};
-ghost use Rattle.dnw_arpa.specs.dnw_label.Label.{label_eq};
+ghost use Rattle.dnw_net.specs.dnw_label.Label.{label_eq};
 ghost use Rattle.dnw_name.specs.DomainName.{DomainName, is_at_or_below, name_eq, name_cmp, name_cmp_by};
-ghost use Rattle.dnw_name.specs.NameOrder.{name_eq-by_cmp};
+ghost use Rattle.dnw_name.specs.NameOrderLaws.{name_eq-by_cmp};
 
 use crate::name::Name;
 use crate::name::labels::{cmp_labels, same_labels};
-use dnw_arpa::{CaseInsensitive, CaseSensitive, LabelCmp};
+use dnw_net::{CaseInsensitive, CaseSensitive, LabelCmp};
 use std::cmp::Ordering;
 use std::hash::{Hash, Hasher};
 
@@ -117,7 +117,8 @@ impl PartialOrd for Name {
 }
 
 impl Hash for Name {
-    ghost use Rattle.dnw_name.specs.NameHash.{name_writes, name_writes-alike};
+    ghost use Rattle.dnw_name.specs.NameHash.{name_writes};
+    ghost use Rattle.dnw_name.specs.NameHashLaws.{name_writes-alike};
 
     ghost hash_input = { name_writes };
 

@@ -1,6 +1,6 @@
 use Rattle.std.proofs.Common.{rules}
 use Rattle.std.proofs.lemmas.Fn.{filter_same}
-use Rattle.dnw_encoder.specs.PlaceLaws.{is_other}
+use Rattle.dnw_encoder.specs.State.{is_other}
 use Rattle.dnw_encoder.proofs.open_places.shut.Goals as goal
 
 pub returns : goal.returns

@@ -1,4 +1,4 @@
-use Rattle.dnw_label.specs.EscapeLaws.{octet-shorter}
+use Rattle.dnw_label.proofs.EscapeLaws.{octet-shorter}
 use Rattle.dnw_label.proofs.LabelTextLemmas.{dot_free, so_far-more, so_far-whole}
 use Rattle.dnw_label.proofs.label_text.label_octets.Goals as goal
 

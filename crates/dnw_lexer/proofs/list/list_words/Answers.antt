@@ -4,7 +4,7 @@ use Rattle.std.specs.String.{string_bytes}
 use Rattle.std.proofs.lemmas.List.{map-append}
 use Rattle.dnw_codes.specs.declared.error.LexerError.TheVariants.{UnclosedList}
 use Rattle.dnw_lexer.specs.Lexer.{unclosed}
-use Rattle.dnw_lexer.specs.LeftLaws.{list-shorter}
+use Rattle.dnw_lexer.proofs.LeftLaws.{list-shorter}
 use Rattle.dnw_lexer.proofs.Lists.{list-more, list-done, list-failed, list-refused}
 use Rattle.dnw_lexer.proofs.list.list_words.Goals as goal
 

@@ -1,7 +1,7 @@
 use Rattle.std.proofs.Common.{◌≡◌, ◌∙◌, ◌∷◌, ap, sym, true, false, inr}
 use Rattle.std.specs.Prelude.{chars}
 use Rattle.std.specs.String.{string_bytes}
-use Rattle.dnw_lexer.specs.Lexer.{PlainText, ends, ends_word, unit}
+use Rattle.dnw_lexer.specs.Lexer.{PlainText, ends, ends_word, plain_character}
 use Rattle.dnw_lexer.proofs.Words.{more, done, failed, plain-step, plain-refused}
 use Rattle.dnw_lexer.proofs.word.plain_word.Goals as goal
 
@@ -30,7 +30,7 @@ characters-preserved c =
     let goes : ends_word c.args.inside (c.in-Some.c ∷ chars c.in-Some.behind.now) ≡ false = sym c.ends_word.ensures ∙ c.if-ends_word.false in (
       c.in-Ok.ensures.text,
       more (PlainText c.args.inside) (chars c.args.text.now) (string_bytes c.characters.word) (chars c.characters.rest.now)
-          (unit c.in-Some.c c.in-Ok.found.0) (string_bytes c.push_unit.new.word) (chars c.in-Ok.found.1.now)
+          (plain_character c.in-Some.c c.in-Ok.found.0) (string_bytes c.push_unit.new.word) (chars c.in-Ok.found.1.now)
           c.characters.invariant.1 c.in_ok-push_unit.ensures.pushed
           (plain-step c.args.inside c.in-Some.c (chars c.characters.rest.now) (chars c.in-Some.behind.now) (chars c.in-Ok.found.1.now) c.in-Ok.found.0
           c.in-Some.ensures.split goes c.in-Ok.ensures.ok),

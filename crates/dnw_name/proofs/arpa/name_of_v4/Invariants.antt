@@ -1,5 +1,5 @@
 use Rattle.std.proofs.Common.{length}
-use Rattle.dnw_arpa.specs.ArpaLabels.{v4_labels}
+use Rattle.dnw_net.specs.ArpaLabels.{v4_labels}
 use Rattle.dnw_name.proofs.ArpaLemmas.{ArpaSoFar}
 use Rattle.dnw_name.proofs.arpa.name_of_v4.Given as goal
 

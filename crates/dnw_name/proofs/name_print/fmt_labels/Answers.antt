@@ -2,7 +2,7 @@ use Rattle.std.proofs.Common.{rules, ◌≡◌, ◌∷◌, ◌++◌, ◌∙◌, 
 use Rattle.std.specs.List.{flat_map}
 use Rattle.std.proofs.Output.{has_written_append}
 use Rattle.std.proofs.lemmas.List.{append_assoc}
-use Rattle.dnw_arpa.specs.dnw_label.LabelPrint.{label_print}
+use Rattle.dnw_net.specs.dnw_label.LabelPrint.{label_print}
 use Rattle.dnw_name.proofs.name_print.fmt_labels.Goals as goal
 
 pub labels-preserved : goal.labels-preserved

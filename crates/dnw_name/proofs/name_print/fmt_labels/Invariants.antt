@@ -1,7 +1,7 @@
 use Rattle.std.proofs.Common.{◌≡◌, ◌++◌, ◌∷◌, length, List, ℕ}
 use Rattle.std.specs.List.{flat_map}
 use Rattle.std.specs.Fmt.{HasWritten, IsPlainFormatter}
-use Rattle.dnw_arpa.specs.dnw_label.LabelPrint.{label_print}
+use Rattle.dnw_net.specs.dnw_label.LabelPrint.{label_print}
 use Rattle.dnw_name.specs.NamePrint.{labels_print}
 use Rattle.dnw_name.proofs.name_print.fmt_labels.Given as goal
 

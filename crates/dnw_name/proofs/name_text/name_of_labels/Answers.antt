@@ -1,7 +1,7 @@
 use Rattle.std.proofs.Common.{◌∙◌, ap, sym, true, length, arith}
-use Rattle.dnw_arpa.specs.dnw_codes.ProtoError.{IsMemory}
+use Rattle.dnw_net.specs.dnw_codes.ProtoError.{IsMemory}
 use Rattle.dnw_name.proofs.Lengths.{IsDomainName-flag}
-use Rattle.dnw_arpa.proofs.dnw_label_lemmas.LabelTextLemmas.{label-shorter}
+use Rattle.dnw_net.proofs.dnw_label_lemmas.LabelTextLemmas.{label-shorter}
 use Rattle.dnw_name.proofs.TextLemmas.{labels-no_next, labels-refused, name-last, name-closed, name-more}
 use Rattle.dnw_name.proofs.name_text.name_of_labels.Goals as goal
 

@@ -1,7 +1,7 @@
 use Rattle.std.proofs.Common.{ℕ, ◌≡◌, ◌∙◌, sym, true, false}
 use Rattle.std.specs.declared.net.ip_addr.IpAddr.{IpAddr}
 use Rattle.dnw_name.specs.Arpa.{IsArpaName}
-use Rattle.dnw_arpa.proofs.NetworkLemmas.{if_none}
+use Rattle.dnw_net.proofs.NetworkLemmas.{if_none}
 use Rattle.dnw_name.proofs.SuffixLemmas.{no-label, no-arpa, no-second}
 use Rattle.dnw_name.proofs.network.labels_below_arpa.Goals as goal
 

@@ -1,7 +1,7 @@
 use Rattle.std.proofs.Common.{◌≡◌, ◌∷◌, ◌++◌, map}
 use Rattle.std.specs.List.{flat_map}
 use Rattle.std.specs.Fmt.{HasWritten, IsPlainFormatter}
-use Rattle.dnw_types.specs.dnw_codes.RecordType.{record_type_of, record_type_text}
+use Rattle.dnw_wire.specs.dnw_codes.RecordType.{record_type_of, record_type_text}
 use Rattle.drd_csync.proofs.types.fmt_types.Given as goal
 
 abbrev pub invariant-types : goal.invariant-types

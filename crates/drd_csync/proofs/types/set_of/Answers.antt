@@ -5,8 +5,8 @@ use Rattle.std.specs.Slice.Iter.{iter_rest}
 use Rattle.std.specs.Iterator.Adapters.{copied_source}
 use Rattle.std.proofs.lemmas.Iterator.{items_from_drains, YieldsList-from_slice}
 use Rattle.std.proofs.lemmas.Iterator.Consumers.{YieldsList-from_copied}
-use Rattle.dnw_types.specs.dnw_codes.RecordType.{record_type_number}
-use Rattle.dnw_types.specs.dnw_codes.declared.record_type.RecordType.{RecordType}
+use Rattle.dnw_wire.specs.dnw_codes.RecordType.{record_type_number}
+use Rattle.dnw_wire.specs.dnw_codes.declared.record_type.RecordType.{RecordType}
 use Rattle.drd_csync.proofs.Words.{if_ok}
 use Rattle.drd_csync.proofs.types.set_of.Goals as goal
 

@@ -1,7 +1,7 @@
 use Rattle.std.proofs.Common.{◌≡◌, ℕ, Bool, true, false, List, refl}
 use Rattle.drd_fields.specs.Writing.{canonical_octets}
 use Rattle.drd_fields.specs.Equality.{Tells}
-use Rattle.drd_fields.specs.BackLaws.{fields_back, fields_full}
+use Rattle.drd_fields.proofs.BackLaws.{fields_back, fields_full}
 use Rattle.drd_fields.proofs.back.is_read_back.Goals as goal
 
 -- An answer that tells whether octets are the same is yes where they are.

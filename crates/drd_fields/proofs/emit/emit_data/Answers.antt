@@ -3,7 +3,7 @@ use Rattle.dnw_encoder.specs.Encoders.{state}
 use Rattle.dnw_encoder.specs.Effects.{Writes}
 use Rattle.dnw_encoder.specs.State.{State, with_encoding, rdata_encoding}
 use Rattle.drd_fields.specs.Writing.{EmitsFields, EmitsData, EndsWithin}
-use Rattle.drd_fields.specs.WritingLaws.{mode_writes, mode_emits, on_ok}
+use Rattle.drd_fields.proofs.WritingLaws.{mode_writes, mode_emits, on_ok}
 use Rattle.drd_fields.proofs.emit.emit_data.Goals as goal
 
 pub returns-clause-writes : goal.returns-clause-writes

@@ -2,10 +2,10 @@ use Rattle.std.proofs.Common.{◌≡◌, ◌≤◌, ◌+◌, ◌⊎◌, ℕ, Lis
 use Rattle.std.specs.List.{flat_map}
 use Rattle.dnw_encoder.specs.Encoders.{state}
 use Rattle.dnw_encoder.specs.Effects.{IsRefusal}
-use Rattle.dnw_encoder.specs.Laws.{writes_then}
+use Rattle.dnw_encoder.proofs.Laws.{writes_then}
 use Rattle.drd_fields.specs.Fields.{string}
 use Rattle.drd_fields.specs.Writing.{EmitsField, IsTooLong, SomeTooLong, string_octets}
-use Rattle.drd_fields.specs.WritingLaws.{emits_string_more, strings_refused, puts_string, puts_within, within_then}
+use Rattle.drd_fields.proofs.WritingLaws.{emits_string_more, strings_refused, puts_string, puts_within, within_then}
 use Rattle.drd_fields.proofs.emit.emit_strings.Goals as goal
 
 pub strings-preserved : goal.strings-preserved

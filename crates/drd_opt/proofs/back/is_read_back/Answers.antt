@@ -1,11 +1,11 @@
 use Rattle.std.proofs.Common.{◌≡◌, ℕ, true, List, length, map, sym, subst, ◌∙◌, arith, rules}
 use Rattle.std.proofs.lemmas.List.Sorted.{IsPermutation-refl}
-use Rattle.drd_option.specs.dnw_decoder.Standing.{stands_same}
+use Rattle.drd_option.proofs.dnw_decoder_lemmas.Standing.{stands_same}
 use Rattle.drd_opt.specs.Entries.{RawOption, raw_of, entries_octets}
 use Rattle.drd_opt.specs.Equality.{same_counts}
 use Rattle.drd_opt.specs.EqualityLaws.{permutation_tells}
 use Rattle.drd_opt.specs.Reading.{HoldsEntries}
-use Rattle.drd_opt.specs.BackLaws.{read_back}
+use Rattle.drd_opt.proofs.BackLaws.{read_back}
 use Rattle.drd_opt.proofs.back.is_read_back.Goals as goal
 
 pub returns-clause-back : goal.returns-clause-back

@@ -1,9 +1,9 @@
 use Rattle.std.proofs.Common.{◌≤◌, ℕ, length, subst, arith}
 use Rattle.drd_option.specs.dnw_decoder.Octets.{octets_16}
 use Rattle.drd_option.specs.dnw_encoder.Encoders.{state}
-use Rattle.drd_option.specs.dnw_encoder.Effects.{Puts}
-use Rattle.drd_option.specs.dnw_encoder.Laws.{writes_then}
-use Rattle.drd_option.specs.drd_fields.WritingLaws.{on_ok, within_then}
+use Rattle.drd_option.specs.dnw_encoder.Effects.{WritesOctets}
+use Rattle.drd_option.proofs.dnw_encoder_lemmas.Laws.{writes_then}
+use Rattle.drd_option.proofs.drd_fields_lemmas.WritingLaws.{on_ok, within_then}
 use Rattle.drd_option.specs.Codes.{edns_code_number}
 use Rattle.drd_option.specs.Options.{option_octets}
 use Rattle.drd_opt.proofs.WriteLemmas.{entry_puts}
@@ -23,8 +23,8 @@ returns-clause-ok c =
     let d = state c.emit_u16-2.new.self in
     let octets = option_octets c.args.entry.now.1 in
     let within : a.offset ≤ length a.octets = omega (arith, c.offset-start.ensures.value, c.offset-start.ensures.within) in
-    let first : Puts (octets_16 (edns_code_number c.args.entry.now.0)) a b = subst (λ (n : ℕ). Puts (octets_16 n) a b) c.from.ensures c.in-Ok.ensures.ok in
-    let second : Puts (octets_16 (length octets)) b d = subst (λ (n : ℕ). Puts (octets_16 n) b d) c.len-len.ensures c.in-Ok-emit_u16.ensures.ok in
+    let first : WritesOctets (octets_16 (edns_code_number c.args.entry.now.0)) a b = subst (λ (n : ℕ). WritesOctets (octets_16 n) a b) c.from.ensures c.in-Ok.ensures.ok in
+    let second : WritesOctets (octets_16 (length octets)) b d = subst (λ (n : ℕ). WritesOctets (octets_16 n) b d) c.len-len.ensures c.in-Ok-emit_u16.ensures.ok in
     on_ok c.emit.result (λ emitted. entry_puts (edns_code_number c.args.entry.now.0) octets a b d (state c.emit.new.encoder) within first second emitted) c.emit.ensures.ok
 
 pub returns-clause-fits : goal.returns-clause-fits

@@ -1,6 +1,6 @@
 use Rattle.std.proofs.Common.{◌≡◌, ◌+◌, ℕ, List, inl, inr, subst, arith}
 use Rattle.drd_option.specs.dnw_decoder.Octets.{Stands}
-use Rattle.drd_opt.specs.ReadingLaws.{no_entries}
+use Rattle.drd_opt.proofs.ReadingLaws.{no_entries}
 use Rattle.drd_opt.proofs.read.read_entries.Goals as goal
 
 pub returns-in-Err-entries_of-clause-none : goal.returns-in-Err-entries_of-clause-none

@@ -1,6 +1,6 @@
 use Rattle.std.proofs.Common.{rules, ◌≡◌, ◌≢◌, ◌∷◌, List, ℕ, [], sym, ap, length, ◌∙◌, Less}
 use Rattle.drd_order.specs.Order.{octets_cmp, labels_octets}
-use Rattle.drd_order.specs.OrderLaws.{cmp_ends}
+use Rattle.drd_order.proofs.OrderLaws.{cmp_ends}
 use Rattle.drd_order.proofs.octets.cmp_labels.Goals as goal
 
 left_none : (ls : List (List ℕ)) → length ls ≢ 0 → octets_cmp (labels_octets []) (labels_octets ls) ≡ Less

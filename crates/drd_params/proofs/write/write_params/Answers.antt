@@ -1,5 +1,5 @@
 use Rattle.drd_plain.specs.dnw_codes.ProtoError.{IsMemory}
-use Rattle.drd_params.specs.WritingLaws.{only-others}
+use Rattle.drd_params.proofs.WritingLaws.{only-others}
 use Rattle.drd_params.proofs.write.write_params.Goals as goal
 
 pub returns-clause-written : goal.returns-clause-written

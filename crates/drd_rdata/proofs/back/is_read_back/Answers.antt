@@ -1,6 +1,6 @@
 use Rattle.std.proofs.Common.{◌≡◌, true}
-use Rattle.drd_types.specs.dnw_encoder.Laws.{holds_map}
-use Rattle.drd_rdata.specs.BackLaws.{alike, alike_equal, emitted_stands}
+use Rattle.drd_types.proofs.dnw_encoder_lemmas.Laws.{holds_map}
+use Rattle.drd_rdata.proofs.BackLaws.{alike, alike_equal, emitted_stands}
 use Rattle.drd_rdata.specs.Reading.{HoldsAs}
 use Rattle.drd_rdata.specs.Writing.{StandsWritten}
 use Rattle.drd_rdata.proofs.back.is_read_back.Goals as goal

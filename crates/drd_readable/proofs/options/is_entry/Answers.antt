@@ -1,7 +1,7 @@
 use Rattle.std.proofs.Common.{length, sym, ◌∙◌}
 use Rattle.std.proofs.lemmas.Bool.{both_ways, leb-true}
 use Rattle.drd_option.specs.Options.{option_octets}
-use Rattle.drd_readable.specs.OptionLaws.{entry_form, entry_stands}
+use Rattle.drd_readable.proofs.OptionLaws.{entry_form, entry_stands}
 use Rattle.drd_readable.proofs.options.is_entry.Goals as goal
 use Rattle.drd_readable.proofs.options.is_entry.Goals.{then-has_own_code, else-has_own_code}
 

@@ -1,4 +1,4 @@
-use Rattle.drd_readable.specs.DataLaws.{from_read, to_read}
+use Rattle.drd_readable.proofs.DataLaws.{from_read, to_read}
 use Rattle.drd_readable.proofs.readable.is_readable.Goals as goal
 
 pub returns : goal.returns

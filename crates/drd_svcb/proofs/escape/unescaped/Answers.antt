@@ -1,6 +1,6 @@
 use Rattle.std.proofs.Common.{◌≡◌, List, ℕ, length, sym, subst, arith}
 use Rattle.std.proofs.lemmas.Bool.Decides.{nat_tests}
-use Rattle.drd_params.specs.dnw_label.EscapeLaws.{octet-shorter}
+use Rattle.drd_params.proofs.dnw_label_lemmas.EscapeLaws.{octet-shorter}
 use Rattle.drd_svcb.proofs.Escaped.{SoFar, so_far-more, so_far-ends}
 use Rattle.drd_svcb.proofs.escape.unescaped.Goals as goal
 

@@ -1,6 +1,6 @@
 use Rattle.std.proofs.Common.{◌∙◌, refl, ap, Bool, Ok, rules}
 use Rattle.std.proofs.lemmas.Result.{err_from_is_err_and}
-use Rattle.authority.specs.Frames.{streamed}
+use Rattle.authority.specs.Frames.{stream_message}
 use Rattle.authority.proofs.ServedRuns.{serves_keeps}
 use Rattle.authority.proofs.StreamRuns.{counted_none, counted_more, left_counting, left_reading, left_serving}
 use Rattle.authority.proofs.server.Authority.serve_stream.Goals as goal
@@ -13,7 +13,7 @@ frames-preserved g c =
     let whole = c.in_ok-read_frame.ensures.whole (ap (λ (came : Bool). Ok came) c.if-not-branch.false) in
     let framed_here = rw (← c.deref.ensures.value) at whole in
     record {
-      same = serves_keeps _ (streamed c.args.src c.args.now c.deref.result.now) _ _ c.in_ok-serve_frame.ensures.served.1 ∙ c.frames.invariant.same;
+      same = serves_keeps _ (stream_message c.args.src c.args.now c.deref.result.now) _ _ c.in_ok-serve_frame.ensures.served.1 ∙ c.frames.invariant.same;
       served = counted_more _ _ _ _ _ _ _ _ _ _ _ _ _ c.frames.invariant.served framed_here c.in_ok-serve_frame.ensures.served;
     }
 

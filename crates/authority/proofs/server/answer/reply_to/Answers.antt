@@ -1,5 +1,5 @@
 use Rattle.std.proofs.Common.{◌+◌, ◌≤◌, length, subst, ap, arith}
-use Rattle.authority_text.specs.dnw_codes.ProtoError.{IsMemory}
+use Rattle.authority_load.specs.dnw_codes.ProtoError.{IsMemory}
 use Rattle.zsv_message.specs.Replies.{ReplyParts, IsReply}
 use Rattle.authority.specs.Servers.{parts_of}
 use Rattle.authority.proofs.Asked.{asks_full, fits_request}

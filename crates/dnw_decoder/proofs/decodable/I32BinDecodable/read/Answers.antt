@@ -1,7 +1,7 @@
 use Rattle.std.specs.Int.{w32, cast_unsigned}
 use Rattle.std.proofs.Common.{inr, arith}
 use Rattle.dnw_decoder.specs.Octets.{octets_32}
-use Rattle.dnw_decoder.specs.Standing.{cut_none, length-octets_32}
+use Rattle.dnw_decoder.proofs.Standing.{cut_none, length-octets_32}
 use Rattle.dnw_decoder.proofs.decodable.I32BinDecodable.read.Goals as goal
 
 pub returns-in-Err-clause-none : goal.returns-in-Err-clause-none

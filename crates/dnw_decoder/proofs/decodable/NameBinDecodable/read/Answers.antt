@@ -1,5 +1,5 @@
 use Rattle.std.proofs.lemmas.Result.{err_from_is_err_and}
-use Rattle.dnw_decoder.specs.SpellingLaws.{pointers_few}
+use Rattle.dnw_decoder.proofs.SpellingLaws.{pointers_few}
 use Rattle.dnw_decoder.proofs.Refused.{refuses_none}
 use Rattle.dnw_decoder.proofs.decodable.NameBinDecodable.read.Goals as goal
 

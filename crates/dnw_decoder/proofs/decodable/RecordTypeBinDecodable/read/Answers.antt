@@ -1,6 +1,6 @@
 use Rattle.std.proofs.Common.{inr, refl, arith}
 use Rattle.dnw_decoder.specs.Octets.{octets_16}
-use Rattle.dnw_decoder.specs.Standing.{cut_none}
+use Rattle.dnw_decoder.proofs.Standing.{cut_none}
 use Rattle.dnw_decoder.proofs.decodable.RecordTypeBinDecodable.read.Goals as goal
 
 pub returns-in-Err-clause-none : goal.returns-in-Err-clause-none

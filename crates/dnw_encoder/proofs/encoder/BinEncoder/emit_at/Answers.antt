@@ -3,9 +3,10 @@ use Rattle.std.specs.Result.{OnOk, OnErr}
 use Rattle.std.proofs.lemmas.Result.{on_ok_weaker, MatchResult-weaker}
 use Rattle.dnw_encoder.specs.Effects.{written_at, place_of}
 use Rattle.dnw_encoder.specs.Encoders.{state}
-use Rattle.dnw_encoder.specs.Laws.{written_length}
+use Rattle.dnw_encoder.proofs.Laws.{written_length}
 use Rattle.dnw_encoder.specs.Members.{In}
-use Rattle.dnw_encoder.specs.PlaceLaws.{fills, is_other}
+use Rattle.dnw_encoder.proofs.PlaceLaws.{fills}
+use Rattle.dnw_encoder.specs.State.{is_other}
 use Rattle.dnw_encoder.specs.State.{State}
 use Rattle.dnw_encoder.specs.declared.open_places.OpenPlace.{OpenPlace}
 use Rattle.dnw_encoder.proofs.encoder.BinEncoder.emit_at.Goals as goal

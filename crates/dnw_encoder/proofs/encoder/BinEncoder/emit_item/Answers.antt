@@ -1,7 +1,7 @@
 use Rattle.std.proofs.Common.{inl, refl, subst}
 use Rattle.dnw_encoder.specs.Effects.{Trims}
 use Rattle.dnw_encoder.specs.Encoders.{state}
-use Rattle.dnw_encoder.specs.RollbackLaws.{rolled_back}
+use Rattle.dnw_encoder.proofs.RollbackLaws.{rolled_back}
 use Rattle.dnw_encoder.specs.State.{State}
 use Rattle.dnw_encoder.proofs.encoder.BinEncoder.emit_item.Goals as goal
 

@@ -1,7 +1,7 @@
 use Rattle.std.proofs.Common.{◌∙◌}
 use Rattle.dnw_encoder.specs.Encoders.{state}
-use Rattle.dnw_encoder.specs.Laws.{writes_then}
-use Rattle.dnw_encoder.specs.RollbackLaws.{wrote_more}
+use Rattle.dnw_encoder.proofs.Laws.{writes_then}
+use Rattle.dnw_encoder.proofs.RollbackLaws.{wrote_more}
 use Rattle.dnw_encoder.proofs.encoder.BinEncoder.emit_iter.Goals as goal
 
 pub returns-in_err-emit_item-clause-writes : goal.returns-in_err-emit_item-clause-writes

@@ -1,6 +1,6 @@
 use Rattle.std.proofs.Common.{◌++◌, ◌∷◌, [], List, refl, ap, ◌∙◌, arith}
 use Rattle.dnw_encoder.specs.Effects.{place_of}
-use Rattle.dnw_encoder.specs.PlaceLaws.{opens_writes}
+use Rattle.dnw_encoder.proofs.PlaceLaws.{opens_writes}
 use Rattle.dnw_encoder.specs.declared.open_places.OpenPlace.{OpenPlace}
 use Rattle.dnw_encoder.proofs.encoder.BinEncoder.open.Goals as goal
 

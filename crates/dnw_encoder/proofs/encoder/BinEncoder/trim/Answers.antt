@@ -1,5 +1,5 @@
 use Rattle.std.proofs.Common.{refl, arith}
-use Rattle.dnw_encoder.specs.PlaceLaws.{trims}
+use Rattle.dnw_encoder.proofs.PlaceLaws.{trims}
 use Rattle.dnw_encoder.proofs.encoder.BinEncoder.trim.Goals as goal
 
 pub returns-clause-trims : goal.returns-clause-trims

@@ -1,5 +1,5 @@
 use Rattle.std.proofs.Common.{◌++◌, refl, arith, length-append}
-use Rattle.dnw_encoder.specs.Laws.{puts_writes}
+use Rattle.dnw_encoder.proofs.Laws.{puts_writes}
 use Rattle.dnw_encoder.proofs.encoder.BinEncoder.write.Goals as goal
 
 pub returns-in-Ok-clause-writes : goal.returns-in-Ok-clause-writes

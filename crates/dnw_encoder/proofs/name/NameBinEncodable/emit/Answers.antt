@@ -3,9 +3,9 @@ use Rattle.dnw_decoder.specs.dnw_name.DomainName.{name_octets}
 use Rattle.dnw_encoder.specs.State.{writes_pointers}
 use Rattle.dnw_encoder.specs.Encoders.{state}
 use Rattle.dnw_encoder.specs.Effects.{written_at}
-use Rattle.dnw_encoder.specs.Laws.{puts_writes, written_length}
+use Rattle.dnw_encoder.proofs.Laws.{puts_writes, written_length}
 use Rattle.dnw_encoder.specs.Names.{written_name}
-use Rattle.dnw_encoder.specs.NameLaws.{puts_name, length-encoded}
+use Rattle.dnw_encoder.proofs.NameLaws.{puts_name, length-encoded}
 use Rattle.dnw_encoder.proofs.name.NameBinEncodable.emit.Goals as goal
 
 pub returns-in-Ok-clause-writes : goal.returns-in-Ok-clause-writes

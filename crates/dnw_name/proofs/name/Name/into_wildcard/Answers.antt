@@ -1,7 +1,7 @@
 use Rattle.std.proofs.Common.{◌≡◌, ◌∷◌, arith}
 use Rattle.std.proofs.lemmas.Grind.{common_steps}
 use Rattle.dnw_name.specs.DomainName.{IsDomainName, domain_name}
-use Rattle.dnw_arpa.specs.dnw_label.Label.{wildcard_label}
+use Rattle.dnw_net.specs.dnw_label.Label.{wildcard_label}
 use Rattle.dnw_name.proofs.Lengths.{IsDomainName-wildcard}
 use Rattle.dnw_name.proofs.name.Name.into_wildcard.Goals as goal
 

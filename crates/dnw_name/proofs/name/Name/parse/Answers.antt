@@ -1,5 +1,5 @@
 use Rattle.std.proofs.Common.{◌≡◌, ◌<◌, ◌∙◌, sym, false, length, ap, subst, ℕ}
-use Rattle.dnw_arpa.specs.dnw_codes.ProtoError.{IsMemory}
+use Rattle.dnw_net.specs.dnw_codes.ProtoError.{IsMemory}
 use Rattle.dnw_name.proofs.TextLemmas.{parse-refused}
 use Rattle.dnw_name.proofs.name.Name.parse.Goals as goal
 

@@ -2,10 +2,10 @@ use Rattle.std.proofs.Common.{ℕ, ◌≡◌, refl, true, false}
 use Rattle.std.specs.Prelude.{codes}
 use Rattle.std.specs.Result.{IsOkAnd}
 use Rattle.std.specs.declared.net.ip_addr.IpAddr.{IpAddr}
-use Rattle.dnw_arpa.specs.dnw_label.Label.{label_eq}
-use Rattle.dnw_arpa.specs.dnw_net.declared.IpNet.{IpNet}
+use Rattle.dnw_net.specs.dnw_label.Label.{label_eq}
+use Rattle.dnw_net.specs.declared.net.IpNet.{IpNet}
 use Rattle.dnw_name.specs.Arpa.{IsArpaName}
-use Rattle.dnw_arpa.proofs.SuffixLemmas.{suffix-v4, suffix-v6}
+use Rattle.dnw_net.proofs.SuffixLemmas.{suffix-v4, suffix-v6}
 use Rattle.dnw_name.proofs.SuffixLemmas.{result-ok, result-only, address-from, label_eq-from, no-suffix}
 use Rattle.dnw_name.proofs.name.Name.parse_arpa_name.Goals as goal
 use Rattle.dnw_name.proofs.name.Name.parse_arpa_name.Goals.{After-net_of_v4, After-net_of_v6}

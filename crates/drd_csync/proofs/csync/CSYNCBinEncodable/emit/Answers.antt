@@ -1,5 +1,5 @@
 use Rattle.drd_csync.proofs.Writing.{emitted, types_refused}
-use Rattle.dnw_types.specs.dnw_encoder.Encoders.{state}
+use Rattle.dnw_wire.specs.dnw_encoder.Encoders.{state}
 use Rattle.drd_csync.proofs.csync.CSYNCBinEncodable.emit.Goals as goal
 
 pub returns-in-Ok-emit-clause-ok : goal.returns-in-Ok-emit-clause-ok

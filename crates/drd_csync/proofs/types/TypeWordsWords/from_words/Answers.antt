@@ -1,5 +1,5 @@
 use Rattle.std.proofs.Common.{List, arith, inl, inr}
-use Rattle.dnw_types.specs.dnw_codes.declared.record_type.RecordType.{RecordType}
+use Rattle.dnw_wire.specs.dnw_codes.declared.record_type.RecordType.{RecordType}
 use Rattle.drd_words.proofs.EachWord.{each-step, each-refused}
 use Rattle.drd_csync.specs.Texts.{IsTypeWord}
 use Rattle.drd_csync.proofs.Words.{answered, unanswered}

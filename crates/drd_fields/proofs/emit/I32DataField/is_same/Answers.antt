@@ -2,7 +2,7 @@ use Rattle.std.proofs.Common.{◌≡◌, ℕ, ◌==◌, subst, arith, rules}
 use Rattle.std.specs.Int.{w32, cast_unsigned}
 use Rattle.dnw_encoder.specs.dnw_decoder.Octets.{octets_32}
 use Rattle.drd_fields.specs.Equality.{TellsApart}
-use Rattle.drd_fields.specs.EqualityLaws.{long_apart}
+use Rattle.drd_fields.proofs.EqualityLaws.{long_apart}
 use Rattle.drd_fields.proofs.emit.I32DataField.is_same.Goals as goal
 
 pub returns-clause-canonical : goal.returns-clause-canonical

@@ -1,6 +1,6 @@
 use Rattle.dnw_encoder.specs.Encoders.{state}
 use Rattle.drd_fields.specs.Fields.{rest}
-use Rattle.drd_fields.specs.WritingLaws.{puts_rest, emits_one, on_ok}
+use Rattle.drd_fields.proofs.WritingLaws.{puts_rest, emits_one, on_ok}
 use Rattle.drd_fields.proofs.emit.RestFieldDataFields.emit_fields.Goals as goal
 
 pub returns-clause-ok : goal.returns-clause-ok

@@ -3,7 +3,7 @@ use Rattle.std.specs.Cmp.Lexicographic.{pointwise}
 use Rattle.std.specs.List.{flat_map}
 use Rattle.drd_fields.specs.Writing.{string_octets}
 use Rattle.drd_fields.specs.Equality.{Tells}
-use Rattle.drd_fields.specs.EqualityLaws.{items_same, and_true, strings_tell}
+use Rattle.drd_fields.proofs.EqualityLaws.{items_same, and_true, strings_tell}
 use Rattle.drd_fields.proofs.emit.StringFieldsDataFields.are_same.Goals as goal
 
 pub returns-clause-value : goal.returns-clause-value

@@ -1,7 +1,7 @@
 use Rattle.std.proofs.Common.{Bool, true, subst}
 use Rattle.drd_fields.specs.Writing.{canonical_octets}
 use Rattle.drd_fields.specs.Equality.{TellsApart, canonical_field}
-use Rattle.drd_fields.specs.EqualityLaws.{front_tells}
+use Rattle.drd_fields.proofs.EqualityLaws.{front_tells}
 use Rattle.drd_fields.proofs.emit.Tuple2DataFields.are_same.Goals as goal
 
 pub returns-then-is_same-clause-canonical : goal.returns-then-is_same-clause-canonical

@@ -1,7 +1,7 @@
 use Rattle.std.proofs.Common.{◌≤◌, length, arith}
 use Rattle.dnw_encoder.specs.Encoders.{state}
-use Rattle.dnw_encoder.specs.Laws.{writes_then}
-use Rattle.drd_fields.specs.WritingLaws.{emits_more, on_ok}
+use Rattle.dnw_encoder.proofs.Laws.{writes_then}
+use Rattle.drd_fields.proofs.WritingLaws.{emits_more, on_ok}
 use Rattle.drd_fields.proofs.emit.Tuple2DataFields.emit_fields.Goals as goal
 
 pub returns-clause-writes : goal.returns-clause-writes

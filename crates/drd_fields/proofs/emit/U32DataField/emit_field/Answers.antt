@@ -1,7 +1,7 @@
 use Rattle.std.proofs.Common.{inl}
-use Rattle.dnw_encoder.specs.dnw_decoder.Standing.{length-octets_32}
+use Rattle.dnw_encoder.proofs.dnw_decoder_lemmas.Standing.{length-octets_32}
 use Rattle.dnw_encoder.specs.Encoders.{state}
-use Rattle.drd_fields.specs.WritingLaws.{refused_long, puts_within, if_err}
+use Rattle.drd_fields.proofs.WritingLaws.{refused_long, puts_within, if_err}
 use Rattle.drd_fields.proofs.emit.U32DataField.emit_field.Goals as goal
 
 pub returns-clause-cause : goal.returns-clause-cause

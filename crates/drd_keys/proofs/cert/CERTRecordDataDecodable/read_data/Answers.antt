@@ -1,6 +1,6 @@
 use Rattle.std.proofs.Common.{ℕ, ◌+◌, refl, subst}
 use Rattle.std.proofs.lemmas.Result.{err_from_is_err_and}
-use Rattle.drd_order.specs.drd_fields.Reading.{Stops}
+use Rattle.drd_order.specs.drd_fields.Reading.{StopsReading}
 use Rattle.drd_keys.specs.Fields.{cert_fields, cert_kinds}
 use Rattle.drd_keys.proofs.ReadLemmas.{no_value}
 use Rattle.drd_keys.proofs.cert.CERTRecordDataDecodable.read_data.Goals as goal
@@ -8,7 +8,7 @@ use Rattle.drd_keys.proofs.cert.CERTRecordDataDecodable.read_data.Goals as goal
 pub returns-in_err-cert_type-clause-refused : goal.returns-in_err-cert_type-clause-refused
 returns-in_err-cert_type-clause-refused c =
     let p = err_from_is_err_and c.from_residual.result c.from_residual.ensures.1 in
-    rw (p.1, p.2) (subst (λ (n : ℕ). Stops c.args.decoder.now.octets (c.args.decoder.now.index + n) cert_kinds c.args.decoder.now.index c.in_err-cert_type.field-0.0 c.read_data_within.new.decoder.index) c.unverified.ensures c.in_err-cert_type.ensures.refused)
+    rw (p.1, p.2) (subst (λ (n : ℕ). StopsReading c.args.decoder.now.octets (c.args.decoder.now.index + n) cert_kinds c.args.decoder.now.index c.in_err-cert_type.field-0.0 c.read_data_within.new.decoder.index) c.unverified.ensures c.in_err-cert_type.ensures.refused)
 
 pub returns-in_err-cert_type-clause-none : goal.returns-in_err-cert_type-clause-none
 returns-in_err-cert_type-clause-none c =

@@ -4,7 +4,7 @@ use Rattle.std.proofs.lemmas.List.Elements.{All-push}
 use Rattle.std.proofs.lemmas.Option.{MatchOption-at_none}
 use Rattle.drd_option.specs.dnw_encoder.Encoders.{state}
 use Rattle.drd_option.specs.dnw_encoder.Effects.{IsRefusal}
-use Rattle.drd_option.specs.dnw_encoder.Laws.{writes_then}
+use Rattle.drd_option.proofs.dnw_encoder_lemmas.Laws.{writes_then}
 use Rattle.drd_option.specs.dnw_encoder.declared.modes.RDataEncoding.TheVariants.{Other}
 use Rattle.drd_option.specs.drd_fields.Fields.{rest}
 use Rattle.drd_option.specs.drd_fields.Writing.{EmitsData, RefusesFields}

@@ -1,6 +1,6 @@
 use Rattle.std.proofs.Common.{◌≡◌, List, ◌++◌, length}
 use Rattle.drd_option.specs.dnw_encoder.Encoders.{state}
-use Rattle.drd_option.specs.dnw_encoder.Effects.{Writes, Puts}
+use Rattle.drd_option.specs.dnw_encoder.Effects.{Writes, WritesOctets}
 use Rattle.drd_option.specs.drd_fields.Writing.{EndsWithin}
 use Rattle.drd_opt.specs.Entries.{Entry, entries_octets, AreCountable}
 use Rattle.drd_opt.proofs.opt.OPTBinEncodable.emit.Given as goal
@@ -10,7 +10,7 @@ invariant-options l = record {
   same : l.encoder.buffer.ghost_name ≡ l.initial.encoder.buffer.ghost_name;
   writes : Writes (state l.initial.encoder) (state l.encoder);
   within : EndsWithin (state l.initial.encoder) (state l.encoder);
-  front : (front : List Entry) × (l.initial.left ≡ front ++ l.left) × Puts (entries_octets front) (state l.initial.encoder) (state l.encoder) × AreCountable front;
+  front : (front : List Entry) × (l.initial.left ≡ front ++ l.left) × WritesOctets (entries_octets front) (state l.initial.encoder) (state l.encoder) × AreCountable front;
 }
 
 abbrev pub decreases-options : goal.decreases-options

@@ -1,7 +1,7 @@
 use Rattle.std.proofs.Common.{◌≡◌, ◌∙◌, rules}
 use Rattle.drd_opt.specs.Order.{entries_cmp}
 use Rattle.drd_opt.specs.OrderLaws.{canonical_orders}
-use Rattle.drd_opt.specs.FitLaws.{read_fit}
+use Rattle.drd_opt.proofs.FitLaws.{read_fit}
 use Rattle.drd_opt.proofs.opt.OPTOrd.cmp.Goals as goal
 
 pub returns-clause-canonical : goal.returns-clause-canonical

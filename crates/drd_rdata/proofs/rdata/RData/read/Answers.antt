@@ -1,4 +1,4 @@
-use Rattle.drd_rdata.specs.WritingLaws.{ok_room}
+use Rattle.drd_rdata.proofs.WritingLaws.{ok_room}
 use Rattle.drd_rdata.proofs.rdata.RData.read.Goals as goal
 
 pub returns-clause-written : goal.returns-clause-written

@@ -1,7 +1,7 @@
 use Rattle.std.proofs.Common.{◌≡◌, ℕ, ◌+◌, ◌-◌, ◌≤◌, ◌⊎◌, List, length, inl, inr, refl, ap, sym, subst, arith}
 use Rattle.drd_params.specs.dnw_decoder.Reading.{IsWantOfMemory}
 use Rattle.drd_params.specs.drd_fields.Fields.{FieldsAt}
-use Rattle.drd_params.specs.drd_fields.Reading.{Stops}
+use Rattle.drd_params.specs.drd_fields.Reading.{StopsReading}
 use Rattle.drd_params.specs.Params.{NoParams}
 use Rattle.drd_svcb.specs.Fields.{svcb_fields, svcb_kinds, svcb_parts}
 use Rattle.drd_svcb.proofs.Parts.{has-none, no-svcb, rest-fits}
@@ -9,7 +9,7 @@ use Rattle.drd_svcb.proofs.svcb.SVCBRecordDataDecodable.read_data.Goals as goal
 
 pub returns-in-Err-clause-refused : goal.returns-in-Err-clause-refused
 returns-in-Err-clause-refused c =
-    inl (subst (λ (n : ℕ). Stops c.args.decoder.now.octets (c.args.decoder.now.index + n) svcb_kinds c.args.decoder.now.index c.in-Err.refused c.read_parts.new.decoder.index) c.unverified.ensures (rw c.in-Err.is at c.read_parts.ensures.refused))
+    inl (subst (λ (n : ℕ). StopsReading c.args.decoder.now.octets (c.args.decoder.now.index + n) svcb_kinds c.args.decoder.now.index c.in-Err.refused c.read_parts.new.decoder.index) c.unverified.ensures (rw c.in-Err.is at c.read_parts.ensures.refused))
 
 pub returns-in-Err-clause-none : goal.returns-in-Err-clause-none
 returns-in-Err-clause-none c = elim (rw c.in-Err.is at c.read_parts.ensures.none) [

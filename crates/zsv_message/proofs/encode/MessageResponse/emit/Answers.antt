@@ -2,9 +2,9 @@ use Rattle.std.proofs.Common.{◌≡◌, ℕ, ◌∙◌, Bool, arith, subst, ap}
 use Rattle.std.proofs.lemmas.Result.{on_ok_weaker}
 use Rattle.zst_record.specs.dnw_encoder.Effects.{Fills}
 use Rattle.zst_record.specs.dnw_encoder.Encoders.{state}
-use Rattle.zst_record.specs.dnw_encoder.PlaceLaws.{opens_open}
+use Rattle.zst_record.proofs.dnw_encoder_lemmas.PlaceLaws.{opens_open}
 use Rattle.zsv_message.specs.Headers.{header_octets}
-use Rattle.zsv_message.specs.Replies.{header_with}
+use Rattle.zsv_message.specs.Replies.{header_of_reply}
 use Rattle.zsv_message.proofs.Sections.{Steps, stays_open, steps_write}
 use Rattle.zsv_message.proofs.encode.MessageResponse.emit.Goals as goal
 
@@ -39,5 +39,5 @@ returns-clause-ok c = on_ok_weaker c.replace.result (λ fills all_answers all_au
       header = subst (λ (p : ℕ). Fills p (header_octets header) (state c.emit_front-2.new.encoder) filled) front fills;
       back = c.over-header.ensures.back c.requires.metadata;
     } in
-    let is = c.over-header.ensures.value ∙ ap (λ (cut : Bool). header_with c.args.self.now.metadata cut c.args.questions c.in_ok-answers.answers c.in_ok-authorities.authorities) c.leaves_out-truncated.ensures in
+    let is = c.over-header.ensures.value ∙ ap (λ (cut : Bool). header_of_reply c.args.self.now.metadata cut c.args.questions c.in_ok-answers.answers c.in_ok-authorities.authorities) c.leaves_out-truncated.ensures in
     steps_write c.args.self.now.metadata c.args.questions (state c.args.encoder.now).maximum _ _ header c.args.question_octets.now c.args.self.now.answers.now c.args.self.now.authorities.now opened _ _ _ filled steps opens.modes.maximum c.requires.room is) c.replace.ensures.ok

@@ -1,6 +1,6 @@
 use Rattle.std.proofs.Common.{◌≡◌, ℕ, ◌+◌, ◌-◌, ◌≤◌, List, length, ap, arith, sym, ◌∙◌}
 use Rattle.zst_record.specs.dnw_decoder.Reading.{Reading, reading}
-use Rattle.zst_record.specs.dnw_decoder.Standing.{stands_front}
+use Rattle.zst_record.proofs.dnw_decoder_lemmas.Standing.{stands_front}
 use Rattle.zsv_message.specs.declared.header.Header.{Header}
 use Rattle.zsv_message.specs.Headers.{header_of}
 use Rattle.zsv_message.specs.Requests.{OpensRequest}

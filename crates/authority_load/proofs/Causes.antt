@@ -1,0 +1,200 @@
+-- The causes of a refused line, in their order.
+use Rattle.std.proofs.Common.{◌≡◌, refl, sym, ap, ◌∙◌, subst, ℕ, ◌+◌, ◌<◌, ◌≤◌, Bool, true, false, eqb, if◌then◌else◌, List, [], ◌∷◌, length, get_or, Option, Some, None, IsSome, is_some, Result, Ok, Err, arith}
+use Rattle.std.proofs.lemmas.Bool.{eqb-true, eqb-false, both_ways}
+use Rattle.zst_zone.specs.dnw_codes.declared.record_type.RecordType.{RecordType}
+use Rattle.zst_zone.specs.dnw_codes.declared.record_type.RecordType.TheVariants as types
+use Rattle.authority_load.specs.declared.loader.LoadCause.{LoadCause}
+use Rattle.authority_load.specs.declared.loader.LoadCause.TheVariants as causes
+use Rattle.authority_load.specs.declared.text.TextError.{TextError}
+use Rattle.authority_load.specs.declared.text.TextError.TheVariants as errors
+use Rattle.zst_zone.specs.drd_rdata.declared.rdata.RData.{RData}
+use Rattle.zst_zone.specs.drd_rdata.Reading.{IsReadable}
+use Rattle.zst_zone.specs.drd_rdata.Texts.{IsTextOf}
+use Rattle.zst_zone.specs.drd_rdata.Types.{type_of}
+use Rattle.zst_zone.proofs.drd_words_lemmas.TextLemmas.{words-one}
+use Rattle.zst_zone.specs.dnw_name.DomainName.{DomainName, is_at_or_below}
+use Rattle.zst_zone.specs.dnw_codes.ProtoError.{IsMemory}
+use Rattle.zst_zone.specs.dnw_codes.declared.error.ProtoError.{ProtoError}
+use Rattle.std.specs.Prelude.{◌⊎◌, IfOk}
+use Rattle.std.proofs.Common.{inl, inr}
+use Rattle.authority_load.specs.ZoneText.{ReadsText, TellsTextCause}
+use Rattle.zst_zone.specs.Zones.{View, rrset_at}
+use Rattle.authority_load.specs.ZoneText.{words_of, data_text, field, IsOwnerText, IsNumberText, is_internet, type_of_text, AreData, IsDataText, has_full_names, is_start, StandsAt, NoneBefore, cause_order, with_cause, IsHeading, Heading}
+use Rattle.authority_load.proofs.Readable.{loaded, readable, same_full}
+use Rattle.zst_zone.proofs.dnw_name_lemmas.TextLemmas.{name-same}
+
+cause_at : ℕ → LoadCause
+cause_at n =
+    if eqb n 0 then causes.OutOfMemory else if eqb n 1 then causes.FieldCount else if eqb n 2 then causes.Owner
+    else if eqb n 3 then causes.Ttl else if eqb n 4 then causes.Class else if eqb n 5 then causes.UnknownType
+    else if eqb n 6 then causes.TypeNotLoaded else if eqb n 7 then causes.OutsideZone else if eqb n 8 then causes.Data
+    else if eqb n 9 then causes.NotReadBack else if eqb n 10 then causes.BesideCname else causes.SecondSoa
+
+at_turn : (cause : LoadCause) → cause_at (cause_order cause) ≡ cause
+unfolding cause_at
+at_turn causes.OutOfMemory = refl
+at_turn causes.FieldCount = refl
+at_turn causes.Owner = refl
+at_turn causes.Ttl = refl
+at_turn causes.Class = refl
+at_turn causes.UnknownType = refl
+at_turn causes.TypeNotLoaded = refl
+at_turn causes.OutsideZone = refl
+at_turn causes.Data = refl
+at_turn causes.NotReadBack = refl
+at_turn causes.BesideCname = refl
+at_turn causes.SecondSoa = refl
+
+pub same_turn : (a b : LoadCause) → cause_order a ≡ cause_order b → a ≡ b
+same_turn a b e = sym (at_turn a) ∙ ap cause_at e ∙ at_turn b
+
+pub none_first : (zone : View) (line : List ℕ) → NoneBefore zone line 1
+none_first zone line = λ earlier above below stands. absurd (omega arith)
+
+pub none_next : (zone : View) (line : List ℕ) (cause : LoadCause) → NoneBefore zone line (cause_order cause) → (StandsAt zone line cause → ⊥) → NoneBefore zone line (cause_order cause + 1)
+none_next zone line cause before not_here = λ earlier above below stands. decided earlier above below stands (eqb (cause_order earlier) (cause_order cause)) refl
+  where
+    decided : (earlier : LoadCause) → 0 < cause_order earlier → cause_order earlier < cause_order cause + 1 → StandsAt zone line earlier → (b : Bool) → eqb (cause_order earlier) (cause_order cause) ≡ b → ⊥
+    decided earlier above below stands true e = not_here (subst (StandsAt zone line) (same_turn earlier cause (eqb-true (cause_order earlier) (cause_order cause) e)) stands)
+    decided earlier above below stands false e = before earlier above (omega (arith, eqb-false (cause_order earlier) (cause_order cause) e)) stands
+
+-- What the first four words say rules out the causes before the seventh.
+pub none_7 : (zone : View) (line : List ℕ) (h : Heading) → IsHeading line h → NoneBefore zone line 7
+none_7 zone line h known =
+    let counted : 4 ≤ length (words_of line) = known.count in
+    let n2 : NoneBefore zone line 2 = none_next zone line causes.FieldCount (none_first zone line) (λ few. omega arith) in
+    let n3 : NoneBefore zone line 3 = none_next zone line causes.Owner n2 (λ none. none h.name known.owner) in
+    let n4 : NoneBefore zone line 4 = none_next zone line causes.Ttl n3 (λ none. none h.ttl known.ttl) in
+    let n5 : NoneBefore zone line 5 = none_next zone line causes.Class n4 (λ wrong. both_ways (is_internet (field line 2)) wrong known.class_word) in
+    let n6 : NoneBefore zone line 6 = none_next zone line causes.UnknownType n5 (λ unknown. let there = known.type_word in cc) in
+    none_next zone line causes.TypeNotLoaded n6 (λ wrong. wrong)
+
+-- ---- a field that is read
+pub field_read : {X : Type 0} (IsText : X → Type 0) (cause : LoadCause) (r : Result X TextError) (x : X) → ReadsText IsText r → with_cause cause r ≡ Ok x → IsText x
+field_read IsText cause (Ok y) x reads e = let same : y ≡ x = cc in subst IsText same reads
+field_read IsText cause (Err errors.Malformed) x reads e = absurd (cc)
+field_read IsText cause (Err errors.OutOfMemory) x reads e = absurd (cc)
+
+pub field_kept : {X : Type 0} (P : X → Type 0) (cause : LoadCause) (r : Result X TextError) (x : X) → IfOk r P → with_cause cause r ≡ Ok x → P x
+field_kept P cause (Ok y) x keeps e = let same : y ≡ x = cc in subst P same keeps
+field_kept P cause (Err errors.Malformed) x keeps e = absurd (cc)
+field_kept P cause (Err errors.OutOfMemory) x keeps e = absurd (cc)
+
+-- ---- a field that is not: its cause stands, unless memory was refused
+abbrev pub Stands : View → List ℕ → LoadCause → Type 0
+Stands zone line cause = StandsAt zone line cause × NoneBefore zone line (cause_order cause)
+
+stands_memory : (zone : View) (line : List ℕ) → Stands zone line causes.OutOfMemory
+stands_memory zone line = (tt, λ earlier above below. absurd (omega arith))
+
+pub field_refused : {X : Type 0} (IsText : X → Type 0) (zone : View) (line : List ℕ) (cause : LoadCause) (r : Result X TextError) (e : LoadCause) → ReadsText IsText r → with_cause cause r ≡ Err e
+    → (((x : X) → IsText x → ⊥) → StandsAt zone line cause) → NoneBefore zone line (cause_order cause) → Stands zone line e
+field_refused IsText zone line cause (Ok y) e reads is stands before = absurd (cc)
+field_refused IsText zone line cause (Err errors.Malformed) e reads is stands before = let same : cause ≡ e = cc in subst (Stands zone line) same (stands reads, before)
+field_refused IsText zone line cause (Err errors.OutOfMemory) e reads is stands before = let same : causes.OutOfMemory ≡ e = cc in subst (Stands zone line) same (stands_memory zone line)
+
+-- The time to live of a line with an owner is none.
+pub ttl_refused : (zone : View) (line : List ℕ) (owner ttl : List ℕ) (behind : List (List ℕ)) (name : DomainName) (r : Result ℕ TextError) (e : LoadCause) → words_of line ≡ owner ∷ ttl ∷ behind → 4 ≤ length (words_of line)
+    → IsOwnerText owner name → ReadsText (IsNumberText 32 ttl) r → with_cause causes.Ttl r ≡ Err e → Stands zone line e
+ttl_refused zone line owner ttl behind name r e spelled counted owned reads is =
+    let first : field line 0 ≡ owner = ap (λ ws. get_or ws 0 []) spelled in
+    let second : field line 1 ≡ ttl = ap (λ ws. get_or ws 1 []) spelled in
+    let n2 : NoneBefore zone line 2 = none_next zone line causes.FieldCount (none_first zone line) (λ few. omega arith) in
+    let n3 : NoneBefore zone line 3 = none_next zone line causes.Owner n2 (λ none. none name (subst (λ w. IsOwnerText w name) (sym first) owned)) in
+    field_refused (IsNumberText 32 ttl) zone line causes.Ttl r e reads is (λ none. λ n known. none n (subst (λ w. IsNumberText 32 w n) second known)) n3
+
+-- The class of a line with an owner and a time to live is none that is known here, or its type is none.
+abbrev IsLine : List ℕ → List ℕ → List ℕ → List ℕ → List ℕ → List (List ℕ) → Type 0
+IsLine line owner ttl class type_word behind = words_of line ≡ owner ∷ ttl ∷ class ∷ type_word ∷ behind
+
+none_4 : (zone : View) (line : List ℕ) (owner ttl class type_word : List ℕ) (behind : List (List ℕ)) (name : DomainName) (n : ℕ) → IsLine line owner ttl class type_word behind
+    → IsOwnerText owner name → IsNumberText 32 ttl n → NoneBefore zone line 4
+none_4 zone line owner ttl class type_word behind name n spelled owned timed =
+    let first : field line 0 ≡ owner = ap (λ ws. get_or ws 0 []) spelled in
+    let second : field line 1 ≡ ttl = ap (λ ws. get_or ws 1 []) spelled in
+    let counted : 4 ≤ length (words_of line) = omega (arith, ap length spelled) in
+    let n2 : NoneBefore zone line 2 = none_next zone line causes.FieldCount (none_first zone line) (λ few. omega arith) in
+    let n3 : NoneBefore zone line 3 = none_next zone line causes.Owner n2 (λ none. none name (subst (λ w. IsOwnerText w name) (sym first) owned)) in
+    none_next zone line causes.Ttl n3 (λ none. none n (subst (λ w. IsNumberText 32 w n) (sym second) timed))
+
+pub class_refused : (zone : View) (line : List ℕ) (owner ttl class type_word : List ℕ) (behind : List (List ℕ)) (name : DomainName) (n : ℕ) → IsLine line owner ttl class type_word behind
+    → IsOwnerText owner name → IsNumberText 32 ttl n → is_internet class ≡ false → Stands zone line causes.Class
+class_refused zone line owner ttl class type_word behind name n spelled owned timed other =
+    let third : field line 2 ≡ class = ap (λ ws. get_or ws 2 []) spelled in
+    (ap is_internet third ∙ other, none_4 zone line owner ttl class type_word behind name n spelled owned timed)
+
+pub type_refused : (zone : View) (line : List ℕ) (owner ttl class type_word : List ℕ) (behind : List (List ℕ)) (name : DomainName) (n : ℕ) → IsLine line owner ttl class type_word behind
+    → IsOwnerText owner name → IsNumberText 32 ttl n → is_internet class ≡ true → type_of_text type_word ≡ None → Stands zone line causes.UnknownType
+type_refused zone line owner ttl class type_word behind name n spelled owned timed known unknown =
+    let third : field line 2 ≡ class = ap (λ ws. get_or ws 2 []) spelled in
+    let fourth : field line 3 ≡ type_word = ap (λ ws. get_or ws 3 []) spelled in
+    (ap type_of_text fourth ∙ unknown, none_next zone line causes.Class (none_4 zone line owner ttl class type_word behind name n spelled owned timed) (λ wrong. both_ways (is_internet (field line 2)) wrong (ap is_internet third ∙ known)))
+
+-- ---- the rest of a line
+pub none_8 : (zone : View) (line : List ℕ) (h : Heading) → IsHeading line h → is_at_or_below h.name zone.origin ≡ true → NoneBefore zone line 8
+none_8 zone line h known inside =
+    none_next zone line causes.OutsideZone (none_7 zone line h known) (λ outside.
+    let same : outside.0 ≡ h.name = name-same (field line 0) outside.0 h.name outside.1.name_text known.owner.name_text in
+    both_ways (is_at_or_below h.name zone.origin) (sym (ap (λ name. is_at_or_below name zone.origin) same) ∙ outside.2) inside)
+
+-- What was read of the data's text are the data of the line.
+pub data_some : (line : List ℕ) (h : Heading) (value : RData) → IsHeading line h → IsDataText h.record_type h.rdata value → type_of value ≡ h.record_type → AreData line value
+data_some line h value known text kind =
+    (known.type_word ∙ ap (λ t. Some t) (sym kind), subst (λ t. IsDataText t (data_text line) value) (sym kind) (subst (λ ws. IsDataText h.record_type ws value) known.rest text))
+
+pub data_none : (line : List ℕ) (h : Heading) → IsHeading line h → ((value : RData) → IsDataText h.record_type h.rdata value → ⊥) → (value : RData) → AreData line value → ⊥
+data_none line h known none value is =
+    let both : Some (type_of value) ≡ Some h.record_type = sym is.0 ∙ known.type_word in
+    let same : type_of value ≡ h.record_type = cc in
+    none value (subst (λ ws. IsDataText h.record_type ws value) (sym known.rest) (subst (λ t. IsDataText t (data_text line) value) same is.1))
+
+pub none_9 : (zone : View) (line : List ℕ) (value : RData) → NoneBefore zone line 8 → AreData line value → NoneBefore zone line 9
+none_9 zone line value before is = none_next zone line causes.Data before (λ none. none value is)
+
+-- The data of a line whose names end at the root are read from their octets.
+pub data_readable : (line : List ℕ) (value : RData) → AreData line value → has_full_names value ≡ true → IsReadable value
+data_readable line value is full = readable (type_of value) is.1.0 value (loaded (field line 3) (type_of value) is.0) is.1.2 full
+
+all_full : (line : List ℕ) (a b : RData) → AreData line a → AreData line b → has_full_names a ≡ has_full_names b
+all_full line a b of-a of-b =
+    let both : Some (type_of b) ≡ Some (type_of a) = sym of-b.0 ∙ of-a.0 in
+    let same : type_of b ≡ type_of a = cc in
+    let words : of-b.1.0 ≡ of-a.1.0 = words-one _ of-b.1.0 of-a.1.0 of-b.1.1 of-a.1.1 in
+    same_full (type_of a) of-a.1.0 a b (loaded (field line 3) (type_of a) of-a.0) of-a.1.2
+    (subst (λ t. IsTextOf t of-a.1.0 None b) same (subst (λ ws. IsTextOf (type_of b) ws None b) words of-b.1.2))
+
+pub none_11 : (zone : View) (line : List ℕ) (value : RData) → NoneBefore zone line 8 → AreData line value → has_full_names value ≡ true → NoneBefore zone line 11
+none_11 zone line value before is full =
+    let n10 : NoneBefore zone line 10 = none_next zone line causes.NotReadBack (none_9 zone line value before is) (λ other.
+    other.2 (data_readable line other.0 other.1 (all_full line other.0 value other.1 is ∙ full))) in
+    none_next zone line causes.BesideCname n10 (λ wrong. wrong)
+
+-- A start of authority where there is one.
+pub second_stands : (zone : View) (line : List ℕ) (h : Heading) → IsHeading line h → is_start h.record_type ≡ true → is_some (rrset_at zone.sets h.name types.SOA) ≡ true → StandsAt zone line causes.SecondSoa
+second_stands zone line h known start there =
+    (h.name, known.type_word ∙ ap (λ t. Some t) (start_is h.record_type start), known.owner, some_there (rrset_at zone.sets h.name types.SOA) there)
+  where
+    start_is : (t : RecordType) → is_start t ≡ true → t ≡ types.SOA
+    start_is types.SOA e = refl
+    start_is other e = cc
+
+    some_there : {X : Type 0} (o : Option X) → is_some o ≡ true → IsSome o
+    some_there o e = e
+
+pub none_12 : (zone : View) (line : List ℕ) (h : Heading) → IsHeading line h → NoneBefore zone line 11 → (is_start h.record_type ≡ true → is_some (rrset_at zone.sets h.name types.SOA) ≡ false) → NoneBefore zone line 12
+none_12 zone line h known before free =
+    none_next zone line causes.SecondSoa before (λ second.
+    let types-same : Some types.SOA ≡ Some h.record_type = sym second.1 ∙ known.type_word in
+    let type-same : h.record_type ≡ types.SOA = cc in
+    let same : second.0 ≡ h.name = name-same (field line 0) second.0 h.name second.2.name_text known.owner.name_text in
+    let there : IsSome (rrset_at zone.sets h.name types.SOA) = subst (λ name. IsSome (rrset_at zone.sets name types.SOA)) same second.3 in
+    not_some (rrset_at zone.sets h.name types.SOA) (free (ap is_start type-same)) there)
+  where
+    not_some : {X : Type 0} (o : Option X) → is_some o ≡ false → IsSome o → ⊥
+    not_some o e h = both_ways (is_some o) e h
+
+-- A reader that is refused a text says so.
+pub text_err : {X : Type 0} (IsText : X → Type 0) (cause : ProtoError) (e : TextError) → TellsTextCause cause e → IsMemory cause ⊎ ((x : X) → IsText x → ⊥) → ReadsText {X = X} IsText (Err e)
+text_err IsText cause errors.Malformed tells (inl memory) = absurd (tells memory)
+text_err IsText cause errors.Malformed tells (inr none) = none
+text_err IsText cause errors.OutOfMemory tells why = tt

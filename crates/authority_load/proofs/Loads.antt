@@ -1,0 +1,62 @@
+-- Loading, line by line.
+use Rattle.std.proofs.Common.{◌≡◌, refl, sym, ap, ◌∙◌, subst, ℕ, ◌+◌, ◌-◌, ◌<◌, ◌≤◌, Bool, true, false, List, [], ◌∷◌, ◌++◌, length, take, get_or, eqb, length-append, arith}
+use Rattle.std.specs.List.{slice_split, join_with_byte}
+use Rattle.std.specs.Str.Lines.{lines, lines_of_parts}
+use Rattle.std.specs.Bool.{MatchBool}
+use Rattle.std.proofs.lemmas.Bool.{eqb-false}
+use Rattle.std.proofs.lemmas.List.{take_more, get_or_default}
+use Rattle.std.proofs.lemmas.List.Splits.{join_with_byte-slice_split}
+use Rattle.zst_zone.specs.zst_record.declared.records.Record.{Record}
+use Rattle.authority_load.specs.declared.loader.LoadCause.{LoadCause}
+use Rattle.zst_zone.specs.Zones.{View, AddsTo}
+use Rattle.authority_load.specs.ZoneText.{Loads, LoadsLine, IsTaken, RefusesLine, IsRefusedAt, is_skipped_line}
+
+loads_push : (zone : View) (xs : List (List ℕ)) (x : List ℕ) (mid end : View) → Loads zone xs mid → LoadsLine mid x end → Loads zone (xs ++ x ∷ []) end
+loads_push zone [] x mid end before more = (end, subst (λ z. LoadsLine z x end) before more, refl)
+loads_push zone (y ∷ ys) x mid end before more = (before.0, before.1, loads_push before.0 ys x mid end before.2 more)
+
+pub loads_more : (zone : View) (all : List (List ℕ)) (k : ℕ) (line : List ℕ) (mid end : View) → (k < length all) × (line ≡ get_or all k line) → Loads zone (take k all) mid → LoadsLine mid line end → Loads zone (take (k + 1) all) end
+loads_more zone all k line mid end at before more =
+    let e : take (k + 1) all ≡ take k all ++ get_or all k line ∷ [] = take_more all k line at.0 in
+    subst (λ xs. Loads zone xs end) (sym e) (loads_push zone (take k all) (get_or all k line) mid end before (subst (λ x. LoadsLine mid x end) at.1 more))
+
+-- A line changes the sets alone.
+line_keeps : (zone : View) (line : List ℕ) (end : View) (skipped : Bool) → MatchBool skipped (end ≡ zone) ((r : Record) × IsTaken zone line r × AddsTo zone r end) → end ≡ record zone { sets = end.sets }
+line_keeps zone line end true same = subst (λ z. end ≡ record z { sets = end.sets }) same refl
+line_keeps zone line end false added = added.2.rest
+
+pub loads_keep : (zone : View) (xs : List (List ℕ)) (end : View) → Loads zone xs end → end ≡ record zone { sets = end.sets }
+loads_keep zone [] end same = subst (λ z. end ≡ record z { sets = end.sets }) same refl
+loads_keep zone (x ∷ xs) end run =
+    loads_keep run.0 xs end run.2 ∙ ap (λ (z : View). record z { sets = end.sets }) (line_keeps zone x run.0 (is_skipped_line x) run.1)
+
+lines_in : (parts : List (List ℕ)) → length (lines_of_parts parts) ≤ length (join_with_byte 10 parts)
+lines_in [] = omega arith
+lines_in (x ∷ []) = last x (eqb (length x) 0) refl
+  where
+    last : (x : List ℕ) (b : Bool) → eqb (length x) 0 ≡ b → length (lines_of_parts (x ∷ [])) ≤ length x
+    last x true e = rw e (omega arith)
+    last x false e = let some = eqb-false (length x) 0 e in rw e (omega arith)
+lines_in (x ∷ y ∷ more) =
+    let rest = lines_in (y ∷ more) in
+    omega (arith, length-append x (10 ∷ join_with_byte 10 (y ∷ more)))
+
+-- A text has at most as many lines as octets.
+pub lines_at_most : (text : List ℕ) → length (lines text) ≤ length text
+lines_at_most text =
+    let in-parts = lines_in (slice_split (λ b. eqb b 10) text) in
+    omega (arith, in-parts, ap length (join_with_byte-slice_split 10 text))
+
+-- A line is refused behind those that load.
+pub refused_at : (empty zone : View) (text : List ℕ) (k number : ℕ) (line : List ℕ) (cause : LoadCause) → (k < length (lines text)) × (line ≡ get_or (lines text) k line)
+    → number ≡ k → Loads empty (take k (lines text)) zone → RefusesLine zone line cause → IsRefusedAt empty text (number + 1) cause
+refused_at empty zone text k number line cause at same before refused =
+    let place : number + 1 - 1 ≡ k = omega arith in
+    let some : k < length (lines text) = at.0 in
+    let there : line ≡ get_or (lines text) (number + 1 - 1) [] = at.1 ∙ get_or_default (lines text) k line [] at.0 ∙ ap (λ i. get_or (lines text) i []) (sym place) in
+    record {
+      zone = zone;
+      before = subst (λ i. Loads empty (take i (lines text)) zone) (sym place) before;
+      there = (omega arith, omega arith);
+      refused = subst (λ x. RefusesLine zone x cause) there refused;
+    }

@@ -1,0 +1,11 @@
+use Rattle.std.proofs.Common.{◌≡◌, length, take}
+use Rattle.std.specs.Str.Lines.{lines}
+use Rattle.zst_zone.specs.Zones.{empty_zone}
+use Rattle.authority_load.specs.ZoneText.{Loads}
+use Rattle.authority_load.proofs.loader.load_zone.Given as goal
+
+abbrev pub invariant-loop-line : goal.invariant-loop-line
+invariant-loop-line g l = record {
+  count : l.number ≡ length l.yielded;
+  loads : Loads (empty_zone l.fn.origin l.fn.settings) (take (length l.yielded) (lines l.text)) l.zone;
+}

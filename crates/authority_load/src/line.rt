@@ -1,0 +1,174 @@
+//! The record of a line.
+
+ghost use Rattle.std.specs.Prelude.{◌≡◌, ◌<◌, ◌∷◌, length, MatchOption, true, is_some};
+ghost use Rattle.zst_zone.specs.dnw_codes.declared.record_type.RecordType.TheVariants as types;
+ghost use Rattle.zst_zone.specs.dnw_name.DomainName.{DomainName};
+ghost use Rattle.zst_zone.specs.dnw_name.NameKey.{name_key};
+ghost use Rattle.zst_zone.specs.Zones.{rrset_at};
+ghost use Rattle.authority_load.specs.ZoneText.{data_text, has_full_names, words_of, type_of_text, is_internet, is_start, with_cause, HeaderGives, LineGives};
+
+use crate::loader::LoadCause;
+use crate::number::parse_u32;
+use crate::text::{TextError, parse_owner, parse_rdata};
+use crate::words::first_word;
+use std::alloc::Global;
+use zst_zone::{DNSClass, InMemoryZoneHandler, Lookup, Name, RData, Record, RecordType, key_of};
+
+/// The first four words of a line, and the text of the data behind them.
+#[derive(Clone, Copy)]
+struct Fields<'a> {
+    owner: &'a [u8],
+    ttl: &'a [u8],
+    dns_class: &'a [u8],
+    record_type: &'a [u8],
+    rdata: &'a str,
+}
+
+/// What the first four words of a line say, and the text of the data.
+#[derive(Drop)]
+struct Header<'a> {
+    name: Name,
+    ttl: u32,
+    record_type: RecordType,
+    rdata: &'a str,
+}
+
+/// The record of a line that may be added to the zone, or the first cause why it may not.
+pub fn record_of<K>(
+    alloc: Global,
+    zone: &InMemoryZoneHandler<K>,
+    line: &str,
+) -> Result<Record, LoadCause>
+    ensures { LineGives zone.now line.now result }
+{
+    let header = header_of(alloc, line)?;
+    let key = match key_of(alloc, &header.name) {
+        Ok(key) => key,
+        Err(_) => return Err(LoadCause::OutOfMemory),
+    };
+    if !zone.is_in_zone(&key) {
+        return Err(LoadCause::OutsideZone);
+    }
+    let rdata = or_cause(
+        parse_rdata(alloc, header.record_type, header.rdata),
+        LoadCause::Data,
+    )?;
+    if !ends_at_root(&rdata) {
+        return Err(LoadCause::NotReadBack);
+    }
+    if is_soa(header.record_type) && has_soa(zone, &key) {
+        return Err(LoadCause::SecondSoa);
+    }
+    Ok(Record {
+        name: header.name,
+        dns_class: DNSClass::IN,
+        ttl: header.ttl,
+        rdata,
+    })
+}
+
+/// What the first four words of a line say.
+fn header_of(alloc: Global, line: &str) -> Result<Header<'_>, LoadCause>
+    ensures { HeaderGives line.now (λ h. record { name = h.name; ttl = h.ttl; record_type = h.record_type; rdata = h.rdata.now }) result }
+{
+    let Some(fields) = fields_of(line) else {
+        return Err(LoadCause::FieldCount);
+    };
+    let name = or_cause(parse_owner(alloc, fields.owner), LoadCause::Owner)?;
+    let ttl = or_cause(parse_u32(fields.ttl), LoadCause::Ttl)?;
+    if !is_internet_word(fields.dns_class) {
+        return Err(LoadCause::Class);
+    }
+    let Some(record_type) = parse_type(fields.record_type) else {
+        return Err(LoadCause::UnknownType);
+    };
+    Ok(Header {
+        name,
+        ttl,
+        record_type,
+        rdata: fields.rdata,
+    })
+}
+
+/// The first four words of a line, where there are four, and what stands behind them.
+fn fields_of(line: &str) -> Option<Fields<'_>>
+    ensures { MatchOption result (length (words_of line.now) < 4)
+        (λ f. (words_of line.now ≡ f.owner.now ∷ f.ttl.now ∷ f.dns_class.now ∷ f.record_type.now ∷ words_of f.rdata.now)
+        × (f.rdata.now ≡ data_text line.now)) }
+{
+    let (owner, behind_owner) = first_word(line)?;
+    let (ttl, behind_ttl) = first_word(behind_owner)?;
+    let (dns_class, behind_class) = first_word(behind_ttl)?;
+    let (record_type, rdata) = first_word(behind_class)?;
+    Some(Fields {
+        owner,
+        ttl,
+        dns_class,
+        record_type,
+        rdata,
+    })
+}
+
+/// What was read, or the cause where the text is malformed.
+fn or_cause<X>(read: Result<X, TextError>, cause: LoadCause) -> Result<X, LoadCause>
+    ensures { result ≡ with_cause cause read }
+{
+    match read {
+        Ok(value) => Ok(value),
+        Err(TextError::Malformed) => Err(cause),
+        Err(TextError::OutOfMemory) => Err(LoadCause::OutOfMemory),
+    }
+}
+
+/// Whether a word names the class of the Internet.
+fn is_internet_word(word: &[u8]) -> bool
+    ensures { result ≡ is_internet word.now }
+{
+    word.eq_ignore_ascii_case(b"IN")
+}
+
+/// The type that a word names.
+fn parse_type(word: &[u8]) -> Option<RecordType>
+    ensures { result ≡ type_of_text word.now }
+{
+    if word.eq_ignore_ascii_case(b"A") {
+        Some(RecordType::A)
+    } else if word.eq_ignore_ascii_case(b"NS") {
+        Some(RecordType::NS)
+    } else if word.eq_ignore_ascii_case(b"SOA") {
+        Some(RecordType::SOA)
+    } else {
+        None
+    }
+}
+
+/// Whether a type is the start of authority.
+fn is_soa(record_type: RecordType) -> bool
+    ensures { result ≡ is_start record_type }
+{
+    match record_type {
+        RecordType::SOA => true,
+        _ => false,
+    }
+}
+
+/// Whether the zone has a start of authority at the name of a key, which ends at the root.
+fn has_soa<K>(zone: &InMemoryZoneHandler<K>, key: &Vec<u8>) -> bool
+    ensures { (name : DomainName) → name.fqdn ≡ true → key.now.items ≡ name_key name → result ≡ is_some (rrset_at zone.now.sets name types.SOA) }
+{
+    match zone.lookup_at(key, RecordType::SOA) {
+        Lookup::Answer(_) => true,
+        Lookup::NameExists | Lookup::NxDomain | Lookup::Refused => false,
+    }
+}
+
+/// Whether each name in the data ends at the root.
+fn ends_at_root(rdata: &RData) -> bool
+    ensures { result ≡ has_full_names rdata.now }
+{
+    match rdata {
+        RData::NS(ns) => ns.0.is_fqdn(),
+        RData::SOA(soa) => soa.mname.is_fqdn() && soa.rname.is_fqdn(),
+        _ => true,
+    }
+}

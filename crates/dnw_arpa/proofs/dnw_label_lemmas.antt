@@ -1,3 +1,0 @@
-pub use Rattle.dnw_label.proofs.LabelRoundTrip
-pub use Rattle.dnw_label.proofs.LabelTextLemmas
-pub use Rattle.dnw_label.proofs.Orders

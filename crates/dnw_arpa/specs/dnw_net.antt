@@ -1,2 +1,0 @@
-pub use Rattle.dnw_net.specs.Networks
-pub use Rattle.dnw_net.specs.declared

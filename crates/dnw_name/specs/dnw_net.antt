@@ -1,0 +1,1 @@
+pub use Rattle.dnw_net.specs.Networks

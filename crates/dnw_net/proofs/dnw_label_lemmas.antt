@@ -1,0 +1,4 @@
+pub use Rattle.dnw_label.proofs.EscapeLaws
+pub use Rattle.dnw_label.proofs.LabelRoundTrip
+pub use Rattle.dnw_label.proofs.LabelTextLemmas
+pub use Rattle.dnw_label.proofs.Orders

@@ -1,0 +1,5 @@
+pub use Rattle.dnw_label.specs.Label
+pub use Rattle.dnw_label.specs.LabelHash
+pub use Rattle.dnw_label.specs.LabelPrint
+pub use Rattle.dnw_label.specs.LabelText
+pub use Rattle.dnw_label.specs.LabelHashLaws

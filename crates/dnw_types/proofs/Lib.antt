@@ -1,4 +1,0 @@
-pub mod SetBits
-pub mod Windows
-pub mod SortedTypes
-pub mod Walk

@@ -1,0 +1,1 @@
+pub use Rattle.dnw_encoder.proofs.Laws

@@ -1,0 +1,6 @@
+pub mod BackLaws
+pub mod EqualityLaws
+pub mod OnceLaws
+pub mod WritingLaws
+pub use Rattle.dnw_encoder.proofs.dnw_decoder_lemmas
+pub mod dnw_encoder_lemmas

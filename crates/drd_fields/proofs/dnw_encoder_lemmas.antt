@@ -1,0 +1,3 @@
+pub use Rattle.dnw_encoder.proofs.Laws
+pub use Rattle.dnw_encoder.proofs.NameLaws
+pub use Rattle.dnw_encoder.proofs.PlaceLaws

@@ -1,0 +1,4 @@
+pub use Rattle.drd_fields.proofs.BackLaws
+pub use Rattle.drd_fields.proofs.EqualityLaws
+pub use Rattle.drd_fields.proofs.OnceLaws
+pub use Rattle.drd_fields.proofs.WritingLaws

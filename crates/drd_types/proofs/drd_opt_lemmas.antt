@@ -1,0 +1,3 @@
+pub use Rattle.drd_opt.proofs.BackLaws
+pub use Rattle.drd_opt.proofs.FitLaws
+pub use Rattle.drd_opt.proofs.OnceLaws

@@ -1,0 +1,1 @@
+pub use Rattle.drd_opt.proofs.drd_order_lemmas.OrderLaws
