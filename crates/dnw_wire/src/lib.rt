@@ -1,9 +1,9 @@
 //! Names, numbers and sets of record types in the octets of DNS messages: what is read, and what is written.
 //!
 //! `BinDecoder` and `BinDecodable` read, `BinEncoder` and `BinEncodable` write, and `RecordTypeSet`, a set of types as bit
-//! maps name them (RFC 4034 4.1.2), does both. A contract sees a `RecordTypeSet` as the numbers of its types, which rise. `read_data` reads exactly the bit maps,
-//! and `emit` writes them without a zero octet at a window's end. Sets stand in the order of what `emit` writes (RFC 4034
-//! 6.3), which is told without writing it.
+//! maps name them (RFC 4034 4.1.2), does both. A contract sees a `RecordTypeSet` as the numbers of its types, which rise.
+//! `read_data` reads exactly the bit maps, and `emit` writes them without a zero octet at a window's end. Sets stand in the
+//! order of what `emit` writes (RFC 4034 6.3), which is told without writing it.
 #![tactic(auto)]
 
 pub use dnw_codes::{DecodeError, ParseError, ProtoError, RecordType, Restrict};

@@ -1,6 +1,6 @@
 //! A zone in memory: the sets of its records, and what a lookup answers (RFC 1035 section 4.3.2, RFC 2308).
 //!
-//! A contract sees a zone as a `View`: where it begins, how it may be used, and its sets. `stored` finds a set
+//! A contract sees a zone as a `View`: where it begins, how it may be used, and its sets. `rrset_at` finds a set
 //! by name and type, and `lookup_result` says what is answered, or why nothing is.
 #![tactic(auto)]
 
