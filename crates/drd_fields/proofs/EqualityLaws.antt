@@ -1,5 +1,5 @@
 -- Laws of equality: numbers, strings and names have octets of their own.
-use Rattle.std.proofs.Common.{◌≡◌, ℕ, ◌^◌, ◌/◌, ◌%◌, ◌<◌, ◌==◌, ◌&&◌, nat_eq, Bool, true, false, List, [], ◌∷◌, ◌++◌, All, length, map, take, refl, sym, ap, subst, ◌∙◌, arith, append_assoc, Vec, Global}
+use Rattle.std.proofs.Common.{◌≡◌, ℕ, ◌^◌, ◌/◌, ◌%◌, ◌<◌, ◌==◌, ◌&&◌, nat_eq, Bool, true, false, List, [], ◌∷◌, ◌++◌, All, length, map, take, refl, sym, ap, subst, ◌∙◌, arith, append_assoc, append-nil, Vec, Global}
 use Rattle.std.proofs.lemmas.Bool.Decides.{nat_tests}
 use Rattle.std.proofs.lemmas.List.{take_at, append_cancel_left}
 use Rattle.std.proofs.lemmas.List.Elements.{All-head, All-tail}
@@ -14,9 +14,9 @@ use Rattle.dnw_encoder.specs.dnw_label.Label.{IsLabel, label_eq}
 use Rattle.dnw_encoder.specs.dnw_name.DomainName.{DomainName, IsDomainName, domain_name, name_octets, name_eq}
 use Rattle.dnw_encoder.specs.dnw_decoder.Octets.{octets_16, octets_32}
 use Rattle.dnw_encoder.proofs.NameLaws.{lower_name}
-use Rattle.drd_fields.specs.Fields.{Field, octet, short, long, name, string, strings, rest}
-use Rattle.drd_fields.specs.Writing.{string_octets}
-use Rattle.drd_fields.specs.Equality.{Tells, TellsApart, canonical_field, field_eq, fields_eq}
+use Rattle.drd_fields.specs.Fields.{Field, octet, short, long, name, string, strings, rest, kind_of, kinds_of, is_open, AreOrdered}
+use Rattle.drd_fields.specs.Writing.{string_octets, canonical_octets}
+use Rattle.drd_fields.specs.Equality.{Tells, TellsApart, TellsField, canonical_field, field_eq, fields_eq}
 
 pub from_test : (n m : ℕ) → (n == m) ≡ true → n ≡ m
 from_test n m e = grind (arith, nat_tests)
@@ -237,3 +237,33 @@ items_same (x ∷ xs) (y ∷ ys) = ap (λ (b : Bool). pointwise nat_eq x.items y
 pub and_true : (b : Bool) → (b && true) ≡ b
 and_true true = refl
 and_true false = refl
+
+-- What is told apart in front is told of the whole field.
+pub apart_tells : (same : Bool) (f g : Field) → TellsApart same (canonical_field f) (canonical_field g) → TellsField same f g
+apart_tells same f g t = record {
+  whole = record { equal = t.equal; other = λ e is. t.other e [] [] (ap (λ (o : List ℕ). o ++ []) is) };
+  front = λ closed. t;
+}
+
+pub open_tells : (same : Bool) (f g : Field) → is_open (kind_of f) ≡ true → Tells same (canonical_field f) (canonical_field g) → TellsField same f g
+open_tells same f g opens t = record { whole = t; front = λ closed. absurd (cc (sym opens ∙ closed)) }
+
+last_tells : (same : Bool) (xs ys : List ℕ) → Tells same xs ys → Tells same (xs ++ []) (ys ++ [])
+last_tells same xs ys t =
+    subst (λ (o : List ℕ). Tells same o (ys ++ [])) (sym (append-nil xs)) (subst (λ (o : List ℕ). Tells same xs o) (sym (append-nil ys)) t)
+
+more_tell : (opens a b : Bool) (f g : Field) (fs gs : List Field) → is_open (kind_of f) ≡ opens → kinds_of fs ≡ kinds_of gs → AreOrdered (kind_of f ∷ kinds_of fs) → TellsField a f g → (a ≡ true → Tells b (canonical_octets fs) (canonical_octets gs)) → Tells (a && b) (canonical_octets (f ∷ fs)) (canonical_octets (g ∷ gs))
+more_tell false true b f g fs gs is same ordered one later = front_tells true b (canonical_field f) (canonical_field g) (canonical_octets fs) (canonical_octets gs) (one.front is) (later refl)
+more_tell false false b f g fs gs is same ordered one later = record {
+  equal = λ e. absurd (cc e);
+  other = λ e whole. (one.front is).other refl (canonical_octets fs) (canonical_octets gs) whole;
+}
+more_tell true true true f g [] [] is same ordered one later = last_tells true (canonical_field f) (canonical_field g) one.whole
+more_tell true true false f g [] [] is same ordered one later = absurd ((later refl).other refl refl)
+more_tell true false b f g [] [] is same ordered one later = last_tells false (canonical_field f) (canonical_field g) one.whole
+more_tell true a b f g (h ∷ fs) gs is same ordered one later = absurd (cc (ordered.0 is))
+more_tell true a b f g [] (h ∷ gs) is same ordered one later = absurd (cc same)
+
+-- The first of two lists of fields and, where those are equal, what is behind them.
+pub fields_tell : (a b : Bool) (f g : Field) (fs gs : List Field) → kinds_of fs ≡ kinds_of gs → AreOrdered (kind_of f ∷ kinds_of fs) → TellsField a f g → (a ≡ true → Tells b (canonical_octets fs) (canonical_octets gs)) → Tells (a && b) (canonical_octets (f ∷ fs)) (canonical_octets (g ∷ gs))
+fields_tell a b f g fs gs same ordered one later = more_tell (is_open (kind_of f)) a b f g fs gs refl same ordered one later

@@ -4,7 +4,7 @@ use Rattle.std.specs.Prelude.{◌≡◌, ℕ, ◌==◌, nat_eq, Bool, true, fals
 use Rattle.std.specs.Cmp.Lexicographic.{pointwise}
 use Rattle.dnw_encoder.specs.dnw_name.DomainName.{name_eq}
 use Rattle.dnw_encoder.specs.declared.modes.NameEncoding.TheVariants.{UncompressedLowercase}
-use Rattle.drd_fields.specs.Fields.{Field, octet, short, long, name, string, strings, rest}
+use Rattle.drd_fields.specs.Fields.{Field, octet, short, long, name, string, strings, rest, kind_of, is_open}
 use Rattle.drd_fields.specs.Writing.{field_octets, encoded_field}
 
 -- Names are equal up to the case of ASCII letters (RFC 4343), numbers and octets as they are.
@@ -42,3 +42,10 @@ pub record TellsApart (same : Bool) (xs ys : List ℕ) : Type 0 where
 
 abbrev pub canonical_field : Field → List ℕ
 canonical_field f = field_octets (encoded_field UncompressedLowercase f)
+
+-- An answer tells whether the canonical octets of two fields are the same; where the fields don't
+-- go to the end of the data, whatever is behind them.
+pub record TellsField (same : Bool) (f g : Field) : Type 0 where
+  pub whole : Tells same (canonical_field f) (canonical_field g)
+  pub front : is_open (kind_of f) ≡ false
+      → TellsApart same (canonical_field f) (canonical_field g)

@@ -3,6 +3,9 @@ pub mod Reading
 pub mod FieldLaws
 pub mod Writing
 pub mod Equality
+pub mod Order
+pub mod Readable
+pub mod Seen
 pub use Rattle.dnw_encoder.specs.dnw_codes
 pub use Rattle.dnw_encoder.specs.dnw_decoder
 pub mod dnw_encoder

@@ -1,5 +1,5 @@
 -- Why fields are not read.
-use Rattle.std.specs.Prelude.{◌≡◌, ℕ, ◌+◌, ◌-◌, ◌<◌, List, [], ◌∷◌, length, get_or}
+use Rattle.std.specs.Prelude.{◌≡◌, ℕ, ◌+◌, ◌-◌, ◌<◌, false, List, [], ◌∷◌, length, get_or}
 use Rattle.std.proofs.Common.{◌⊎◌}
 use Rattle.dnw_encoder.specs.dnw_codes.declared.error.DecodeError.{DecodeError}
 use Rattle.dnw_encoder.specs.dnw_codes.declared.error.DecodeError.TheVariants.{InsufficientBytes, IncorrectRDataLengthRead}
@@ -7,7 +7,7 @@ use Rattle.dnw_encoder.specs.dnw_decoder.Reading.{IsCut, IsWantOfMemory}
 use Rattle.dnw_encoder.specs.dnw_decoder.Refusals.{Refuses}
 use Rattle.dnw_encoder.specs.dnw_decoder.Spelling.{NameAt}
 use Rattle.dnw_encoder.specs.dnw_name.DomainName.{DomainName}
-use Rattle.drd_fields.specs.Fields.{Field, Kind, an_octet, a_short, a_long, a_name, a_string, all_strings, the_rest, kind_of, kinds_of, StringsAt, FieldAt, FieldsAt}
+use Rattle.drd_fields.specs.Fields.{Field, Kind, an_octet, a_short, a_long, a_name, a_string, all_strings, the_rest, kind_of, kinds_of, are_open, StringsAt, FieldAt, FieldsAt}
 
 -- The octets from a place to the end of the data are not there: the place is behind it, or the
 -- message ends before.
@@ -51,17 +51,17 @@ StopsReading message end (k ∷ ks) place e at =
     ⊎ ((f : Field) × (behind : ℕ) × (kind_of f ≡ k) × FieldAt message place f behind
     × StopsReading message end ks behind e at)
 
--- All fields stand, and end before or behind the end of the data.
+-- All fields stand, none of which goes to the end of the data, and they end before or behind it.
 pub record EndsElsewhere (message : List ℕ) (end : ℕ) (kinds : List Kind) (place : ℕ)
     (e : DecodeError) (at : ℕ) : Type 0 where
+  pub closed : are_open kinds ≡ false
   pub fields : List Field
   pub same : kinds_of fields ≡ kinds
   pub there : FieldsAt message place fields at
   pub other : at ≡ end → ⊥
   pub cause : e ≡ IncorrectRDataLengthRead (at - place) (end - place)
 
--- Data none of whose fields goes to their end don't fill it: a field can't be read, or they end
--- elsewhere.
+-- Data don't fill their octets: a field can't be read, or they end elsewhere.
 abbrev pub RefusesWindow : List ℕ → ℕ → List Kind → ℕ → DecodeError → ℕ → Type 0
 RefusesWindow message end kinds place e at =
     StopsReading message end kinds place e at ⊎ EndsElsewhere message end kinds place e at

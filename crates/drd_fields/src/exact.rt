@@ -5,12 +5,12 @@ ghost use Rattle.drd_fields.specs.Fields.{Field, kinds_of, are_open, FieldsAt};
 ghost use Rattle.drd_fields.specs.Reading.{RefusesWindow};
 
 use crate::read::ReadFields;
+use crate::window::read_window;
 use dnw_encoder::{BinDecoder, DecodeError};
 use std::alloc::Global;
 
 /// The data of so many octets at the decoder's index, none of whose fields goes to their end. Refused are data that end
 /// elsewhere, with the number of their octets (RFC 1035 3.2.1). On an error the decoder is where reading stopped.
-#[tactic(auto, using(crate::specs::FieldLaws::fields_forward, crate::specs::FieldLaws::stops_forward, crate::specs::FieldLaws::elsewhere_none))]
 pub fn read_exactly<D: ReadFields + Drop>(
     alloc: Global,
     decoder: &mut BinDecoder<'_>,
@@ -26,17 +26,5 @@ pub fn read_exactly<D: ReadFields + Drop>(
     ensures none { IfErr result (λ e. IsWantOfMemory e
         ⊎ ((fs : List Field) → kinds_of fs ≡ D.kinds → FieldsAt decoder.old.octets decoder.old.index fs (decoder.old.index + len) → ⊥)) }
 {
-    let start = decoder.index();
-    let len = usize::from(len);
-    match D::read_fields(alloc, decoder, start + len) {
-        Ok(found) => {
-            let read = decoder.index() - start;
-            if read == len {
-                Ok(found)
-            } else {
-                Err(DecodeError::IncorrectRDataLengthRead { read, len })
-            }
-        }
-        Err(refused) => Err(refused),
-    }
+    read_window(alloc, decoder, len)
 }

@@ -194,6 +194,27 @@ impl<A: ReadField + Drop, B: ReadFields> ReadFields for (A, B) {
     }
 }
 
+// One name alone: the data of the types that are a name.
+impl ReadFields for Name {
+    ghost use Rattle.std.proofs.Common.{refl};
+    ghost use Rattle.drd_fields.specs.FieldLaws.{ordered_more};
+
+    ghost fields = { λ value. name value ∷ [] };
+
+    ghost kinds = { a_name ∷ [] };
+
+    ghost laws = { (λ value. refl, ordered_more a_name [] refl tt) };
+
+    fn read_fields(
+        alloc: Global,
+        decoder: &mut BinDecoder<'_>,
+        _end: usize,
+    ) -> Result<Name, DecodeError> {
+        let _index = decoder.index();
+        Self::read(alloc, decoder)
+    }
+}
+
 impl ReadFields for CharacterStrings {
     ghost use Rattle.std.proofs.Common.{refl};
 

@@ -5,7 +5,7 @@ ghost use Rattle.std.specs.Option.{option_copied};
 ghost use Rattle.std.specs.Cmp.{partial_equiv_from_equiv};
 ghost use Rattle.drd_order.specs.dnw_encoder.declared.modes.RDataEncoding.TheVariants.{StandardRecord};
 ghost use Rattle.drd_order.specs.drd_fields.Fields.{short, name, FieldsAt};
-ghost use Rattle.drd_order.specs.drd_fields.Reading.{RefusesWindow, StopsReading};
+ghost use Rattle.drd_order.specs.drd_fields.Reading.{StopsReading};
 ghost use Rattle.drd_order.specs.drd_fields.Equality.{AreFull, Tells, fields_eq};
 ghost use Rattle.drd_order.proofs.drd_fields_lemmas.EqualityLaws.{data_equiv};
 ghost use Rattle.drd_order.specs.drd_fields.Writing.{EmitsData, RefusesFields, canonical_octets};
@@ -14,10 +14,10 @@ ghost use Rattle.drd_names.specs.Texts.{mx_print, IsMxText};
 ghost use Rattle.drd_words.specs.Word.{IsOutOfMemory};
 
 use drd_order::{
-    BinDecodable, BinDecoder, BinEncodable, BinEncoder, DataFields, RDataEncoding,
-    RecordDataDecodable, emit_data, read_data, read_exactly,
+    BinDecodable, BinDecoder, BinEncodable, BinEncoder, FieldData, FieldRef, Fields, RDataEncoding,
+    emit_data, is_same_data, read_value,
 };
-use drd_words::{DecodeError, Name, ParseError, ProtoError, Restrict, read_tokens};
+use drd_words::{DecodeError, Name, ParseError, ProtoError, read_tokens};
 use std::alloc::Global;
 use std::convert::AsStr;
 use std::fmt;
@@ -62,8 +62,8 @@ impl MX {
         }
     }
 
-    // The fields of the data.
-    pub(crate) fn fields(&self) -> (u16, (&Name, ()))
+    // The fields of the data, as they are written.
+    pub(crate) fn parts(&self) -> (u16, (&Name, ()))
         ensures { short result.0 ∷ name result.1.0.now ∷ [] ≡ mx_fields self.now }
     {
         (self.preference, (&self.exchange, ()))
@@ -76,26 +76,30 @@ impl BinDecodable for MX {
     ghost refuses = { λ message place e. (end at : ℕ) × StopsReading message end mx_kinds place e at };
 
     fn read(alloc: Global, decoder: &mut BinDecoder<'_>) -> Result<MX, DecodeError> {
-        let (preference, (exchange, ())) = read_data(alloc, decoder)?;
-        Ok(MX::new(preference, exchange))
+        read_value(alloc, decoder)
     }
 }
 
-impl RecordDataDecodable for MX {
-    ghost reads = { λ message place mx end. FieldsAt message place (mx_fields mx) end };
+impl FieldData for MX {
+    ghost use Rattle.std.proofs.Common.{refl};
 
-    ghost refuses = { λ message place end e at. RefusesWindow message end mx_kinds place e at };
+    type Parts = (u16, (Name, ()));
 
-    fn read_data(
-        alloc: Global,
-        decoder: &mut BinDecoder<'_>,
-        length: Restrict<u16>,
-    ) -> Result<MX, DecodeError> {
-        match read_exactly(alloc, decoder, length.unverified()) {
-            Ok((preference, (host, ()))) => Ok(MX::new(preference, host)),
-            Err(refused) => Err(refused),
-        }
+    ghost fields = { mx_fields };
+
+    fn of_parts(parts: (u16, (Name, ()))) -> MX {
+        let (preference, (exchange, ())) = parts;
+        MX::new(preference, exchange)
     }
+
+    fn fields(&self) -> Fields<'_> {
+        Fields::new(&[
+            FieldRef::U16(self.preference),
+            FieldRef::Name(&self.exchange),
+        ])
+    }
+
+    ghost laws = { λ mx. refl };
 }
 
 impl BinEncodable for MX {
@@ -104,7 +108,7 @@ impl BinEncodable for MX {
     ghost refuses = { λ mx old e new. RefusesFields (mx_fields mx) old e };
 
     fn emit(&self, encoder: &mut BinEncoder<'_>) -> Result<(), ProtoError> {
-        emit_data(encoder, RDataEncoding::StandardRecord, &self.fields())
+        emit_data(encoder, RDataEncoding::StandardRecord, &self.parts())
     }
 }
 
@@ -120,7 +124,7 @@ impl PartialEq for MX {
         ensures canonical { AreFull (mx_fields self.now) → AreFull (mx_fields other.now)
             → Tells result (canonical_octets (mx_fields self.now)) (canonical_octets (mx_fields other.now)) }
     {
-        self.fields().are_same(&other.fields())
+        is_same_data(self, other)
     }
 }
 

@@ -6,7 +6,7 @@ ghost use Rattle.std.specs.Cmp.{partial_equiv_from_equiv};
 ghost use Rattle.drd_order.specs.dnw_encoder.declared.modes.RDataEncoding.TheVariants.{StandardRecord};
 ghost use Rattle.drd_words.specs.dnw_name.NamePrint.{name_print};
 ghost use Rattle.drd_order.specs.drd_fields.Fields.{name, FieldsAt};
-ghost use Rattle.drd_order.specs.drd_fields.Reading.{RefusesWindow, StopsReading};
+ghost use Rattle.drd_order.specs.drd_fields.Reading.{StopsReading};
 ghost use Rattle.drd_order.specs.drd_fields.Equality.{AreFull, Tells, fields_eq};
 ghost use Rattle.drd_order.proofs.drd_fields_lemmas.EqualityLaws.{data_equiv};
 ghost use Rattle.drd_order.specs.drd_fields.Writing.{EmitsData, RefusesFields, canonical_octets};
@@ -15,10 +15,10 @@ ghost use Rattle.drd_names.specs.Texts.{IsNsText};
 ghost use Rattle.drd_words.specs.Word.{IsOutOfMemory};
 
 use drd_order::{
-    BinDecodable, BinDecoder, BinEncodable, BinEncoder, DataFields, RDataEncoding,
-    RecordDataDecodable, emit_data, read_data, read_exactly,
+    BinDecodable, BinDecoder, BinEncodable, BinEncoder, FieldData, FieldRef, Fields, RDataEncoding,
+    emit_data, is_same_data, read_value,
 };
-use drd_words::{DecodeError, Name, ParseError, ProtoError, Restrict, read_tokens};
+use drd_words::{DecodeError, Name, ParseError, ProtoError, read_tokens};
 use std::alloc::Global;
 use std::convert::AsStr;
 use std::fmt;
@@ -51,8 +51,8 @@ impl NS {
         }
     }
 
-    // The fields of the data.
-    pub(crate) fn fields(&self) -> (&Name, ())
+    // The fields of the data, as they are written.
+    pub(crate) fn parts(&self) -> (&Name, ())
         ensures { name result.0.now ∷ [] ≡ ns_fields self.now }
     {
         (&self.0, ())
@@ -75,26 +75,26 @@ impl BinDecodable for NS {
     ghost refuses = { λ message place e. (end at : ℕ) × StopsReading message end one_name place e at };
 
     fn read(alloc: Global, decoder: &mut BinDecoder<'_>) -> Result<NS, DecodeError> {
-        let (name, ()) = read_data(alloc, decoder)?;
-        Ok(NS(name))
+        read_value(alloc, decoder)
     }
 }
 
-impl RecordDataDecodable for NS {
-    ghost reads = { λ message place ns end. FieldsAt message place (ns_fields ns) end };
+impl FieldData for NS {
+    ghost use Rattle.std.proofs.Common.{refl};
 
-    ghost refuses = { λ message place end e at. RefusesWindow message end one_name place e at };
+    type Parts = Name;
 
-    fn read_data(
-        alloc: Global,
-        decoder: &mut BinDecoder<'_>,
-        length: Restrict<u16>,
-    ) -> Result<NS, DecodeError> {
-        match read_exactly(alloc, decoder, length.unverified()) {
-            Ok((server, ())) => Ok(NS(server)),
-            Err(refused) => Err(refused),
-        }
+    ghost fields = { ns_fields };
+
+    fn of_parts(name: Name) -> NS {
+        NS(name)
     }
+
+    fn fields(&self) -> Fields<'_> {
+        Fields::new(&[FieldRef::Name(&self.0)])
+    }
+
+    ghost laws = { λ ns. refl };
 }
 
 impl BinEncodable for NS {
@@ -103,7 +103,7 @@ impl BinEncodable for NS {
     ghost refuses = { λ ns old e new. RefusesFields (ns_fields ns) old e };
 
     fn emit(&self, encoder: &mut BinEncoder<'_>) -> Result<(), ProtoError> {
-        emit_data(encoder, RDataEncoding::StandardRecord, &self.fields())
+        emit_data(encoder, RDataEncoding::StandardRecord, &self.parts())
     }
 }
 
@@ -119,7 +119,7 @@ impl PartialEq for NS {
         ensures canonical { AreFull (ns_fields self.now) → AreFull (ns_fields other.now)
             → Tells result (canonical_octets (ns_fields self.now)) (canonical_octets (ns_fields other.now)) }
     {
-        self.fields().are_same(&other.fields())
+        is_same_data(self, other)
     }
 }
 

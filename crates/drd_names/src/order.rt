@@ -28,7 +28,7 @@ impl Ord for ANAME {
         ensures canonical { AreFull (aname_fields self.now) → AreFull (aname_fields other.now)
             → Orders result (canonical_octets (aname_fields self.now)) (canonical_octets (aname_fields other.now)) }
     {
-        ANAME::fields(self).cmp_fields(&ANAME::fields(other))
+        ANAME::parts(self).cmp_fields(&ANAME::parts(other))
     }
 }
 
@@ -48,7 +48,7 @@ impl Hash for ANAME {
     ghost respects_eq = { λ a b. fields-alike (aname_fields a) (aname_fields b) };
 
     fn hash<H: Hasher>(&self, state: &mut H) {
-        ANAME::fields(self).hash_fields(state);
+        ANAME::parts(self).hash_fields(state);
     }
 }
 
@@ -67,7 +67,7 @@ impl Ord for CNAME {
         ensures canonical { AreFull (cname_fields self.now) → AreFull (cname_fields other.now)
             → Orders result (canonical_octets (cname_fields self.now)) (canonical_octets (cname_fields other.now)) }
     {
-        CNAME::fields(self).cmp_fields(&CNAME::fields(other))
+        CNAME::parts(self).cmp_fields(&CNAME::parts(other))
     }
 }
 
@@ -87,7 +87,7 @@ impl Hash for CNAME {
     ghost respects_eq = { λ a b. fields-alike (cname_fields a) (cname_fields b) };
 
     fn hash<H: Hasher>(&self, state: &mut H) {
-        CNAME::fields(self).hash_fields(state);
+        CNAME::parts(self).hash_fields(state);
     }
 }
 
@@ -106,7 +106,7 @@ impl Ord for MX {
         ensures canonical { AreFull (mx_fields self.now) → AreFull (mx_fields other.now)
             → Orders result (canonical_octets (mx_fields self.now)) (canonical_octets (mx_fields other.now)) }
     {
-        MX::fields(self).cmp_fields(&MX::fields(other))
+        MX::parts(self).cmp_fields(&MX::parts(other))
     }
 }
 
@@ -126,7 +126,7 @@ impl Hash for MX {
     ghost respects_eq = { λ a b. fields-alike (mx_fields a) (mx_fields b) };
 
     fn hash<H: Hasher>(&self, state: &mut H) {
-        MX::fields(self).hash_fields(state);
+        MX::parts(self).hash_fields(state);
     }
 }
 
@@ -145,7 +145,7 @@ impl Ord for NS {
         ensures canonical { AreFull (ns_fields self.now) → AreFull (ns_fields other.now)
             → Orders result (canonical_octets (ns_fields self.now)) (canonical_octets (ns_fields other.now)) }
     {
-        NS::fields(self).cmp_fields(&NS::fields(other))
+        NS::parts(self).cmp_fields(&NS::parts(other))
     }
 }
 
@@ -165,7 +165,7 @@ impl Hash for NS {
     ghost respects_eq = { λ a b. fields-alike (ns_fields a) (ns_fields b) };
 
     fn hash<H: Hasher>(&self, state: &mut H) {
-        NS::fields(self).hash_fields(state);
+        NS::parts(self).hash_fields(state);
     }
 }
 
@@ -184,7 +184,7 @@ impl Ord for PTR {
         ensures canonical { AreFull (ptr_fields self.now) → AreFull (ptr_fields other.now)
             → Orders result (canonical_octets (ptr_fields self.now)) (canonical_octets (ptr_fields other.now)) }
     {
-        PTR::fields(self).cmp_fields(&PTR::fields(other))
+        PTR::parts(self).cmp_fields(&PTR::parts(other))
     }
 }
 
@@ -204,7 +204,7 @@ impl Hash for PTR {
     ghost respects_eq = { λ a b. fields-alike (ptr_fields a) (ptr_fields b) };
 
     fn hash<H: Hasher>(&self, state: &mut H) {
-        PTR::fields(self).hash_fields(state);
+        PTR::parts(self).hash_fields(state);
     }
 }
 
@@ -223,7 +223,7 @@ impl Ord for SOA {
         ensures canonical { AreFull (soa_fields self.now) → AreFull (soa_fields other.now)
             → Orders result (canonical_octets (soa_fields self.now)) (canonical_octets (soa_fields other.now)) }
     {
-        SOA::fields(self).cmp_fields(&SOA::fields(other))
+        SOA::parts(self).cmp_fields(&SOA::parts(other))
     }
 }
 
@@ -243,7 +243,7 @@ impl Hash for SOA {
     ghost respects_eq = { λ a b. fields-alike (soa_fields a) (soa_fields b) };
 
     fn hash<H: Hasher>(&self, state: &mut H) {
-        SOA::fields(self).hash_fields(state);
+        SOA::parts(self).hash_fields(state);
     }
 }
 
@@ -262,7 +262,7 @@ impl Ord for SRV {
         ensures canonical { AreFull (srv_fields self.now) → AreFull (srv_fields other.now)
             → Orders result (canonical_octets (srv_fields self.now)) (canonical_octets (srv_fields other.now)) }
     {
-        SRV::fields(self).cmp_fields(&SRV::fields(other))
+        SRV::parts(self).cmp_fields(&SRV::parts(other))
     }
 }
 
@@ -282,6 +282,6 @@ impl Hash for SRV {
     ghost respects_eq = { λ a b. fields-alike (srv_fields a) (srv_fields b) };
 
     fn hash<H: Hasher>(&self, state: &mut H) {
-        SRV::fields(self).hash_fields(state);
+        SRV::parts(self).hash_fields(state);
     }
 }

@@ -7,7 +7,7 @@ ghost use Rattle.std.specs.Option.{option_copied};
 ghost use Rattle.std.specs.Cmp.{partial_equiv_from_equiv};
 ghost use Rattle.drd_order.specs.dnw_encoder.declared.modes.RDataEncoding.TheVariants.{StandardRecord};
 ghost use Rattle.drd_order.specs.drd_fields.Fields.{long, name, FieldsAt};
-ghost use Rattle.drd_order.specs.drd_fields.Reading.{RefusesWindow, StopsReading};
+ghost use Rattle.drd_order.specs.drd_fields.Reading.{StopsReading};
 ghost use Rattle.drd_order.specs.drd_fields.Equality.{AreFull, Tells, fields_eq};
 ghost use Rattle.drd_order.proofs.drd_fields_lemmas.EqualityLaws.{data_equiv};
 ghost use Rattle.drd_order.specs.drd_fields.Writing.{EmitsData, RefusesFields, canonical_octets};
@@ -17,18 +17,19 @@ ghost use Rattle.drd_names.specs.Texts.{soa_print, numbers_print, IsSoaText};
 ghost use Rattle.drd_words.specs.Word.{IsOutOfMemory};
 
 use drd_order::{
-    BinDecodable, BinDecoder, BinEncodable, BinEncoder, DataFields, RDataEncoding,
-    RecordDataDecodable, emit_three, read_data, read_exactly,
+    BinDecodable, BinDecoder, BinEncodable, BinEncoder, FieldData, FieldRef, Fields, RDataEncoding,
+    emit_three, is_same_data, read_value,
 };
-use drd_words::{
-    DecodeError, Name, ParseError, ProtoError, Restrict, TimeInterval, TimeToLive, read_tokens,
-};
+use drd_words::{DecodeError, Name, ParseError, ProtoError, TimeInterval, TimeToLive, read_tokens};
 use std::alloc::Global;
 use std::convert::AsStr;
 use std::fmt;
 
 // Two names, the serial number and four intervals.
 type SoaFields<'a> = (&'a Name, (&'a Name, (u32, (i32, (i32, (i32, (u32, ())))))));
+
+// The fields as they are read.
+type SoaParts = (Name, (Name, (u32, (i32, (i32, (i32, (u32, ())))))));
 
 // The words of the data: two names, the serial number, three intervals and a time to live.
 type Written = (
@@ -134,8 +135,8 @@ impl SOA {
         }
     }
 
-    // The fields of the data.
-    pub(crate) fn fields(&self) -> SoaFields<'_>
+    // The fields of the data, as they are written.
+    pub(crate) fn parts(&self) -> SoaFields<'_>
         ensures { name result.0.now ∷ name result.1.0.now ∷ long result.1.1.0 ∷ long (cast_unsigned w32 result.1.1.1.0)
             ∷ long (cast_unsigned w32 result.1.1.1.1.0) ∷ long (cast_unsigned w32 result.1.1.1.1.1.0) ∷ long result.1.1.1.1.1.1.0 ∷ []
             ≡ soa_fields self.now }
@@ -154,30 +155,35 @@ impl BinDecodable for SOA {
     ghost refuses = { λ message place e. (end at : ℕ) × StopsReading message end soa_kinds place e at };
 
     fn read(alloc: Global, decoder: &mut BinDecoder<'_>) -> Result<SOA, DecodeError> {
-        let (mname, (rname, (serial, (refresh, (retry, (expire, (minimum, ()))))))) = read_data(
-            alloc, decoder,
-        )?;
-        Ok(SOA::new(mname, rname, serial, refresh, retry, expire, minimum))
+        read_value(alloc, decoder)
     }
 }
 
-impl RecordDataDecodable for SOA {
-    ghost reads = { λ message place soa end. FieldsAt message place (soa_fields soa) end };
+impl FieldData for SOA {
+    ghost use Rattle.std.proofs.Common.{refl};
 
-    ghost refuses = { λ message place end e at. RefusesWindow message end soa_kinds place e at };
+    type Parts = SoaParts;
 
-    fn read_data(
-        alloc: Global,
-        decoder: &mut BinDecoder<'_>,
-        length: Restrict<u16>,
-    ) -> Result<SOA, DecodeError> {
-        match read_exactly(alloc, decoder, length.unverified()) {
-            Ok((server, (mailbox, (serial, (refresh, (retry, (expire, (minimum, ())))))))) => Ok(
-                SOA::new(server, mailbox, serial, refresh, retry, expire, minimum),
-            ),
-            Err(refused) => Err(refused),
-        }
+    ghost fields = { soa_fields };
+
+    fn of_parts(parts: SoaParts) -> SOA {
+        let (mname, (rname, (serial, (refresh, (retry, (expire, (minimum, ()))))))) = parts;
+        SOA::new(mname, rname, serial, refresh, retry, expire, minimum)
     }
+
+    fn fields(&self) -> Fields<'_> {
+        Fields::new(&[
+            FieldRef::Name(&self.mname),
+            FieldRef::Name(&self.rname),
+            FieldRef::U32(self.serial),
+            FieldRef::U32(self.refresh.cast_unsigned()),
+            FieldRef::U32(self.retry.cast_unsigned()),
+            FieldRef::U32(self.expire.cast_unsigned()),
+            FieldRef::U32(self.minimum),
+        ])
+    }
+
+    ghost laws = { λ soa. refl };
 }
 
 impl BinEncodable for SOA {
@@ -186,7 +192,7 @@ impl BinEncodable for SOA {
     ghost refuses = { λ soa old e new. RefusesFields (soa_fields soa) old e };
 
     fn emit(&self, encoder: &mut BinEncoder<'_>) -> Result<(), ProtoError> {
-        emit_three(encoder, RDataEncoding::StandardRecord, &self.fields())
+        emit_three(encoder, RDataEncoding::StandardRecord, &self.parts())
     }
 }
 
@@ -202,7 +208,7 @@ impl PartialEq for SOA {
         ensures canonical { AreFull (soa_fields self.now) → AreFull (soa_fields other.now)
             → Tells result (canonical_octets (soa_fields self.now)) (canonical_octets (soa_fields other.now)) }
     {
-        self.fields().are_same(&other.fields())
+        is_same_data(self, other)
     }
 }
 

@@ -5,7 +5,7 @@ ghost use Rattle.std.specs.Option.{option_copied};
 ghost use Rattle.std.specs.Cmp.{partial_equiv_from_equiv};
 ghost use Rattle.drd_order.specs.dnw_encoder.declared.modes.RDataEncoding.TheVariants.{Canonical};
 ghost use Rattle.drd_order.specs.drd_fields.Fields.{short, name, FieldsAt};
-ghost use Rattle.drd_order.specs.drd_fields.Reading.{RefusesWindow, StopsReading};
+ghost use Rattle.drd_order.specs.drd_fields.Reading.{StopsReading};
 ghost use Rattle.drd_order.specs.drd_fields.Equality.{AreFull, Tells, fields_eq};
 ghost use Rattle.drd_order.proofs.drd_fields_lemmas.EqualityLaws.{data_equiv};
 ghost use Rattle.drd_order.specs.drd_fields.Writing.{EmitsData, RefusesFields, canonical_octets};
@@ -14,10 +14,10 @@ ghost use Rattle.drd_names.specs.Texts.{srv_print, IsSrvText};
 ghost use Rattle.drd_words.specs.Word.{IsOutOfMemory};
 
 use drd_order::{
-    BinDecodable, BinDecoder, BinEncodable, BinEncoder, DataFields, RDataEncoding,
-    RecordDataDecodable, emit_data, read_data, read_exactly,
+    BinDecodable, BinDecoder, BinEncodable, BinEncoder, FieldData, FieldRef, Fields, RDataEncoding,
+    emit_data, is_same_data, read_value,
 };
-use drd_words::{DecodeError, Name, ParseError, ProtoError, Restrict, read_tokens};
+use drd_words::{DecodeError, Name, ParseError, ProtoError, read_tokens};
 use std::alloc::Global;
 use std::convert::AsStr;
 use std::fmt;
@@ -71,8 +71,8 @@ impl SRV {
         }
     }
 
-    // The fields of the data.
-    pub(crate) fn fields(&self) -> (u16, (u16, (u16, (&Name, ()))))
+    // The fields of the data, as they are written.
+    pub(crate) fn parts(&self) -> (u16, (u16, (u16, (&Name, ()))))
         ensures { short result.0 ∷ short result.1.0 ∷ short result.1.1.0 ∷ name result.1.1.1.0.now ∷ [] ≡ srv_fields self.now }
     {
         (
@@ -88,28 +88,32 @@ impl BinDecodable for SRV {
     ghost refuses = { λ message place e. (end at : ℕ) × StopsReading message end srv_kinds place e at };
 
     fn read(alloc: Global, decoder: &mut BinDecoder<'_>) -> Result<SRV, DecodeError> {
-        let (priority, (weight, (port, (target, ())))) = read_data(alloc, decoder)?;
-        Ok(SRV::new(priority, weight, port, target))
+        read_value(alloc, decoder)
     }
 }
 
-impl RecordDataDecodable for SRV {
-    ghost reads = { λ message place srv end. FieldsAt message place (srv_fields srv) end };
+impl FieldData for SRV {
+    ghost use Rattle.std.proofs.Common.{refl};
 
-    ghost refuses = { λ message place end e at. RefusesWindow message end srv_kinds place e at };
+    type Parts = (u16, (u16, (u16, (Name, ()))));
 
-    fn read_data(
-        alloc: Global,
-        decoder: &mut BinDecoder<'_>,
-        length: Restrict<u16>,
-    ) -> Result<SRV, DecodeError> {
-        match read_exactly(alloc, decoder, length.unverified()) {
-            Ok((priority, (weight, (port, (host, ()))))) => Ok(SRV::new(
-                priority, weight, port, host,
-            )),
-            Err(refused) => Err(refused),
-        }
+    ghost fields = { srv_fields };
+
+    fn of_parts(parts: (u16, (u16, (u16, (Name, ()))))) -> SRV {
+        let (priority, (weight, (port, (target, ())))) = parts;
+        SRV::new(priority, weight, port, target)
     }
+
+    fn fields(&self) -> Fields<'_> {
+        Fields::new(&[
+            FieldRef::U16(self.priority),
+            FieldRef::U16(self.weight),
+            FieldRef::U16(self.port),
+            FieldRef::Name(&self.target),
+        ])
+    }
+
+    ghost laws = { λ srv. refl };
 }
 
 impl BinEncodable for SRV {
@@ -118,7 +122,7 @@ impl BinEncodable for SRV {
     ghost refuses = { λ srv old e new. RefusesFields (srv_fields srv) old e };
 
     fn emit(&self, encoder: &mut BinEncoder<'_>) -> Result<(), ProtoError> {
-        emit_data(encoder, RDataEncoding::Canonical, &self.fields())
+        emit_data(encoder, RDataEncoding::Canonical, &self.parts())
     }
 }
 
@@ -134,7 +138,7 @@ impl PartialEq for SRV {
         ensures canonical { AreFull (srv_fields self.now) → AreFull (srv_fields other.now)
             → Tells result (canonical_octets (srv_fields self.now)) (canonical_octets (srv_fields other.now)) }
     {
-        self.fields().are_same(&other.fields())
+        is_same_data(self, other)
     }
 }
 

@@ -1,12 +1,9 @@
 //! Fields in order, one behind the other.
-ghost use Rattle.std.specs.Prelude.{◌≡◌, ◌∷◌, [], ◌++◌, length, map};
-ghost use Rattle.std.specs.Hash as fed;
-ghost use Rattle.std.specs.List.{fold, flat_map};
-ghost use Rattle.drd_order.specs.Order.{fields_cmp, fields_input, string_input};
+ghost use Rattle.std.specs.Prelude.{◌≡◌, ◌∷◌, [], ◌++◌};
+ghost use Rattle.std.specs.List.{fold};
 
-use crate::field::{OrderField, hash_string};
-use crate::octets::cmp_strings;
-use drd_fields::{DataFields, RestField, StringFields};
+use crate::field::OrderField;
+use drd_fields::{DataFields, FieldRef, RestField, StringFields};
 use std::cmp::Ordering;
 use std::hash::Hasher;
 
@@ -16,7 +13,7 @@ pub trait OrderFields: DataFields {
     ghost use Rattle.std.specs.List.{fold};
     ghost use Rattle.drd_fields.specs.Equality.{AreFull};
     ghost use Rattle.drd_fields.specs.Writing.{canonical_octets};
-    ghost use Rattle.drd_order.specs.Order.{fields_cmp, fields_input, Orders};
+    ghost use Rattle.drd_fields.specs.Order.{fields_cmp, fields_input, Orders};
 
     /// The order of the data; where names are fully qualified, that of the canonical octets.
     fn cmp_fields(&self, other: &Self) -> Ordering
@@ -53,30 +50,20 @@ impl<A: OrderField, B: OrderFields> OrderFields for (A, B) {
 
 impl OrderFields for StringFields<'_> {
     fn cmp_fields(&self, other: &Self) -> Ordering {
-        cmp_strings(self.0, other.0)
+        FieldRef::Strings(self.0).cmp_field(FieldRef::Strings(other.0))
     }
 
     fn hash_fields<H: Hasher>(&self, state: &mut H) {
-        state.write_usize(self.0.len());
-        hash_strings(self.0, state);
+        FieldRef::Strings(self.0).hash_field(state);
     }
 }
 
 impl OrderFields for RestField<'_> {
     fn cmp_fields(&self, other: &Self) -> Ordering {
-        self.0.cmp(other.0)
+        FieldRef::Octets(self.0).cmp_field(FieldRef::Octets(other.0))
     }
 
     fn hash_fields<H: Hasher>(&self, state: &mut H) {
-        hash_string(self.0, state);
-    }
-}
-
-// Feeds strings to a hasher, one behind the other.
-fn hash_strings<H: Hasher>(strings: &[Vec<u8>], state: &mut H)
-    ensures { state.new ≡ fold H.write state.old (flat_map string_input (map (λ s. s.items) strings.now)) }
-{
-    'strings: for string in strings {
-        hash_string(string, state);
+        FieldRef::Octets(self.0).hash_field(state);
     }
 }

@@ -7,13 +7,13 @@
 
 pub use drd_fields::{
     BinDecodable, BinDecoder, BinEncodable, BinEncoder, CharacterString, CharacterStrings,
-    DataField, DataFields, RDataEncoding, ReadFields, RecordDataDecodable, Rest, RestField,
-    StringField, StringFields, emit_data, emit_three, read_data, read_data_within, read_exactly,
+    DataField, DataFields, FieldData, FieldRef, Fields, RDataEncoding, ReadFields,
+    RecordDataDecodable, Rest, RestField, StringField, StringFields, emit_data, emit_three,
+    is_same_data, read_data, read_data_within, read_exactly, read_value,
 };
 
 mod field;
 mod fields;
-mod octets;
 
 pub use field::OrderField;
 pub use fields::OrderFields;
