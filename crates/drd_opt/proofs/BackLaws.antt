@@ -12,7 +12,7 @@ use Rattle.drd_option.specs.declared.option.EdnsOption.TheVariants.{DAU, Subnet,
 use Rattle.drd_opt.specs.Entries.{Entry, RawOption, raw_option, raw_of, options_octets, entries_octets, FitsLengths}
 use Rattle.drd_opt.specs.Reading.{IsEntryOf, AreEntriesOf, BreaksOff, HoldsEntries}
 use Rattle.drd_opt.proofs.ReadingLaws.{left_same, stuck_short, stuck_broken}
-use Rattle.drd_opt.proofs.FitLaws.{small_family, size_of_family, all_fit}
+use Rattle.drd_opt.proofs.FitLaws.{small_family, size_of_family, entry_number, all_fit}
 
 -- A subnet that is read from the octets of another has the same octets.
 subnet_back : (s t : ClientSubnet) (end : ℕ) → SubnetAt (subnet_octets t) 0 s end → subnet_octets s ≡ subnet_octets t
@@ -48,8 +48,8 @@ option_back code again octets (Unknown n k) (Subnet s) is back same =
 
 entry_back : (r : RawOption) (w v : Entry) → IsEntryOf r w → IsEntryOf (raw_of w) v → raw_of v ≡ raw_of w
 entry_back r w v is back =
-    let octets : option_octets v.1 ≡ option_octets w.1 = option_back r.code (edns_code_number w.0) r.octets w.1 v.1 is.option back.option is.code in
-    ap (λ (c : ℕ). raw_option c (option_octets v.1)) back.code ∙ ap (raw_option (edns_code_number w.0)) octets
+    let octets : option_octets v.1 ≡ option_octets w.1 = option_back r.code (edns_code_number w.0) r.octets w.1 v.1 is.option back.option (entry_number r w is) in
+    ap (λ (c : ℕ). raw_option c (option_octets v.1)) (entry_number (raw_of w) v back) ∙ ap (raw_option (edns_code_number w.0)) octets
 
 entries_back : (rs : List RawOption) (ws vs : List Entry) → AreEntriesOf rs ws → AreEntriesOf (map raw_of ws) vs → map raw_of vs ≡ map raw_of ws
 entries_back [] [] [] are back = refl

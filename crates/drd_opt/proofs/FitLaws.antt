@@ -1,10 +1,12 @@
 -- Options that were read are such as 16 bits can count.
-use Rattle.std.proofs.Common.{◌≡◌, ℕ, ◌<◌, ◌≤◌, ◌^◌, List, [], ◌∷◌, inl, inr, length, take, map, refl, sym, ap, subst, arith}
+use Rattle.std.proofs.Common.{◌≡◌, ℕ, ◌<◌, ◌≤◌, ◌^◌, List, [], ◌∷◌, inl, inr, length, take, map, refl, sym, ap, subst, ◌∙◌, arith}
 use Rattle.std.proofs.lemmas.List.{length-append, length-take}
 use Rattle.std.proofs.lemmas.List.Elements.{All-head, All-tail, All-cons, All-nil}
 use Rattle.std.specs.List.{All}
 use Rattle.std.specs.declared.net.ip_addr.IpAddr.{IpAddr}
 use Rattle.std.specs.declared.net.ip_addr.IpAddr.TheVariants.{V4, V6}
+use Rattle.drd_option.proofs.CodeLaws.{number_of_code}
+use Rattle.drd_option.specs.Codes.{edns_code_number}
 use Rattle.drd_option.specs.Options.{option_octets, IsOptionOf}
 use Rattle.drd_option.specs.Subnets.{family_of, address_size, address_octets, prefix_size, subnet_head, subnet_octets}
 use Rattle.drd_option.specs.declared.subnet.ClientSubnet.{ClientSubnet}
@@ -41,9 +43,13 @@ option_fits code octets (NSID p) few is = omega (arith, few, ap length is.1)
 option_fits code octets (Subnet s) few is = few_octets s
 option_fits code octets (Unknown n k) few is = omega (arith, few, ap length is.1)
 
+-- The number of an entry's code is the one that is written.
+pub entry_number : (r : RawOption) (w : Entry) → IsEntryOf r w → edns_code_number w.0 ≡ r.code
+entry_number r w is = ap edns_code_number is.code ∙ number_of_code r.code
+
 pub entry_fits : (r : RawOption) (w : Entry) → FitsLengths r → IsEntryOf r w → FitsLengths (raw_of w)
 entry_fits r w f is = record {
-  code = omega (arith, f.code, is.code);
+  code = omega (arith, f.code, entry_number r w is);
   octets = option_fits r.code r.octets w.1 f.octets is.option;
 }
 

@@ -51,7 +51,7 @@ option_once code octets (Unknown n k) (Unknown m l) is also = is.1 ∙ sym also.
 entry_once : (r : RawOption) (v w : Entry) → IsEntryOf r v → IsEntryOf r w → raw_of v ≡ raw_of w
 entry_once r v w is also =
     let octets : option_octets v.1 ≡ option_octets w.1 = option_once r.code r.octets v.1 w.1 is.option also.option in
-    ap (λ (c : ℕ). raw_option c (option_octets v.1)) (is.code ∙ sym also.code) ∙ ap (raw_option (edns_code_number w.0)) octets
+    ap (λ (c : ℕ). raw_option c (option_octets v.1)) (ap edns_code_number (is.code ∙ sym also.code)) ∙ ap (raw_option (edns_code_number w.0)) octets
 
 all_once : (rs : List RawOption) (vs ws : List Entry) → AreEntriesOf rs vs → AreEntriesOf rs ws → map raw_of vs ≡ map raw_of ws
 all_once [] [] [] are also = refl

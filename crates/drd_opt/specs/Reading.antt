@@ -6,13 +6,13 @@ use Rattle.drd_option.specs.dnw_codes.declared.error.DecodeError.{DecodeError}
 use Rattle.drd_option.specs.dnw_codes.declared.error.DecodeError.TheVariants.{InsufficientBytes}
 use Rattle.drd_option.specs.dnw_decoder.Octets.{number_16, Stands}
 use Rattle.drd_option.specs.dnw_decoder.Reading.{IsWantOfMemory}
-use Rattle.drd_option.specs.Codes.{edns_code_number}
+use Rattle.drd_option.specs.Codes.{edns_code_of}
 use Rattle.drd_option.specs.Options.{IsOptionOf}
 use Rattle.drd_opt.specs.Entries.{Entry, RawOption, FitsLengths, options_octets}
 
--- An entry is the option of a code and octets, under that code.
+-- An entry is the option of a code and octets, under the code that the number stands for.
 pub record IsEntryOf (written : RawOption) (entry : Entry) : Type 0 where
-  pub code : edns_code_number entry.0 ≡ written.code
+  pub code : entry.0 ≡ edns_code_of written.code
   pub option : IsOptionOf written.code written.octets entry.1
 
 abbrev pub AreEntriesOf : List RawOption → List Entry → Type 0

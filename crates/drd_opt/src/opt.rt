@@ -7,7 +7,7 @@ ghost use Rattle.std.specs.Ordering.{as_partial_cmp};
 ghost use Rattle.drd_option.specs.dnw_encoder.declared.modes.RDataEncoding.TheVariants.{Other};
 ghost use Rattle.drd_option.specs.drd_fields.Fields.{rest};
 ghost use Rattle.drd_option.specs.drd_fields.Writing.{EmitsData, RefusesFields};
-ghost use Rattle.drd_option.specs.Codes.{edns_code_number};
+ghost use Rattle.drd_option.specs.Codes.{edns_code_of};
 ghost use Rattle.drd_option.specs.Options.{option_code, option_octets};
 ghost use Rattle.drd_opt.specs.Entries.{Entry, entries_octets, entries_print, entries_without, options_of, raw_of, AreCountable, FitsLengths, HasLong};
 ghost use Rattle.drd_opt.specs.Equality.{same_entries, entries_input};
@@ -92,8 +92,8 @@ impl OPT {
 
     /// Puts an option behind the others, under its code.
     pub fn insert(&mut self, option: EdnsOption) -> Result<(), AllocError>
-        ensures ok { OnOk result ((code : EdnsCode) × (edns_code_number code ≡ option_code option)
-            × (self.new.options.items ≡ self.old.options.items ++ (code, option) ∷ [])) }
+        ensures ok { OnOk result (self.new.options.items
+            ≡ self.old.options.items ++ (edns_code_of (option_code option), option) ∷ []) }
         ensures err { OnErr result (self.new.options.items ≡ self.old.options.items) }
     {
         self.options.push((option.code(), option))?;

@@ -1,3 +1,4 @@
+pub mod CodeLaws
 pub mod SubnetLemmas
 pub use Rattle.drd_words.proofs.dnw_name_lemmas
 pub mod drd_words_lemmas

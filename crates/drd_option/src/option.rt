@@ -9,7 +9,7 @@ ghost use Rattle.drd_fields.specs.dnw_codes.ProtoError.{IsMemory};
 ghost use Rattle.drd_fields.specs.dnw_encoder.declared.modes.RDataEncoding.TheVariants.{Other};
 ghost use Rattle.drd_fields.specs.Fields.{rest};
 ghost use Rattle.drd_fields.specs.Writing.{EmitsData, RefusesFields};
-ghost use Rattle.drd_option.specs.Codes.{edns_code_number};
+ghost use Rattle.drd_option.specs.Codes.{edns_code_number, edns_code_of};
 ghost use Rattle.drd_option.specs.Options.{option_code, option_octets, option_input, option_cmp, counted_cmp, same_option, IsOptionOf, IsLong};
 ghost use Rattle.hex.specs.Hex.{encode_lower};
 
@@ -65,9 +65,10 @@ impl EdnsOption {
         }
     }
 
-    /// The code.
+    /// The code, by its name where it has one.
     pub fn code(&self) -> EdnsCode
-        ensures { edns_code_number result ≡ option_code self.now }
+        ensures value { result ≡ edns_code_of (option_code self.now) }
+        ensures number { edns_code_number result ≡ option_code self.now }
     {
         match self {
             EdnsOption::DAU(_) => EdnsCode::DAU,

@@ -17,10 +17,10 @@ use Rattle.std.specs.declared.alloc.Global.{Global}
 use Rattle.drd_plain.specs.dnw_decoder.Octets.{octets_16}
 use Rattle.drd_plain.specs.drd_fields.Writing.{IsTooLong}
 use Rattle.drd_plain.proofs.drd_fields_lemmas.WritingLaws.{puts_then, puts_none}
+use Rattle.drd_params.specs.Values.{text_octets}
 use Rattle.drd_params.specs.Writing.{RefusesValueWriting}
 use Rattle.drd_params.specs.declared.value.Alpn.{Alpn}
 use Rattle.drd_params.specs.declared.value.SvcParamValue.TheVariants as value
-use Rattle.drd_params.proofs.NoValues.{spelled_text}
 
 -- A write behind what was put is refused as one of all would be.
 pub refused-behind : (old mid : State) (first size whole : ℕ) (e : ProtoError) → mid.offset ≡ old.offset + first → mid.maximum ≡ old.maximum → first + size ≤ whole → IsRefusal mid size e → IsRefusal old whole e
@@ -56,9 +56,9 @@ module _ {T : Type 0} (spelled : T → List ℕ) where
   put-refused long entries i x old mid e small is put (inr why) =
       inr (x, subst (λ (y : T). Contains entries y) (sym is) (Contains-get_or entries i x small), why)
 
-pub alpn-refused : {V : Type 0} (r : Result V ProtoError) (alpn : Alpn) (texts : List (String Global)) (old : State) → texts ≡ alpn.0.items → IfErr r (λ e. IsRefusal old (length (flat_map spelled_text texts)) e ⊎ ((text : String Global) × Contains texts text × IsTooLong (string_bytes text) e)) → IfErr r (RefusesValueWriting (value.Alpn alpn) old)
+pub alpn-refused : {V : Type 0} (r : Result V ProtoError) (alpn : Alpn) (texts : List (String Global)) (old : State) → texts ≡ alpn.0.items → IfErr r (λ e. IsRefusal old (length (flat_map text_octets texts)) e ⊎ ((text : String Global) × Contains texts text × IsTooLong (string_bytes text) e)) → IfErr r (RefusesValueWriting (value.Alpn alpn) old)
 alpn-refused r alpn texts old same why =
-    subst (λ (ts : List (String Global)). IfErr r (λ e. IsRefusal old (length (flat_map spelled_text ts)) e ⊎ ((text : String Global) × Contains ts text × IsTooLong (string_bytes text) e))) same why
+    subst (λ (ts : List (String Global)). IfErr r (λ e. IsRefusal old (length (flat_map text_octets ts)) e ⊎ ((text : String Global) × Contains ts text × IsTooLong (string_bytes text) e))) same why
 
 -- A value was put behind its length.
 pub value-put : {V E : Type 0} (r : Result V E) (n : ℕ) (octets : List ℕ) (old mid new : State) → n ≡ length octets → old.offset ≤ length old.octets → WritesOctets (octets_16 n) old mid → OnOk r (WritesOctets octets mid new) → OnOk r (WritesOctets (octets_16 (length octets) ++ octets) old new)

@@ -3,6 +3,8 @@ use Rattle.std.proofs.Common.{◌≡◌, ℕ, ◌<◌, ◌⊎◌, inl, inr, List
 use Rattle.std.specs.List.{flat_map}
 use Rattle.std.proofs.lemmas.Grind.{flat_map-append}
 use Rattle.std.proofs.lemmas.List.Concat.{flat_map-cons}
+use Rattle.drd_plain.specs.dnw_codes.declared.error.DecodeError.{DecodeError}
+use Rattle.drd_params.specs.Refusals.{RefusesNext}
 
 -- What stands behind the first entries of any list of these octets is a list too.
 abbrev pub Ahead : {T : Type 0} → (T → List ℕ) → List ℕ → List ℕ → Type 0
@@ -25,10 +27,11 @@ module _ {T : Type 0} (spelled : T → List ℕ) where
       let first = begins later.0 left some later.1 in
       (first.1, once first.0 e (flat_map spelled first.1) behind (sym first.2 ∙ at))
 
-  pub ahead-none : {M P : Type 0} (octets left : List ℕ) → 0 < length left → Ahead spelled octets left → M ⊎ (P × ((e : T) (behind : List ℕ) → left ≡ spelled e ++ behind → ⊥)) → M ⊎ (P × ((entries : List T) → flat_map spelled entries ≡ octets → ⊥))
-  ahead-none octets left some ahead (inl m) = inl m
-  ahead-none octets left some ahead (inr why) = inr (
-    why.0,
+  -- Where the octets left begin with no entry, the octets are no list.
+  pub next-refused : {M : Type 0} (refuses : List ℕ → DecodeError → Type 0) (octets : List ℕ) (found : List T) (left : List ℕ) (e : DecodeError) → flat_map spelled found ++ left ≡ octets → 0 < length left → Ahead spelled octets left → M ⊎ (refuses left e × ((x : T) (behind : List ℕ) → left ≡ spelled x ++ behind → ⊥)) → M ⊎ (RefusesNext spelled refuses octets e × ((entries : List T) → flat_map spelled entries ≡ octets → ⊥))
+  next-refused refuses octets found left e front some ahead (inl m) = inl m
+  next-refused refuses octets found left e front some ahead (inr why) = inr (
+    record { front = found; rest = left; parts = front; some = some; cause = why.0 },
     λ entries is.
         let later = ahead entries is in
         let first = begins later.0 left some later.1 in

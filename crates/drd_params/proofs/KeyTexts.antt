@@ -7,7 +7,7 @@ use Rattle.std.specs.Str.{all_ascii_digits, bytes_eq}
 use Rattle.std.specs.Str.Parse.{digits_value}
 use Rattle.std.proofs.lemmas.Bool.Decides.{nat_tests}
 use Rattle.drd_plain.specs.dnw_codes.Digits.{number_of_digits, number_behind}
-use Rattle.drd_params.specs.Keys.{key_number, key_of, key_name, named_keys}
+use Rattle.drd_params.specs.Keys.{key_number, key_of, key_name, named_keys, IsKey}
 use Rattle.drd_params.specs.Texts.{IsKeyText}
 use Rattle.drd_params.specs.declared.key.SvcParamKey.{SvcParamKey}
 use Rattle.drd_params.specs.declared.key.SvcParamKey.TheVariants.{Mandatory, Alpn, NoDefaultAlpn, Port, Ipv4Hint, EchConfigList, Ipv6Hint, Key, Key65535, Unknown}
@@ -15,11 +15,6 @@ use Rattle.drd_params.specs.declared.key.SvcParamKey.TheVariants.{Mandatory, Alp
 pub key-found : {X E : Type 0} (o : Option X) (k : X) (e : E) → Ok k ≡ ok_or o e → o ≡ Some k
 key-found None k e is = absurd (cc is)
 key-found (Some x) k e is = cc is
-
--- A key that is the one of its number, which 16 bits hold.
-pub record IsKey (k : SvcParamKey) : Type 0 where
-  pub small : key_number k < 65536
-  pub one : k ≡ key_of (key_number k)
 
 abbrev AreKeys : List SvcParamKey → Type 0
 AreKeys [] = Unit {0}

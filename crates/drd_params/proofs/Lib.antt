@@ -3,6 +3,7 @@ mod NumberOctets
 pub mod Canonical
 mod Emitting
 mod Entries
+pub mod FaultLaws
 mod Filling
 pub mod KeyTexts
 mod NoValues

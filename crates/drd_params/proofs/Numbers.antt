@@ -2,13 +2,14 @@
 use Rattle.std.proofs.Common.{◌≡◌, ℕ, ◌+◌, ◌⊎◌, inl, inr, List, [], ◌∷◌, ◌++◌, length, drop, refl, sym, ap, subst, ◌∙◌, arith}
 use Rattle.std.proofs.lemmas.List.{drop_at}
 use Rattle.drd_plain.specs.dnw_codes.declared.error.DecodeError.{DecodeError}
-use Rattle.drd_plain.specs.dnw_codes.declared.error.DecodeError.TheVariants.{InsufficientBytes}
 use Rattle.drd_plain.specs.dnw_decoder.Octets.{octets_16, octets_32, Stands}
-use Rattle.drd_plain.specs.dnw_decoder.Reading.{IsWantOfMemory}
+use Rattle.drd_plain.specs.dnw_decoder.Reading.{IsCut, IsWantOfMemory}
 use Rattle.drd_plain.proofs.dnw_decoder_lemmas.Standing.{stands_joined, stands_split}
-use Rattle.drd_plain.specs.drd_fields.Fields.{Field, octet, short, long, name, string, strings, rest, Kind, an_octet, a_short, a_long, a_name, a_string, all_strings, the_rest, kinds_of, FieldsAt}
+use Rattle.drd_plain.specs.drd_fields.Fields.{Field, octet, short, long, name, string, strings, rest, Kind, an_octet, a_short, a_long, a_name, a_string, all_strings, the_rest, kind_of, kinds_of, FieldAt, FieldsAt}
 use Rattle.drd_plain.specs.drd_fields.Reading.{StopsReading}
 use Rattle.drd_plain.specs.drd_fields.Writing.{fields_octets}
+use Rattle.drd_params.specs.EntryLaws.{length-octets_32}
+use Rattle.drd_params.specs.Refusals.{IsShortOf}
 
 abbrev pub AreNumbers : List Kind → Type 0
 AreNumbers [] = Unit {0}
@@ -46,18 +47,49 @@ stand_numbers message place (string t ∷ fs) end are s = absurd are
 stand_numbers message place (strings ts ∷ fs) end are s = absurd are
 stand_numbers message place (rest o ∷ fs) end are s = absurd are
 
--- Where a number can't be read, the octets end too early.
-pub numbers_cause : (message : List ℕ) (end : ℕ) (ks : List Kind) (place : ℕ) (e : DecodeError) (at : ℕ) → AreNumbers ks → StopsReading message end ks place e at → IsWantOfMemory e ⊎ (e ≡ InsufficientBytes)
+-- How many octets a field of a kind takes.
+abbrev pub kind_size : Kind → ℕ
+kind_size an_octet = 1
+kind_size a_short = 2
+kind_size a_long = 4
+kind_size other = 0
+
+abbrev pub kinds_size : List Kind → ℕ
+kinds_size [] = 0
+kinds_size (k ∷ ks) = kind_size k + kinds_size ks
+
+field_behind : (message : List ℕ) (place : ℕ) (f : Field) (behind : ℕ) → AreNumbers (kind_of f ∷ []) → FieldAt message place f behind → behind ≡ place + kind_size (kind_of f)
+field_behind message place (octet n) behind are there = there.behind
+field_behind message place (short n) behind are there = there.behind
+field_behind message place (long n) behind are there = there.behind ∙ ap (λ (m : ℕ). place + m) (length-octets_32 n)
+field_behind message place (name n) behind are there = absurd are
+field_behind message place (string s) behind are there = absurd are
+field_behind message place (strings ss) behind are there = absurd are
+field_behind message place (rest o) behind are there = absurd are
+
+number_behind : (message : List ℕ) (place : ℕ) (f : Field) (k : Kind) (behind : ℕ) → AreNumbers (k ∷ []) → kind_of f ≡ k → FieldAt message place f behind → behind ≡ place + kind_size k
+number_behind message place f k behind are same there =
+    field_behind message place f behind (subst (λ (x : Kind). AreNumbers (x ∷ [])) (sym same) are) there ∙ ap (λ (x : Kind). place + kind_size x) same
+
+later_cut : (message : List ℕ) (place behind first later : ℕ) (e : DecodeError) → behind ≡ place + first → IsWantOfMemory e ⊎ IsCut later message behind e → IsWantOfMemory e ⊎ IsCut (first + later) message place e
+later_cut message place behind first later e is (inl m) = inl m
+later_cut message place behind first later e is (inr cut) = inr (cut.0, omega (arith, is, cut.1))
+
+-- Where a number can't be read, the octets end before the last one would.
+pub numbers_cause : (message : List ℕ) (end : ℕ) (ks : List Kind) (place : ℕ) (e : DecodeError) (at : ℕ) → AreNumbers ks → StopsReading message end ks place e at → IsWantOfMemory e ⊎ IsCut (kinds_size ks) message place e
 numbers_cause message end [] place e at are s = absurd s
 numbers_cause message end (an_octet ∷ ks) place e at are (inl (inl m, here)) = inl m
-numbers_cause message end (an_octet ∷ ks) place e at are (inl (inr cut, here)) = inr cut.0
-numbers_cause message end (an_octet ∷ ks) place e at are (inr (f, behind, same, there, later)) = numbers_cause message end ks behind e at are later
+numbers_cause message end (an_octet ∷ ks) place e at are (inl (inr cut, here)) = inr (cut.0, omega (arith, cut.1))
+numbers_cause message end (an_octet ∷ ks) place e at are (inr (f, behind, same, there, later)) =
+    later_cut message place behind 1 (kinds_size ks) e (number_behind message place f an_octet behind tt same there) (numbers_cause message end ks behind e at are later)
 numbers_cause message end (a_short ∷ ks) place e at are (inl (inl m, here)) = inl m
-numbers_cause message end (a_short ∷ ks) place e at are (inl (inr cut, here)) = inr cut.0
-numbers_cause message end (a_short ∷ ks) place e at are (inr (f, behind, same, there, later)) = numbers_cause message end ks behind e at are later
+numbers_cause message end (a_short ∷ ks) place e at are (inl (inr cut, here)) = inr (cut.0, omega (arith, cut.1))
+numbers_cause message end (a_short ∷ ks) place e at are (inr (f, behind, same, there, later)) =
+    later_cut message place behind 2 (kinds_size ks) e (number_behind message place f a_short behind tt same there) (numbers_cause message end ks behind e at are later)
 numbers_cause message end (a_long ∷ ks) place e at are (inl (inl m, here)) = inl m
-numbers_cause message end (a_long ∷ ks) place e at are (inl (inr cut, here)) = inr cut.0
-numbers_cause message end (a_long ∷ ks) place e at are (inr (f, behind, same, there, later)) = numbers_cause message end ks behind e at are later
+numbers_cause message end (a_long ∷ ks) place e at are (inl (inr cut, here)) = inr (cut.0, omega (arith, cut.1))
+numbers_cause message end (a_long ∷ ks) place e at are (inr (f, behind, same, there, later)) =
+    later_cut message place behind 4 (kinds_size ks) e (number_behind message place f a_long behind tt same there) (numbers_cause message end ks behind e at are later)
 numbers_cause message end (a_name ∷ ks) place e at are s = absurd are
 numbers_cause message end (a_string ∷ ks) place e at are s = absurd are
 numbers_cause message end (all_strings ∷ ks) place e at are s = absurd are
@@ -69,14 +101,14 @@ stands_first octets front behind is = record {
   behind = omega arith;
 }
 
--- Octets that no such numbers are read from begin with none.
-pub numbers-refused : {X : Type 0} (fields : X → List Field) (kinds : List Kind) (message : List ℕ) (place : ℕ) (octets : List ℕ) (e : DecodeError) → ((x : X) → AreNumbers (kinds_of (fields x))) → AreNumbers kinds → message ≡ octets → place ≡ 0 → ((end at : ℕ) × StopsReading message end kinds place e at) → IsWantOfMemory e ⊎ ((x : X) (end : ℕ) → FieldsAt message place (fields x) end → ⊥) → IsWantOfMemory e ⊎ ((e ≡ InsufficientBytes) × ((x : X) (behind : List ℕ) → octets ≡ fields_octets (fields x) ++ behind → ⊥))
+-- Octets that no such numbers are read from are fewer than they take, and begin with none.
+pub numbers-refused : {X : Type 0} (fields : X → List Field) (kinds : List Kind) (message : List ℕ) (place : ℕ) (octets : List ℕ) (e : DecodeError) → ((x : X) → AreNumbers (kinds_of (fields x))) → AreNumbers kinds → message ≡ octets → place ≡ 0 → ((end at : ℕ) × StopsReading message end kinds place e at) → IsWantOfMemory e ⊎ ((x : X) (end : ℕ) → FieldsAt message place (fields x) end → ⊥) → IsWantOfMemory e ⊎ (IsShortOf (kinds_size kinds) octets e × ((x : X) (behind : List ℕ) → octets ≡ fields_octets (fields x) ++ behind → ⊥))
 numbers-refused fields kinds message place octets e are kind_are same start stops (inl m) = inl m
 numbers-refused fields kinds message place octets e are kind_are same start stops (inr none) =
     elim (numbers_cause message stops.0 kinds place e stops.1 kind_are stops.2) [
       | inl m ↦ inl m
-      | inr cause ↦ inr (
-        cause,
+      | inr cut ↦ inr (
+        (cut.0, omega (arith, cut.1, ap length same, start)),
         λ x behind is.
             let front = fields_octets (fields x) in
             let here : FieldsAt octets 0 (fields x) (length front) = stand_numbers octets 0 (fields x) (length front) (are x) (stands_first octets front behind is) in

@@ -14,7 +14,7 @@ use Rattle.drd_params.specs.declared.value.SvcParamValue.{SvcParamValue}
 use Rattle.drd_params.proofs.Entries.{front-more}
 
 -- Octets begin with one parameter at most.
-part_same : (n m : ℕ) (u v xs ys : List ℕ) → n < 65536 → m < 65536 → length u < 65536 → length v < 65536 → part_octets n u ++ xs ≡ part_octets m v ++ ys → (n ≡ m) × (u ≡ v) × (xs ≡ ys)
+pub part_same : (n m : ℕ) (u v xs ys : List ℕ) → n < 65536 → m < 65536 → length u < 65536 → length v < 65536 → part_octets n u ++ xs ≡ part_octets m v ++ ys → (n ≡ m) × (u ≡ v) × (xs ≡ ys)
 part_same n m u v xs ys n_small m_small u_few v_few whole =
     let a : n / 256 % 256 ≡ m / 256 % 256 = cc whole in
     let b : n % 256 ≡ m % 256 = cc whole in
@@ -47,9 +47,9 @@ no-param-part octets e cut = (
   λ param after is_param is. cut.1 (key_number param.0) (value_octets param.1) after is_param.few is,
 )
 
-pub no-param-value : (octets : List ℕ) (e : DecodeError) (number : ℕ) (value behind : List ℕ) (key : SvcParamKey) → number < 65536 → length value < 65536 → octets ≡ part_octets number value ++ behind → key ≡ key_of number → key_number key ≡ number → NoValue key value e → NoParam octets e behind
-no-param-value octets e number value behind key small few at of is_number why = (
-  inr (key, value, subst (λ (n : ℕ). octets ≡ part_octets n value ++ behind) (sym is_number) at, why.0),
+pub no-param-value : (octets : List ℕ) (e : DecodeError) (number : ℕ) (value behind : List ℕ) (key : SvcParamKey) → number < 65536 → length value < 65536 → octets ≡ part_octets number value ++ behind → key ≡ key_of number → NoValue key value e → NoParam octets e behind
+no-param-value octets e number value behind key small few at of why = (
+  inr (record { number = number; value = value; small = small; few = few; there = at; cause = subst (λ (k : SvcParamKey). NoValue k value e) of why }),
   λ param after is_param is.
       let same = part_same number (key_number param.0) value (value_octets param.1) behind after small is_param.number few is_param.few (sym at ∙ is) in
       let same_key : param.0 ≡ key = is_param.key ∙ ap key_of (sym same.0) ∙ sym of in
@@ -107,7 +107,7 @@ left-fits octets found least left read = omega (arith, length-append (params_oct
 
 pub no-params : (octets : List ℕ) (found : List Param) (least : ℕ) (left : List ℕ) (e : DecodeError) (behind : List ℕ) → Read octets found least left → 0 < length left → NoParam left e behind → NoParams octets e behind
 no-params octets found least left e behind read some why = (
-  record { front = found; rest = left; least = least; rise = read.rise; parts = read.parts; cause = inl why.0 },
+  record { front = found; rest = left; least = least; rise = read.rise; parts = read.parts; some = some; cause = inl why.0 },
   λ params are whole.
       let later = read.ahead params are.0 are.1 whole in
       let first = begins later.0 least are.0 left some later.1 later.2 in
@@ -116,7 +116,7 @@ no-params octets found least left e behind read some why = (
 
 pub no-order : (octets : List ℕ) (found : List Param) (least : ℕ) (left : List ℕ) (p : Param) (behind : List ℕ) → Read octets found least left → 0 < length left → IsParam p → left ≡ param_octets p ++ behind → key_number p.0 < least → NoParams octets SvcParamsOutOfOrder behind
 no-order octets found least left p behind read some is at lt = (
-  record { front = found; rest = left; least = least; rise = read.rise; parts = read.parts; cause = inr (refl, p, is, at, lt) },
+  record { front = found; rest = left; least = least; rise = read.rise; parts = read.parts; some = some; cause = inr (refl, p, is, at, lt) },
   λ params are whole.
       let later = read.ahead params are.0 are.1 whole in
       let first = begins later.0 least are.0 left some later.1 later.2 in

@@ -45,7 +45,7 @@ key_laws = (
       refl whole).1,
 )
 
-length-octets_32 : (n : ℕ) → length (octets_32 n) ≡ 4
+pub length-octets_32 : (n : ℕ) → length (octets_32 n) ≡ 4
 unfolding octets_32
 length-octets_32 n = refl
 

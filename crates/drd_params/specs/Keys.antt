@@ -1,5 +1,5 @@
 -- Keys of parameters, their numbers and texts (RFC 9460 2.1, 14.3.2).
-use Rattle.std.specs.Prelude.{ℕ, ◌==◌, ◌&&◌, nat_le, ◌++◌, Bool, List, [], ◌∷◌, Option, if◌then◌else◌, unwrap_or, codes, find}
+use Rattle.std.specs.Prelude.{ℕ, ◌≡◌, ◌<◌, ◌==◌, ◌&&◌, nat_le, ◌++◌, Bool, List, [], ◌∷◌, Option, if◌then◌else◌, unwrap_or, codes, find}
 use Rattle.std.specs.Fmt.{decimal}
 use Rattle.std.specs.Option.{option_or, option_map}
 use Rattle.std.specs.Ordering.{on, nat_cmp}
@@ -32,6 +32,11 @@ abbrev pub key_of : ℕ → SvcParamKey
 key_of number =
     unwrap_or (find (λ named. key_number named == number) named_keys)
     (if nat_le 65280 number && nat_le number 65534 then Key number else Unknown number)
+
+-- A key is the one of its number, which 16 bits hold.
+pub record IsKey (key : SvcParamKey) : Type 0 where
+  pub small : key_number key < 65536
+  pub one : key ≡ key_of (key_number key)
 
 -- A key's name; those without one have the front of their text.
 abbrev pub key_name : SvcParamKey → List ℕ

@@ -7,7 +7,7 @@ use Rattle.drd_plain.specs.dnw_codes.declared.error.DecodeError.TheVariants.{Ins
 use Rattle.drd_plain.specs.dnw_decoder.Octets.{octets_16}
 use Rattle.drd_params.specs.Keys.{key_number, key_of}
 use Rattle.drd_params.specs.Values.{IsValueOf, value_octets}
-use Rattle.drd_params.specs.Refusals.{RefusesValue}
+use Rattle.drd_params.specs.Refusals.{NoValue}
 use Rattle.drd_params.specs.declared.key.SvcParamKey.{SvcParamKey}
 use Rattle.drd_params.specs.declared.value.SvcParamValue.{SvcParamValue}
 
@@ -47,13 +47,21 @@ BeginsNoPart octets =
     (number : ℕ) (value behind : List ℕ) → length value < 65536
     → octets ≡ part_octets number value ++ behind → ⊥
 
+-- The first parameter is whole, and its value is refused as one of its key.
+pub record HasNoValue (octets : List ℕ) (e : DecodeError) (behind : List ℕ) : Type 0 where
+  pub number : ℕ
+  pub value : List ℕ
+  pub small : number < 65536
+  pub few : length value < 65536
+  pub there : octets ≡ part_octets number value ++ behind
+  pub cause : NoValue (key_of number) value e
+
 -- The first parameter is cut, and all octets are left, or its value is refused, and those behind it
 -- are left.
 abbrev pub RefusesParam : List ℕ → DecodeError → List ℕ → Type 0
 RefusesParam octets e behind =
     ((e ≡ InsufficientBytes) × BeginsNoPart octets × (behind ≡ octets))
-    ⊎ ((key : SvcParamKey) × (value : List ℕ)
-    × (octets ≡ part_octets (key_number key) value ++ behind) × RefusesValue key value e)
+    ⊎ HasNoValue octets e behind
 
 -- The first parameter is refused, and octets begin with none.
 abbrev pub NoParam : List ℕ → DecodeError → List ℕ → Type 0
@@ -68,13 +76,15 @@ IsOutOfOrder least octets e behind =
     × (param : Param) × IsParam param × (octets ≡ param_octets param ++ behind)
     × (key_number param.0 < least)
 
--- Behind parameters whose keys rise, one is refused, or its key is out of order.
+-- Behind parameters whose keys rise, some octets are left. The first parameter there is refused, or
+-- its key is out of order.
 pub record RefusesParams (octets : List ℕ) (e : DecodeError) (behind : List ℕ) : Type 0 where
   pub front : List Param
   pub rest : List ℕ
   pub least : ℕ
   pub rise : Rise 0 front least
   pub parts : params_octets front ++ rest ≡ octets
+  pub some : 0 < length rest
   pub cause : RefusesParam rest e behind ⊎ IsOutOfOrder least rest e behind
 
 -- The octets are refused as parameters, and are none.

@@ -5,7 +5,7 @@ use Rattle.drd_plain.specs.dnw_codes.declared.error.DecodeError.{DecodeError}
 use Rattle.drd_plain.specs.dnw_decoder.Octets.{Stands, octets_16}
 use Rattle.drd_plain.specs.dnw_decoder.Reading.{IsWantOfMemory}
 use Rattle.drd_params.specs.Keys.{key_number, key_of}
-use Rattle.drd_params.specs.Refusals.{RefusesValue}
+use Rattle.drd_params.specs.Refusals.{RefusesNext, RefusesValue}
 use Rattle.drd_params.specs.Values.{IsValueOf, value_octets}
 use Rattle.drd_params.specs.declared.key.SvcParamKey.{SvcParamKey}
 use Rattle.drd_params.specs.declared.value.SvcParamValue.{SvcParamValue}
@@ -25,6 +25,14 @@ RefusesAt key message place e =
     IsWantOfMemory e
     ⊎ ((octets : List ℕ) × FillsMessage message place octets (length message)
     × RefusesValue key octets e)
+
+-- A growth was refused, or the octets are none of these entries, one behind the other.
+abbrev pub RefusesListAt : {T : Type 0} → (T → List ℕ) → (List ℕ → DecodeError → Type 0) → List ℕ
+    → ℕ → DecodeError → Type 0
+RefusesListAt spelled refuses message place e =
+    IsWantOfMemory e
+    ⊎ ((octets : List ℕ) × FillsMessage message place octets (length message)
+    × RefusesNext spelled refuses octets e)
 
 -- The key whose number stands there.
 pub record KeyAt (message : List ℕ) (place : ℕ) (key : SvcParamKey) (end : ℕ) : Type 0 where

@@ -8,13 +8,20 @@ use Rattle.drd_plain.specs.drd_fields.Writing.{string_octets, fields_octets}
 use Rattle.drd_plain.specs.Fields.{a_fields, aaaa_fields}
 use Rattle.drd_plain.specs.declared.a.A.{A}
 use Rattle.drd_plain.specs.declared.aaaa.AAAA.{AAAA}
-use Rattle.drd_params.specs.Keys.{key_number}
+use Rattle.drd_params.specs.Keys.{key_number, IsKey}
 use Rattle.drd_params.specs.declared.key.SvcParamKey.{SvcParamKey}
 use Rattle.drd_params.specs.declared.key.SvcParamKey.TheVariants as key
 use Rattle.drd_params.specs.declared.value.SvcParamValue.{SvcParamValue}
 use Rattle.drd_params.specs.declared.value.SvcParamValue.TheVariants as value
 
--- The octets of an address, as in the data of its own type.
+-- The octets of a key, of a text behind its length, and of an address, as in the data of its own
+-- type.
+abbrev pub key_octets : SvcParamKey → List ℕ
+key_octets key = octets_16 (key_number key)
+
+abbrev pub text_octets : String Global → List ℕ
+text_octets text = string_octets (string_bytes text)
+
 abbrev pub a_octets : A → List ℕ
 a_octets a = fields_octets (a_fields a)
 
@@ -24,9 +31,8 @@ aaaa_octets aaaa = fields_octets (aaaa_fields aaaa)
 -- The octets of a value: keys, strings behind their lengths, a port, addresses, or octets as they
 -- are.
 abbrev pub value_octets : SvcParamValue → List ℕ
-value_octets (value.Mandatory mandatory) =
-    flat_map (λ k. octets_16 (key_number k)) mandatory.0.items
-value_octets (value.Alpn alpn) = flat_map (λ text. string_octets (string_bytes text)) alpn.0.items
+value_octets (value.Mandatory mandatory) = flat_map key_octets mandatory.0.items
+value_octets (value.Alpn alpn) = flat_map text_octets alpn.0.items
 value_octets value.NoDefaultAlpn = []
 value_octets (value.Port port) = octets_16 port
 value_octets (value.Ipv4Hint hint) = flat_map a_octets hint.0.items
@@ -42,10 +48,11 @@ IsUnknown other = ⊥
 abbrev pub IsShortText : String Global → Type 0
 IsShortText text = length (string_bytes text) ≤ 255
 
--- A value is one of its key. Lists of keys and of protocols are not empty, and a protocol has at
--- most 255 octets.
+-- A value is one of its key. Lists of keys and of protocols are not empty, each key is the one of
+-- its number, and a protocol has at most 255 octets.
 abbrev pub IsValueOf : SvcParamKey → SvcParamValue → Type 0
-IsValueOf key.Mandatory (value.Mandatory mandatory) = 0 < length mandatory.0.items
+IsValueOf key.Mandatory (value.Mandatory mandatory) =
+    (0 < length mandatory.0.items) × All IsKey mandatory.0.items
 IsValueOf key.Alpn (value.Alpn alpn) = (0 < length alpn.0.items) × All IsShortText alpn.0.items
 IsValueOf key.NoDefaultAlpn value.NoDefaultAlpn = Unit {0}
 IsValueOf key.Port (value.Port port) = Unit {0}

@@ -1,8 +1,8 @@
 //! Addresses in lists.
 ghost use Rattle.std.specs.Prelude.{◌≡◌, ◌++◌, ◌⊎◌, List, length, IfOk, IfErr};
-ghost use Rattle.drd_plain.specs.dnw_codes.declared.error.DecodeError.TheVariants.{InsufficientBytes};
 ghost use Rattle.drd_plain.specs.Print.{a_print, aaaa_print};
 ghost use Rattle.drd_params.specs.Hashing.{one_write};
+ghost use Rattle.drd_params.specs.Refusals.{IsShortOf};
 ghost use Rattle.drd_params.specs.Texts.{IsAEntry, IsAaaaEntry};
 ghost use Rattle.drd_params.specs.Values.{a_octets, aaaa_octets};
 
@@ -21,7 +21,9 @@ impl Entry for A {
 
     ghost spelled = { a_octets };
 
-    ghost refuses = { λ e. e ≡ InsufficientBytes };
+    ghost valid = { λ a. Unit {0} };
+
+    ghost refuses = { IsShortOf 4 };
 
     ghost too_long = { λ a e. ⊥ };
 
@@ -95,7 +97,9 @@ impl Entry for AAAA {
 
     ghost spelled = { aaaa_octets };
 
-    ghost refuses = { λ e. e ≡ InsufficientBytes };
+    ghost valid = { λ aaaa. Unit {0} };
+
+    ghost refuses = { IsShortOf 16 };
 
     ghost too_long = { λ a e. ⊥ };
 

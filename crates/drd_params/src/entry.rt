@@ -1,14 +1,15 @@
 //! Values that are lists: keys, strings and addresses, one behind the other.
-ghost use Rattle.std.specs.Prelude.{◌≡◌, ◌++◌, ◌⊎◌, List, length, IfOk, IfErr};
+ghost use Rattle.std.specs.Prelude.{◌≡◌, ◌++◌, ◌⊎◌, List, length, All, IfOk, IfErr};
 ghost use Rattle.std.specs.List.{flat_map};
 ghost use Rattle.std.specs.String.{string_bytes};
-ghost use Rattle.drd_plain.specs.dnw_codes.declared.error.DecodeError.TheVariants.{InsufficientBytes, Utf8};
 ghost use Rattle.drd_plain.specs.dnw_decoder.Reading.{IsWantOfMemory};
 ghost use Rattle.drd_plain.specs.dnw_decoder.Octets.{octets_16};
 ghost use Rattle.drd_plain.specs.drd_fields.Writing.{IsTooLong, string_octets};
-ghost use Rattle.drd_params.specs.Keys.{key_number, key_text};
+ghost use Rattle.drd_params.specs.Keys.{key_number, key_text, IsKey};
 ghost use Rattle.drd_params.specs.Hashing.{one_write, string_write};
+ghost use Rattle.drd_params.specs.Refusals.{IsShortOf, RefusesNext, RefusesText};
 ghost use Rattle.drd_params.specs.Texts.{IsKeyText, IsProtocolText};
+ghost use Rattle.drd_params.specs.Values.{IsShortText};
 
 use crate::key::SvcParamKey;
 use crate::write::{append, append_short};
@@ -37,8 +38,11 @@ pub trait Entry: Sized + Drop {
     // The octets of an entry.
     ghost spelled: { Self → List ℕ };
 
+    // What holds of an entry that is read.
+    ghost valid: { Self → Type 0 };
+
     // Why octets begin with none.
-    ghost refuses: { Error → Type 0 };
+    ghost refuses: { List ℕ → Error → Type 0 };
 
     // Why an entry can't be written.
     ghost too_long: { Self → WriteError → Type 0 };
@@ -62,8 +66,9 @@ pub trait Entry: Sized + Drop {
     /// The entry that octets begin with, and those behind it.
     fn split(alloc: Global, octets: &[u8]) -> Result<(Self, &[u8]), DecodeError>
         ensures ok { IfOk result (λ found. octets.now ≡ spelled found.0 ++ found.1.now) }
+        ensures valid { IfOk result (λ found. valid found.0) }
         ensures refused { IfErr result (λ e. IsWantOfMemory e
-            ⊎ (refuses e × ((entry : Self) (behind : List ℕ) → octets.now ≡ spelled entry ++ behind → ⊥))) };
+            ⊎ (refuses octets.now e × ((entry : Self) (behind : List ℕ) → octets.now ≡ spelled entry ++ behind → ⊥))) };
 
     /// Puts the entry behind octets.
     fn append(&self, octets: &mut Vec<u8>) -> Result<(), ProtoError>
@@ -108,7 +113,9 @@ impl Entry for SvcParamKey {
 
     ghost spelled = { λ key. octets_16 (key_number key) };
 
-    ghost refuses = { λ e. e ≡ InsufficientBytes };
+    ghost valid = { IsKey };
+
+    ghost refuses = { IsShortOf 2 };
 
     ghost too_long = { λ key e. ⊥ };
 
@@ -177,7 +184,9 @@ impl Entry for String {
 
     ghost spelled = { λ text. string_octets (string_bytes text) };
 
-    ghost refuses = { λ e. (e ≡ InsufficientBytes) ⊎ (e ≡ Utf8) };
+    ghost valid = { IsShortText };
+
+    ghost refuses = { RefusesText };
 
     ghost too_long = { λ text e. IsTooLong (string_bytes text) e };
 
@@ -266,8 +275,10 @@ impl Entry for String {
 /// The entries that octets hold, one behind the other.
 pub(crate) fn read_all<T: Entry>(alloc: Global, octets: &[u8]) -> Result<Vec<T>, DecodeError>
     ensures ok { IfOk result (λ found. flat_map T.spelled found.items ≡ octets.now) }
+    ensures valid { IfOk result (λ found. All T.valid found.items) }
     ensures refused { IfErr result (λ e. IsWantOfMemory e
-        ⊎ (T.refuses e × ((entries : List T) → flat_map T.spelled entries ≡ octets.now → ⊥))) }
+        ⊎ (RefusesNext T.spelled T.refuses octets.now e
+        × ((entries : List T) → flat_map T.spelled entries ≡ octets.now → ⊥))) }
 {
     let mut found = Vec::new(alloc);
     let mut left = octets;

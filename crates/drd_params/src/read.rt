@@ -5,7 +5,7 @@ ghost use Rattle.drd_plain.specs.dnw_decoder.Octets.{Stands};
 ghost use Rattle.drd_plain.specs.dnw_decoder.Reading.{IsCut, IsWantOfMemory};
 ghost use Rattle.drd_params.specs.declared.key.SvcParamKey.TheVariants as of;
 ghost use Rattle.drd_params.specs.declared.value.SvcParamValue.TheVariants as value;
-ghost use Rattle.drd_params.specs.Reading.{FillsMessage, KeyAt, RefusesAt, ValueAt};
+ghost use Rattle.drd_params.specs.Reading.{FillsMessage, KeyAt, RefusesAt, RefusesListAt, ValueAt};
 
 use crate::entry::{Entry, read_all};
 use crate::key::SvcParamKey;
@@ -79,7 +79,7 @@ impl BinDecodable for Alpn {
 impl<T: Entry> BinDecodable for IpHint<T> {
     ghost reads = { λ message place hint end. FillsMessage message place (flat_map T.spelled hint.0.items) end };
 
-    ghost refuses = { λ message place e. IsWantOfMemory e ⊎ T.refuses e };
+    ghost refuses = { RefusesListAt T.spelled T.refuses };
 
     /// The addresses up to the end.
     fn read(alloc: Global, decoder: &mut BinDecoder<'_>) -> Result<IpHint<T>, DecodeError> {

@@ -1,5 +1,10 @@
 -- What is read where data were written has the same canonical octets.
-use Rattle.std.proofs.Common.{◌≡◌, ℕ, ◌++◌, Bool, true, false, List, [], ◌∷◌, map, refl, sym, ap, subst, ◌∙◌, arith}
+use Rattle.std.proofs.Common.{◌≡◌, ℕ, ◌+◌, ◌++◌, inl, inr, Bool, true, false, List, [], ◌∷◌, map, refl, sym, ap, subst, ◌∙◌, arith}
+use Rattle.std.proofs.lemmas.List.Elements.{All-nil}
+use Rattle.std.specs.List.{All}
+use Rattle.std.specs.Prelude.{Result, Ok, Err, IfOk}
+use Rattle.dnw_codes.specs.RecordType.{record_type_number}
+use Rattle.dnw_codes.specs.declared.error.DecodeError.{DecodeError}
 use Rattle.dnw_codes.specs.declared.record_type.RecordType.{RecordType}
 use Rattle.dnw_codes.specs.declared.record_type.RecordType.TheVariants as kind
 use Rattle.drd_types.specs.dnw_decoder.Octets.{octets_16, octets_32, Stands}
@@ -8,32 +13,31 @@ use Rattle.drd_types.specs.dnw_encoder.Effects.{Sound, StaysTrue}
 use Rattle.drd_types.specs.dnw_encoder.State.{State, rdata_encoding}
 use Rattle.drd_types.specs.dnw_encoder.declared.modes.NameEncoding.{NameEncoding}
 use Rattle.drd_types.specs.dnw_encoder.declared.modes.NameEncoding.TheVariants.{Uncompressed}
-use Rattle.drd_types.specs.dnw_encoder.declared.modes.RDataEncoding.TheVariants.{StandardRecord, Canonical, Other}
+use Rattle.drd_types.specs.dnw_encoder.declared.modes.RDataEncoding.TheVariants.{Other}
 use Rattle.drd_types.specs.dnw_wire.BitMapLaws.{maps_rise, read_once}
 use Rattle.drd_types.specs.dnw_wire.MapOrder.{tight_maps}
 use Rattle.drd_types.specs.dnw_wire.MapOrderLaws.{tight_written}
 use Rattle.drd_types.specs.drd_fields.Fields.{rest, FieldsAt}
 use Rattle.drd_types.proofs.drd_fields_lemmas.BackLaws.{fields_back, fields_full}
 use Rattle.drd_types.specs.drd_fields.Equality.{Tells}
-use Rattle.drd_types.specs.drd_fields.Writing.{canonical_octets, fields_octets}
-use Rattle.drd_svcb.specs.drd_plain.Fields.{a_fields, aaaa_fields, hinfo_fields, naptr_fields, txt_fields}
-use Rattle.drd_types.specs.drd_names.Fields.{aname_fields, cname_fields, mx_fields, ns_fields, ptr_fields, soa_fields, srv_fields}
-use Rattle.drd_types.specs.drd_keys.Fields.{cert_fields, null_fields, openpgpkey_fields, smimea_fields, sshfp_fields, tlsa_fields}
-use Rattle.drd_types.specs.drd_caa.Fields.{caa_fields}
+use Rattle.drd_types.specs.drd_fields.Writing.{canonical_octets, encoded_fields, fields_octets}
 use Rattle.drd_svcb.specs.Fields.{svcb_fields}
 use Rattle.drd_types.specs.drd_csync.Data.{csync_fields, csync_flags, CsyncAt}
 use Rattle.drd_types.specs.drd_csync.declared.csync.CSYNC.{CSYNC}
 use Rattle.drd_types.proofs.drd_opt_lemmas.BackLaws.{read_back}
 use Rattle.drd_types.proofs.drd_opt_lemmas.FitLaws.{read_fit}
-use Rattle.drd_types.specs.drd_opt.Entries.{RawOption, raw_octets, raw_of, entries_octets, options_octets}
+use Rattle.drd_types.specs.drd_opt.Entries.{Entry, FitsLengths, RawOption, raw_octets, raw_of, entries_octets, options_octets}
 use Rattle.drd_types.specs.drd_opt.Order.{sorted_by, canonical_entries}
 use Rattle.drd_types.specs.drd_opt.Reading.{EntriesAt, HoldsEntries}
 use Rattle.drd_types.specs.drd_opt.declared.opt.OPT.{OPT}
 use Rattle.drd_types.specs.drd_order.Order.{octets_cmp}
 use Rattle.std.specs.Ordering.{on}
-use Rattle.drd_rdata.specs.Reading.{HoldsAs}
-use Rattle.drd_rdata.specs.Order.{HasCanonical, type_number, data_form}
+use Rattle.drd_rdata.specs.Fields.{encoding_of, rdata_fields}
+use Rattle.drd_rdata.specs.Reading.{RDataAt, HoldsAs, ReadsAs}
+use Rattle.drd_rdata.specs.Types.{Is, type_of}
+use Rattle.drd_rdata.specs.Order.{HasCanonical, canonical_data, type_number, data_form}
 use Rattle.drd_rdata.specs.Writing.{EmitsRData, StandsWritten}
+use Rattle.drd_rdata.proofs.Rows.{is_plain, kinds_ordered, plain_there, row_forms, same_kinds, to_row}
 use Rattle.drd_rdata.specs.declared.rdata.RData.{RData}
 use Rattle.drd_rdata.specs.declared.rdata.RData.TheVariants as rdata
 
@@ -54,33 +58,18 @@ pub alike_equal : (v w : RData) (same : Bool) → Alike v w → ((xs ys : List �
 alike_equal v w same a tells = told same a.octets (tells a.octets a.octets a.number a.own a.first a.second)
 
 -- Where data were written there stand the same as an encoder's clause says, in its form of names.
-pub emitted_stands : (v : RData) (old new : State) → Sound old → EmitsRData v old new → (encoding : NameEncoding) × StaysTrue new new.offset (λ message. StandsWritten v encoding message old.offset new.offset)
-emitted_stands (rdata.A a) old new sound e = (rdata_encoding Other old.canonical old.encoding, e.stays sound)
-emitted_stands (rdata.AAAA aaaa) old new sound e = (rdata_encoding Other old.canonical old.encoding, e.stays sound)
-emitted_stands (rdata.ANAME aname) old new sound e = (rdata_encoding Other old.canonical old.encoding, e.stays sound)
-emitted_stands (rdata.CAA caa) old new sound e = (rdata_encoding Other old.canonical old.encoding, e.stays sound)
-emitted_stands (rdata.CERT cert) old new sound e = (rdata_encoding Other old.canonical old.encoding, e.stays sound)
-emitted_stands (rdata.CNAME cname) old new sound e = (rdata_encoding StandardRecord old.canonical old.encoding, e.stays sound)
+pub emitted_stands : (v : RData) (old new : State) → Sound old → EmitsRData v old new
+    → (encoding : NameEncoding)
+    × StaysTrue new new.offset (λ message. StandsWritten v encoding message old.offset new.offset)
 emitted_stands (rdata.CSYNC csync) old new sound e = (Uncompressed, e.stays sound)
-emitted_stands (rdata.HINFO hinfo) old new sound e = (rdata_encoding Other old.canonical old.encoding, e.stays sound)
-emitted_stands (rdata.HTTPS https) old new sound e = (rdata_encoding Other old.canonical old.encoding, e.stays sound)
-emitted_stands (rdata.MX mx) old new sound e = (rdata_encoding StandardRecord old.canonical old.encoding, e.stays sound)
-emitted_stands (rdata.NAPTR naptr) old new sound e = (rdata_encoding Canonical old.canonical old.encoding, e.stays sound)
-emitted_stands (rdata.NULL null) old new sound e = (rdata_encoding Other old.canonical old.encoding, e.stays sound)
-emitted_stands (rdata.NS ns) old new sound e = (rdata_encoding StandardRecord old.canonical old.encoding, e.stays sound)
-emitted_stands (rdata.OPENPGPKEY openpgpkey) old new sound e = (rdata_encoding Other old.canonical old.encoding, e.stays sound)
-emitted_stands (rdata.OPT opt) old new sound e = (rdata_encoding Other old.canonical old.encoding, e.0.stays sound)
-emitted_stands (rdata.PTR ptr) old new sound e = (rdata_encoding StandardRecord old.canonical old.encoding, e.stays sound)
-emitted_stands (rdata.SMIMEA smimea) old new sound e = (rdata_encoding Other old.canonical old.encoding, e.stays sound)
-emitted_stands (rdata.SOA soa) old new sound e = (rdata_encoding StandardRecord old.canonical old.encoding, e.stays sound)
-emitted_stands (rdata.SRV srv) old new sound e = (rdata_encoding Canonical old.canonical old.encoding, e.stays sound)
-emitted_stands (rdata.SSHFP sshfp) old new sound e = (rdata_encoding Other old.canonical old.encoding, e.stays sound)
-emitted_stands (rdata.SVCB svcb) old new sound e = (rdata_encoding Other old.canonical old.encoding, e.stays sound)
-emitted_stands (rdata.TLSA tlsa) old new sound e = (rdata_encoding Other old.canonical old.encoding, e.stays sound)
-emitted_stands (rdata.TXT txt) old new sound e = (rdata_encoding Other old.canonical old.encoding, e.stays sound)
-emitted_stands (rdata.Unknown code null) old new sound e = (rdata_encoding Other old.canonical old.encoding, e.stays sound)
-emitted_stands (rdata.Update0 code) old new sound e = (Uncompressed, record { of = λ later a. ap (λ (s : State). s.offset) e })
-emitted_stands rdata.ZERO old new sound e = (Uncompressed, record { of = λ later a. ap (λ (s : State). s.offset) e })
+emitted_stands (rdata.OPT opt) old new sound e =
+    (rdata_encoding Other old.canonical old.encoding, e.0.stays sound)
+emitted_stands (rdata.Update0 code) old new sound e =
+    (Uncompressed, record { of = λ later a. ap (λ (s : State). s.offset) e })
+emitted_stands rdata.ZERO old new sound e =
+    (Uncompressed, record { of = λ later a. ap (λ (s : State). s.offset) e })
+emitted_stands v old new sound e =
+    (rdata_encoding (encoding_of v) old.canonical old.encoding, e.stays sound)
 
 -- Sets of types at one place are the same, and so are what stands before them.
 sets_back : (message : List ℕ) (place end : ℕ) (a b : CSYNC) → CsyncAt message place a end → CsyncAt message place b end → (fields_octets (csync_fields a (tight_maps a.type_bit_maps)) ≡ fields_octets (csync_fields b (tight_maps b.type_bit_maps))) × (a.type_bit_maps ≡ b.type_bit_maps)
@@ -96,236 +85,124 @@ sets_back message place end a b s t =
       types,
     )
 
-set_alike : (message : List ℕ) (place end : ℕ) (a b : CSYNC) → CsyncAt message place a end → CsyncAt message place b end → Alike (rdata.CSYNC a) (rdata.CSYNC b)
-set_alike message place end a b s t =
-    let back = sets_back message place end a b s t in
-    record {
-      octets = fields_octets (csync_fields a (tight_maps a.type_bit_maps));
-      first = (tight_maps a.type_bit_maps, tight_written a.type_bit_maps (maps_rise 0 s.octets a.type_bit_maps (omega arith) s.maps), refl);
-      second = (tight_maps b.type_bit_maps, tight_written b.type_bit_maps (maps_rise 0 t.octets b.type_bit_maps (omega arith) t.maps), back.0);
-      number = refl;
-      own = refl;
-    }
+-- Data that stand somewhere have canonical octets.
+pub has_canonical : (message : List ℕ) (place : ℕ) (value : RData) (end : ℕ)
+    → RDataAt message place value end → HasCanonical value (canonical_data value)
+has_canonical message place (rdata.CSYNC csync) end there = (
+  tight_maps csync.type_bit_maps,
+  tight_written csync.type_bit_maps
+      (maps_rise 0 there.octets csync.type_bit_maps (omega arith) there.maps),
+  refl,
+)
+has_canonical message place (rdata.HTTPS https) end there =
+    (fields_full message place (svcb_fields https.0) end there.0, there.1, refl)
+has_canonical message place (rdata.OPT opt) end there =
+    (read_fit there.octets opt.options.items there.holds, refl)
+has_canonical message place (rdata.SVCB svcb) end there =
+    (fields_full message place (svcb_fields svcb) end there.0, there.1, refl)
+has_canonical message place (rdata.Update0 code) end there = absurd there.1
+has_canonical message place rdata.ZERO end there = absurd there.1
+has_canonical message place value end there =
+    (fields_full message place (rdata_fields value) end there.0, refl)
 
-options_alike : (source message : List ℕ) (place end : ℕ) (a b : OPT) → HoldsEntries source a.options.items → FieldsAt message place (rest (entries_octets a.options.items) ∷ []) end → EntriesAt message place b.options.items end → Alike (rdata.OPT a) (rdata.OPT b)
-options_alike source message place end a b held written found =
+pub read_canonical : (t : RecordType) (message : List ℕ) (place len : ℕ) (value : RData)
+    → ReadsAs t message place len value → HasCanonical value (canonical_data value)
+read_canonical kind.OPT message place len value (inl none) =
+    subst (λ (v : RData). HasCanonical v (canonical_data v)) (sym none.1.1) (
+      subst (λ (es : List Entry). All FitsLengths (map raw_of es)) (sym none.1.2)
+          (All-nil FitsLengths),
+      refl,
+    )
+read_canonical t message place len value (inr some) =
+    has_canonical message place value (place + len) some.1.1
+read_canonical t message place len value (inl none) =
+    subst (λ (v : RData). HasCanonical v (canonical_data v)) (sym none.1) (tt, refl)
+
+pub ok_canonical : (t : RecordType) (message : List ℕ) (place len : ℕ)
+    (r : Result RData DecodeError)
+    → IfOk r (λ value. HoldsAs t message place value (place + len))
+    → IfOk r (λ value. HasCanonical value (canonical_data value))
+ok_canonical t message place len (Ok value) held =
+    has_canonical message place value (place + len) held.1
+ok_canonical t message place len (Err e) held = held
+
+plain_canonical : (value : RData) → is_plain (type_of value) ≡ true
+    → canonical_data value ≡ canonical_octets (rdata_fields value)
+plain_canonical (rdata.OPT opt) plain = absurd (cc plain)
+plain_canonical value plain = refl
+
+plain_written : (value : RData) (encoding : NameEncoding) (message : List ℕ) (place end : ℕ)
+    → is_plain (type_of value) ≡ true → StandsWritten value encoding message place end
+    → FieldsAt message place (encoded_fields encoding (rdata_fields value)) end
+plain_written (rdata.CSYNC csync) encoding message place end plain written = absurd (cc plain)
+plain_written value encoding message place end plain written = written
+
+-- What was written and what is read there have the same canonical octets.
+sets_same : (message : List ℕ) (place end : ℕ) (v w : RData)
+    → Is rdata.CSYNC (λ csync. CsyncAt message place csync end) v
+    → Is rdata.CSYNC (λ csync. CsyncAt message place csync end) w
+    → canonical_data v ≡ canonical_data w
+sets_same message place end v w a b =
+    ap canonical_data a.1 ∙ (sets_back message place end a.0 b.0 a.2 b.2).0
+    ∙ sym (ap canonical_data b.1)
+
+options_same : (source message : List ℕ) (place end : ℕ) (a b : OPT)
+    → HoldsEntries source a.options.items
+    → FieldsAt message place (rest (entries_octets a.options.items) ∷ []) end
+    → EntriesAt message place b.options.items end
+    → canonical_entries a.options.items ≡ canonical_entries b.options.items
+options_same source message place end a b held written found =
     let ends : written.0 ≡ end = sym written.2 in
-    let octets = stands_same message place (entries_octets a.options.items) found.octets written.0 end (omega (arith, ends, written.1.behind, found.there.behind)) written.1 found.there in
-    let holds : HoldsEntries (entries_octets a.options.items) b.options.items = subst (λ (o : List ℕ). HoldsEntries o b.options.items) (sym octets.0) found.holds in
-    let same : map raw_of b.options.items ≡ map raw_of a.options.items = read_back source a.options.items b.options.items held holds in
-    record {
-      octets = canonical_entries a.options.items;
-      first = (read_fit source a.options.items held, refl);
-      second = (read_fit found.octets b.options.items found.holds, ap (λ (raws : List RawOption). options_octets (sorted_by (on raw_octets octets_cmp) raws)) (sym same));
-      number = refl;
-      own = refl;
-    }
+    let octets =
+    stands_same message place (entries_octets a.options.items) found.octets written.0 end
+    (omega (arith, ends, written.1.behind, found.there.behind)) written.1 found.there in
+    let holds : HoldsEntries (entries_octets a.options.items) b.options.items =
+    subst (λ (o : List ℕ). HoldsEntries o b.options.items) (sym octets.0) found.holds in
+    let same : map raw_of b.options.items ≡ map raw_of a.options.items =
+    read_back source a.options.items b.options.items held holds in
+    ap (λ (raws : List RawOption). options_octets (sorted_by (on raw_octets octets_cmp) raws))
+    (sym same)
+
+written_same : (t : RecordType) (source : List ℕ) (start stop : ℕ) (v w : RData)
+    (encoding : NameEncoding) (message : List ℕ) (place end : ℕ)
+    → HoldsAs t source start v stop → StandsWritten v encoding message place end
+    → HoldsAs t message place w end → canonical_data v ≡ canonical_data w
+written_same kind.CSYNC source start stop v w encoding message place end held written found =
+    let a = to_row kind.CSYNC source start v stop held in
+    let there : CsyncAt message place a.0 end =
+    subst (λ (x : RData). StandsWritten x encoding message place end) a.1 written in
+    sets_same message place end v w (a.0, a.1, there) (to_row kind.CSYNC message place w end found)
+written_same kind.OPT source start stop v w encoding message place end held written found =
+    let a = to_row kind.OPT source start v stop held in
+    let b = to_row kind.OPT message place w end found in
+    let there : FieldsAt message place (rest (entries_octets a.0.options.items) ∷ []) end =
+    subst (λ (x : RData). StandsWritten x encoding message place end) a.1 written in
+    ap canonical_data a.1
+    ∙ options_same a.2.octets message place end a.0 b.0 a.2.holds there b.2
+    ∙ sym (ap canonical_data b.1)
+written_same t source start stop v w encoding message place end held written found =
+    let a = plain_there source start v stop held.1 (ap is_plain held.0) in
+    let b = plain_there message place w end found.1 (ap is_plain found.0) in
+    plain_canonical v (ap is_plain held.0)
+    ∙ fields_back message place encoding (rdata_fields v) (rdata_fields w) end
+    (same_kinds v w a.1 b.1 (held.0 ∙ sym found.0)) (kinds_ordered v a.1)
+    (plain_written v encoding message place end (ap is_plain held.0) written) b.0
+    ∙ sym (plain_canonical w (ap is_plain found.0))
 
 -- What was read for a type and written is read there for it with the same canonical octets.
-pub alike : (t : RecordType) (source : List ℕ) (start stop : ℕ) (v w : RData) (encoding : NameEncoding) (message : List ℕ) (place end : ℕ) → HoldsAs t source start v stop → StandsWritten v encoding message place end → HoldsAs t message place w end → Alike v w
-alike kind.A source start stop v w encoding message place end held written found =
-    let same = fields_back message place encoding (a_fields held.0) (a_fields found.0) end refl ((λ o. absurd (cc o)), tt) (rw held.1 at written) found.2 in
-    subst (λ (x : RData). Alike x w) (sym held.1) (subst (λ (x : RData). Alike (rdata.A held.0) x) (sym found.1) (record {
-      octets = canonical_octets (a_fields found.0);
-      first = (fields_full source start (a_fields held.0) stop held.2, sym same);
-      second = (fields_full message place (a_fields found.0) end found.2, refl);
-      number = refl;
-      own = refl;
-    }))
-alike kind.AAAA source start stop v w encoding message place end held written found =
-    let same = fields_back message place encoding (aaaa_fields held.0) (aaaa_fields found.0) end refl ((λ o. absurd (cc o)), ((λ o. absurd (cc o)), ((λ o. absurd (cc o)), ((λ o. absurd (cc o)), ((λ o. absurd (cc o)), ((λ o. absurd (cc o)), ((λ o. absurd (cc o)), ((λ o. absurd (cc o)), tt)))))))) (rw held.1 at written) found.2 in
-    subst (λ (x : RData). Alike x w) (sym held.1) (subst (λ (x : RData). Alike (rdata.AAAA held.0) x) (sym found.1) (record {
-      octets = canonical_octets (aaaa_fields found.0);
-      first = (fields_full source start (aaaa_fields held.0) stop held.2, sym same);
-      second = (fields_full message place (aaaa_fields found.0) end found.2, refl);
-      number = refl;
-      own = refl;
-    }))
-alike kind.ANAME source start stop v w encoding message place end held written found =
-    let same = fields_back message place encoding (aname_fields held.0) (aname_fields found.0) end refl ((λ o. absurd (cc o)), tt) (rw held.1 at written) found.2 in
-    subst (λ (x : RData). Alike x w) (sym held.1) (subst (λ (x : RData). Alike (rdata.ANAME held.0) x) (sym found.1) (record {
-      octets = canonical_octets (aname_fields found.0);
-      first = (fields_full source start (aname_fields held.0) stop held.2, sym same);
-      second = (fields_full message place (aname_fields found.0) end found.2, refl);
-      number = refl;
-      own = refl;
-    }))
-alike kind.CAA source start stop v w encoding message place end held written found =
-    let same = fields_back message place encoding (caa_fields held.0) (caa_fields found.0) end refl ((λ o. absurd (cc o)), ((λ o. absurd (cc o)), ((λ o. refl), tt))) (rw held.1 at written) found.2.0 in
-    subst (λ (x : RData). Alike x w) (sym held.1) (subst (λ (x : RData). Alike (rdata.CAA held.0) x) (sym found.1) (record {
-      octets = canonical_octets (caa_fields found.0);
-      first = (fields_full source start (caa_fields held.0) stop held.2.0, sym same);
-      second = (fields_full message place (caa_fields found.0) end found.2.0, refl);
-      number = refl;
-      own = refl;
-    }))
-alike kind.CERT source start stop v w encoding message place end held written found =
-    let same = fields_back message place encoding (cert_fields held.0) (cert_fields found.0) end refl ((λ o. absurd (cc o)), ((λ o. absurd (cc o)), ((λ o. absurd (cc o)), ((λ o. refl), tt)))) (rw held.1 at written) found.2.0 in
-    subst (λ (x : RData). Alike x w) (sym held.1) (subst (λ (x : RData). Alike (rdata.CERT held.0) x) (sym found.1) (record {
-      octets = canonical_octets (cert_fields found.0);
-      first = (fields_full source start (cert_fields held.0) stop held.2.0, sym same);
-      second = (fields_full message place (cert_fields found.0) end found.2.0, refl);
-      number = refl;
-      own = refl;
-    }))
-alike kind.CNAME source start stop v w encoding message place end held written found =
-    let same = fields_back message place encoding (cname_fields held.0) (cname_fields found.0) end refl ((λ o. absurd (cc o)), tt) (rw held.1 at written) found.2 in
-    subst (λ (x : RData). Alike x w) (sym held.1) (subst (λ (x : RData). Alike (rdata.CNAME held.0) x) (sym found.1) (record {
-      octets = canonical_octets (cname_fields found.0);
-      first = (fields_full source start (cname_fields held.0) stop held.2, sym same);
-      second = (fields_full message place (cname_fields found.0) end found.2, refl);
-      number = refl;
-      own = refl;
-    }))
-alike kind.CSYNC source start stop v w encoding message place end held written found =
-    subst (λ (x : RData). Alike x w) (sym held.1) (subst (λ (x : RData). Alike (rdata.CSYNC held.0) x) (sym found.1) (set_alike message place end held.0 found.0 (rw held.1 at written) found.2))
-alike kind.HINFO source start stop v w encoding message place end held written found =
-    let same = fields_back message place encoding (hinfo_fields held.0) (hinfo_fields found.0) end refl ((λ o. absurd (cc o)), ((λ o. absurd (cc o)), tt)) (rw held.1 at written) found.2 in
-    subst (λ (x : RData). Alike x w) (sym held.1) (subst (λ (x : RData). Alike (rdata.HINFO held.0) x) (sym found.1) (record {
-      octets = canonical_octets (hinfo_fields found.0);
-      first = (fields_full source start (hinfo_fields held.0) stop held.2, sym same);
-      second = (fields_full message place (hinfo_fields found.0) end found.2, refl);
-      number = refl;
-      own = refl;
-    }))
-alike kind.HTTPS source start stop v w encoding message place end held written found =
-    let same = fields_back message place encoding (svcb_fields held.0.0) (svcb_fields found.0.0) end refl ((λ o. absurd (cc o)), ((λ o. absurd (cc o)), ((λ o. refl), tt))) (rw held.1 at written) found.2.0 in
-    subst (λ (x : RData). Alike x w) (sym held.1) (subst (λ (x : RData). Alike (rdata.HTTPS held.0) x) (sym found.1) (record {
-      octets = canonical_octets (svcb_fields found.0.0);
-      first = (fields_full source start (svcb_fields held.0.0) stop held.2.0, held.2.1, sym same);
-      second = (fields_full message place (svcb_fields found.0.0) end found.2.0, found.2.1, refl);
-      number = refl;
-      own = refl;
-    }))
-alike kind.MX source start stop v w encoding message place end held written found =
-    let same = fields_back message place encoding (mx_fields held.0) (mx_fields found.0) end refl ((λ o. absurd (cc o)), ((λ o. absurd (cc o)), tt)) (rw held.1 at written) found.2 in
-    subst (λ (x : RData). Alike x w) (sym held.1) (subst (λ (x : RData). Alike (rdata.MX held.0) x) (sym found.1) (record {
-      octets = canonical_octets (mx_fields found.0);
-      first = (fields_full source start (mx_fields held.0) stop held.2, sym same);
-      second = (fields_full message place (mx_fields found.0) end found.2, refl);
-      number = refl;
-      own = refl;
-    }))
-alike kind.NAPTR source start stop v w encoding message place end held written found =
-    let same = fields_back message place encoding (naptr_fields held.0) (naptr_fields found.0) end refl ((λ o. absurd (cc o)), ((λ o. absurd (cc o)), ((λ o. absurd (cc o)), ((λ o. absurd (cc o)), ((λ o. absurd (cc o)), ((λ o. absurd (cc o)), tt)))))) (rw held.1 at written) found.2.0 in
-    subst (λ (x : RData). Alike x w) (sym held.1) (subst (λ (x : RData). Alike (rdata.NAPTR held.0) x) (sym found.1) (record {
-      octets = canonical_octets (naptr_fields found.0);
-      first = (fields_full source start (naptr_fields held.0) stop held.2.0, sym same);
-      second = (fields_full message place (naptr_fields found.0) end found.2.0, refl);
-      number = refl;
-      own = refl;
-    }))
-alike kind.NULL source start stop v w encoding message place end held written found =
-    let same = fields_back message place encoding (null_fields held.0) (null_fields found.0) end refl ((λ o. refl), tt) (rw held.1 at written) found.2 in
-    subst (λ (x : RData). Alike x w) (sym held.1) (subst (λ (x : RData). Alike (rdata.NULL held.0) x) (sym found.1) (record {
-      octets = canonical_octets (null_fields found.0);
-      first = (fields_full source start (null_fields held.0) stop held.2, sym same);
-      second = (fields_full message place (null_fields found.0) end found.2, refl);
-      number = refl;
-      own = refl;
-    }))
-alike kind.NS source start stop v w encoding message place end held written found =
-    let same = fields_back message place encoding (ns_fields held.0) (ns_fields found.0) end refl ((λ o. absurd (cc o)), tt) (rw held.1 at written) found.2 in
-    subst (λ (x : RData). Alike x w) (sym held.1) (subst (λ (x : RData). Alike (rdata.NS held.0) x) (sym found.1) (record {
-      octets = canonical_octets (ns_fields found.0);
-      first = (fields_full source start (ns_fields held.0) stop held.2, sym same);
-      second = (fields_full message place (ns_fields found.0) end found.2, refl);
-      number = refl;
-      own = refl;
-    }))
-alike kind.OPENPGPKEY source start stop v w encoding message place end held written found =
-    let same = fields_back message place encoding (openpgpkey_fields held.0) (openpgpkey_fields found.0) end refl ((λ o. refl), tt) (rw held.1 at written) found.2 in
-    subst (λ (x : RData). Alike x w) (sym held.1) (subst (λ (x : RData). Alike (rdata.OPENPGPKEY held.0) x) (sym found.1) (record {
-      octets = canonical_octets (openpgpkey_fields found.0);
-      first = (fields_full source start (openpgpkey_fields held.0) stop held.2, sym same);
-      second = (fields_full message place (openpgpkey_fields found.0) end found.2, refl);
-      number = refl;
-      own = refl;
-    }))
-alike kind.OPT source start stop v w encoding message place end held written found =
-    subst (λ (x : RData). Alike x w) (sym held.1) (subst (λ (x : RData). Alike (rdata.OPT held.0) x) (sym found.1) (options_alike held.2.octets message place end held.0 found.0 held.2.holds (rw held.1 at written) found.2))
-alike kind.PTR source start stop v w encoding message place end held written found =
-    let same = fields_back message place encoding (ptr_fields held.0) (ptr_fields found.0) end refl ((λ o. absurd (cc o)), tt) (rw held.1 at written) found.2 in
-    subst (λ (x : RData). Alike x w) (sym held.1) (subst (λ (x : RData). Alike (rdata.PTR held.0) x) (sym found.1) (record {
-      octets = canonical_octets (ptr_fields found.0);
-      first = (fields_full source start (ptr_fields held.0) stop held.2, sym same);
-      second = (fields_full message place (ptr_fields found.0) end found.2, refl);
-      number = refl;
-      own = refl;
-    }))
-alike kind.SMIMEA source start stop v w encoding message place end held written found =
-    let same = fields_back message place encoding (smimea_fields held.0) (smimea_fields found.0) end refl ((λ o. absurd (cc o)), ((λ o. absurd (cc o)), ((λ o. absurd (cc o)), ((λ o. refl), tt)))) (rw held.1 at written) found.2.0 in
-    subst (λ (x : RData). Alike x w) (sym held.1) (subst (λ (x : RData). Alike (rdata.SMIMEA held.0) x) (sym found.1) (record {
-      octets = canonical_octets (smimea_fields found.0);
-      first = (fields_full source start (smimea_fields held.0) stop held.2.0, sym same);
-      second = (fields_full message place (smimea_fields found.0) end found.2.0, refl);
-      number = refl;
-      own = refl;
-    }))
-alike kind.SOA source start stop v w encoding message place end held written found =
-    let same = fields_back message place encoding (soa_fields held.0) (soa_fields found.0) end refl ((λ o. absurd (cc o)), ((λ o. absurd (cc o)), ((λ o. absurd (cc o)), ((λ o. absurd (cc o)), ((λ o. absurd (cc o)), ((λ o. absurd (cc o)), ((λ o. absurd (cc o)), tt))))))) (rw held.1 at written) found.2 in
-    subst (λ (x : RData). Alike x w) (sym held.1) (subst (λ (x : RData). Alike (rdata.SOA held.0) x) (sym found.1) (record {
-      octets = canonical_octets (soa_fields found.0);
-      first = (fields_full source start (soa_fields held.0) stop held.2, sym same);
-      second = (fields_full message place (soa_fields found.0) end found.2, refl);
-      number = refl;
-      own = refl;
-    }))
-alike kind.SRV source start stop v w encoding message place end held written found =
-    let same = fields_back message place encoding (srv_fields held.0) (srv_fields found.0) end refl ((λ o. absurd (cc o)), ((λ o. absurd (cc o)), ((λ o. absurd (cc o)), ((λ o. absurd (cc o)), tt)))) (rw held.1 at written) found.2 in
-    subst (λ (x : RData). Alike x w) (sym held.1) (subst (λ (x : RData). Alike (rdata.SRV held.0) x) (sym found.1) (record {
-      octets = canonical_octets (srv_fields found.0);
-      first = (fields_full source start (srv_fields held.0) stop held.2, sym same);
-      second = (fields_full message place (srv_fields found.0) end found.2, refl);
-      number = refl;
-      own = refl;
-    }))
-alike kind.SSHFP source start stop v w encoding message place end held written found =
-    let same = fields_back message place encoding (sshfp_fields held.0) (sshfp_fields found.0) end refl ((λ o. absurd (cc o)), ((λ o. absurd (cc o)), ((λ o. refl), tt))) (rw held.1 at written) found.2.0 in
-    subst (λ (x : RData). Alike x w) (sym held.1) (subst (λ (x : RData). Alike (rdata.SSHFP held.0) x) (sym found.1) (record {
-      octets = canonical_octets (sshfp_fields found.0);
-      first = (fields_full source start (sshfp_fields held.0) stop held.2.0, sym same);
-      second = (fields_full message place (sshfp_fields found.0) end found.2.0, refl);
-      number = refl;
-      own = refl;
-    }))
-alike kind.SVCB source start stop v w encoding message place end held written found =
-    let same = fields_back message place encoding (svcb_fields held.0) (svcb_fields found.0) end refl ((λ o. absurd (cc o)), ((λ o. absurd (cc o)), ((λ o. refl), tt))) (rw held.1 at written) found.2.0 in
-    subst (λ (x : RData). Alike x w) (sym held.1) (subst (λ (x : RData). Alike (rdata.SVCB held.0) x) (sym found.1) (record {
-      octets = canonical_octets (svcb_fields found.0);
-      first = (fields_full source start (svcb_fields held.0) stop held.2.0, held.2.1, sym same);
-      second = (fields_full message place (svcb_fields found.0) end found.2.0, found.2.1, refl);
-      number = refl;
-      own = refl;
-    }))
-alike kind.TLSA source start stop v w encoding message place end held written found =
-    let same = fields_back message place encoding (tlsa_fields held.0) (tlsa_fields found.0) end refl ((λ o. absurd (cc o)), ((λ o. absurd (cc o)), ((λ o. absurd (cc o)), ((λ o. refl), tt)))) (rw held.1 at written) found.2.0 in
-    subst (λ (x : RData). Alike x w) (sym held.1) (subst (λ (x : RData). Alike (rdata.TLSA held.0) x) (sym found.1) (record {
-      octets = canonical_octets (tlsa_fields found.0);
-      first = (fields_full source start (tlsa_fields held.0) stop held.2.0, sym same);
-      second = (fields_full message place (tlsa_fields found.0) end found.2.0, refl);
-      number = refl;
-      own = refl;
-    }))
-alike kind.TXT source start stop v w encoding message place end held written found =
-    let same = fields_back message place encoding (txt_fields held.0) (txt_fields found.0) end refl ((λ o. refl), tt) (rw held.1 at written) found.2 in
-    subst (λ (x : RData). Alike x w) (sym held.1) (subst (λ (x : RData). Alike (rdata.TXT held.0) x) (sym found.1) (record {
-      octets = canonical_octets (txt_fields found.0);
-      first = (fields_full source start (txt_fields held.0) stop held.2, sym same);
-      second = (fields_full message place (txt_fields found.0) end found.2, refl);
-      number = refl;
-      own = refl;
-    }))
-alike kind.ZERO source start stop v w encoding message place end held written found = absurd held
-alike kind.ANY source start stop v w encoding message place end held written found = absurd held
-alike kind.AXFR source start stop v w encoding message place end held written found = absurd held
-alike kind.IXFR source start stop v w encoding message place end held written found = absurd held
-alike other source start stop v w encoding message place end held written found =
-    let same = fields_back message place encoding (null_fields held.0) (null_fields found.0) end refl ((λ o. refl), tt) (rw held.1 at written) found.2 in
-    subst (λ (x : RData). Alike x w) (sym held.1) (subst (λ (x : RData). Alike (rdata.Unknown other held.0) x) (sym found.1) (record {
-      octets = canonical_octets (null_fields found.0);
-      first = (fields_full source start (null_fields held.0) stop held.2, sym same);
-      second = (fields_full message place (null_fields found.0) end found.2, refl);
-      number = refl;
-      own = refl;
-    }))
+pub alike : (t : RecordType) (source : List ℕ) (start stop : ℕ) (v w : RData)
+    (encoding : NameEncoding) (message : List ℕ) (place end : ℕ)
+    → HoldsAs t source start v stop → StandsWritten v encoding message place end
+    → HoldsAs t message place w end → Alike v w
+alike t source start stop v w encoding message place end held written found = record {
+  octets = canonical_data w;
+  first =
+      subst (HasCanonical v)
+      (written_same t source start stop v w encoding message place end held written found)
+      (has_canonical source start v stop held.1);
+  second = has_canonical message place w end found.1;
+  number = ap record_type_number (held.0 ∙ sym found.0);
+  own =
+      row_forms t source message start place v w stop end (to_row t source start v stop held)
+      (to_row t message place w end found);
+}

@@ -14,14 +14,12 @@ use Rattle.drd_types.specs.drd_opt.Entries.{Entry, FitsLengths, raw_of, entries_
 use Rattle.dnw_codes.specs.declared.error.ProtoError.TheVariants.{Message}
 use Rattle.drd_types.specs.drd_option.Options.{option_octets, IsLong}
 use Rattle.drd_types.proofs.drd_opt_lemmas.FitLaws.{read_fit}
-use Rattle.drd_svcb.specs.drd_plain.Fields.{a_fields, aaaa_fields, hinfo_fields, naptr_fields, txt_fields}
-use Rattle.drd_types.specs.drd_names.Fields.{aname_fields, cname_fields, mx_fields, ns_fields, ptr_fields, soa_fields, srv_fields}
-use Rattle.drd_types.specs.drd_keys.Fields.{cert_fields, null_fields, openpgpkey_fields, smimea_fields, sshfp_fields, tlsa_fields}
-use Rattle.drd_types.specs.drd_caa.Fields.{caa_fields}
 use Rattle.drd_svcb.specs.Fields.{svcb_fields}
-use Rattle.drd_rdata.specs.Reading.{HoldsAs, ReadsAs}
+use Rattle.drd_rdata.specs.Fields.{rdata_fields}
+use Rattle.drd_rdata.specs.Reading.{RDataAt, HoldsAs, ReadsAs}
 use Rattle.drd_rdata.specs.Writing.{RefusesRData, WantsRoom}
 use Rattle.drd_rdata.specs.declared.rdata.RData.{RData}
+use Rattle.drd_rdata.specs.declared.rdata.RData.TheVariants as rdata
 
 short_strings : (message : List ℕ) (place : ℕ) (ss : List (List ℕ)) (end : ℕ) → StringsAt message place ss end → (e : ProtoError) → SomeTooLong ss e → ⊥
 short_strings message place [] end there e big = big
@@ -61,53 +59,46 @@ none_string entries old e (inl refused) = (length (fields_octets (rest (entries_
 none_string entries old e (inr (inl big)) = absurd big
 none_string entries old e (inr (inr big)) = absurd big
 
-holds_room : (t : RecordType) (message : List ℕ) (place : ℕ) (value : RData) (end : ℕ) → HoldsAs t message place value end → (old : State) (e : ProtoError) → RefusesRData value old e → WantsRoom old e
-holds_room kind.A message place value end holds old e refused = room message place (a_fields holds.0) end holds.2 old e (rw holds.1 at refused)
-holds_room kind.AAAA message place value end holds old e refused = room message place (aaaa_fields holds.0) end holds.2 old e (rw holds.1 at refused)
-holds_room kind.ANAME message place value end holds old e refused = room message place (aname_fields holds.0) end holds.2 old e (rw holds.1 at refused)
-holds_room kind.CAA message place value end holds old e refused = room message place (caa_fields holds.0) end holds.2.0 old e (rw holds.1 at refused)
-holds_room kind.CERT message place value end holds old e refused = room message place (cert_fields holds.0) end holds.2.0 old e (rw holds.1 at refused)
-holds_room kind.CNAME message place value end holds old e refused = room message place (cname_fields holds.0) end holds.2 old e (rw holds.1 at refused)
-holds_room kind.CSYNC message place value end holds old e refused =
-    elim (rw holds.1 at refused) [
-      | inl front ↦ (6, front)
-      | inr whole ↦ (6 + length whole.0, whole.2)
-    ]
-holds_room kind.HINFO message place value end holds old e refused = room message place (hinfo_fields holds.0) end holds.2 old e (rw holds.1 at refused)
-holds_room kind.HTTPS message place value end holds old e refused = (length (fields_octets (svcb_fields holds.0.0)), (rw holds.1 at refused).read holds.2.1)
-holds_room kind.MX message place value end holds old e refused = room message place (mx_fields holds.0) end holds.2 old e (rw holds.1 at refused)
-holds_room kind.NAPTR message place value end holds old e refused = room message place (naptr_fields holds.0) end holds.2.0 old e (rw holds.1 at refused)
-holds_room kind.NULL message place value end holds old e refused = room message place (null_fields holds.0) end holds.2 old e (rw holds.1 at refused)
-holds_room kind.NS message place value end holds old e refused = room message place (ns_fields holds.0) end holds.2 old e (rw holds.1 at refused)
-holds_room kind.OPENPGPKEY message place value end holds old e refused = room message place (openpgpkey_fields holds.0) end holds.2 old e (rw holds.1 at refused)
-holds_room kind.OPT message place value end holds old e refused =
-    elim (rw holds.1 at refused) [
-      | inl size ↦ none_string holds.0.options.items old e size
-      | inr big ↦ absurd (none_long holds.0.options.items e (read_fit holds.2.octets holds.0.options.items holds.2.holds) big)
-    ]
-holds_room kind.PTR message place value end holds old e refused = room message place (ptr_fields holds.0) end holds.2 old e (rw holds.1 at refused)
-holds_room kind.SMIMEA message place value end holds old e refused = room message place (smimea_fields holds.0) end holds.2.0 old e (rw holds.1 at refused)
-holds_room kind.SOA message place value end holds old e refused = room message place (soa_fields holds.0) end holds.2 old e (rw holds.1 at refused)
-holds_room kind.SRV message place value end holds old e refused = room message place (srv_fields holds.0) end holds.2 old e (rw holds.1 at refused)
-holds_room kind.SSHFP message place value end holds old e refused = room message place (sshfp_fields holds.0) end holds.2.0 old e (rw holds.1 at refused)
-holds_room kind.SVCB message place value end holds old e refused = (length (fields_octets (svcb_fields holds.0)), (rw holds.1 at refused).read holds.2.1)
-holds_room kind.TLSA message place value end holds old e refused = room message place (tlsa_fields holds.0) end holds.2.0 old e (rw holds.1 at refused)
-holds_room kind.TXT message place value end holds old e refused = room message place (txt_fields holds.0) end holds.2 old e (rw holds.1 at refused)
-holds_room kind.ZERO message place value end holds old e refused = absurd holds
-holds_room kind.ANY message place value end holds old e refused = absurd holds
-holds_room kind.AXFR message place value end holds old e refused = absurd holds
-holds_room kind.IXFR message place value end holds old e refused = absurd holds
-holds_room other message place value end holds old e refused = room message place (null_fields holds.0) end holds.2 old e (rw holds.1 at refused)
+-- Data that stand somewhere are refused only for want of memory or of room.
+holds_room : (message : List ℕ) (place : ℕ) (value : RData) (end : ℕ)
+    → RDataAt message place value end → (old : State) (e : ProtoError) → RefusesRData value old e
+    → WantsRoom old e
+holds_room message place (rdata.CSYNC csync) end there old e (inl front) = (6, front)
+holds_room message place (rdata.CSYNC csync) end there old e (inr whole) =
+    (6 + length whole.0, whole.2)
+holds_room message place (rdata.HTTPS https) end there old e refused =
+    (length (fields_octets (svcb_fields https.0)), refused.read there.1)
+holds_room message place (rdata.OPT opt) end there old e (inl size) =
+    none_string opt.options.items old e size
+holds_room message place (rdata.OPT opt) end there old e (inr big) =
+    absurd
+    (none_long opt.options.items e (read_fit there.octets opt.options.items there.holds) big)
+holds_room message place (rdata.SVCB svcb) end there old e refused =
+    (length (fields_octets (svcb_fields svcb)), refused.read there.1)
+holds_room message place (rdata.Update0 code) end there old e refused = absurd refused
+holds_room message place rdata.ZERO end there old e refused = absurd refused
+holds_room message place value end there old e refused =
+    room message place (rdata_fields value) end there.0 old e refused
 
-pub read_room : (t : RecordType) (message : List ℕ) (place len : ℕ) (value : RData) → ReadsAs t message place len value → (old : State) (e : ProtoError) → RefusesRData value old e → WantsRoom old e
+pub read_room : (t : RecordType) (message : List ℕ) (place len : ℕ) (value : RData)
+    → ReadsAs t message place len value → (old : State) (e : ProtoError)
+    → RefusesRData value old e → WantsRoom old e
 read_room kind.OPT message place len value (inl none) old e refused =
     elim (rw none.1.1 at refused) [
       | inl size ↦ none_string none.1.0.options.items old e size
-      | inr big ↦ absurd (none_long none.1.0.options.items e (subst (λ (es : List Entry). All FitsLengths (map raw_of es)) (sym none.1.2) (All-nil FitsLengths)) big)
+      | inr big ↦ absurd
+          (none_long none.1.0.options.items e
+          (subst (λ (es : List Entry). All FitsLengths (map raw_of es)) (sym none.1.2)
+          (All-nil FitsLengths)) big)
     ]
-read_room t message place len value (inr some) old e refused = holds_room t message place value (place + len) some.1 old e refused
+read_room t message place len value (inr some) old e refused =
+    holds_room message place value (place + len) some.1.1 old e refused
 read_room t message place len value (inl none) old e refused = absurd (rw none.1 at refused)
 
-pub ok_room : (t : RecordType) (message : List ℕ) (place len : ℕ) (r : Result RData DecodeError) → IfOk r (λ value. HoldsAs t message place value (place + len)) → IfOk r (λ value. (old : State) (e : ProtoError) → RefusesRData value old e → WantsRoom old e)
-ok_room t message place len (Ok value) holds = λ old e refused. holds_room t message place value (place + len) holds old e refused
-ok_room t message place len (Err e) holds = holds
+pub ok_room : (t : RecordType) (message : List ℕ) (place len : ℕ) (r : Result RData DecodeError)
+    → IfOk r (λ value. HoldsAs t message place value (place + len))
+    → IfOk r (λ value. (old : State) (e : ProtoError) → RefusesRData value old e
+    → WantsRoom old e)
+ok_room t message place len (Ok value) held =
+    λ old e refused. holds_room message place value (place + len) held.1 old e refused
+ok_room t message place len (Err e) held = held

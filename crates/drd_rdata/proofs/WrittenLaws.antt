@@ -21,7 +21,6 @@ use Rattle.drd_types.specs.dnw_wire.BitMapLaws.{maps_rise, written_once}
 use Rattle.drd_types.specs.dnw_wire.BitMaps.{AreTightMaps}
 use Rattle.drd_types.specs.dnw_wire.MapOrder.{tight_maps}
 use Rattle.drd_types.specs.dnw_wire.MapOrderLaws.{tight_written}
-use Rattle.drd_types.specs.drd_caa.Fields.{caa_fields}
 use Rattle.drd_types.specs.drd_csync.Data.{csync_fields, csync_flags, CsyncAt}
 use Rattle.drd_types.specs.drd_csync.Writing.{RefusesEmitCsync}
 use Rattle.drd_types.specs.drd_csync.declared.csync.CSYNC.{CSYNC}
@@ -31,10 +30,7 @@ use Rattle.drd_types.specs.drd_fields.FieldLaws.{strings_forward, fields_forward
 use Rattle.drd_types.specs.drd_fields.Fields.{Field, octet, short, long, name, string, strings, rest, FieldAt, FieldsAt}
 use Rattle.drd_types.specs.drd_fields.Writing.{EmitsData, EndsWithin, RefusesFields, encoded_fields, fields_octets}
 use Rattle.drd_types.proofs.drd_fields_lemmas.WritingLaws.{refused_front}
-use Rattle.drd_types.specs.drd_keys.Fields.{cert_fields, null_fields, openpgpkey_fields, smimea_fields, sshfp_fields, tlsa_fields}
-use Rattle.drd_types.specs.drd_names.Fields.{aname_fields, cname_fields, mx_fields, ns_fields, ptr_fields, soa_fields, srv_fields}
-use Rattle.drd_svcb.specs.drd_plain.Fields.{a_fields, aaaa_fields, hinfo_fields, naptr_fields, txt_fields}
-use Rattle.drd_svcb.specs.Fields.{svcb_fields}
+use Rattle.drd_rdata.specs.Fields.{encoding_of, rdata_fields}
 use Rattle.drd_rdata.specs.Reading.{HoldsAs}
 use Rattle.drd_rdata.specs.Writing.{EmitsRData, RefusesRData, WritesInFull, written_octets}
 use Rattle.drd_rdata.proofs.WritingLaws.{short_fields}
@@ -118,81 +114,25 @@ csync_some message place csync end there =
     omega (arith, something_there message place (long csync.soa_serial) there.there.0 there.there.1 refl, fields_forward message there.there.0 (short (csync_flags csync) ∷ rest there.octets ∷ []) end there.there.2)
 
 -- What was read for a type and is written stands for it where it is written, in the finished message too.
-pub written_holds : (t : RecordType) (source : List ℕ) (start : ℕ) (v : RData) (stop : ℕ) → HoldsAs t source start v stop → start < stop → (t ≡ kind.OPT → ⊥) → (old new : State) → WritesInFull old → EmitsRData v old new → StaysTrue new new.offset (λ message. HoldsSome t message old.offset v new.offset)
-written_holds kind.A source start v stop held some options old new full e =
-    holds_map new.offset new (λ message. FieldsThere (a_fields held.0) message old.offset new.offset) (λ message. HoldsSome kind.A message old.offset v new.offset) (λ message there. ((held.0, held.1, there.0), there.1))
-    (data_holds Other (a_fields held.0) source start stop held.2 some old new full (rw held.1 at e))
-written_holds kind.AAAA source start v stop held some options old new full e =
-    holds_map new.offset new (λ message. FieldsThere (aaaa_fields held.0) message old.offset new.offset) (λ message. HoldsSome kind.AAAA message old.offset v new.offset) (λ message there. ((held.0, held.1, there.0), there.1))
-    (data_holds Other (aaaa_fields held.0) source start stop held.2 some old new full (rw held.1 at e))
-written_holds kind.ANAME source start v stop held some options old new full e =
-    holds_map new.offset new (λ message. FieldsThere (aname_fields held.0) message old.offset new.offset) (λ message. HoldsSome kind.ANAME message old.offset v new.offset) (λ message there. ((held.0, held.1, there.0), there.1))
-    (data_holds Other (aname_fields held.0) source start stop held.2 some old new full (rw held.1 at e))
-written_holds kind.CAA source start v stop held some options old new full e =
-    holds_map new.offset new (λ message. FieldsThere (caa_fields held.0) message old.offset new.offset) (λ message. HoldsSome kind.CAA message old.offset v new.offset) (λ message there. ((held.0, held.1, (there.0, held.2.1)), there.1))
-    (data_holds Other (caa_fields held.0) source start stop held.2.0 some old new full (rw held.1 at e))
-written_holds kind.CERT source start v stop held some options old new full e =
-    holds_map new.offset new (λ message. FieldsThere (cert_fields held.0) message old.offset new.offset) (λ message. HoldsSome kind.CERT message old.offset v new.offset) (λ message there. ((held.0, held.1, (there.0, held.2.1)), there.1))
-    (data_holds Other (cert_fields held.0) source start stop held.2.0 some old new full (rw held.1 at e))
-written_holds kind.CNAME source start v stop held some options old new full e =
-    holds_map new.offset new (λ message. FieldsThere (cname_fields held.0) message old.offset new.offset) (λ message. HoldsSome kind.CNAME message old.offset v new.offset) (λ message there. ((held.0, held.1, there.0), there.1))
-    (data_holds StandardRecord (cname_fields held.0) source start stop held.2 some old new full (rw held.1 at e))
-written_holds kind.CSYNC source start v stop held some options old new full e =
-    holds_map new.offset new (λ message. CsyncAt message old.offset held.0 new.offset) (λ message. HoldsSome kind.CSYNC message old.offset v new.offset) (λ message there. ((held.0, held.1, there), csync_some message old.offset held.0 new.offset there))
-    ((rw held.1 at e).stays full.sound)
-written_holds kind.HINFO source start v stop held some options old new full e =
-    holds_map new.offset new (λ message. FieldsThere (hinfo_fields held.0) message old.offset new.offset) (λ message. HoldsSome kind.HINFO message old.offset v new.offset) (λ message there. ((held.0, held.1, there.0), there.1))
-    (data_holds Other (hinfo_fields held.0) source start stop held.2 some old new full (rw held.1 at e))
-written_holds kind.HTTPS source start v stop held some options old new full e =
-    holds_map new.offset new (λ message. FieldsThere (svcb_fields held.0.0) message old.offset new.offset) (λ message. HoldsSome kind.HTTPS message old.offset v new.offset) (λ message there. ((held.0, held.1, (there.0, held.2.1)), there.1))
-    (data_holds Other (svcb_fields held.0.0) source start stop held.2.0 some old new full (rw held.1 at e))
-written_holds kind.MX source start v stop held some options old new full e =
-    holds_map new.offset new (λ message. FieldsThere (mx_fields held.0) message old.offset new.offset) (λ message. HoldsSome kind.MX message old.offset v new.offset) (λ message there. ((held.0, held.1, there.0), there.1))
-    (data_holds StandardRecord (mx_fields held.0) source start stop held.2 some old new full (rw held.1 at e))
-written_holds kind.NAPTR source start v stop held some options old new full e =
-    holds_map new.offset new (λ message. FieldsThere (naptr_fields held.0) message old.offset new.offset) (λ message. HoldsSome kind.NAPTR message old.offset v new.offset) (λ message there. ((held.0, held.1, (there.0, held.2.1)), there.1))
-    (data_holds Canonical (naptr_fields held.0) source start stop held.2.0 some old new full (rw held.1 at e))
-written_holds kind.NULL source start v stop held some options old new full e =
-    holds_map new.offset new (λ message. FieldsThere (null_fields held.0) message old.offset new.offset) (λ message. HoldsSome kind.NULL message old.offset v new.offset) (λ message there. ((held.0, held.1, there.0), there.1))
-    (data_holds Other (null_fields held.0) source start stop held.2 some old new full (rw held.1 at e))
-written_holds kind.NS source start v stop held some options old new full e =
-    holds_map new.offset new (λ message. FieldsThere (ns_fields held.0) message old.offset new.offset) (λ message. HoldsSome kind.NS message old.offset v new.offset) (λ message there. ((held.0, held.1, there.0), there.1))
-    (data_holds StandardRecord (ns_fields held.0) source start stop held.2 some old new full (rw held.1 at e))
-written_holds kind.OPENPGPKEY source start v stop held some options old new full e =
-    holds_map new.offset new (λ message. FieldsThere (openpgpkey_fields held.0) message old.offset new.offset) (λ message. HoldsSome kind.OPENPGPKEY message old.offset v new.offset) (λ message there. ((held.0, held.1, there.0), there.1))
-    (data_holds Other (openpgpkey_fields held.0) source start stop held.2 some old new full (rw held.1 at e))
-written_holds kind.OPT source start v stop held some options old new full e = absurd (options refl)
-written_holds kind.PTR source start v stop held some options old new full e =
-    holds_map new.offset new (λ message. FieldsThere (ptr_fields held.0) message old.offset new.offset) (λ message. HoldsSome kind.PTR message old.offset v new.offset) (λ message there. ((held.0, held.1, there.0), there.1))
-    (data_holds StandardRecord (ptr_fields held.0) source start stop held.2 some old new full (rw held.1 at e))
-written_holds kind.SMIMEA source start v stop held some options old new full e =
-    holds_map new.offset new (λ message. FieldsThere (smimea_fields held.0) message old.offset new.offset) (λ message. HoldsSome kind.SMIMEA message old.offset v new.offset) (λ message there. ((held.0, held.1, (there.0, held.2.1)), there.1))
-    (data_holds Other (smimea_fields held.0) source start stop held.2.0 some old new full (rw held.1 at e))
-written_holds kind.SOA source start v stop held some options old new full e =
-    holds_map new.offset new (λ message. FieldsThere (soa_fields held.0) message old.offset new.offset) (λ message. HoldsSome kind.SOA message old.offset v new.offset) (λ message there. ((held.0, held.1, there.0), there.1))
-    (data_holds StandardRecord (soa_fields held.0) source start stop held.2 some old new full (rw held.1 at e))
-written_holds kind.SRV source start v stop held some options old new full e =
-    holds_map new.offset new (λ message. FieldsThere (srv_fields held.0) message old.offset new.offset) (λ message. HoldsSome kind.SRV message old.offset v new.offset) (λ message there. ((held.0, held.1, there.0), there.1))
-    (data_holds Canonical (srv_fields held.0) source start stop held.2 some old new full (rw held.1 at e))
-written_holds kind.SSHFP source start v stop held some options old new full e =
-    holds_map new.offset new (λ message. FieldsThere (sshfp_fields held.0) message old.offset new.offset) (λ message. HoldsSome kind.SSHFP message old.offset v new.offset) (λ message there. ((held.0, held.1, (there.0, held.2.1)), there.1))
-    (data_holds Other (sshfp_fields held.0) source start stop held.2.0 some old new full (rw held.1 at e))
-written_holds kind.SVCB source start v stop held some options old new full e =
-    holds_map new.offset new (λ message. FieldsThere (svcb_fields held.0) message old.offset new.offset) (λ message. HoldsSome kind.SVCB message old.offset v new.offset) (λ message there. ((held.0, held.1, (there.0, held.2.1)), there.1))
-    (data_holds Other (svcb_fields held.0) source start stop held.2.0 some old new full (rw held.1 at e))
-written_holds kind.TLSA source start v stop held some options old new full e =
-    holds_map new.offset new (λ message. FieldsThere (tlsa_fields held.0) message old.offset new.offset) (λ message. HoldsSome kind.TLSA message old.offset v new.offset) (λ message there. ((held.0, held.1, (there.0, held.2.1)), there.1))
-    (data_holds Other (tlsa_fields held.0) source start stop held.2.0 some old new full (rw held.1 at e))
-written_holds kind.TXT source start v stop held some options old new full e =
-    holds_map new.offset new (λ message. FieldsThere (txt_fields held.0) message old.offset new.offset) (λ message. HoldsSome kind.TXT message old.offset v new.offset) (λ message there. ((held.0, held.1, there.0), there.1))
-    (data_holds Other (txt_fields held.0) source start stop held.2 some old new full (rw held.1 at e))
-written_holds kind.ZERO source start v stop held some options old new full e = absurd held
-written_holds kind.ANY source start v stop held some options old new full e = absurd held
-written_holds kind.AXFR source start v stop held some options old new full e = absurd held
-written_holds kind.IXFR source start v stop held some options old new full e = absurd held
-written_holds other source start v stop held some options old new full e =
-    holds_map new.offset new (λ message. FieldsThere (null_fields held.0) message old.offset new.offset) (λ message. HoldsSome other message old.offset v new.offset) (λ message there. ((held.0, held.1, there.0), there.1))
-    (data_holds Other (null_fields held.0) source start stop held.2 some old new full (rw held.1 at e))
+pub written_holds : (t : RecordType) (source : List ℕ) (start : ℕ) (v : RData) (stop : ℕ)
+    → HoldsAs t source start v stop → start < stop → (t ≡ kind.OPT → ⊥) → (old new : State)
+    → WritesInFull old → EmitsRData v old new
+    → StaysTrue new new.offset (λ message. HoldsSome t message old.offset v new.offset)
+written_holds t source start (rdata.CSYNC csync) stop held some options old new full e =
+    holds_map new.offset new (λ message. CsyncAt message old.offset csync new.offset)
+    (λ message. HoldsSome t message old.offset (rdata.CSYNC csync) new.offset)
+    (λ message there. ((held.0, there), csync_some message old.offset csync new.offset there))
+    (e.stays full.sound)
+written_holds t source start (rdata.OPT opt) stop held some options old new full e =
+    absurd (options (sym held.0))
+written_holds t source start (rdata.Update0 code) stop held some options old new full e =
+    absurd held.1.1
+written_holds t source start rdata.ZERO stop held some options old new full e = absurd held.1.1
+written_holds t source start v stop held some options old new full e =
+    holds_map new.offset new (λ message. FieldsThere (rdata_fields v) message old.offset new.offset)
+    (λ message. HoldsSome t message old.offset v new.offset)
+    (λ message there. ((held.0, (there.0, held.1.1)), there.1))
+    (data_holds (encoding_of v) (rdata_fields v) source start stop held.1.0 some old new full e)
 
 -- The bit maps that were written are those of the types.
 maps_same : (source : List ℕ) (start stop : ℕ) (csync : CSYNC) (octets : List ℕ) → CsyncAt source start csync stop → AreTightMaps octets csync.type_bit_maps → octets ≡ tight_maps csync.type_bit_maps
@@ -205,37 +145,21 @@ csync_size csync octets =
     omega (arith, length-append (octets_32 csync.soa_serial) (octets_16 (csync_flags csync) ++ (octets ++ [])), length-append (octets_16 (csync_flags csync)) (octets ++ []), length-append octets [], length-octets_32 csync.soa_serial)
 
 -- They take as many octets at most as they have in full.
-pub written_size : (t : RecordType) (source : List ℕ) (start : ℕ) (v : RData) (stop : ℕ) → HoldsAs t source start v stop → (old new : State) → EmitsRData v old new → new.offset ≤ old.offset + length (written_octets v)
-written_size kind.A source start v stop held old new e = rw held.1 ((rw held.1 at e).size)
-written_size kind.AAAA source start v stop held old new e = rw held.1 ((rw held.1 at e).size)
-written_size kind.ANAME source start v stop held old new e = rw held.1 ((rw held.1 at e).size)
-written_size kind.CAA source start v stop held old new e = rw held.1 ((rw held.1 at e).size)
-written_size kind.CERT source start v stop held old new e = rw held.1 ((rw held.1 at e).size)
-written_size kind.CNAME source start v stop held old new e = rw held.1 ((rw held.1 at e).size)
-written_size kind.CSYNC source start v stop held old new e =
-    let done = rw held.1 at e in
-    rw held.1 (omega (arith, done.puts.offset, ap (λ (o : List ℕ). length (fields_octets (csync_fields held.0 o))) (maps_same source start stop held.0 done.octets held.2 (record { maps = done.maps; small = done.small }))))
-written_size kind.HINFO source start v stop held old new e = rw held.1 ((rw held.1 at e).size)
-written_size kind.HTTPS source start v stop held old new e = rw held.1 ((rw held.1 at e).size)
-written_size kind.MX source start v stop held old new e = rw held.1 ((rw held.1 at e).size)
-written_size kind.NAPTR source start v stop held old new e = rw held.1 ((rw held.1 at e).size)
-written_size kind.NULL source start v stop held old new e = rw held.1 ((rw held.1 at e).size)
-written_size kind.NS source start v stop held old new e = rw held.1 ((rw held.1 at e).size)
-written_size kind.OPENPGPKEY source start v stop held old new e = rw held.1 ((rw held.1 at e).size)
-written_size kind.OPT source start v stop held old new e = rw held.1 ((rw held.1 at e).0.size)
-written_size kind.PTR source start v stop held old new e = rw held.1 ((rw held.1 at e).size)
-written_size kind.SMIMEA source start v stop held old new e = rw held.1 ((rw held.1 at e).size)
-written_size kind.SOA source start v stop held old new e = rw held.1 ((rw held.1 at e).size)
-written_size kind.SRV source start v stop held old new e = rw held.1 ((rw held.1 at e).size)
-written_size kind.SSHFP source start v stop held old new e = rw held.1 ((rw held.1 at e).size)
-written_size kind.SVCB source start v stop held old new e = rw held.1 ((rw held.1 at e).size)
-written_size kind.TLSA source start v stop held old new e = rw held.1 ((rw held.1 at e).size)
-written_size kind.TXT source start v stop held old new e = rw held.1 ((rw held.1 at e).size)
-written_size kind.ZERO source start v stop held old new e = absurd held
-written_size kind.ANY source start v stop held old new e = absurd held
-written_size kind.AXFR source start v stop held old new e = absurd held
-written_size kind.IXFR source start v stop held old new e = absurd held
-written_size other source start v stop held old new e = rw held.1 ((rw held.1 at e).size)
+pub written_size : (t : RecordType) (source : List ℕ) (start : ℕ) (v : RData) (stop : ℕ)
+    → HoldsAs t source start v stop → (old new : State) → EmitsRData v old new
+    → new.offset ≤ old.offset + length (written_octets v)
+written_size t source start (rdata.CSYNC csync) stop held old new e =
+    omega (
+      arith,
+      e.puts.offset,
+      ap (λ (o : List ℕ). length (fields_octets (csync_fields csync o)))
+          (maps_same source start stop csync e.octets held.1
+          (record { maps = e.maps; small = e.small })),
+    )
+written_size t source start (rdata.OPT opt) stop held old new e = e.0.size
+written_size t source start (rdata.Update0 code) stop held old new e = absurd held.1.1
+written_size t source start rdata.ZERO stop held old new e = absurd held.1.1
+written_size t source start v stop held old new e = e.size
 
 -- Fields that were read are refused only where they don't fit.
 fields_fit : (source : List ℕ) (start stop : ℕ) (fs : List Field) → FieldsAt source start fs stop → (old : State) (e : ProtoError) → RefusesFields fs old e → IsRefusal old (length (fields_octets fs)) e
@@ -243,73 +167,36 @@ fields_fit source start stop fs held old e (inl refused) = refused
 fields_fit source start stop fs held old e (inr big) = absurd (short_fields source start fs stop held e big)
 
 -- They are refused only where those octets don't fit, or for want of memory.
-pub written_refused : (t : RecordType) (source : List ℕ) (start : ℕ) (v : RData) (stop : ℕ) → HoldsAs t source start v stop → (t ≡ kind.OPT → ⊥) → (old : State) (e : ProtoError) → RefusesRData v old e → IsRefusal old (length (written_octets v)) e
-written_refused kind.A source start v stop held options old e refused = rw held.1 (fields_fit source start stop (a_fields held.0) held.2 old e (rw held.1 at refused))
-written_refused kind.AAAA source start v stop held options old e refused = rw held.1 (fields_fit source start stop (aaaa_fields held.0) held.2 old e (rw held.1 at refused))
-written_refused kind.ANAME source start v stop held options old e refused = rw held.1 (fields_fit source start stop (aname_fields held.0) held.2 old e (rw held.1 at refused))
-written_refused kind.CAA source start v stop held options old e refused = rw held.1 (fields_fit source start stop (caa_fields held.0) held.2.0 old e (rw held.1 at refused))
-written_refused kind.CERT source start v stop held options old e refused = rw held.1 (fields_fit source start stop (cert_fields held.0) held.2.0 old e (rw held.1 at refused))
-written_refused kind.CNAME source start v stop held options old e refused = rw held.1 (fields_fit source start stop (cname_fields held.0) held.2 old e (rw held.1 at refused))
-written_refused kind.CSYNC source start v stop held options old e refused = rw held.1 (by (rw held.1 at refused))
-  where
-    size : length (fields_octets (csync_fields held.0 (tight_maps held.0.type_bit_maps))) ≡ 6 + length (tight_maps held.0.type_bit_maps)
-    size = csync_size held.0 (tight_maps held.0.type_bit_maps)
-
-    by : RefusesEmitCsync held.0 old e → IsRefusal old (length (fields_octets (csync_fields held.0 (tight_maps held.0.type_bit_maps)))) e
-    by (inl front) = subst (λ (n : ℕ). IsRefusal old n e) (sym size) (refused_front 6 (length (tight_maps held.0.type_bit_maps)) old e front)
-    by (inr whole) =
-        subst (λ (o : List ℕ). IsRefusal old (length (fields_octets (csync_fields held.0 o))) e) (maps_same source start stop held.0 whole.0 held.2 whole.1)
-        (subst (λ (n : ℕ). IsRefusal old n e) (sym (csync_size held.0 whole.0)) whole.2)
-written_refused kind.HINFO source start v stop held options old e refused = rw held.1 (fields_fit source start stop (hinfo_fields held.0) held.2 old e (rw held.1 at refused))
-written_refused kind.HTTPS source start v stop held options old e refused = rw held.1 ((rw held.1 at refused).read held.2.1)
-written_refused kind.MX source start v stop held options old e refused = rw held.1 (fields_fit source start stop (mx_fields held.0) held.2 old e (rw held.1 at refused))
-written_refused kind.NAPTR source start v stop held options old e refused = rw held.1 (fields_fit source start stop (naptr_fields held.0) held.2.0 old e (rw held.1 at refused))
-written_refused kind.NULL source start v stop held options old e refused = rw held.1 (fields_fit source start stop (null_fields held.0) held.2 old e (rw held.1 at refused))
-written_refused kind.NS source start v stop held options old e refused = rw held.1 (fields_fit source start stop (ns_fields held.0) held.2 old e (rw held.1 at refused))
-written_refused kind.OPENPGPKEY source start v stop held options old e refused = rw held.1 (fields_fit source start stop (openpgpkey_fields held.0) held.2 old e (rw held.1 at refused))
-written_refused kind.OPT source start v stop held options old e refused = absurd (options refl)
-written_refused kind.PTR source start v stop held options old e refused = rw held.1 (fields_fit source start stop (ptr_fields held.0) held.2 old e (rw held.1 at refused))
-written_refused kind.SMIMEA source start v stop held options old e refused = rw held.1 (fields_fit source start stop (smimea_fields held.0) held.2.0 old e (rw held.1 at refused))
-written_refused kind.SOA source start v stop held options old e refused = rw held.1 (fields_fit source start stop (soa_fields held.0) held.2 old e (rw held.1 at refused))
-written_refused kind.SRV source start v stop held options old e refused = rw held.1 (fields_fit source start stop (srv_fields held.0) held.2 old e (rw held.1 at refused))
-written_refused kind.SSHFP source start v stop held options old e refused = rw held.1 (fields_fit source start stop (sshfp_fields held.0) held.2.0 old e (rw held.1 at refused))
-written_refused kind.SVCB source start v stop held options old e refused = rw held.1 ((rw held.1 at refused).read held.2.1)
-written_refused kind.TLSA source start v stop held options old e refused = rw held.1 (fields_fit source start stop (tlsa_fields held.0) held.2.0 old e (rw held.1 at refused))
-written_refused kind.TXT source start v stop held options old e refused = rw held.1 (fields_fit source start stop (txt_fields held.0) held.2 old e (rw held.1 at refused))
-written_refused kind.ZERO source start v stop held options old e refused = absurd held
-written_refused kind.ANY source start v stop held options old e refused = absurd held
-written_refused kind.AXFR source start v stop held options old e refused = absurd held
-written_refused kind.IXFR source start v stop held options old e refused = absurd held
-written_refused other source start v stop held options old e refused = rw held.1 (fields_fit source start stop (null_fields held.0) held.2 old e (rw held.1 at refused))
+pub written_refused : (t : RecordType) (source : List ℕ) (start : ℕ) (v : RData) (stop : ℕ)
+    → HoldsAs t source start v stop → (t ≡ kind.OPT → ⊥) → (old : State) (e : ProtoError)
+    → RefusesRData v old e → IsRefusal old (length (written_octets v)) e
+written_refused t source start (rdata.CSYNC csync) stop held options old e (inl front) =
+    subst (λ (n : ℕ). IsRefusal old n e)
+    (sym (csync_size csync (tight_maps csync.type_bit_maps)))
+    (refused_front 6 (length (tight_maps csync.type_bit_maps)) old e front)
+written_refused t source start (rdata.CSYNC csync) stop held options old e (inr whole) =
+    subst (λ (o : List ℕ). IsRefusal old (length (fields_octets (csync_fields csync o))) e)
+    (maps_same source start stop csync whole.0 held.1 whole.1)
+    (subst (λ (n : ℕ). IsRefusal old n e) (sym (csync_size csync whole.0)) whole.2)
+written_refused t source start (rdata.HTTPS https) stop held options old e refused =
+    refused.read held.1.1
+written_refused t source start (rdata.OPT opt) stop held options old e refused =
+    absurd (options (sym held.0))
+written_refused t source start (rdata.SVCB svcb) stop held options old e refused =
+    refused.read held.1.1
+written_refused t source start (rdata.Update0 code) stop held options old e refused =
+    absurd refused
+written_refused t source start rdata.ZERO stop held options old e refused = absurd refused
+written_refused t source start v stop held options old e refused =
+    fields_fit source start stop (rdata_fields v) held.1.0 old e refused
 
 -- ---- what was written ends within the maximum
 unmoved : (old new : State) → new ≡ old → EndsWithin old new
 unmoved old new same = λ more. absurd (omega (arith, more, ap (λ (s : State). s.offset) same))
 
 pub data_within : (v : RData) (old new : State) → EmitsRData v old new → EndsWithin old new
-data_within (rdata.A a) old new e = e.within
-data_within (rdata.AAAA aaaa) old new e = e.within
-data_within (rdata.ANAME aname) old new e = e.within
-data_within (rdata.CAA caa) old new e = e.within
-data_within (rdata.CERT cert) old new e = e.within
-data_within (rdata.CNAME cname) old new e = e.within
 data_within (rdata.CSYNC csync) old new e = λ more. e.fits
-data_within (rdata.HINFO hinfo) old new e = e.within
-data_within (rdata.HTTPS https) old new e = e.within
-data_within (rdata.MX mx) old new e = e.within
-data_within (rdata.NAPTR naptr) old new e = e.within
-data_within (rdata.NULL null) old new e = e.within
-data_within (rdata.NS ns) old new e = e.within
-data_within (rdata.OPENPGPKEY openpgpkey) old new e = e.within
 data_within (rdata.OPT opt) old new e = e.0.within
-data_within (rdata.PTR ptr) old new e = e.within
-data_within (rdata.SMIMEA smimea) old new e = e.within
-data_within (rdata.SOA soa) old new e = e.within
-data_within (rdata.SRV srv) old new e = e.within
-data_within (rdata.SSHFP sshfp) old new e = e.within
-data_within (rdata.SVCB svcb) old new e = e.within
-data_within (rdata.TLSA tlsa) old new e = e.within
-data_within (rdata.TXT txt) old new e = e.within
-data_within (rdata.Unknown code null) old new e = e.within
 data_within (rdata.Update0 code) old new e = unmoved old new e
 data_within rdata.ZERO old new e = unmoved old new e
+data_within v old new e = e.within

@@ -1,8 +1,8 @@
 pub mod Types
+pub mod Fields
 pub mod Reading
 pub mod Writing
 pub mod Texts
-pub mod Once
 pub mod Order
 pub mod OrderLaws
 pub mod dnw_codes

@@ -12,10 +12,6 @@ use Rattle.drd_types.specs.drd_fields.Fields.{Field}
 use Rattle.drd_types.specs.drd_fields.Equality.{AreFull}
 use Rattle.drd_types.specs.drd_fields.Writing.{canonical_octets, fields_octets}
 use Rattle.drd_types.specs.drd_order.Order.{fields_cmp, fields_input}
-use Rattle.drd_svcb.specs.drd_plain.Fields.{a_fields, aaaa_fields, hinfo_fields, naptr_fields, txt_fields}
-use Rattle.drd_types.specs.drd_names.Fields.{aname_fields, cname_fields, mx_fields, ns_fields, ptr_fields, soa_fields, srv_fields}
-use Rattle.drd_types.specs.drd_keys.Fields.{cert_fields, null_fields, openpgpkey_fields, smimea_fields, sshfp_fields, tlsa_fields}
-use Rattle.drd_types.specs.drd_caa.Fields.{caa_fields}
 use Rattle.drd_svcb.specs.Fields.{svcb_code, svcb_fields}
 use Rattle.drd_types.specs.drd_csync.declared.csync.CSYNC.{CSYNC}
 use Rattle.drd_types.specs.drd_csync.Data.{csync_fields}
@@ -30,6 +26,7 @@ use Rattle.drd_svcb.specs.declared.svcb.SVCB.{SVCB}
 use Rattle.drd_svcb.specs.Hashing.{svcb_input}
 use Rattle.drd_rdata.specs.declared.rdata.RData.{RData}
 use Rattle.drd_rdata.specs.declared.rdata.RData.TheVariants as rdata
+use Rattle.drd_rdata.specs.Fields.{rdata_fields}
 use Rattle.drd_rdata.specs.Types.{type_of}
 
 -- The number of the type of a record with these data.
@@ -44,33 +41,12 @@ data_form (rdata.Unknown code null) = 2
 data_form other = 1
 
 -- The data field by field, but those of types that hold a set, options in no order, or parameters.
-abbrev pub rdata_fields : RData → List Field
-rdata_fields (rdata.A a) = a_fields a
-rdata_fields (rdata.AAAA aaaa) = aaaa_fields aaaa
-rdata_fields (rdata.ANAME aname) = aname_fields aname
-rdata_fields (rdata.CAA caa) = caa_fields caa
-rdata_fields (rdata.CERT cert) = cert_fields cert
-rdata_fields (rdata.CNAME cname) = cname_fields cname
-rdata_fields (rdata.CSYNC csync) = []
-rdata_fields (rdata.HINFO hinfo) = hinfo_fields hinfo
-rdata_fields (rdata.HTTPS https) = []
-rdata_fields (rdata.MX mx) = mx_fields mx
-rdata_fields (rdata.NAPTR naptr) = naptr_fields naptr
-rdata_fields (rdata.NULL null) = null_fields null
-rdata_fields (rdata.NS ns) = ns_fields ns
-rdata_fields (rdata.OPENPGPKEY openpgpkey) = openpgpkey_fields openpgpkey
-rdata_fields (rdata.OPT opt) = []
-rdata_fields (rdata.PTR ptr) = ptr_fields ptr
-rdata_fields (rdata.SMIMEA smimea) = smimea_fields smimea
-rdata_fields (rdata.SOA soa) = soa_fields soa
-rdata_fields (rdata.SRV srv) = srv_fields srv
-rdata_fields (rdata.SSHFP sshfp) = sshfp_fields sshfp
-rdata_fields (rdata.SVCB svcb) = []
-rdata_fields (rdata.TLSA tlsa) = tlsa_fields tlsa
-rdata_fields (rdata.TXT txt) = txt_fields txt
-rdata_fields (rdata.Unknown code null) = null_fields null
-rdata_fields (rdata.Update0 code) = []
-rdata_fields rdata.ZERO = []
+abbrev pub compared_fields : RData → List Field
+compared_fields (rdata.CSYNC csync) = []
+compared_fields (rdata.HTTPS https) = []
+compared_fields (rdata.OPT opt) = []
+compared_fields (rdata.SVCB svcb) = []
+compared_fields value = rdata_fields value
 
 abbrev pub csync_of : RData → Option CSYNC
 csync_of (rdata.CSYNC csync) = Some csync
@@ -94,7 +70,7 @@ opt_cmp a b = entries_cmp a.options.items b.options.items
 -- Data of one type and form.
 abbrev pub data_cmp : RData → RData → Ordering
 data_cmp =
-    then_cmp (on rdata_fields fields_cmp)
+    then_cmp (on compared_fields fields_cmp)
     (then_cmp (on csync_of (option_cmp csync_cmp))
     (then_cmp (on opt_of (option_cmp opt_cmp)) (on svcb_of (option_cmp svcb_cmp))))
 
@@ -103,6 +79,12 @@ rdata_cmp = then_cmp (on type_number nat_cmp) (then_cmp (on data_form nat_cmp) d
 
 abbrev pub rdata_eq : RData → RData → Bool
 rdata_eq = eq_by_cmp rdata_cmp
+
+-- The canonical octets (RFC 4034 6.2): names in lower case, bit maps without zero octets at their
+-- end, options in the order of their octets.
+abbrev pub canonical_data : RData → List ℕ
+canonical_data (rdata.OPT opt) = canonical_entries opt.options.items
+canonical_data value = canonical_octets (rdata_fields value)
 
 -- The canonical octets of data whose names are fully qualified, whose parameters rise, and whose
 -- options 16 bits can count, as in all data that were read: names in lower case, bit maps from

@@ -51,11 +51,11 @@ use Rattle.drd_types.specs.drd_keys.declared.tlsa.TLSA.{TLSA}
 use Rattle.drd_svcb.specs.drd_plain.declared.txt.TXT.{TXT}
 use Rattle.drd_rdata.specs.declared.rdata.RData.{RData}
 use Rattle.drd_rdata.specs.declared.rdata.RData.TheVariants as rdata
-use Rattle.drd_rdata.specs.Order.{type_number, data_form, rdata_fields, csync_of, opt_of, svcb_of, opt_cmp, svcb_cmp, data_cmp, rdata_cmp, rdata_eq, data_input, rdata_input}
+use Rattle.drd_rdata.specs.Order.{type_number, data_form, compared_fields, csync_of, opt_of, svcb_of, opt_cmp, svcb_cmp, data_cmp, rdata_cmp, rdata_eq, data_input, rdata_input}
 
 data_total : IsTotalOrder data_cmp
 data_total =
-    then_total (on_total rdata_fields fields_total)
+    then_total (on_total compared_fields fields_total)
     (then_total (on_total csync_of (options_total csync_total))
     (then_total (on_total opt_of (options_total entries_total))
     (on_total svcb_of (options_total (fields_data_total svcb_code)))))
@@ -265,7 +265,7 @@ input_svcb (rdata.HTTPS https) x e = let same : https.0 ≡ x = cc e in ap svcb_
 input_svcb other x e = absurd (cc e)
 
 input_fields : (v : RData) → csync_of v ≡ None → opt_of v ≡ None → svcb_of v ≡ None
-    → data_input v ≡ fields_input (rdata_fields v)
+    → data_input v ≡ fields_input (compared_fields v)
 input_fields (rdata.CSYNC csync) e f g = absurd (cc e)
 input_fields (rdata.OPT opt) e f g = absurd (cc f)
 input_fields (rdata.SVCB svcb) e f g = absurd (cc g)
@@ -287,7 +287,7 @@ fed_svcb a b e = svcb-alike a b (fields_ties (svcb_code a) (svcb_code b) ∙ ap 
 
 fed_data : (a b : RData) (o p : Option CSYNC) (q r : Option OPT) (s t : Option SVCB)
     → csync_of a ≡ o → csync_of b ≡ p → opt_of a ≡ q → opt_of b ≡ r → svcb_of a ≡ s → svcb_of b ≡ t
-    → fields_cmp (rdata_fields a) (rdata_fields b) ≡ Equal → option_cmp csync_cmp o p ≡ Equal
+    → fields_cmp (compared_fields a) (compared_fields b) ≡ Equal → option_cmp csync_cmp o p ≡ Equal
     → option_cmp opt_cmp q r ≡ Equal → option_cmp svcb_cmp s t ≡ Equal → data_input a ≡ data_input b
 fed_data a b (Some x) (Some y) q r s t oa ob qa qb sa sb e f g h =
     input_csync a x oa ∙ fed_csync x y f ∙ sym (input_csync b y ob)
@@ -302,7 +302,7 @@ fed_data a b None None None None (Some x) (Some y) oa ob qa qb sa sb e f g h =
 fed_data a b None None None None (Some x) None oa ob qa qb sa sb e f g h = absurd (cc h)
 fed_data a b None None None None None (Some y) oa ob qa qb sa sb e f g h = absurd (cc h)
 fed_data a b None None None None None None oa ob qa qb sa sb e f g h =
-    input_fields a oa qa sa ∙ fed_fields (rdata_fields a) (rdata_fields b) e
+    input_fields a oa qa sa ∙ fed_fields (compared_fields a) (compared_fields b) e
     ∙ sym (input_fields b ob qb sb)
 
 pub rdata_fed : (a b : RData) → rdata_eq a b ≡ true → rdata_input a ≡ rdata_input b
@@ -312,7 +312,7 @@ rdata_fed a b e =
     let forms = nat_cmp (data_form a) (data_form b) in
     let sets = option_cmp csync_cmp (csync_of a) (csync_of b) in
     let opts = option_cmp opt_cmp (opt_of a) (opt_of b) in
-    let fields = fields_cmp (rdata_fields a) (rdata_fields b) in
+    let fields = fields_cmp (compared_fields a) (compared_fields b) in
     let behind = then_second numbers (ordering_then forms (data_cmp a b)) all in
     let datas = then_second forms (data_cmp a b) behind in
     let services = option_cmp svcb_cmp (svcb_of a) (svcb_of b) in

@@ -15,7 +15,7 @@ use Rattle.drd_svcb.specs.drd_plain.Print.{a_print, aaaa_print, hinfo_print, nap
 use Rattle.drd_svcb.specs.drd_plain.Words.{IsAText, IsAaaaText, IsHinfoText, IsNaptrText, IsTxtText}
 use Rattle.drd_svcb.specs.Print.{svcb_print}
 use Rattle.drd_svcb.specs.Texts.{IsSvcbText}
-use Rattle.drd_rdata.specs.Reading.{Is}
+use Rattle.drd_rdata.specs.Types.{Is}
 use Rattle.drd_rdata.specs.declared.rdata.RData.{RData}
 use Rattle.drd_rdata.specs.declared.rdata.RData.TheVariants as rdata
 

@@ -1,5 +1,5 @@
 -- Which type record data are of.
-use Rattle.std.specs.Prelude.{Bool, true, false, Option, Some, None}
+use Rattle.std.specs.Prelude.{◌≡◌, Bool, true, false, Option, Some, None}
 use Rattle.std.specs.declared.net.ip_addr.IpAddr.{IpAddr}
 use Rattle.std.specs.declared.net.ip_addr.IpAddr.TheVariants.{V4, V6}
 use Rattle.std.specs.declared.net.ipv4_addr.Ipv4Addr.{Ipv4Addr}
@@ -8,6 +8,10 @@ use Rattle.dnw_codes.specs.declared.record_type.RecordType.{RecordType}
 use Rattle.dnw_codes.specs.declared.record_type.RecordType.TheVariants as kind
 use Rattle.drd_rdata.specs.declared.rdata.RData.{RData}
 use Rattle.drd_rdata.specs.declared.rdata.RData.TheVariants as rdata
+
+-- The data are of one variant, and what it holds is so.
+abbrev pub Is : {X : Type 0} → (X → RData) → (X → Type 0) → RData → Type 0
+Is {X = X} variant Holds value = (x : X) × (value ≡ variant x) × Holds x
 
 -- The type of a record with these data.
 abbrev pub type_of : RData → RecordType

@@ -12,8 +12,9 @@ ghost use Rattle.drd_rdata.specs.declared.rdata.RData.TheVariants.{Unknown};
 ghost use Rattle.dnw_codes.specs.declared.error.ProtoError.{ProtoError as WritingError};
 ghost use Rattle.drd_types.specs.dnw_encoder.State.{State};
 ghost use Rattle.drd_rdata.specs.Writing.{RefusesRData, WantsRoom};
-ghost use Rattle.drd_rdata.specs.Types.{type_of};
-ghost use Rattle.drd_rdata.specs.Reading.{Is, IsEmptyOf, HoldsAs, ReadsAs, StopsAs, RefusesAs, Shows};
+ghost use Rattle.drd_rdata.specs.Order.{HasCanonical, canonical_data};
+ghost use Rattle.drd_rdata.specs.Types.{Is, type_of};
+ghost use Rattle.drd_rdata.specs.Reading.{IsEmptyOf, HoldsAs, ReadsAs, StopsAs, RefusesAs, Shows};
 
 use crate::rdata::RData;
 use crate::record_data::RecordData;
@@ -29,7 +30,7 @@ impl RData {
     /// The data of a record of this type, so many octets at the decoder's index, which moves behind them. No octets are
     /// `Update0`, for OPT no options. Refused are octets that aren't data of the type: by their number, where reading
     /// stopped before their end or behind it, else by the cause. On an error the decoder is where reading stopped.
-    #[tactic(auto, using(crate::proofs::WritingLaws::read_room))]
+    #[tactic(auto, using(crate::proofs::WritingLaws::read_room, crate::proofs::BackLaws::read_canonical))]
     pub fn read(
         alloc: Global,
         decoder: &mut BinDecoder<'_>,
@@ -38,6 +39,9 @@ impl RData {
     ) -> Result<RData, DecodeError>
         ensures ok { IfOk result (λ value. ReadsAs record_type decoder.old.octets decoder.old.index length value) }
         ensures kind { IfOk result (λ value. type_of value ≡ record_type) }
+
+        // Its equality and order with other data of the type are those of the canonical octets.
+        ensures canonical { IfOk result (λ value. HasCanonical value (canonical_data value)) }
 
         // It is written wherever there are memory and room.
         ensures written { IfOk result (λ value. (old : State) (e : WritingError) → RefusesRData value old e → WantsRoom old e) }
@@ -130,7 +134,8 @@ fn read_as<T: RecordDataDecodable + RecordData + Drop>(
     ensures forward { decoder.old.index ≤ decoder.new.index }
     ensures within { decoder.new.index ≤ size decoder.new.octets }
     ensures refused { IfErr result (λ e. IsWantOfMemory e ⊎ ((cause : Error) × (at : ℕ)
-        × T.refuses decoder.old.octets decoder.old.index (decoder.old.index + length) cause at × Shows decoder.old.index length cause at e)) }
+        × T.refuses decoder.old.octets decoder.old.index (decoder.old.index + length) cause at
+        × (IsWantOfMemory cause → ⊥) × Shows decoder.old.index length cause at e)) }
     ensures none { IfErr result (λ e. IsWantOfMemory e ⊎ ((value : Rdata)
         → Is T.rdata (λ x. T.reads decoder.old.octets decoder.old.index x (decoder.old.index + length)) value → ⊥)) }
 {
@@ -150,7 +155,7 @@ fn read_as<T: RecordDataDecodable + RecordData + Drop>(
 fn shown(start: usize, len: usize, stop: usize, cause: DecodeError) -> DecodeError
     requires { start ≤ stop }
     ensures memory { IsWantOfMemory cause → result ≡ cause }
-    ensures shown { IsWantOfMemory cause ⊎ Shows start len cause stop result }
+    ensures shown { IsWantOfMemory cause ⊎ ((IsWantOfMemory cause → ⊥) × Shows start len cause stop result) }
 {
     let read = stop - start;
     match cause {
@@ -195,7 +200,8 @@ fn read_unknown(
     ensures forward { decoder.old.index ≤ decoder.new.index }
     ensures within { decoder.new.index ≤ size decoder.new.octets }
     ensures refused { IfErr result (λ e. IsWantOfMemory e ⊎ ((cause : Error) × (at : ℕ)
-        × StopsReading decoder.old.octets (decoder.old.index + length) null_kinds decoder.old.index cause at × Shows decoder.old.index length cause at e)) }
+        × StopsReading decoder.old.octets (decoder.old.index + length) null_kinds decoder.old.index cause at
+        × (IsWantOfMemory cause → ⊥) × Shows decoder.old.index length cause at e)) }
     ensures none { IfErr result (λ e. IsWantOfMemory e ⊎ ((value : Rdata)
         → Is (Unknown code) (λ null. FieldsAt decoder.old.octets decoder.old.index (null_fields null) (decoder.old.index + length)) value → ⊥)) }
 {

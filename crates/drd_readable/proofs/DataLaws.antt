@@ -5,8 +5,6 @@ use Rattle.std.proofs.lemmas.List.{length-append, length-map}
 use Rattle.std.proofs.lemmas.List.Elements.{All-nil, All-cons, All-head, All-tail, All-map}
 use Rattle.std.specs.List.{All}
 use Rattle.std.specs.Net.Addr.{ipv4_bits}
-use Rattle.drd_rdata.specs.dnw_codes.declared.record_type.RecordType.{RecordType}
-use Rattle.drd_rdata.specs.dnw_codes.declared.record_type.RecordType.TheVariants as kind
 use Rattle.drd_option.specs.dnw_decoder.Octets.{octets_32}
 use Rattle.drd_option.proofs.dnw_decoder_lemmas.Standing.{length-octets_32}
 use Rattle.drd_option.proofs.dnw_encoder_lemmas.NameLaws.{length-name_octets}
@@ -20,34 +18,30 @@ use Rattle.drd_option.specs.drd_fields.Writing.{fields_octets}
 use Rattle.drd_params.specs.drd_plain.Fields.{a_fields, aaaa_fields, are_alphanumeric, hinfo_fields, naptr_fields, txt_fields, txt_strings}
 use Rattle.drd_rdata.specs.drd_names.Fields.{aname_fields, cname_fields, mx_fields, ns_fields, ptr_fields, soa_fields, srv_fields}
 use Rattle.drd_rdata.specs.drd_keys.Fields.{cert_fields, null_fields, openpgpkey_fields, smimea_fields, sshfp_fields, tlsa_fields}
-use Rattle.drd_rdata.specs.drd_keys.Cert.{IsNamedCert}
-use Rattle.drd_rdata.specs.drd_keys.Sshfp.{IsNamedSshfp}
-use Rattle.drd_rdata.specs.drd_keys.Tlsa.{IsNamedTlsa}
-use Rattle.drd_rdata.specs.drd_keys.declared.null.NULL.{NULL}
-use Rattle.drd_rdata.specs.drd_caa.Fields.{IsCaa, caa_fields, is_caa_tag}
-use Rattle.drd_rdata.specs.drd_csync.Data.{csync_fields, CsyncAt}
+use Rattle.drd_rdata.specs.drd_caa.Fields.{caa_fields, is_caa_tag}
+use Rattle.drd_rdata.specs.drd_csync.Data.{csync_fields}
 use Rattle.drd_rdata.specs.drd_csync.declared.csync.CSYNC.{CSYNC}
-use Rattle.drd_rdata.specs.drd_opt.Reading.{EntriesAt}
-use Rattle.drd_params.specs.Params.{AreParams}
 use Rattle.drd_rdata.specs.drd_svcb.Fields.{svcb_fields}
-use Rattle.drd_rdata.specs.Reading.{Is, HoldsAs, IsReadable}
-use Rattle.drd_rdata.specs.Types.{type_of}
+use Rattle.drd_rdata.specs.Reading.{IsReadable, RDataAt}
 use Rattle.drd_rdata.specs.declared.rdata.RData.{RData}
 use Rattle.drd_rdata.specs.declared.rdata.RData.TheVariants as rdata
 use Rattle.drd_readable.specs.Alone.{IsShort, StandAlone}
 use Rattle.drd_readable.proofs.AloneLaws.{fields_alone, in_own_octets, whole}
-use Rattle.drd_readable.specs.Data.{IsOther, CanBeRead}
+use Rattle.drd_readable.specs.Data.{CanBeRead}
 use Rattle.drd_readable.proofs.OptionLaws.{entries_stand, holding}
 
 -- ---- from what the data hold
 -- Fields that stand alone, and take octets, are read from these.
-from_fields : (value : RData) (fs : List Field) → ((message : List ℕ) (place end : ℕ) → FieldsAt message place fs end → HoldsAs (type_of value) message place value end) → 0 < length (fields_octets fs) → StandAlone fs → IsReadable value
-from_fields value fs holds some alone = record {
+from_fields : (value : RData) (fs : List Field)
+    → ((message : List ℕ) (place end : ℕ) → FieldsAt message place fs end
+    → RDataAt message place value end)
+    → 0 < length (fields_octets fs) → StandAlone fs → IsReadable value
+from_fields value fs there some alone = record {
   message = fields_octets fs;
   place = 0;
   end = length (fields_octets fs);
   some = some;
-  holds = holds (fields_octets fs) 0 (length (fields_octets fs)) (in_own_octets fs alone);
+  there = there (fields_octets fs) 0 (length (fields_octets fs)) (in_own_octets fs alone);
 }
 
 -- Fields that begin with a name take octets.
@@ -71,39 +65,8 @@ csync_read csync rises =
     let tight = tight_written csync.type_bit_maps rises in
     let fs = csync_fields csync (tight_maps csync.type_bit_maps) in
     from_fields (rdata.CSYNC csync) fs
-    (λ m p e there. (csync, refl, record { octets = tight_maps csync.type_bit_maps; maps = tight_reads 0 _ _ tight.maps; there = there }))
+    (λ m p e there. record { octets = tight_maps csync.type_bit_maps; maps = tight_reads 0 _ _ tight.maps; there = there })
     (some_long csync.soa_serial _) (tt, (tt, (tt, tt)))
-
-unknown_read : (code : RecordType) (null : NULL) → IsOther code → 0 < length null.anything.items → IsReadable (rdata.Unknown code null)
-unknown_read kind.A null is some = absurd is
-unknown_read kind.AAAA null is some = absurd is
-unknown_read kind.ANAME null is some = absurd is
-unknown_read kind.CAA null is some = absurd is
-unknown_read kind.CERT null is some = absurd is
-unknown_read kind.CNAME null is some = absurd is
-unknown_read kind.CSYNC null is some = absurd is
-unknown_read kind.HINFO null is some = absurd is
-unknown_read kind.HTTPS null is some = absurd is
-unknown_read kind.MX null is some = absurd is
-unknown_read kind.NAPTR null is some = absurd is
-unknown_read kind.NULL null is some = absurd is
-unknown_read kind.NS null is some = absurd is
-unknown_read kind.OPENPGPKEY null is some = absurd is
-unknown_read kind.OPT null is some = absurd is
-unknown_read kind.PTR null is some = absurd is
-unknown_read kind.SMIMEA null is some = absurd is
-unknown_read kind.SOA null is some = absurd is
-unknown_read kind.SRV null is some = absurd is
-unknown_read kind.SSHFP null is some = absurd is
-unknown_read kind.SVCB null is some = absurd is
-unknown_read kind.TLSA null is some = absurd is
-unknown_read kind.TXT null is some = absurd is
-unknown_read kind.ZERO null is some = absurd is
-unknown_read kind.ANY null is some = absurd is
-unknown_read kind.AXFR null is some = absurd is
-unknown_read kind.IXFR null is some = absurd is
-unknown_read other null is some =
-    from_fields (rdata.Unknown other null) (null_fields null) (λ m p e there. (null, refl, there)) (some_rest null.anything.items some) (tt, tt)
 
 some_strings : (ss : List (List ℕ)) → 0 < length ss → 0 < length (fields_octets (strings ss ∷ []))
 some_strings [] some = absurd (omega (arith, some))
@@ -111,25 +74,25 @@ some_strings (s ∷ ss) some = omega arith
 
 -- Data that hold what their type asks for can be read.
 pub to_read : (value : RData) → CanBeRead value → IsReadable value
-to_read (rdata.A a) can = from_fields (rdata.A a) (a_fields a) (λ m p e there. (a, refl, there)) (some_long (ipv4_bits a.0) []) (tt, tt)
+to_read (rdata.A a) can = from_fields (rdata.A a) (a_fields a) (λ m p e there. (there, tt)) (some_long (ipv4_bits a.0) []) (tt, tt)
 to_read (rdata.AAAA aaaa) can =
-    from_fields (rdata.AAAA aaaa) (aaaa_fields aaaa) (λ m p e there. (aaaa, refl, there)) (omega arith) (tt, (tt, (tt, (tt, (tt, (tt, (tt, (tt, tt))))))))
-to_read (rdata.ANAME aname) can = from_fields (rdata.ANAME aname) (aname_fields aname) (λ m p e there. (aname, refl, there)) (some_name aname.0 []) (can, tt)
+    from_fields (rdata.AAAA aaaa) (aaaa_fields aaaa) (λ m p e there. (there, tt)) (omega arith) (tt, (tt, (tt, (tt, (tt, (tt, (tt, (tt, tt))))))))
+to_read (rdata.ANAME aname) can = from_fields (rdata.ANAME aname) (aname_fields aname) (λ m p e there. (there, tt)) (some_name aname.0 []) (can, tt)
 to_read (rdata.CAA caa) can =
-    from_fields (rdata.CAA caa) (caa_fields caa) (λ m p e there. (caa, refl, (there, can))) (omega arith) (tt, (short_tag caa.tag.items can.0, (tt, tt)))
-to_read (rdata.CERT cert) can = from_fields (rdata.CERT cert) (cert_fields cert) (λ m p e there. (cert, refl, (there, can))) (omega arith) (tt, (tt, (tt, (tt, tt))))
-to_read (rdata.CNAME cname) can = from_fields (rdata.CNAME cname) (cname_fields cname) (λ m p e there. (cname, refl, there)) (some_name cname.0 []) (can, tt)
+    from_fields (rdata.CAA caa) (caa_fields caa) (λ m p e there. (there, can)) (omega arith) (tt, (short_tag caa.tag.items can.0, (tt, tt)))
+to_read (rdata.CERT cert) can = from_fields (rdata.CERT cert) (cert_fields cert) (λ m p e there. (there, can)) (omega arith) (tt, (tt, (tt, (tt, tt))))
+to_read (rdata.CNAME cname) can = from_fields (rdata.CNAME cname) (cname_fields cname) (λ m p e there. (there, tt)) (some_name cname.0 []) (can, tt)
 to_read (rdata.CSYNC csync) can = csync_read csync can
-to_read (rdata.HINFO hinfo) can = from_fields (rdata.HINFO hinfo) (hinfo_fields hinfo) (λ m p e there. (hinfo, refl, there)) (omega arith) (can.0, (can.1, tt))
-to_read (rdata.HTTPS https) can = from_fields (rdata.HTTPS https) (svcb_fields https.0) (λ m p e there. (https, refl, (there, can.1))) (omega arith) (tt, (can.0, (tt, tt)))
-to_read (rdata.MX mx) can = from_fields (rdata.MX mx) (mx_fields mx) (λ m p e there. (mx, refl, there)) (omega arith) (tt, (can, tt))
+to_read (rdata.HINFO hinfo) can = from_fields (rdata.HINFO hinfo) (hinfo_fields hinfo) (λ m p e there. (there, tt)) (omega arith) (can.0, (can.1, tt))
+to_read (rdata.HTTPS https) can = from_fields (rdata.HTTPS https) (svcb_fields https.0) (λ m p e there. (there, can.1)) (omega arith) (tt, (can.0, (tt, tt)))
+to_read (rdata.MX mx) can = from_fields (rdata.MX mx) (mx_fields mx) (λ m p e there. (there, tt)) (omega arith) (tt, (can, tt))
 to_read (rdata.NAPTR naptr) can =
-    from_fields (rdata.NAPTR naptr) (naptr_fields naptr) (λ m p e there. (naptr, refl, (there, can.3))) (omega arith)
+    from_fields (rdata.NAPTR naptr) (naptr_fields naptr) (λ m p e there. (there, can.3)) (omega arith)
     (tt, (tt, (can.0, (can.1, (can.2, (can.4, tt))))))
-to_read (rdata.NULL null) can = from_fields (rdata.NULL null) (null_fields null) (λ m p e there. (null, refl, there)) (some_rest null.anything.items can) (tt, tt)
-to_read (rdata.NS ns) can = from_fields (rdata.NS ns) (ns_fields ns) (λ m p e there. (ns, refl, there)) (some_name ns.0 []) (can, tt)
+to_read (rdata.NULL null) can = from_fields (rdata.NULL null) (null_fields null) (λ m p e there. (there, tt)) (some_rest null.anything.items can) (tt, tt)
+to_read (rdata.NS ns) can = from_fields (rdata.NS ns) (ns_fields ns) (λ m p e there. (there, tt)) (some_name ns.0 []) (can, tt)
 to_read (rdata.OPENPGPKEY key) can =
-    from_fields (rdata.OPENPGPKEY key) (openpgpkey_fields key) (λ m p e there. (key, refl, there)) (some_rest key.public_key.items can) (tt, tt)
+    from_fields (rdata.OPENPGPKEY key) (openpgpkey_fields key) (λ m p e there. (there, tt)) (some_rest key.public_key.items can) (tt, tt)
 to_read (rdata.OPT opt) can =
     let h = holding opt.options.items can in
     record {
@@ -137,30 +100,28 @@ to_read (rdata.OPT opt) can =
       place = 0;
       end = length h.octets;
       some = h.some;
-      holds = (opt, refl, record { octets = h.octets; there = whole h.octets; holds = h.holds });
+      there = record { octets = h.octets; there = whole h.octets; holds = h.holds };
     }
-to_read (rdata.PTR ptr) can = from_fields (rdata.PTR ptr) (ptr_fields ptr) (λ m p e there. (ptr, refl, there)) (some_name ptr.0 []) (can, tt)
+to_read (rdata.PTR ptr) can = from_fields (rdata.PTR ptr) (ptr_fields ptr) (λ m p e there. (there, tt)) (some_name ptr.0 []) (can, tt)
 to_read (rdata.SMIMEA smimea) can =
-    from_fields (rdata.SMIMEA smimea) (smimea_fields smimea) (λ m p e there. (smimea, refl, (there, can))) (omega arith) (tt, (tt, (tt, (tt, tt))))
-to_read (rdata.SOA soa) can = from_fields (rdata.SOA soa) (soa_fields soa) (λ m p e there. (soa, refl, there)) (some_name soa.mname _)
+    from_fields (rdata.SMIMEA smimea) (smimea_fields smimea) (λ m p e there. (there, can)) (omega arith) (tt, (tt, (tt, (tt, tt))))
+to_read (rdata.SOA soa) can = from_fields (rdata.SOA soa) (soa_fields soa) (λ m p e there. (there, tt)) (some_name soa.mname _)
     (can.0, (can.1, (tt, (tt, (tt, (tt, (tt, tt)))))))
-to_read (rdata.SRV srv) can = from_fields (rdata.SRV srv) (srv_fields srv) (λ m p e there. (srv, refl, there)) (omega arith) (tt, (tt, (tt, (can, tt))))
-to_read (rdata.SSHFP sshfp) can = from_fields (rdata.SSHFP sshfp) (sshfp_fields sshfp) (λ m p e there. (sshfp, refl, (there, can))) (omega arith) (tt, (tt, (tt, tt)))
-to_read (rdata.SVCB svcb) can = from_fields (rdata.SVCB svcb) (svcb_fields svcb) (λ m p e there. (svcb, refl, (there, can.1))) (omega arith) (tt, (can.0, (tt, tt)))
-to_read (rdata.TLSA tlsa) can = from_fields (rdata.TLSA tlsa) (tlsa_fields tlsa) (λ m p e there. (tlsa, refl, (there, can))) (omega arith) (tt, (tt, (tt, (tt, tt))))
+to_read (rdata.SRV srv) can = from_fields (rdata.SRV srv) (srv_fields srv) (λ m p e there. (there, tt)) (omega arith) (tt, (tt, (tt, (can, tt))))
+to_read (rdata.SSHFP sshfp) can = from_fields (rdata.SSHFP sshfp) (sshfp_fields sshfp) (λ m p e there. (there, can)) (omega arith) (tt, (tt, (tt, tt)))
+to_read (rdata.SVCB svcb) can = from_fields (rdata.SVCB svcb) (svcb_fields svcb) (λ m p e there. (there, can.1)) (omega arith) (tt, (can.0, (tt, tt)))
+to_read (rdata.TLSA tlsa) can = from_fields (rdata.TLSA tlsa) (tlsa_fields tlsa) (λ m p e there. (there, can)) (omega arith) (tt, (tt, (tt, (tt, tt))))
 to_read (rdata.TXT txt) can =
-    from_fields (rdata.TXT txt) (txt_fields txt) (λ m p e there. (txt, refl, there))
+    from_fields (rdata.TXT txt) (txt_fields txt) (λ m p e there. (there, tt))
     (some_strings _ (omega (arith, can.1, length-map txt.txt_data.items (λ (s : Vec ℕ Global). s.items))))
     (All-map IsShort (λ s. s.items) txt.txt_data.items can.0, tt)
-to_read (rdata.Unknown code null) can = unknown_read code null can.0 can.1
+to_read (rdata.Unknown code null) can =
+    from_fields (rdata.Unknown code null) (null_fields null) (λ m p e there. (there, can.0))
+    (some_rest null.anything.items can.1) (tt, tt)
 to_read (rdata.Update0 code) can = absurd can
 to_read rdata.ZERO can = absurd can
 
 -- ---- to what the data hold
--- What one variant's value holds.
-own : {X : Type 0} (variant : X → RData) (Holds : X → Type 0) (y : X) → ((x : X) → variant y ≡ variant x → y ≡ x) → Is variant Holds (variant y) → Holds y
-own variant Holds y one is = subst Holds (sym (one is.0 is.1)) is.2
-
 -- Octets that stand and take place are some.
 rest_some : (octets : List ℕ) (message : List ℕ) (place end : ℕ) → place < end → FieldsAt message place (rest octets ∷ []) end → 0 < length octets
 rest_some octets message place end some there = omega (arith, some, there.2, there.1.behind)
@@ -174,119 +135,52 @@ each_short [] each = All-nil (λ s. IsShort s.items)
 each_short (s ∷ ss) each =
     All-cons (λ t. IsShort t.items) s ss (All-head IsShort s.items (map (λ t. t.items) ss) each) (each_short ss (All-tail IsShort s.items (map (λ t. t.items) ss) each))
 
-unknown_other : (code : RecordType) (null : NULL) → IsReadable (rdata.Unknown code null) → IsOther code
-unknown_other kind.A null r = let is = r.holds.1 in absurd (cc)
-unknown_other kind.AAAA null r = let is = r.holds.1 in absurd (cc)
-unknown_other kind.ANAME null r = let is = r.holds.1 in absurd (cc)
-unknown_other kind.CAA null r = let is = r.holds.1 in absurd (cc)
-unknown_other kind.CERT null r = let is = r.holds.1 in absurd (cc)
-unknown_other kind.CNAME null r = let is = r.holds.1 in absurd (cc)
-unknown_other kind.CSYNC null r = let is = r.holds.1 in absurd (cc)
-unknown_other kind.HINFO null r = let is = r.holds.1 in absurd (cc)
-unknown_other kind.HTTPS null r = let is = r.holds.1 in absurd (cc)
-unknown_other kind.MX null r = let is = r.holds.1 in absurd (cc)
-unknown_other kind.NAPTR null r = let is = r.holds.1 in absurd (cc)
-unknown_other kind.NULL null r = let is = r.holds.1 in absurd (cc)
-unknown_other kind.NS null r = let is = r.holds.1 in absurd (cc)
-unknown_other kind.OPENPGPKEY null r = let is = r.holds.1 in absurd (cc)
-unknown_other kind.OPT null r = let is = r.holds.1 in absurd (cc)
-unknown_other kind.PTR null r = let is = r.holds.1 in absurd (cc)
-unknown_other kind.SMIMEA null r = let is = r.holds.1 in absurd (cc)
-unknown_other kind.SOA null r = let is = r.holds.1 in absurd (cc)
-unknown_other kind.SRV null r = let is = r.holds.1 in absurd (cc)
-unknown_other kind.SSHFP null r = let is = r.holds.1 in absurd (cc)
-unknown_other kind.SVCB null r = let is = r.holds.1 in absurd (cc)
-unknown_other kind.TLSA null r = let is = r.holds.1 in absurd (cc)
-unknown_other kind.TXT null r = let is = r.holds.1 in absurd (cc)
-unknown_other kind.ZERO null r = absurd r.holds
-unknown_other kind.ANY null r = absurd r.holds
-unknown_other kind.AXFR null r = absurd r.holds
-unknown_other kind.IXFR null r = absurd r.holds
-unknown_other other null r = tt
-
-unknown_some : (code : RecordType) (null : NULL) → IsOther code → IsReadable (rdata.Unknown code null) → 0 < length null.anything.items
-unknown_some kind.A null is r = absurd is
-unknown_some kind.AAAA null is r = absurd is
-unknown_some kind.ANAME null is r = absurd is
-unknown_some kind.CAA null is r = absurd is
-unknown_some kind.CERT null is r = absurd is
-unknown_some kind.CNAME null is r = absurd is
-unknown_some kind.CSYNC null is r = absurd is
-unknown_some kind.HINFO null is r = absurd is
-unknown_some kind.HTTPS null is r = absurd is
-unknown_some kind.MX null is r = absurd is
-unknown_some kind.NAPTR null is r = absurd is
-unknown_some kind.NULL null is r = absurd is
-unknown_some kind.NS null is r = absurd is
-unknown_some kind.OPENPGPKEY null is r = absurd is
-unknown_some kind.OPT null is r = absurd is
-unknown_some kind.PTR null is r = absurd is
-unknown_some kind.SMIMEA null is r = absurd is
-unknown_some kind.SOA null is r = absurd is
-unknown_some kind.SRV null is r = absurd is
-unknown_some kind.SSHFP null is r = absurd is
-unknown_some kind.SVCB null is r = absurd is
-unknown_some kind.TLSA null is r = absurd is
-unknown_some kind.TXT null is r = absurd is
-unknown_some kind.ZERO null is r = absurd is
-unknown_some kind.ANY null is r = absurd is
-unknown_some kind.AXFR null is r = absurd is
-unknown_some kind.IXFR null is r = absurd is
-unknown_some other null is r =
-    rest_some null.anything.items r.message r.place r.end r.some (own (rdata.Unknown other) (λ x. FieldsAt r.message r.place (null_fields x) r.end) null (λ x e. cc) r.holds)
-
-no_update : (code : RecordType) → IsReadable (rdata.Update0 code) → ⊥
-no_update kind.ZERO r = r.holds
-no_update kind.ANY r = r.holds
-no_update kind.AXFR r = r.holds
-no_update kind.IXFR r = r.holds
-no_update other r = let is = r.holds.1 in absurd (cc)
-
 -- Data that can be read hold what their type asks for.
 pub from_read : (value : RData) → IsReadable value → CanBeRead value
-from_read (rdata.ANAME aname) r = (fields_alone r.message r.place (aname_fields aname) r.end (own rdata.ANAME (λ y. FieldsAt r.message r.place (aname_fields y) r.end) aname (λ y e. cc) r.holds)).0
-from_read (rdata.CNAME cname) r = (fields_alone r.message r.place (cname_fields cname) r.end (own rdata.CNAME (λ y. FieldsAt r.message r.place (cname_fields y) r.end) cname (λ y e. cc) r.holds)).0
-from_read (rdata.MX mx) r = (fields_alone r.message r.place (mx_fields mx) r.end (own rdata.MX (λ y. FieldsAt r.message r.place (mx_fields y) r.end) mx (λ y e. cc) r.holds)).1.0
-from_read (rdata.NS ns) r = (fields_alone r.message r.place (ns_fields ns) r.end (own rdata.NS (λ y. FieldsAt r.message r.place (ns_fields y) r.end) ns (λ y e. cc) r.holds)).0
-from_read (rdata.PTR ptr) r = (fields_alone r.message r.place (ptr_fields ptr) r.end (own rdata.PTR (λ y. FieldsAt r.message r.place (ptr_fields y) r.end) ptr (λ y e. cc) r.holds)).0
-from_read (rdata.SRV srv) r = (fields_alone r.message r.place (srv_fields srv) r.end (own rdata.SRV (λ y. FieldsAt r.message r.place (srv_fields y) r.end) srv (λ y e. cc) r.holds)).1.1.1.0
+from_read (rdata.ANAME aname) r = (fields_alone r.message r.place (aname_fields aname) r.end r.there.0).0
+from_read (rdata.CNAME cname) r = (fields_alone r.message r.place (cname_fields cname) r.end r.there.0).0
+from_read (rdata.MX mx) r = (fields_alone r.message r.place (mx_fields mx) r.end r.there.0).1.0
+from_read (rdata.NS ns) r = (fields_alone r.message r.place (ns_fields ns) r.end r.there.0).0
+from_read (rdata.PTR ptr) r = (fields_alone r.message r.place (ptr_fields ptr) r.end r.there.0).0
+from_read (rdata.SRV srv) r = (fields_alone r.message r.place (srv_fields srv) r.end r.there.0).1.1.1.0
 from_read (rdata.HINFO hinfo) r =
-    let alone = fields_alone r.message r.place (hinfo_fields hinfo) r.end (own rdata.HINFO (λ y. FieldsAt r.message r.place (hinfo_fields y) r.end) hinfo (λ y e. cc) r.holds) in
+    let alone = fields_alone r.message r.place (hinfo_fields hinfo) r.end r.there.0 in
     (alone.0, alone.1.0)
 from_read (rdata.SOA soa) r =
-    let alone = fields_alone r.message r.place (soa_fields soa) r.end (own rdata.SOA (λ y. FieldsAt r.message r.place (soa_fields y) r.end) soa (λ y e. cc) r.holds) in
+    let alone = fields_alone r.message r.place (soa_fields soa) r.end r.there.0 in
     (alone.0, alone.1.0)
-from_read (rdata.CAA caa) r = (own rdata.CAA (λ y. FieldsAt r.message r.place (caa_fields y) r.end × IsCaa y) caa (λ y e. cc) r.holds).1
-from_read (rdata.CERT cert) r = (own rdata.CERT (λ y. FieldsAt r.message r.place (cert_fields y) r.end × IsNamedCert y) cert (λ y e. cc) r.holds).1
-from_read (rdata.SMIMEA smimea) r = (own rdata.SMIMEA (λ y. FieldsAt r.message r.place (smimea_fields y) r.end × IsNamedTlsa y.0) smimea (λ y e. cc) r.holds).1
-from_read (rdata.SSHFP sshfp) r = (own rdata.SSHFP (λ y. FieldsAt r.message r.place (sshfp_fields y) r.end × IsNamedSshfp y) sshfp (λ y e. cc) r.holds).1
-from_read (rdata.TLSA tlsa) r = (own rdata.TLSA (λ y. FieldsAt r.message r.place (tlsa_fields y) r.end × IsNamedTlsa y) tlsa (λ y e. cc) r.holds).1
+from_read (rdata.CAA caa) r = r.there.1
+from_read (rdata.CERT cert) r = r.there.1
+from_read (rdata.SMIMEA smimea) r = r.there.1
+from_read (rdata.SSHFP sshfp) r = r.there.1
+from_read (rdata.TLSA tlsa) r = r.there.1
 from_read (rdata.CSYNC csync) r =
-    let there = own rdata.CSYNC (λ y. CsyncAt r.message r.place y r.end) csync (λ y e. cc) r.holds in
+    let there = r.there in
     maps_rise 0 there.octets csync.type_bit_maps (omega arith) there.maps
 from_read (rdata.HTTPS https) r =
-    let there = own rdata.HTTPS (λ y. FieldsAt r.message r.place (svcb_fields y.0) r.end × AreParams y.0.svc_params.items) https (λ y e. cc) r.holds in
+    let there = r.there in
     ((fields_alone r.message r.place (svcb_fields https.0) r.end there.0).1.0, there.1)
 from_read (rdata.NAPTR naptr) r =
-    let there = own rdata.NAPTR (λ y. FieldsAt r.message r.place (naptr_fields y) r.end × (are_alphanumeric y.flags.items ≡ true)) naptr (λ y e. cc) r.holds in
+    let there = r.there in
     let alone = fields_alone r.message r.place (naptr_fields naptr) r.end there.0 in
     (alone.1.1.0, alone.1.1.1.0, alone.1.1.1.1.0, there.1, alone.1.1.1.1.1.0)
 from_read (rdata.NULL null) r =
-    rest_some null.anything.items r.message r.place r.end r.some (own rdata.NULL (λ y. FieldsAt r.message r.place (null_fields y) r.end) null (λ y e. cc) r.holds)
+    rest_some null.anything.items r.message r.place r.end r.some r.there.0
 from_read (rdata.OPENPGPKEY key) r =
-    rest_some key.public_key.items r.message r.place r.end r.some (own rdata.OPENPGPKEY (λ y. FieldsAt r.message r.place (openpgpkey_fields y) r.end) key (λ y e. cc) r.holds)
+    rest_some key.public_key.items r.message r.place r.end r.some r.there.0
 from_read (rdata.OPT opt) r =
-    let there = own rdata.OPT (λ y. EntriesAt r.message r.place y.options.items r.end) opt (λ y e. cc) r.holds in
+    let there = r.there in
     entries_stand there.octets opt.options.items there.holds
 from_read (rdata.SVCB svcb) r =
-    let there = own rdata.SVCB (λ y. FieldsAt r.message r.place (svcb_fields y) r.end × AreParams y.svc_params.items) svcb (λ y e. cc) r.holds in
+    let there = r.there in
     ((fields_alone r.message r.place (svcb_fields svcb) r.end there.0).1.0, there.1)
 from_read (rdata.TXT txt) r =
-    let there = own rdata.TXT (λ y. FieldsAt r.message r.place (txt_fields y) r.end) txt (λ y e. cc) r.holds in (
+    let there = r.there.0 in (
       each_short txt.txt_data.items (fields_alone r.message r.place (txt_fields txt) r.end there).0,
       omega (arith, strings_some (txt_strings txt) r.message r.place r.end r.some there, length-map txt.txt_data.items (λ (s : Vec ℕ Global). s.items)),
     )
-from_read (rdata.Unknown code null) r = let is = unknown_other code null r in (is, unknown_some code null is r)
-from_read (rdata.Update0 code) r = no_update code r
-from_read rdata.ZERO r = r.holds
+from_read (rdata.Unknown code null) r =
+    (r.there.1, rest_some null.anything.items r.message r.place r.end r.some r.there.0)
+from_read (rdata.Update0 code) r = absurd r.there.1
+from_read rdata.ZERO r = absurd r.there.1
 from_read other r = tt

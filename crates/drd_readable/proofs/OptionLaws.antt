@@ -1,5 +1,5 @@
 -- Laws of options that stand in record data of type OPT.
-use Rattle.std.proofs.Common.{◌≡◌, ℕ, zero, suc, ◌-◌, ◌<◌, ◌≤◌, ◌==◌, true, List, [], ◌∷◌, ◌++◌, length, take, drop, replicate, inl, inr, refl, sym, ap, subst, ◌∙◌, arith}
+use Rattle.std.proofs.Common.{◌≡◌, ℕ, zero, suc, ◌+◌, ◌-◌, ◌<◌, ◌≤◌, ◌==◌, true, List, [], ◌∷◌, ◌++◌, length, take, drop, replicate, inl, inr, refl, sym, ap, subst, ◌∙◌, arith}
 use Rattle.std.proofs.lemmas.Bool.{and_parts, eqb-true}
 use Rattle.std.proofs.lemmas.List.{drop_at, length-append, length-drop, length-replicate, length-take, take-append-drop}
 use Rattle.std.proofs.lemmas.List.Elements.{All-nil, All-cons, All-head, All-tail}
@@ -7,7 +7,8 @@ use Rattle.std.specs.List.{All, list_all}
 use Rattle.drd_rdata.specs.dnw_codes.declared.error.DecodeError.{DecodeError}
 use Rattle.drd_option.specs.dnw_decoder.Reading.{IsWantOfMemory}
 use Rattle.drd_option.proofs.dnw_decoder_lemmas.Standing.{stands_split}
-use Rattle.drd_option.specs.Codes.{edns_code_number}
+use Rattle.drd_option.specs.Codes.{edns_code_number, edns_code_of}
+use Rattle.drd_option.proofs.CodeLaws.{number_of_code}
 use Rattle.drd_option.specs.Options.{HasNoForm, IsOptionOf, option_code, option_octets}
 use Rattle.drd_option.specs.Subnets.{family_of, address_octets, address_size, prefix_size, subnet_head, subnet_octets, RefusesSubnet, SubnetAt}
 use Rattle.drd_option.specs.declared.code.EdnsCode.{EdnsCode}
@@ -19,6 +20,37 @@ use Rattle.drd_rdata.proofs.drd_opt_lemmas.FitLaws.{option_fits}
 use Rattle.drd_rdata.specs.drd_opt.Reading.{AreEntriesOf, HoldsEntries}
 use Rattle.drd_readable.proofs.AloneLaws.{whole}
 use Rattle.drd_readable.specs.Options.{StandsSomewhere, HasOwnForm, IsPadded}
+
+-- ---- entries one by one
+-- All are so exactly where those left from an index are.
+pub record LeftFrom {X : Type 0} (P : X → Type 0) (xs : List X) (i : ℕ) : Type 0 where
+  pub all : All P (drop i xs) → All P xs
+  pub some : All P xs → All P (drop i xs)
+
+pub left_first : {X : Type 0} (P : X → Type 0) (xs : List X) → LeftFrom P xs 0
+left_first P xs = record { all = λ a. a; some = λ a. a }
+
+pub left_next : {X : Type 0} (P : X → Type 0) (xs : List X) (i : ℕ) (x : X)
+    → drop i xs ≡ x ∷ drop (i + 1) xs → P x → LeftFrom P xs i → LeftFrom P xs (i + 1)
+left_next {X = X} P xs i x here is left = record {
+  all =
+      λ later. left.all
+      (subst (λ (ys : List X). All P ys) (sym here) (All-cons P x (drop (i + 1) xs) is later));
+  some =
+      λ each. All-tail P x (drop (i + 1) xs)
+      (subst (λ (ys : List X). All P ys) here (left.some each));
+}
+
+pub left_none : {X : Type 0} (P : X → Type 0) (xs : List X) (i : ℕ) (x : X)
+    → drop i xs ≡ x ∷ drop (i + 1) xs → (P x → ⊥) → LeftFrom P xs i → All P xs → ⊥
+left_none {X = X} P xs i x here none left each =
+    none
+    (All-head P x (drop (i + 1) xs) (subst (λ (ys : List X). All P ys) here (left.some each)))
+
+pub left_end : {X : Type 0} (P : X → Type 0) (xs : List X) (i : ℕ) → drop i xs ≡ []
+    → LeftFrom P xs i → All P xs
+left_end {X = X} P xs i none left =
+    left.all (subst (λ (ys : List X). All P ys) (sym none) (All-nil P))
 
 -- ---- all entries from one run of options, and back
 pub record Written (entries : List Entry) : Type 0 where
@@ -123,10 +155,23 @@ form_of (Subnet s) form = (refl, (length (subnet_octets s), subnet_stands s form
 form_of (Unknown number octets) form = (refl, refl, form)
 
 -- An option in its own form stands under its code.
-pub entry_stands : (code : EdnsCode) (option : EdnsOption) → edns_code_number code < 65536 → edns_code_number code ≡ option_code option → length (option_octets option) ≤ 65535 → HasOwnForm option → StandsSomewhere (code, option)
+-- A code is the one of a number where it is the one of its own, which is that number.
+pub own_code_of : (code : EdnsCode) (number : ℕ) → code ≡ edns_code_of (edns_code_number code)
+    → edns_code_number code ≡ number → code ≡ edns_code_of number
+own_code_of code number own same = own ∙ ap edns_code_of same
+
+pub own_number : (code : EdnsCode) (number : ℕ) → code ≡ edns_code_of number
+    → edns_code_number code ≡ number
+own_number code number is = ap edns_code_number is ∙ number_of_code number
+
+pub own_code : (code : EdnsCode) (number : ℕ) → code ≡ edns_code_of number
+    → code ≡ edns_code_of (edns_code_number code)
+own_code code number is = is ∙ ap edns_code_of (sym (own_number code number is))
+
+pub entry_stands : (code : EdnsCode) (option : EdnsOption) → edns_code_number code < 65536 → code ≡ edns_code_of (option_code option) → length (option_octets option) ≤ 65535 → HasOwnForm option → StandsSomewhere (code, option)
 entry_stands code option small same few form = record {
   written = raw_option (option_code option) (option_octets option);
-  fits = record { code = omega (arith, small, same); octets = omega (arith, few) };
+  fits = record { code = omega (arith, small, own_number code (option_code option) same); octets = omega (arith, few) };
   is = record { code = same; option = form_of option form };
 }
 
@@ -144,8 +189,9 @@ read_form number octets (Unknown kept found) is =
     subst (λ (o : List ℕ). HasNoForm kept o) (sym is.1) (subst (λ (n : ℕ). HasNoForm n octets) (sym is.0) is.2)
 
 -- One that stands somewhere is in its own form, under its code.
-pub entry_code : (code : EdnsCode) (option : EdnsOption) → StandsSomewhere (code, option) → edns_code_number code ≡ option_code option
-entry_code code option s = s.is.code ∙ read_code s.written.code s.written.octets option s.is.option
+pub entry_code : (code : EdnsCode) (option : EdnsOption) → StandsSomewhere (code, option) → code ≡ edns_code_of (option_code option)
+entry_code code option s =
+    s.is.code ∙ ap edns_code_of (read_code s.written.code s.written.octets option s.is.option)
 
 pub entry_few : (code : EdnsCode) (option : EdnsOption) → StandsSomewhere (code, option) → length (option_octets option) ≤ 65535
 entry_few code option s = omega (arith, option_fits s.written.code s.written.octets option s.fits.octets s.is.option)

@@ -1,8 +1,6 @@
 -- Which record data can be read: what the data of each type must hold.
 use Rattle.std.specs.Prelude.{◌≡◌, ◌<◌, true, length}
 use Rattle.std.specs.List.{All}
-use Rattle.drd_rdata.specs.dnw_codes.declared.record_type.RecordType.{RecordType}
-use Rattle.drd_rdata.specs.dnw_codes.declared.record_type.RecordType.TheVariants as kind
 use Rattle.drd_rdata.specs.dnw_wire.BitMaps.{Rises}
 use Rattle.drd_params.specs.drd_plain.Fields.{are_alphanumeric}
 use Rattle.drd_params.specs.drd_plain.declared.naptr.NAPTR.{NAPTR}
@@ -12,41 +10,11 @@ use Rattle.drd_rdata.specs.drd_keys.Tlsa.{IsNamedTlsa}
 use Rattle.drd_rdata.specs.drd_caa.Fields.{IsCaa}
 use Rattle.drd_params.specs.Params.{AreParams}
 use Rattle.drd_rdata.specs.drd_svcb.declared.svcb.SVCB.{SVCB}
+use Rattle.drd_rdata.specs.Reading.{IsOther}
 use Rattle.drd_rdata.specs.declared.rdata.RData.{RData}
 use Rattle.drd_rdata.specs.declared.rdata.RData.TheVariants as rdata
 use Rattle.drd_readable.specs.Alone.{IsShort, EndsAtRoot}
 use Rattle.drd_readable.specs.Options.{StandsSomewhere}
-
--- Data of these types have forms of their own, or there are none (RFC 2931 3.1; RFC 1035 3.2.3).
-abbrev pub IsOther : RecordType → Type 0
-IsOther kind.A = ⊥
-IsOther kind.AAAA = ⊥
-IsOther kind.ANAME = ⊥
-IsOther kind.CAA = ⊥
-IsOther kind.CERT = ⊥
-IsOther kind.CNAME = ⊥
-IsOther kind.CSYNC = ⊥
-IsOther kind.HINFO = ⊥
-IsOther kind.HTTPS = ⊥
-IsOther kind.MX = ⊥
-IsOther kind.NAPTR = ⊥
-IsOther kind.NULL = ⊥
-IsOther kind.NS = ⊥
-IsOther kind.OPENPGPKEY = ⊥
-IsOther kind.OPT = ⊥
-IsOther kind.PTR = ⊥
-IsOther kind.SMIMEA = ⊥
-IsOther kind.SOA = ⊥
-IsOther kind.SRV = ⊥
-IsOther kind.SSHFP = ⊥
-IsOther kind.SVCB = ⊥
-IsOther kind.TLSA = ⊥
-IsOther kind.TXT = ⊥
-IsOther kind.ZERO = ⊥
-IsOther kind.ANY = ⊥
-IsOther kind.AXFR = ⊥
-IsOther kind.IXFR = ⊥
-IsOther other = Unit {0}
 
 -- The target ends at the root, and the parameters' keys rise (RFC 9460 2.2).
 abbrev pub IsService : SVCB → Type 0

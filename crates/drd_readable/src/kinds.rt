@@ -1,7 +1,8 @@
 //! Types of records, and sets of them.
 ghost use Rattle.std.specs.Prelude.{◌↔◌, IsTrue};
 ghost use Rattle.drd_rdata.specs.declared.rdata.RData.TheVariants as variant;
-ghost use Rattle.drd_readable.specs.Data.{CanBeRead, IsOther};
+ghost use Rattle.drd_rdata.specs.Reading.{IsOther};
+ghost use Rattle.drd_readable.specs.Data.{CanBeRead};
 
 use drd_rdata::{CSYNC, RecordType};
 

@@ -1,7 +1,7 @@
 //! Options of a message (RFC 6891 6.1.2).
 ghost use Rattle.std.specs.Prelude.{◌≡◌, ◌↔◌, ◌==◌, ◌<◌, ℕ, true, IsTrue};
 ghost use Rattle.std.specs.List.{All, list_all};
-ghost use Rattle.drd_option.specs.Codes.{edns_code_number};
+ghost use Rattle.drd_option.specs.Codes.{edns_code_number, edns_code_of};
 ghost use Rattle.drd_option.specs.Options.{HasNoForm, option_code};
 ghost use Rattle.drd_option.specs.Subnets.{SubnetAt};
 ghost use Rattle.drd_option.specs.declared.subnet.ClientSubnet.{ClientSubnet as Network};
@@ -24,7 +24,12 @@ pub(crate) fn can_read_opt(opt: &OPT) -> bool
 fn are_entries(entries: &[(EdnsCode, EdnsOption)]) -> bool
     ensures { IsTrue result ↔ All StandsSomewhere entries.now }
 {
-    entries.iter().all(|entry| is_entry(entry))
+    'entries: for entry in entries {
+        if !is_entry(entry) {
+            return false;
+        }
+    }
+    true
 }
 
 // Whether some option is read as this one under this code.
@@ -35,11 +40,24 @@ fn is_entry(entry: &(EdnsCode, EdnsOption)) -> bool
 }
 
 // Whether the code is the option's.
+#[tactic(auto, using(crate::proofs::OptionLaws::own_code_of, crate::proofs::OptionLaws::own_number, crate::proofs::OptionLaws::own_code))]
 fn has_own_code(code: EdnsCode, option: &EdnsOption) -> bool
-    ensures same { IsTrue result ↔ (edns_code_number code ≡ option_code option.now) }
+    ensures same { IsTrue result ↔ (code ≡ edns_code_of (option_code option.now)) }
     ensures small { edns_code_number code < 65536 }
 {
-    u16::from(code) == u16::from(option.code())
+    is_own_code(code) && u16::from(code) == u16::from(option.code())
+}
+
+// Whether the code is the one that its number stands for.
+fn is_own_code(code: EdnsCode) -> bool
+    ensures own { IsTrue result ↔ (code ≡ edns_code_of (edns_code_number code)) }
+    ensures small { edns_code_number code < 65536 }
+{
+    let _number = u16::from(code);
+    match code {
+        EdnsCode::Unknown(number) => matches!(EdnsCode::from(number), EdnsCode::Unknown(_)),
+        _ => true,
+    }
 }
 
 // Whether an option is read in this form.

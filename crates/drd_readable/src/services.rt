@@ -1,6 +1,6 @@
 //! Bindings of services, and their parameters (RFC 9460 2.2).
 ghost use Rattle.std.specs.Prelude.{◌≡◌, ◌↔◌, ◌<◌, IsTrue, length};
-ghost use Rattle.drd_params.specs.Keys.{key_number, key_of};
+ghost use Rattle.drd_params.specs.Keys.{IsKey, key_number, key_of};
 ghost use Rattle.drd_params.specs.Params.{AreParams, IsParam};
 ghost use Rattle.drd_params.specs.Values.{IsShortText, IsUnknown, IsValueOf, value_octets};
 ghost use Rattle.drd_params.specs.declared.key.SvcParamKey.TheVariants as of;
@@ -83,14 +83,28 @@ fn is_value_of(key: SvcParamKey, value: &SvcParamValue) -> bool
     }
 }
 
-// Keys, at least one.
+// Keys, at least one, each the one of its number.
 fn is_mandatory(value: &SvcParamValue) -> bool
     ensures { IsTrue result ↔ IsValueOf of.Mandatory value.now }
 {
     match value {
-        SvcParamValue::Mandatory(mandatory) => !mandatory.0.is_empty(),
+        SvcParamValue::Mandatory(mandatory) => !mandatory.0.is_empty() && are_keys(&mandatory.0),
         _ => false,
     }
+}
+
+// Whether each key is the one that its number stands for.
+fn are_keys(keys: &[SvcParamKey]) -> bool
+    ensures { IsTrue result ↔ All IsKey keys.now }
+{
+    keys.iter().all(|key| is_key(*key))
+}
+
+// Whether the key is the one that its number stands for.
+fn is_key(key: SvcParamKey) -> bool
+    ensures { IsTrue result ↔ IsKey key }
+{
+    is_named(key)
 }
 
 // Protocols, at least one, each of at most 255 octets.

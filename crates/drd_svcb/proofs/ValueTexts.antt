@@ -14,7 +14,8 @@ use Rattle.drd_params.specs.drd_fields.Writing.{string_octets}
 use Rattle.drd_params.specs.drd_words.Data.{IsBase64Text}
 use Rattle.drd_params.specs.drd_words.Words.{EachWord}
 use Rattle.drd_params.specs.EntryLaws.{key_told, string_told, a_told, aaaa_told}
-use Rattle.drd_params.specs.Keys.{key_number}
+use Rattle.drd_params.proofs.KeyTexts.{key-one}
+use Rattle.drd_params.specs.Keys.{key_number, IsKey}
 use Rattle.drd_params.specs.Texts.{IsKeyText, IsProtocolText, IsAEntry, IsAaaaEntry}
 use Rattle.drd_params.specs.Values.{IsShortText, IsValueOf, value_octets, a_octets, aaaa_octets}
 use Rattle.drd_params.specs.declared.key.SvcParamKey.{SvcParamKey}
@@ -89,9 +90,14 @@ short-protocols [] words h = All-nil IsShortText
 short-protocols (p ∷ ps) [] h = absurd h
 short-protocols (p ∷ ps) (w ∷ ws) h = All-cons IsShortText p ps (omega (arith, h.0.2, ap length h.0.0)) (short-protocols ps ws h.1)
 
+own-keys : (keys : List SvcParamKey) (words : List (List ℕ)) → EachWord IsKeyText keys words → All IsKey keys
+own-keys [] words h = All-nil IsKey
+own-keys (k ∷ ks) [] h = absurd h
+own-keys (k ∷ ks) (w ∷ ws) h = All-cons IsKey k ks (key-one k w h.0) (own-keys ks ws h.1)
+
 -- What a text of a key's value stands for is one.
 pub value-of : (k : SvcParamKey) (v : SvcParamValue) (text : List ℕ) → IsValueText k v text → IsValueOf k v
-value-of key.Mandatory (value.Mandatory a) text p = list-some IsKeyText a.0.items text p
+value-of key.Mandatory (value.Mandatory a) text p = (list-some IsKeyText a.0.items text p, own-keys a.0.items (slice_split is_comma text) p)
 value-of key.Alpn (value.Alpn a) text p = (list-some IsProtocolText a.0.items text p, short-protocols a.0.items (slice_split is_comma text) p)
 value-of key.NoDefaultAlpn value.NoDefaultAlpn text p = tt
 value-of key.Port (value.Port a) text p = tt

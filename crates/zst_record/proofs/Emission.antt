@@ -1,5 +1,5 @@
 -- A record that is written piece by piece.
-use Rattle.std.proofs.Common.{◌≡◌, ℕ, ◌+◌, ◌≤◌, inr, List, ◌++◌, length, sym, ap, subst, ◌∙◌, arith}
+use Rattle.std.proofs.Common.{◌≡◌, ℕ, ◌+◌, ◌≤◌, inr, List, ◌++◌, length, refl, sym, ap, subst, ◌∙◌, arith}
 use Rattle.std.specs.Prelude.{Result, Ok, Err, OnOk, OnErr}
 use Rattle.drd_readable.specs.dnw_codes.DNSClass.{class_number}
 use Rattle.drd_readable.specs.dnw_codes.RecordType.{record_type_number}
@@ -81,7 +81,7 @@ replaced_writes p more a b c (Err e) at w fills same = subst (λ (s : State). Wr
 
 data_filled : (v : RData) (n : ℕ) (a b c d : State) → Opens a.offset 2 a b → Writes a b → EmitsRData v b c → Writes b c → Fills a.offset (octets_16 n) c d → a.offset + 2 + n ≡ c.offset → IsReadable v → (type_of v ≡ OPT → ⊥) → WritesInFull a → StaysTrue d d.offset (λ message. DataAt message a.offset v d.offset)
 data_filled v n a b c d opens ab emits bc fills long readable none full =
-    let written = written_holds (type_of v) readable.message readable.place v readable.end readable.holds readable.some none b c (full_after a b ab full) emits in
+    let written = written_holds (type_of v) readable.message readable.place v readable.end (refl, readable.there) readable.some none b c (full_after a b ab full) emits in
     let stays = holds_more c.offset d.offset d (λ m. HoldsSome (type_of v) m b.offset v c.offset) (omega (arith, fills.offset)) (holds_same c.offset c.offset c d (λ m. HoldsSome (type_of v) m b.offset v c.offset) (fills.same c.offset) (omega arith) written) in
     let counted = holds_more (a.offset + 2) d.offset d (λ m. Stands m a.offset (octets_16 n) (a.offset + 2)) (omega (arith, fills.offset, long)) (fills.stays (bc.sound (ab.sound full.sound))) in
     let from : b.offset ≡ a.offset + 2 = opens.offset in
@@ -103,7 +103,7 @@ behind_emitted v p n a b c d opens ab room emits bc fills long =
     record {
       stays = λ readable none full small.
           data_filled v n a b c d (subst (λ (q : ℕ). Opens q 2 a b) opens.at opens) ab emits bc (subst (λ (q : ℕ). Fills q (octets_16 n) c d) opens.at fills) (omega (arith, long, opens.at)) readable none full;
-      size = λ readable. omega (arith, fills.offset, opens.offset, written_size (type_of v) readable.message readable.place v readable.end readable.holds b c emits);
+      size = λ readable. omega (arith, fills.offset, opens.offset, written_size (type_of v) readable.message readable.place v readable.end (refl, readable.there) b c emits);
       fits = omega (arith, fills.offset, within);
     }
 
@@ -113,7 +113,7 @@ place_refused v a e refused = λ readable none small. refused_front 2 (length (w
 
 pub data_refused : (v : RData) (p : ℕ) (a b : State) (e : ProtoError) → Opens p 2 a b → RefusesRData v b e → RefusesBehindLength v a e
 data_refused v p a b e opens refused = λ readable none small.
-    refused_later (length (written_octets v)) 2 a b e opens.modes (omega (arith, opens.offset)) (written_refused (type_of v) readable.message readable.place v readable.end readable.holds none b e refused)
+    refused_later (length (written_octets v)) 2 a b e opens.modes (omega (arith, opens.offset)) (written_refused (type_of v) readable.message readable.place v readable.end (refl, readable.there) none b e refused)
 
 -- ---- the record
 pub record_emitted : (r : Record) (a b c : State) → EmitsHead r a b → Writes a b → EmitsBehindLength r.rdata b c → Writes b c → EmitsRecord r a c

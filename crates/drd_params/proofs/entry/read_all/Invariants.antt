@@ -1,4 +1,4 @@
-use Rattle.std.proofs.Common.{◌≡◌, ◌++◌, length}
+use Rattle.std.proofs.Common.{◌≡◌, ◌++◌, All, length}
 use Rattle.std.specs.List.{flat_map}
 use Rattle.drd_params.proofs.Entries.{Ahead}
 use Rattle.drd_params.proofs.entry.read_all.Given as goal
@@ -6,6 +6,7 @@ use Rattle.drd_params.proofs.entry.read_all.Given as goal
 abbrev pub invariant-entries : goal.invariant-entries
 invariant-entries g l = record {
   front : flat_map g.T.Entry.spelled l.found.items ++ l.left ≡ l.initial.left;
+  valid : All g.T.Entry.valid l.found.items;
   ahead : Ahead g.T.Entry.spelled l.initial.left l.left;
 }
 

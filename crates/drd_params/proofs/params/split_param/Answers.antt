@@ -11,7 +11,7 @@ returns-in-Err-read-clause-refused c =
       | inr why ↦ inr (
         part.2.now,
         no-param-value c.args.octets.now c.in-Err-read.cause part.0 part.1.now part.2.now c.from-key.result small c.in-Ok.ensures.few c.in-Ok.ensures.ok
-            c.from-key.ensures.0 c.from-key.ensures.1 why,
+            c.from-key.ensures.0 why,
         refl,
       )
     ]

@@ -1,7 +1,7 @@
-use Rattle.std.proofs.Common.{◌≡◌, ◌<◌, ℕ, List, length, inr, sym, subst, rules, arith}
-use Rattle.std.specs.List.{flat_map}
+use Rattle.std.proofs.Common.{◌≡◌, ◌<◌, length, inr, arith}
 use Rattle.std.proofs.lemmas.Bool.Decides.{nat_tests}
-use Rattle.drd_params.proofs.NoValues.{AreOctets, are-octets, short-texts, no-alpn-empty, no-alpn, some-some, spelled_text}
+use Rattle.drd_params.specs.Values.{text_octets}
+use Rattle.drd_params.proofs.NoValues.{no-alpn-empty, no-alpn, some-some}
 use Rattle.drd_params.proofs.value.read_alpn.Goals as goal
 
 pub returns-then-is_empty-clause-refused : goal.returns-then-is_empty-clause-refused
@@ -12,10 +12,7 @@ returns-then-is_empty-clause-refused c =
 pub returns-in-Ok-clause-ok : goal.returns-in-Ok-clause-ok
 returns-in-Ok-clause-ok c =
     let some : 0 < length c.args.octets.now = grind (arith, nat_tests) in
-    let are : AreOctets (flat_map spelled_text c.in-Ok.found.items) = subst (λ (o : List ℕ). AreOctets o) (sym c.in-Ok.ensures.ok) (are-octets c.args.octets.now (λ i. search rules)) in
-    ((some-some spelled_text c.in-Ok.found.items c.args.octets.now c.in-Ok.ensures.ok some, short-texts c.in-Ok.found.items are), c.in-Ok.ensures.ok)
+    ((some-some text_octets c.in-Ok.found.items c.args.octets.now c.in-Ok.ensures.ok some, c.in-Ok.ensures.valid), c.in-Ok.ensures.ok)
 
 pub returns-in-Err-clause-refused : goal.returns-in-Err-clause-refused
-returns-in-Err-clause-refused c =
-    let some : 0 < length c.args.octets.now = grind (arith, nat_tests) in
-    no-alpn c.args.octets.now c.in-Err.refused some c.in-Err.ensures.refused
+returns-in-Err-clause-refused c = no-alpn c.args.octets.now c.in-Err.refused c.in-Err.ensures.refused

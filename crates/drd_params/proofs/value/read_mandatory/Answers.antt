@@ -1,6 +1,7 @@
 use Rattle.std.proofs.Common.{◌≡◌, ◌<◌, length, inr, arith}
 use Rattle.std.proofs.lemmas.Bool.Decides.{nat_tests}
-use Rattle.drd_params.proofs.NoValues.{no-mandatory-empty, no-mandatory, some-some, spelled_key}
+use Rattle.drd_params.specs.Values.{key_octets}
+use Rattle.drd_params.proofs.NoValues.{no-mandatory-empty, no-mandatory, some-some}
 use Rattle.drd_params.proofs.value.read_mandatory.Goals as goal
 
 pub returns-then-is_empty-clause-refused : goal.returns-then-is_empty-clause-refused
@@ -11,9 +12,7 @@ returns-then-is_empty-clause-refused c =
 pub returns-in-Ok-clause-ok : goal.returns-in-Ok-clause-ok
 returns-in-Ok-clause-ok c =
     let some : 0 < length c.args.octets.now = grind (arith, nat_tests) in
-    (some-some spelled_key c.in-Ok.found.items c.args.octets.now c.in-Ok.ensures.ok some, c.in-Ok.ensures.ok)
+    ((some-some key_octets c.in-Ok.found.items c.args.octets.now c.in-Ok.ensures.ok some, c.in-Ok.ensures.valid), c.in-Ok.ensures.ok)
 
 pub returns-in-Err-clause-refused : goal.returns-in-Err-clause-refused
-returns-in-Err-clause-refused c =
-    let some : 0 < length c.args.octets.now = grind (arith, nat_tests) in
-    no-mandatory c.args.octets.now c.in-Err.refused some c.in-Err.ensures.refused
+returns-in-Err-clause-refused c = no-mandatory c.args.octets.now c.in-Err.refused c.in-Err.ensures.refused
