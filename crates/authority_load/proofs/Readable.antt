@@ -16,7 +16,7 @@ use Rattle.zst_zone.specs.drd_rdata.declared.rdata.RData.{RData}
 use Rattle.zst_zone.specs.drd_rdata.declared.rdata.RData.TheVariants as rdata
 use Rattle.zst_zone.specs.drd_rdata.Reading.{IsReadable}
 use Rattle.zst_zone.specs.drd_rdata.Texts.{IsTextOf}
-use Rattle.zst_zone.proofs.drd_readable_lemmas.DataLaws.{from_read, to_read}
+use Rattle.zst_zone.proofs.drd_readable_lemmas.DataLaws.{a_read, ns_ends, ns_read, soa_ends, soa_read}
 use Rattle.authority_load.specs.ZoneText.{has_full_names, type_of_text}
 use Rattle.zst_zone.specs.zst_record.Records.{IsOwnType}
 
@@ -56,20 +56,20 @@ second_is First n Rest [] one = absurd one
 second_is First n Rest (word ∷ words) one = name_is n Rest words one.1
 
 pub readable : (t : RecordType) (words : List (List ℕ)) (value : RData) → IsLoaded t → IsTextOf t words None value → has_full_names value ≡ true → IsReadable value
-readable types.A words value is text full = subst IsReadable (sym text.1) (to_read (rdata.A text.0) tt)
+readable types.A words value is text full = subst IsReadable (sym text.1) (a_read text.0)
 readable types.NS words value is text full =
-    subst IsReadable (sym text.1) (to_read (rdata.NS text.0) (sym (ap has_full_names text.1) ∙ full, name_is text.0.0 _ words text.2))
+    subst IsReadable (sym text.1) (ns_read text.0 (sym (ap has_full_names text.1) ∙ full, name_is text.0.0 _ words text.2))
 readable types.SOA words value is text full =
     let both = and_parts text.0.mname.fqdn text.0.rname.fqdn (sym (ap has_full_names text.1) ∙ full) in
     subst IsReadable (sym text.1)
-    (to_read (rdata.SOA text.0) ((both.0, name_is text.0.mname _ words text.2), (both.1, second_is _ text.0.rname _ words text.2)))
+    (soa_read text.0 (both.0, name_is text.0.mname _ words text.2) (both.1, second_is _ text.0.rname _ words text.2))
 readable other words value is text full = absurd is
 
 -- ---- others can't: a name in a message ends at the root
 pub unreadable : (value : RData) → has_full_names value ≡ false → IsReadable value → ⊥
-unreadable (rdata.NS ns) relative r = both_ways ns.0.fqdn relative (from_read (rdata.NS ns) r).0
+unreadable (rdata.NS ns) relative r = both_ways ns.0.fqdn relative (ns_ends ns r).0
 unreadable (rdata.SOA soa) relative r =
-    let can = from_read (rdata.SOA soa) r in
+    let can = soa_ends soa r in
     both_ways (soa.mname.fqdn && soa.rname.fqdn) relative (both_true can.0.0 can.1.0)
 unreadable other relative r = absurd (cc)
 

@@ -5,9 +5,9 @@
 #![tactic(auto)]
 
 pub use drd_readable::{
-    A, AAAA, ANAME, CAA, CERT, CNAME, CSYNC, HEX, HINFO, HTTPS, MX, NAPTR, NS, NULL, OPENPGPKEY,
-    OPT, PTR, RData, RecordData, RecordDataDecodable, SMIMEA, SOA, SRV, SSHFP, SVCB, TLSA, TXT,
-    cert, is_readable, sshfp, tlsa,
+    A, AAAA, ANAME, CAA, CERT, CNAME, CSYNC, FieldData, FieldRef, Fields, HEX, HINFO, HTTPS, MX,
+    NAPTR, NS, NULL, OPENPGPKEY, OPT, PTR, RData, RecordData, RecordDataDecodable, SMIMEA, SOA,
+    SRV, SSHFP, SVCB, TLSA, TXT, TextData, cert, is_readable, sshfp, tlsa,
 };
 
 pub mod caa;

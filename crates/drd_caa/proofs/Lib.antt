@@ -2,4 +2,3 @@ pub mod Blanks
 pub mod Cuts
 pub mod Issuers
 pub mod Parameters
-pub mod Texts

@@ -1,5 +1,4 @@
 -- Parameters are compared by an equivalence.
-use Rattle.std.specs.Prelude.{◌-◌}
 use Rattle.std.specs.Cmp.{IsEquivalence}
 use Rattle.std.specs.Cmp.Lexicographic.{on_texts_equal}
 use Rattle.std.proofs.lemmas.Cmp.{and_equiv}

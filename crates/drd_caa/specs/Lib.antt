@@ -6,3 +6,4 @@ pub mod Reading
 pub mod Tags
 pub mod Values
 pub mod Words
+pub mod WordsLaws

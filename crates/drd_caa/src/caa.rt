@@ -1,29 +1,26 @@
 //! CAA (RFC 8659 4).
-ghost use Rattle.std.specs.Prelude.{◌≡◌, ◌∷◌, [], ℕ, List, ◌⊎◌, true, false, Some, Ok, Err, Result, IfOk, IfErr, OnOk, length, map, ◌+◌, ◌≤◌, ◌<◌};
-ghost use Rattle.std.specs.Iterator.{Drains, IsFinite};
+ghost use Rattle.std.specs.Prelude.{◌≡◌, ◌∷◌, [], Some, ◌<◌};
 ghost use Rattle.std.specs.Cmp.{partial_equiv_from_equiv};
-ghost use Rattle.drd_plain.specs.dnw_decoder.Reading.{IsWantOfMemory};
 ghost use Rattle.drd_plain.specs.dnw_encoder.declared.modes.RDataEncoding.TheVariants.{Other};
-ghost use Rattle.drd_plain.specs.drd_fields.Fields.{Field, octet, string, rest, FieldsAt, kinds_of};
-ghost use Rattle.drd_plain.specs.drd_fields.Reading.{StopsReading};
+ghost use Rattle.drd_plain.specs.drd_fields.Fields.{octet, string, rest};
 ghost use Rattle.drd_plain.specs.drd_fields.Equality.{AreFull, Tells, fields_eq};
-ghost use Rattle.drd_order.proofs.drd_fields_lemmas.EqualityLaws.{data_equiv};
+ghost use Rattle.drd_plain.specs.drd_fields.Order.{fields_input};
+ghost use Rattle.drd_fields.proofs.EqualityLaws.{data_equiv};
+ghost use Rattle.drd_fields.proofs.OrderLaws.{fields-alike};
 ghost use Rattle.drd_plain.specs.drd_fields.Writing.{EmitsData, RefusesFields, canonical_octets};
-ghost use Rattle.drd_caa.specs.Fields.{IsCaa, caa_fields, caa_flags, caa_kinds};
+ghost use Rattle.drd_caa.specs.Fields.{IsCaa, caa_fields, caa_flags};
 ghost use Rattle.drd_caa.specs.Print.{caa_print};
-ghost use Rattle.drd_caa.specs.Reading.{RefusesCaa};
-ghost use Rattle.drd_caa.specs.Words.{IsCaaText};
-ghost use Rattle.drd_plain.specs.drd_words.Word.{IsOutOfMemory};
+ghost use Rattle.drd_caa.specs.Reading.{CaaMisfits};
+ghost use Rattle.drd_caa.specs.Words.{IsCaaText, RefusesCaaText};
 
 use crate::words::{Tag, Value, is_tag};
 use drd_plain::{
-    BinDecoder, BinEncodable, BinEncoder, CharacterString, DataFields, DecodeError, Name,
-    ParseError, ProtoError, RDataEncoding, RecordDataDecodable, Rest, RestField, Restrict,
-    StringField, emit_three, fmt_escaped, fmt_quoted, read_data_within, read_tokens,
+    BinEncodable, BinEncoder, CharacterString, DecodeError, FieldData, FieldRef, Fields,
+    ProtoError, RDataEncoding, Rest, RestField, StringField, TextData, emit_three, fmt_escaped,
+    fmt_quoted, hash_list, is_same_data,
 };
-use std::alloc::Global;
-use std::convert::AsStr;
 use std::fmt;
+use std::hash::{Hash, Hasher};
 
 /// A property of the certificates that may be issued for a domain.
 #[derive(Clone, Debug, Drop)]
@@ -67,36 +64,8 @@ impl CAA {
         }
     }
 
-    /// The data that three words write: the flags as a decimal number, the tag, and the value, which may have more
-    /// than 255 octets. Refused are words that are missing, too many or unfit, as a tag of other octets than letters
-    /// and digits (RFC 8659 4.1.1).
-    pub fn from_tokens<I: Iterator + Drop>(
-        alloc: Global,
-        tokens: I,
-        origin: Option<&Name>,
-    ) -> Result<CAA, ParseError>
-    where
-        I::Item: AsStr + Drop,
-        requires can { I.can_next tokens }
-        requires ends { IsFinite (I.remaining tokens) }
-        ensures ok { IfOk result (λ caa. (words : List I.Item) × Drains I.next_gives tokens words
-            × IsCaaText (map I.Item.text words) caa) }
-        ensures refused { IfErr result (λ e. IsOutOfMemory e ⊎ ((words : List I.Item) × Drains I.next_gives tokens words
-            × ((caa : CAA) → IsCaaText (map I.Item.text words) caa → ⊥))) }
-    {
-        let (flags, (Tag(tag), (Value(value), ()))) = match read_tokens::<
-            (u8, (Tag, (Value, ()))),
-            I,
-        >(alloc, tokens, origin)
-        {
-            Ok(words) => words,
-            Err(refused) => return Err(refused),
-        };
-        Ok(property_of(flags, tag, value))
-    }
-
-    // The fields of the data.
-    pub(crate) fn fields(&self) -> (u8, (StringField<'_>, RestField<'_>))
+    // The fields of the data, as they are written.
+    pub(crate) fn parts(&self) -> (u8, (StringField<'_>, RestField<'_>))
         ensures { octet result.0 ∷ string result.1.0.0.now ∷ rest result.1.1.0.now ∷ [] ≡ caa_fields self.now }
     {
         (
@@ -114,50 +83,53 @@ fn property_of(flags: u8, tag: Vec<u8>, value: Vec<u8>) -> CAA
     CAA::new(flags >= 128, flags % 128, tag, value)
 }
 
-// The fields, whatever the tag is.
-fn read_parts(alloc: Global, decoder: &mut BinDecoder<'_>, len: u16) -> Result<CAA, DecodeError>
-    ensures ok { IfOk result (λ caa. FieldsAt decoder.old.octets decoder.old.index (caa_fields caa) (decoder.old.index + len)) }
-    ensures seven { IfOk result (λ caa. caa.reserved_flags < 128) }
-    ensures end { OnOk result (decoder.new.index ≡ decoder.old.index + len) }
-    ensures same { decoder.new.octets ≡ decoder.old.octets }
-    ensures forward { decoder.old.index ≤ decoder.new.index }
-    ensures within { decoder.new.index ≤ length decoder.new.octets }
-    ensures refused { IfErr result (λ e. StopsReading decoder.old.octets (decoder.old.index + len) caa_kinds decoder.old.index e decoder.new.index) }
-    ensures none { IfErr result (λ e. IsWantOfMemory e
-        ⊎ ((fs : List Field) → kinds_of fs ≡ caa_kinds → FieldsAt decoder.old.octets decoder.old.index fs (decoder.old.index + len) → ⊥)) }
-{
-    let (flags, (CharacterString(tag), Rest(value))) = match read_data_within::<
-        (u8, (CharacterString, Rest)),
-    >(alloc, decoder, len)
-    {
-        Ok(found) => found,
-        Err(refused) => return Err(refused),
-    };
-    Ok(property_of(flags, tag, value))
-}
+impl FieldData for CAA {
+    ghost use Rattle.std.proofs.Common.{refl};
 
-impl RecordDataDecodable for CAA {
-    ghost reads = { λ message place caa end. FieldsAt message place (caa_fields caa) end × IsCaa caa };
+    type Parts = (u8, (CharacterString, Rest));
 
-    ghost refuses = { RefusesCaa };
+    ghost fields = { caa_fields };
 
-    /// The property in so many octets. A tag that isn't 1 to 15 letters and digits is refused.
-    fn read_data(
-        alloc: Global,
-        decoder: &mut BinDecoder<'_>,
-        length: Restrict<u16>,
-    ) -> Result<CAA, DecodeError> {
-        match read_parts(alloc, decoder, length.unverified()) {
-            Ok(caa) => {
-                if is_tag(&caa.tag) {
-                    Ok(caa)
-                } else {
-                    Err(DecodeError::CaaTagInvalid)
-                }
-            }
-            Err(refused) => Err(refused),
+    ghost is_valid = { IsCaa };
+
+    ghost misfits = { CaaMisfits };
+
+    /// The property of these fields. A tag that isn't 1 to 15 letters and digits is refused.
+    fn of_parts(parts: (u8, (CharacterString, Rest))) -> Result<CAA, DecodeError> {
+        let (flags, (CharacterString(tag), Rest(value))) = parts;
+        if is_tag(&tag) {
+            Ok(property_of(flags, tag, value))
+        } else {
+            Err(DecodeError::CaaTagInvalid)
         }
     }
+
+    fn fields(&self) -> Fields<'_> {
+        Fields::new(&[
+            FieldRef::U8(self.flags()),
+            FieldRef::String(&self.tag),
+            FieldRef::Octets(&self.value),
+        ])
+    }
+
+    ghost laws = { λ caa. refl };
+}
+
+/// Three words write the data: the flags as a decimal number, the tag, and the value, which may have more than 255 octets
+/// (RFC 8659 4.1.1).
+impl TextData for CAA {
+    type Parts = (u8, (Tag, (Value, ())));
+
+    ghost is_text = { λ words origin caa. IsCaaText words caa };
+
+    ghost refuses = { λ words origin. RefusesCaaText words };
+
+    fn of_words(parts: (u8, (Tag, (Value, ())))) -> CAA {
+        let (flags, (tag, (value, ()))) = parts;
+        property_of(flags, tag.into_bytes(), value.into_bytes())
+    }
+
+    ghost laws = { (λ words origin caa written. ((caa_flags caa, (caa.tag.items, (caa.value.items, tt))), written.1), λ words origin e refused. refused) };
 }
 
 impl BinEncodable for CAA {
@@ -166,7 +138,7 @@ impl BinEncodable for CAA {
     ghost refuses = { λ caa old e new. RefusesFields (caa_fields caa) old e };
 
     fn emit(&self, encoder: &mut BinEncoder<'_>) -> Result<(), ProtoError> {
-        emit_three(encoder, RDataEncoding::Other, &self.fields())
+        emit_three(encoder, RDataEncoding::Other, &self.parts())
     }
 }
 
@@ -181,12 +153,22 @@ impl PartialEq for CAA {
         ensures canonical { AreFull (caa_fields self.now) → AreFull (caa_fields other.now)
             → Tells result (canonical_octets (caa_fields self.now)) (canonical_octets (caa_fields other.now)) }
     {
-        self.fields().are_same(&other.fields())
+        is_same_data(self, other)
     }
 }
 
 impl Eq for CAA {
     ghost laws = { data_equiv caa_fields };
+}
+
+impl Hash for CAA {
+    ghost hash_input = { λ caa. fields_input (caa_fields caa) };
+
+    ghost respects_eq = { λ a b. fields-alike (caa_fields a) (caa_fields b) };
+
+    fn hash<H: Hasher>(&self, state: &mut H) {
+        hash_list(self.fields().as_slice(), state);
+    }
 }
 
 impl fmt::Display for CAA {

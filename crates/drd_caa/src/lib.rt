@@ -4,7 +4,6 @@
 mod caa;
 mod issuer;
 mod key_value;
-mod order;
 mod value;
 mod words;
 

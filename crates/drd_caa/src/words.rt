@@ -1,18 +1,57 @@
 //! The words of CAA data (RFC 8659 4.1.1).
 ghost use Rattle.std.specs.Prelude.{◌≡◌};
 ghost use Rattle.drd_caa.specs.Fields.{is_caa_tag};
-ghost use Rattle.drd_caa.specs.Words.{IsTagWord, IsValueWord};
+ghost use Rattle.drd_caa.specs.Words.{IsTagWord, IsValueWord, RefusesTag};
+ghost use Rattle.drd_caa.specs.WordsLaws.{tag_causes};
+ghost use Rattle.drd_plain.specs.drd_words.RefusalsLaws.{no_causes};
 
 use drd_plain::{Name, ParseError, Word, verify_flags};
 use std::alloc::Global;
+use std::marker::Model;
 
-/// A word that is a property's tag.
-#[derive(Debug, Drop)]
-pub(crate) struct Tag(pub(crate) Vec<u8>);
+/// A word that is a property's tag. A contract sees it as its octets.
+#[derive(Drop)]
+pub struct Tag(Vec<u8>);
 
-/// A word that is a property's value, whatever its octets.
-#[derive(Debug, Drop)]
-pub(crate) struct Value(pub(crate) Vec<u8>);
+impl Model for Tag {
+    ghost use Rattle.std.specs.Prelude.{ℕ, List};
+
+    ghost Value = { List ℕ };
+
+    ghost view = { λ tag. tag.0.items };
+}
+
+impl Tag {
+    /// The tag's octets, taken out of it.
+    pub(crate) fn into_bytes(self) -> Vec<u8>
+        ensures { result.items ≡ self }
+    {
+        let Tag(octets) = self;
+        octets
+    }
+}
+
+/// A word that is a property's value, whatever its octets. A contract sees it as these.
+#[derive(Drop)]
+pub struct Value(Vec<u8>);
+
+impl Model for Value {
+    ghost use Rattle.std.specs.Prelude.{ℕ, List};
+
+    ghost Value = { List ℕ };
+
+    ghost view = { λ value. value.0.items };
+}
+
+impl Value {
+    /// The value's octets, taken out of it.
+    pub(crate) fn into_bytes(self) -> Vec<u8>
+        ensures { result.items ≡ self }
+    {
+        let Value(octets) = self;
+        octets
+    }
+}
 
 /// Whether a tag is 1 to 15 letters and digits (RFC 8659 4.1).
 pub fn is_tag(tag: &[u8]) -> bool
@@ -22,7 +61,11 @@ pub fn is_tag(tag: &[u8]) -> bool
 }
 
 impl Word for Tag {
-    ghost written = { λ word origin tag. IsTagWord tag.0.items word };
+    ghost written = { λ word origin tag. IsTagWord tag word };
+
+    ghost refuses = { λ word origin. RefusesTag word };
+
+    ghost laws = { λ word origin. tag_causes word };
 
     fn from_word(alloc: Global, word: &str, _origin: Option<&Name>) -> Result<Tag, ParseError> {
         let octets = word.as_bytes();
@@ -37,7 +80,11 @@ impl Word for Tag {
 }
 
 impl Word for Value {
-    ghost written = { λ word origin value. IsValueWord value.0.items word };
+    ghost written = { λ word origin value. IsValueWord value word };
+
+    ghost refuses = { λ word origin e. ⊥ };
+
+    ghost laws = { λ word origin. no_causes (λ value. IsValueWord value word) };
 
     fn from_word(alloc: Global, word: &str, _origin: Option<&Name>) -> Result<Value, ParseError> {
         match word.as_bytes().to_vec(alloc) {

@@ -4,9 +4,9 @@ use Rattle.std.specs.Cmp.Lexicographic.{pointwise, same_text}
 use Rattle.std.proofs.lemmas.Cmp.{nat_list_eq_equiv}
 use Rattle.dnw_wire.specs.dnw_decoder.Octets.{octets_16, octets_32}
 use Rattle.dnw_wire.specs.BitMapLaws.{tight_reads, written_once, read_once}
-use Rattle.drd_order.specs.drd_fields.Equality.{Tells}
-use Rattle.drd_order.proofs.drd_fields_lemmas.EqualityLaws.{front_tells, long_apart, short_apart}
-use Rattle.drd_order.specs.drd_fields.Writing.{fields_octets}
+use Rattle.drd_fields.specs.Equality.{Tells}
+use Rattle.drd_fields.proofs.EqualityLaws.{front_tells, long_apart, short_apart}
+use Rattle.drd_fields.specs.Writing.{fields_octets}
 use Rattle.drd_csync.specs.declared.csync.CSYNC.{CSYNC}
 use Rattle.drd_csync.specs.Data.{csync_fields, csync_flags}
 use Rattle.drd_csync.specs.Equality.{csync_eq, AreWrittenMaps}

@@ -6,9 +6,9 @@ use Rattle.dnw_wire.specs.dnw_decoder.Octets.{Stands, octets_16}
 use Rattle.dnw_wire.specs.dnw_decoder.Reading.{IsWantOfMemory, LacksOctets, Reading}
 use Rattle.dnw_wire.proofs.dnw_decoder_lemmas.Standing.{stands_same, length-octets_32}
 use Rattle.dnw_wire.specs.BitMaps.{TypesAt}
-use Rattle.drd_order.specs.drd_fields.Fields.{a_long, a_short, AreOrdered, FieldsAt}
-use Rattle.drd_order.specs.drd_fields.FieldLaws.{ordered_more, stops_none}
-use Rattle.drd_order.specs.drd_fields.Reading.{StopsReading}
+use Rattle.drd_fields.specs.Fields.{a_long, a_short, AreOrdered, FieldsAt}
+use Rattle.drd_fields.specs.FieldLaws.{ordered_more, stops_none}
+use Rattle.drd_fields.specs.Reading.{StopsReading}
 use Rattle.drd_csync.specs.declared.csync.CSYNC.{CSYNC}
 use Rattle.drd_csync.specs.Data.{csync_flags, front_fields, front_kinds, MapsAt, CsyncAt}
 use Rattle.drd_csync.specs.OrderLaws.{few_flags}

@@ -9,9 +9,9 @@ use Rattle.dnw_wire.proofs.dnw_encoder_lemmas.Laws.{holds_map, puts_stands}
 use Rattle.dnw_wire.specs.dnw_encoder.State.{State}
 use Rattle.dnw_wire.specs.BitMaps.{EmitsTypes, RefusesTypes}
 use Rattle.dnw_wire.specs.BitMapLaws.{tight_reads}
-use Rattle.drd_order.specs.drd_fields.Fields.{FieldsAt}
-use Rattle.drd_order.specs.drd_fields.Writing.{fields_octets}
-use Rattle.drd_order.proofs.drd_fields_lemmas.WritingLaws.{puts_then, refused_front, refused_later}
+use Rattle.drd_fields.specs.Fields.{FieldsAt}
+use Rattle.drd_fields.specs.Writing.{fields_octets}
+use Rattle.drd_fields.proofs.WritingLaws.{puts_then, refused_front, refused_later}
 use Rattle.drd_csync.specs.declared.csync.CSYNC.{CSYNC}
 use Rattle.drd_csync.specs.Data.{csync_fields, csync_flags, CsyncAt}
 use Rattle.drd_csync.specs.Writing.{EmitsCsync, RefusesEmitCsync}

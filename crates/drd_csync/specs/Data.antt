@@ -2,7 +2,7 @@
 use Rattle.std.specs.Prelude.{ℕ, ◌+◌, List, [], ◌∷◌, cond}
 use Rattle.dnw_wire.specs.dnw_decoder.Octets.{Stands}
 use Rattle.dnw_wire.specs.BitMaps.{BitMaps, IsMap}
-use Rattle.drd_order.specs.drd_fields.Fields.{Field, long, short, rest, Kind, a_long, a_short, FieldsAt}
+use Rattle.drd_fields.specs.Fields.{Field, long, short, rest, Kind, a_long, a_short, FieldsAt}
 use Rattle.drd_csync.specs.declared.csync.CSYNC.{CSYNC}
 
 -- RFC 7477 2.1.1.2: immediate is the lowest bit, soaminimum the one above.

@@ -5,6 +5,7 @@ pub mod Order
 pub mod OrderLaws
 pub mod Reading
 pub mod Texts
+pub mod TextsLaws
 pub mod Writing
 pub use Rattle.dnw_wire.specs.dnw_decoder
 pub use Rattle.dnw_wire.specs.dnw_encoder

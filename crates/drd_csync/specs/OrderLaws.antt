@@ -11,10 +11,10 @@ use Rattle.std.specs.declared.cmp.Ordering.TheVariants.{Less, Equal, Greater}
 use Rattle.dnw_wire.specs.dnw_decoder.Octets.{octets_16}
 use Rattle.dnw_wire.specs.MapOrder.{types_cmp}
 use Rattle.dnw_wire.specs.MapOrderLaws.{types_total, types_ties, types_order}
-use Rattle.drd_order.proofs.drd_fields_lemmas.EqualityLaws.{both_true, from_test, same_octets}
-use Rattle.drd_order.specs.drd_fields.Writing.{fields_octets}
-use Rattle.drd_order.specs.Order.{octets_cmp}
-use Rattle.drd_order.proofs.OrderLaws.{long_orders, short_orders}
+use Rattle.drd_fields.proofs.EqualityLaws.{both_true, from_test, same_octets}
+use Rattle.drd_fields.specs.Writing.{fields_octets}
+use Rattle.drd_fields.specs.Order.{octets_cmp}
+use Rattle.drd_fields.proofs.OrderLaws.{long_orders, short_orders}
 use Rattle.drd_csync.specs.declared.csync.CSYNC.{CSYNC}
 use Rattle.drd_csync.specs.Data.{csync_fields, csync_flags}
 use Rattle.drd_csync.specs.Equality.{csync_eq, AreWrittenMaps}

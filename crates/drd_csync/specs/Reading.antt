@@ -4,8 +4,8 @@ use Rattle.std.proofs.Common.{◌⊎◌}
 use Rattle.dnw_wire.specs.dnw_codes.declared.error.DecodeError.{DecodeError}
 use Rattle.dnw_wire.specs.dnw_codes.declared.error.DecodeError.TheVariants.{NsecBitmapOutOfBounds, UnrecognizedCsyncFlags}
 use Rattle.dnw_wire.specs.dnw_decoder.Reading.{IsWantOfMemory}
-use Rattle.drd_order.specs.drd_fields.Fields.{FieldsAt}
-use Rattle.drd_order.specs.drd_fields.Reading.{LacksRest, StopsReading}
+use Rattle.drd_fields.specs.Fields.{FieldsAt}
+use Rattle.drd_fields.specs.Reading.{LacksRest, StopsReading}
 use Rattle.drd_csync.specs.Data.{front_fields, front_kinds, MapsAt}
 
 -- The octets up to the end of the data are no bit maps (RFC 4034 4.1.2).

@@ -5,7 +5,7 @@ use Rattle.dnw_wire.specs.dnw_codes.declared.error.ProtoError.{ProtoError}
 use Rattle.dnw_wire.specs.dnw_encoder.Effects.{Sound, StaysTrue, WritesOctets, IsRefusal}
 use Rattle.dnw_wire.specs.dnw_encoder.State.{State}
 use Rattle.dnw_wire.specs.BitMaps.{BitMaps, IsTightMap, AreOctets, AreTightMaps}
-use Rattle.drd_order.specs.drd_fields.Writing.{fields_octets}
+use Rattle.drd_fields.specs.Writing.{fields_octets}
 use Rattle.drd_csync.specs.declared.csync.CSYNC.{CSYNC}
 use Rattle.drd_csync.specs.Data.{csync_fields, CsyncAt}
 

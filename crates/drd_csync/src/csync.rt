@@ -1,37 +1,32 @@
 //! CSYNC (RFC 7477).
-ghost use Rattle.std.specs.Prelude.{◌≡◌, ◌++◌, ◌⊎◌, ◌<◌, ◌≤◌, ◌^◌, ℕ, List, length, Some, MatchBool, IfOk, IfErr, OnOk, map};
-ghost use Rattle.std.specs.Iterator.{Drains, IsFinite};
-ghost use Rattle.std.specs.Cmp.{partial_equiv_from_equiv, partial_order_from_own_ties, partial_order_from_total};
-ghost use Rattle.std.specs.Cmp.Rules.{comparing};
-ghost use Rattle.std.specs.Ordering.{as_partial_cmp};
-ghost use Rattle.std.proofs.Common.{rules};
-ghost use Rattle.drd_words.specs.Word.{IsOutOfMemory};
+ghost use Rattle.std.specs.Prelude.{◌≡◌, ◌++◌, ◌<◌, ◌≤◌, ◌^◌, ℕ, List, length, Some, IfErr, OnOk};
+ghost use Rattle.std.specs.Cmp.{partial_equiv_from_equiv};
 ghost use Rattle.dnw_wire.specs.dnw_decoder.Octets.{octets_16, octets_32};
 ghost use Rattle.dnw_wire.specs.dnw_encoder.Encoders.{state};
 ghost use Rattle.dnw_wire.specs.dnw_encoder.Effects.{Writes, WritesOctets, IsRefusal};
-ghost use Rattle.drd_order.specs.drd_fields.Equality.{Tells};
-ghost use Rattle.drd_order.specs.drd_fields.Writing.{fields_octets};
-ghost use Rattle.drd_order.specs.Order.{Orders};
+ghost use Rattle.drd_fields.specs.Equality.{Tells};
+ghost use Rattle.drd_fields.specs.Writing.{fields_octets};
+ghost use Rattle.drd_fields.specs.Order.{Orders};
 ghost use Rattle.drd_csync.specs.Data.{csync_fields, csync_flags, CsyncAt};
 ghost use Rattle.drd_csync.specs.Equality.{csync_eq, AreWrittenMaps};
 ghost use Rattle.drd_csync.specs.EqualityLaws.{csync_equiv};
 ghost use Rattle.drd_csync.specs.Order.{csync_cmp, csync_input};
-ghost use Rattle.drd_csync.specs.OrderLaws.{csync_total, csync_ties, csync_fed};
+ghost use Rattle.drd_csync.specs.OrderLaws.{csync_fed};
 ghost use Rattle.drd_csync.specs.Reading.{RefusesCsync};
-ghost use Rattle.drd_csync.specs.Texts.{csync_print, IsCsyncText};
+ghost use Rattle.drd_csync.specs.Texts.{csync_print, IsCsyncText, RefusesCsyncText};
+ghost use Rattle.drd_csync.specs.TextsLaws.{csync_parts};
 ghost use Rattle.drd_csync.specs.Writing.{EmitsCsync, RefusesEmitCsync};
 
+use crate::flags::{Flags, are_known};
 use crate::read::{read_front, read_maps};
 use crate::types::{TypeWords, fmt_types};
 use dnw_wire::{
-    BinDecoder, BinEncodable, BinEncoder, DecodeError, ParseError, ProtoError, RecordTypeSet,
-    Restrict,
+    BinDecoder, BinEncodable, BinEncoder, DecodeError, ProtoError, RecordTypeSet, Restrict,
 };
-use drd_order::RecordDataDecodable;
-use drd_words::{Name, read_tokens};
+use drd_fields::RecordDataDecodable;
+use drd_words::TextData;
 use std::alloc::Global;
 use std::cmp::Ordering;
-use std::convert::AsStr;
 use std::fmt;
 use std::hash::{Hash, Hasher};
 
@@ -131,40 +126,14 @@ impl CSYNC {
         CSYNC::new(soa_serial, flags % 2 == 1, flags / 2 == 1, type_bit_maps)
     }
 
-    /// The data that words write: the serial number, the flags as a number of at most 3, and types in capitals, in any
-    /// order. Refused are words that are missing or unfit (RFC 7477 2.1.2).
-    pub fn from_tokens<I: Iterator + Drop>(
-        alloc: Global,
-        tokens: I,
-        origin: Option<&Name>,
-    ) -> Result<CSYNC, ParseError>
-    where
-        I::Item: AsStr + Drop,
-        requires can { I.can_next tokens }
-        requires ends { IsFinite (I.remaining tokens) }
-        ensures ok { IfOk result (λ csync. (words : List I.Item) × Drains I.next_gives tokens words
-            × IsCsyncText (map I.Item.text words) csync) }
-        ensures refused { IfErr result (λ e. IsOutOfMemory e ⊎ ((words : List I.Item) × Drains I.next_gives tokens words
-            × ((csync : CSYNC) → IsCsyncText (map I.Item.text words) csync → ⊥))) }
+    /// The order of the octets that are written, from the left (RFC 4034 6.3).
+    pub fn cmp_data(&self, other: &CSYNC) -> Ordering
+        ensures value { result ≡ csync_cmp self.now other.now }
+        ensures canonical { (xs ys : List ℕ) → AreWrittenMaps self.now xs → AreWrittenMaps other.now ys
+            → Orders result (fields_octets (csync_fields self.now xs)) (fields_octets (csync_fields other.now ys)) }
     {
-        let (serial, (flags, TypeWords(types))) = match read_tokens::<(u32, (u16, TypeWords)), I>(
-            alloc, tokens, origin,
-        ) {
-            Ok(words) => words,
-            Err(refused) => return Err(refused),
-        };
-        if !are_known(flags) {
-            return Err(ParseError::Message("CSYNC flags are at most 3"));
-        }
-        Ok(CSYNC::with_flags(serial, flags, types))
+        self.cmp_parts(other)
     }
-}
-
-// Whether no flags but the lower two are set.
-fn are_known(flags: u16) -> bool
-    ensures { MatchBool result (flags ≤ 3) (3 < flags) }
-{
-    flags <= 3
 }
 
 impl RecordDataDecodable for CSYNC {
@@ -191,6 +160,23 @@ impl RecordDataDecodable for CSYNC {
             Err(refused) => Err(refused),
         }
     }
+}
+
+impl TextData for CSYNC {
+    type Parts = (u32, (Flags, TypeWords));
+
+    ghost is_text = { λ words origin csync. IsCsyncText words csync };
+
+    ghost refuses = { λ words origin. RefusesCsyncText words };
+
+    /// The data of the serial number, the flags as a number of at most 3, and types in capitals, in any order (RFC 7477
+    /// 2.1.2).
+    fn of_words(parts: (u32, (Flags, TypeWords))) -> CSYNC {
+        let (serial, (flags, TypeWords(types))) = parts;
+        CSYNC::with_flags(serial, flags.number(), types)
+    }
+
+    ghost laws = { (λ words origin csync written. ((csync.soa_serial, (csync_flags csync, record { 0 = csync.type_bit_maps })), csync_parts words csync written), λ words origin e refused. refused) };
 }
 
 impl BinEncodable for CSYNC {
@@ -229,35 +215,6 @@ impl PartialEq for CSYNC {
 
 impl Eq for CSYNC {
     ghost laws = { csync_equiv };
-}
-
-impl Ord for CSYNC {
-    ghost cmp = { csync_cmp };
-
-    ghost total = { csync_total };
-
-    ghost matches_partial_cmp = { Prim.search (comparing, rules) };
-
-    ghost matches_eq = { csync_ties };
-
-    /// The order of the octets that are written, from the left (RFC 4034 6.3).
-    fn cmp(&self, other: &CSYNC) -> Ordering
-        ensures value { result ≡ csync_cmp self.now other.now }
-        ensures canonical { (xs ys : List ℕ) → AreWrittenMaps self.now xs → AreWrittenMaps other.now ys
-            → Orders result (fields_octets (csync_fields self.now xs)) (fields_octets (csync_fields other.now ys)) }
-    {
-        self.cmp_parts(other)
-    }
-}
-
-impl PartialOrd for CSYNC {
-    ghost partial_cmp = { as_partial_cmp csync_cmp };
-
-    ghost laws = { partial_order_from_own_ties (partial_order_from_total csync_total) csync_ties };
-
-    fn partial_cmp(&self, other: &CSYNC) -> Option<Ordering> {
-        Some(self.cmp(other))
-    }
 }
 
 impl Hash for CSYNC {

@@ -4,6 +4,7 @@
 pub use dnw_wire::{BinDecoder, BinEncodable, BinEncoder};
 
 mod csync;
+mod flags;
 mod read;
 mod types;
 

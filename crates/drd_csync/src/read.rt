@@ -1,13 +1,13 @@
 //! The parts of the data that are read.
 ghost use Rattle.std.specs.Prelude.{◌≡◌, ◌+◌, ◌<◌, ◌≤◌, ◌⊎◌, ℕ, List, length, IfOk, IfErr, OnOk, OnErr};
 ghost use Rattle.dnw_wire.specs.dnw_decoder.Reading.{IsWantOfMemory};
-ghost use Rattle.drd_order.specs.drd_fields.Fields.{FieldsAt};
-ghost use Rattle.drd_order.specs.drd_fields.Reading.{StopsReading};
+ghost use Rattle.drd_fields.specs.Fields.{FieldsAt};
+ghost use Rattle.drd_fields.specs.Reading.{StopsReading};
 ghost use Rattle.drd_csync.specs.Data.{front_fields, front_kinds, MapsAt};
 ghost use Rattle.drd_csync.specs.Reading.{RefusesMaps};
 
 use dnw_wire::{BinDecoder, DecodeError, RecordTypeSet};
-use drd_order::ReadFields;
+use drd_fields::ReadFields;
 use std::alloc::Global;
 
 /// The serial number and the flags, in data that go to an end.

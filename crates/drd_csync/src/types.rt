@@ -1,7 +1,9 @@
 //! Types in words.
 ghost use Rattle.std.specs.Prelude.{IfOk};
 ghost use Rattle.std.specs.Fmt.{WritesOnOk};
-ghost use Rattle.drd_csync.specs.Texts.{AreTypeWords, IsSetOf, types_print};
+ghost use Rattle.drd_words.specs.RefusalsLaws.{by_part};
+ghost use Rattle.drd_csync.specs.Texts.{AreTypeWords, IsSetOf, RefusesTypes, types_print};
+ghost use Rattle.drd_csync.specs.TextsLaws.{types_causes};
 
 use dnw_wire::{ParseError, RecordType, RecordTypeSet};
 use drd_words::{Name, Words};
@@ -10,10 +12,14 @@ use std::fmt;
 
 /// The types that words write, each one of them.
 #[derive(Drop)]
-pub(crate) struct TypeWords(pub(crate) RecordTypeSet);
+pub struct TypeWords(pub(crate) RecordTypeSet);
 
 impl Words for TypeWords {
     ghost written = { λ words origin types. AreTypeWords types.0 words };
+
+    ghost refuses = { λ words origin. RefusesTypes words };
+
+    ghost laws = { λ words origin. by_part (λ types. types.0) (types_causes words) };
 
     fn from_words(
         alloc: Global,

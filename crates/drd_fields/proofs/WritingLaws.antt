@@ -11,7 +11,7 @@ use Rattle.dnw_encoder.specs.dnw_name.DomainName.{DomainName}
 use Rattle.dnw_encoder.specs.Effects.{Sound, StaysTrue, Writes, SameModes, WritesOctets, written_at, IsRefusal}
 use Rattle.dnw_encoder.proofs.Laws.{holds_map, holds_written, holds_more, modes_then, puts_stands}
 use Rattle.dnw_encoder.specs.Names.{EmitsName}
-use Rattle.dnw_encoder.specs.State.{State, with_encoding, writes_pointers, rdata_encoding}
+use Rattle.dnw_encoder.specs.State.{Candidate, State, with_encoding, writes_pointers, rdata_encoding}
 use Rattle.dnw_encoder.specs.declared.modes.NameEncoding.{NameEncoding}
 use Rattle.dnw_encoder.specs.declared.modes.RDataEncoding.{RDataEncoding}
 use Rattle.drd_fields.specs.Fields.{Field, octet, short, long, name, string, strings, rest, StringAt, StringsAt, FieldAt, FieldsAt}
@@ -64,32 +64,37 @@ within_then old mid new same forward first later =
       | inr lt ↦ omega (arith, later lt, same)
     ]
 
+-- Octets that are put are no candidates.
+put_none : {old new : List Candidate} → new ≡ old → length new ≤ length old + 0
+put_none same = omega (arith, ap length same)
+
 -- A number that is put is its field.
 pub puts_octet : (n : ℕ) (old new : State) → WritesOctets (n ∷ []) old new → EmitsField (octet n) old new
-puts_octet n old new p = record { stays = λ s. puts_stands (n ∷ []) old new s p; size = omega (arith, p.offset); exact = λ plain. p }
+puts_octet n old new p = record { stays = λ s. puts_stands (n ∷ []) old new s p; size = omega (arith, p.offset); exact = λ plain. p; candidates = put_none p.candidates }
 
 pub puts_short : (n : ℕ) (old new : State) → WritesOctets (octets_16 n) old new → EmitsField (short n) old new
-puts_short n old new p = record { stays = λ s. puts_stands (octets_16 n) old new s p; size = omega (arith, p.offset); exact = λ plain. p }
+puts_short n old new p = record { stays = λ s. puts_stands (octets_16 n) old new s p; size = omega (arith, p.offset); exact = λ plain. p; candidates = put_none p.candidates }
 
 pub puts_long : (n : ℕ) (old new : State) → WritesOctets (octets_32 n) old new → EmitsField (long n) old new
-puts_long n old new p = record { stays = λ s. puts_stands (octets_32 n) old new s p; size = omega (arith, p.offset); exact = λ plain. p }
+puts_long n old new p = record { stays = λ s. puts_stands (octets_32 n) old new s p; size = omega (arith, p.offset); exact = λ plain. p; candidates = put_none p.candidates }
 
 pub puts_rest : (octets : List ℕ) (old new : State) → WritesOctets octets old new → EmitsField (rest octets) old new
-puts_rest octets old new p = record { stays = λ s. puts_stands octets old new s p; size = omega (arith, p.offset); exact = λ plain. p }
+puts_rest octets old new p = record { stays = λ s. puts_stands octets old new s p; size = omega (arith, p.offset); exact = λ plain. p; candidates = put_none p.candidates }
 
 pub puts_string : (s : List ℕ) (old new : State) → length s ≤ 255 → WritesOctets (string_octets s) old new → EmitsField (string s) old new
 puts_string s old new few p = record {
   stays = λ sound. holds_map new.offset new (λ message. Stands message old.offset (string_octets s) new.offset) (λ message. StringAt message old.offset s new.offset) (λ message there. record { few = few; there = there }) (puts_stands (string_octets s) old new sound p);
   size = omega (arith, p.offset);
   exact = λ plain. p;
+  candidates = put_none p.candidates;
 }
 
 pub emits_name : (n : DomainName) (old new : State) → EmitsName n old new → EmitsField (name n) old new
-emits_name n old new e = record { stays = e.stays; size = e.size; exact = e.exact }
+emits_name n old new e = record { stays = e.stays; size = e.size; exact = e.exact; candidates = e.at_most }
 
 -- No field.
 pub emits_nothing : (s : State) → s.offset ≤ length s.octets → EmitsFields [] s s
-emits_nothing s le = record { stays = λ sound. record { of = λ later a. refl }; size = omega arith; exact = λ plain. puts_none s le }
+emits_nothing s le = record { stays = λ sound. record { of = λ later a. refl }; size = omega arith; exact = λ plain. puts_none s le; candidates = omega arith }
 
 -- One field more at the front.
 pub emits_more : (f : Field) (fs : List Field) (old mid new : State) → old.offset ≤ length old.octets → EmitsField f old mid → Writes old mid → EmitsFields fs mid new → Writes mid new → EmitsFields (f ∷ fs) old new
@@ -105,6 +110,7 @@ emits_more f fs old mid new le e v d w = record {
   exact = λ plain.
       puts_then (field_octets (encoded_field old.encoding f)) (fields_octets (encoded_fields old.encoding fs)) old mid new le (e.exact plain)
       (subst (λ (m : NameEncoding). WritesOctets (fields_octets (encoded_fields m fs)) mid new) v.modes.encoding (d.exact (v.modes.points ∙ plain)));
+  candidates = omega (arith, e.candidates, d.candidates);
 }
 
 -- One field alone.
@@ -113,6 +119,7 @@ emits_one f old new e = record {
   stays = λ sound. holds_map new.offset new (λ message. FieldAt message old.offset (encoded_field old.encoding f) new.offset) (λ message. FieldsAt message old.offset (encoded_field old.encoding f ∷ []) new.offset) (λ message there. (new.offset, there, refl)) (e.stays sound);
   size = omega (arith, e.size, length-append (field_octets f) []);
   exact = λ plain. subst (λ (o : List ℕ). WritesOctets o old new) (sym (append-nil (field_octets (encoded_field old.encoding f)))) (e.exact plain);
+  candidates = omega (arith, e.candidates);
 }
 
 -- A refusal of what is behind is one of the whole.
@@ -176,6 +183,7 @@ mode_emits kind fs old mid points e within =
             places = p.places;
             modes = record { maximum = p.modes.maximum; encoding = refl; canonical = p.modes.canonical; points = sym points };
           };
+      candidates = e.candidates;
       within = within;
     }
 
@@ -193,7 +201,7 @@ if_err (Err e) f p = f e p
 
 -- No string, and one string more at the end.
 pub emits_no_strings : (s : State) → s.offset ≤ length s.octets → EmitsField (strings []) s s
-emits_no_strings s le = record { stays = λ sound. record { of = λ later a. refl }; size = omega arith; exact = λ plain. puts_none s le }
+emits_no_strings s le = record { stays = λ sound. record { of = λ later a. refl }; size = omega arith; exact = λ plain. puts_none s le; candidates = omega arith }
 
 flat_one : (front : List (List ℕ)) (s : List ℕ) → flat_map string_octets (front ++ s ∷ []) ≡ flat_map string_octets front ++ string_octets s
 flat_one front s = flat_map-append string_octets front (s ∷ []) ∙ ap (λ (o : List ℕ). flat_map string_octets front ++ o) (append-nil (string_octets s))
@@ -210,6 +218,7 @@ emits_string_more front s old mid new le e v d w = record {
   exact = λ plain.
       subst (λ (o : List ℕ). WritesOctets o old new) (sym (flat_one front s))
       (puts_then (flat_map string_octets front) (string_octets s) old mid new le (e.exact plain) (d.exact (v.modes.points ∙ plain)));
+  candidates = omega (arith, e.candidates, d.candidates);
 }
 
 long_later : (front : List (List ℕ)) (s : List ℕ) (after : List (List ℕ)) (e : ProtoError) → IsTooLong s e → SomeTooLong (front ++ s ∷ after) e

@@ -223,7 +223,7 @@ pub stops_none : (message : List ℕ) (end : ℕ) (ks : List Kind) (place : ℕ)
     ⊎ ((fs : List Field) (stop : ℕ) → kinds_of fs ≡ ks → (are_open ks ≡ true → stop ≡ end)
     → FieldsAt message place fs stop → ⊥)
 stops_none message end [] place e at le ordered s = absurd s
-stops_none message end (k ∷ ks) place e at le ordered (inl (inl memory, here)) = inl memory
+stops_none message end (k ∷ ks) place e at le ordered (inl (inl memory, here)) = inl memory.0
 stops_none message end (k ∷ ks) place e at le ordered (inl (inr refused, here)) =
     inr (no_first message end k ks place e le ordered refused)
 stops_none message end (k ∷ ks) place e at le ordered (inr (f, behind, same, there, later)) =
@@ -274,11 +274,11 @@ stops_forward message end (k ∷ ks) place e at (inr (f, behind, same, there, la
           later,
     )
 
-closed_first : (b c : Bool) → (b || c) ≡ false → b ≡ false
+pub closed_first : (b c : Bool) → (b || c) ≡ false → b ≡ false
 closed_first false c e = refl
 closed_first true c e = absurd (cc e)
 
-closed_later : (b c : Bool) → (b || c) ≡ false → c ≡ false
+pub closed_later : (b c : Bool) → (b || c) ≡ false → c ≡ false
 closed_later false c e = e
 closed_later true c e = absurd (cc e)
 

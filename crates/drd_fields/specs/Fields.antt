@@ -49,6 +49,13 @@ abbrev pub are_open : List Kind → Bool
 are_open [] = false
 are_open (k ∷ ks) = is_open k || are_open ks
 
+-- A field of such a kind takes memory where it is read: names, strings and octets do, numbers don't.
+abbrev pub takes_memory : Kind → Bool
+takes_memory an_octet = false
+takes_memory a_short = false
+takes_memory a_long = false
+takes_memory other = true
+
 -- A string stands behind an octet that holds its length (RFC 1035 3.3).
 pub record StringAt (message : List ℕ) (place : ℕ) (string : List ℕ) (end : ℕ) : Type 0 where
   pub few : length string ≤ 255
@@ -89,3 +96,14 @@ Fits other = Unit {0}
 abbrev pub AllFit : List Field → Type 0
 AllFit [] = Unit {0}
 AllFit (f ∷ fs) = Fits f × AllFit fs
+
+-- Two fields are one, but for what their octets can't hold of a number.
+abbrev pub IsSameField : Field → Field → Type 0
+IsSameField (short n) (short m) = octets_16 n ≡ octets_16 m
+IsSameField (long n) (long m) = octets_32 n ≡ octets_32 m
+IsSameField f g = f ≡ g
+
+abbrev pub AreSameFields : List Field → List Field → Type 0
+AreSameFields [] [] = Unit {0}
+AreSameFields (f ∷ fs) (g ∷ gs) = IsSameField f g × AreSameFields fs gs
+AreSameFields fs gs = ⊥

@@ -1,5 +1,5 @@
 -- Why fields are not read.
-use Rattle.std.specs.Prelude.{◌≡◌, ℕ, ◌+◌, ◌-◌, ◌<◌, false, List, [], ◌∷◌, length, get_or}
+use Rattle.std.specs.Prelude.{◌≡◌, ℕ, ◌+◌, ◌-◌, ◌<◌, true, false, List, [], ◌∷◌, length, get_or}
 use Rattle.std.proofs.Common.{◌⊎◌}
 use Rattle.dnw_encoder.specs.dnw_codes.declared.error.DecodeError.{DecodeError}
 use Rattle.dnw_encoder.specs.dnw_codes.declared.error.DecodeError.TheVariants.{InsufficientBytes, IncorrectRDataLengthRead}
@@ -7,7 +7,7 @@ use Rattle.dnw_encoder.specs.dnw_decoder.Reading.{IsCut, IsWantOfMemory}
 use Rattle.dnw_encoder.specs.dnw_decoder.Refusals.{Refuses}
 use Rattle.dnw_encoder.specs.dnw_decoder.Spelling.{NameAt}
 use Rattle.dnw_encoder.specs.dnw_name.DomainName.{DomainName}
-use Rattle.drd_fields.specs.Fields.{Field, Kind, an_octet, a_short, a_long, a_name, a_string, all_strings, the_rest, kind_of, kinds_of, are_open, StringsAt, FieldAt, FieldsAt}
+use Rattle.drd_fields.specs.Fields.{Field, Kind, an_octet, a_short, a_long, a_name, a_string, all_strings, the_rest, kind_of, kinds_of, are_open, takes_memory, StringsAt, FieldAt, FieldsAt}
 
 -- The octets from a place to the end of the data are not there: the place is behind it, or the
 -- message ends before.
@@ -42,12 +42,16 @@ RefusesKind message end a_string place e = IsCut (1 + get_or message place 0) me
 RefusesKind message end all_strings place e = LacksStrings message end place e
 RefusesKind message end the_rest place e = LacksRest message end place e
 
+-- Memory was wanted for a field of a kind that takes some.
+abbrev pub WantsMemory : Kind → DecodeError → Type 0
+WantsMemory kind e = IsWantOfMemory e × (takes_memory kind ≡ true)
+
 -- The first of these fields can't be read, or it stands and one behind it can't; reading stopped at
 -- a place.
 abbrev pub StopsReading : List ℕ → ℕ → List Kind → ℕ → DecodeError → ℕ → Type 0
 StopsReading message end [] place e at = ⊥
 StopsReading message end (k ∷ ks) place e at =
-    ((IsWantOfMemory e ⊎ RefusesKind message end k place e) × (at ≡ place))
+    ((WantsMemory k e ⊎ RefusesKind message end k place e) × (at ≡ place))
     ⊎ ((f : Field) × (behind : ℕ) × (kind_of f ≡ k) × FieldAt message place f behind
     × StopsReading message end ks behind e at)
 
@@ -65,3 +69,20 @@ pub record EndsElsewhere (message : List ℕ) (end : ℕ) (kinds : List Kind) (p
 abbrev pub RefusesWindow : List ℕ → ℕ → List Kind → ℕ → DecodeError → ℕ → Type 0
 RefusesWindow message end kinds place e at =
     StopsReading message end kinds place e at ⊎ EndsElsewhere message end kinds place e at
+
+-- Fields fill the octets, and are no data of their type, as the error says.
+abbrev pub AreMisfits : (List Field → DecodeError → Type 0) → List ℕ → ℕ → List Kind → ℕ
+    → DecodeError → Type 0
+AreMisfits Misfits message end kinds place e =
+    (fs : List Field) × (kinds_of fs ≡ kinds) × FieldsAt message place fs end × Misfits fs e
+
+-- Why the octets up to an end are no data of a type: they aren't filled, or by misfits.
+abbrev pub RefusesValue : (List Field → DecodeError → Type 0) → List ℕ → ℕ → List Kind → ℕ
+    → DecodeError → ℕ → Type 0
+RefusesValue Misfits message end kinds place e at =
+    RefusesWindow message end kinds place e at
+    ⊎ (AreMisfits Misfits message end kinds place e × (at ≡ end))
+
+-- Of most types all fields are data.
+abbrev pub no_misfits : List Field → DecodeError → Type 0
+no_misfits fs e = ⊥

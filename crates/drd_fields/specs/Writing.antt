@@ -43,6 +43,16 @@ fields_octets (f ∷ fs) = field_octets f ++ fields_octets fs
 abbrev pub canonical_octets : List Field → List ℕ
 canonical_octets fs = fields_octets (encoded_fields UncompressedLowercase fs)
 
+-- How many labels a field has. As many names at most become candidates of pointers where it is
+-- written.
+abbrev pub labels_of : Field → ℕ
+labels_of (name n) = length n.labels
+labels_of other = 0
+
+abbrev pub label_count : List Field → ℕ
+label_count [] = 0
+label_count (f ∷ fs) = labels_of f + label_count fs
+
 -- A field was written: it reads back at its place, in the finished message too, and takes at most
 -- its plain size; where no pointers are written it stands in full.
 pub record EmitsField (f : Field) (old new : State) : Type 0 where
@@ -52,6 +62,7 @@ pub record EmitsField (f : Field) (old new : State) : Type 0 where
   pub size : new.offset ≤ old.offset + length (field_octets f)
   pub exact : old.points ≡ false
       → WritesOctets (field_octets (encoded_field old.encoding f)) old new
+  pub candidates : length new.candidates ≤ length old.candidates + labels_of f
 
 pub record EmitsFields (fs : List Field) (old new : State) : Type 0 where
   pub stays : Sound old
@@ -60,6 +71,7 @@ pub record EmitsFields (fs : List Field) (old new : State) : Type 0 where
   pub size : new.offset ≤ old.offset + length (fields_octets fs)
   pub exact : old.points ≡ false
       → WritesOctets (fields_octets (encoded_fields old.encoding fs)) old new
+  pub candidates : length new.candidates ≤ length old.candidates + label_count fs
 
 -- Some string of a field has more than 255 octets, and this one so many.
 abbrev pub IsTooLong : List ℕ → ProtoError → Type 0
@@ -87,7 +99,8 @@ abbrev pub EndsWithin : State → State → Type 0
 EndsWithin old new = old.offset < new.offset → new.offset ≤ old.maximum
 
 -- The data of a record were written, in the mode of their kind and within the maximum: they read
--- back at their place, in the finished message too, and take at most their plain size.
+-- back at their place, in the finished message too, and take at most their plain size. Those
+-- without pointers leave the candidates; others add at most one a label.
 pub record EmitsData (kind : RDataEncoding) (fs : List Field) (old new : State) : Type 0 where
   pub stays : Sound old
       → StaysTrue new new.offset
@@ -98,4 +111,5 @@ pub record EmitsData (kind : RDataEncoding) (fs : List Field) (old new : State) 
       → WritesOctets
       (fields_octets (encoded_fields (rdata_encoding kind old.canonical old.encoding) fs))
       old new
+  pub candidates : length new.candidates ≤ length old.candidates + label_count fs
   pub within : EndsWithin old new

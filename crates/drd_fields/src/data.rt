@@ -2,7 +2,7 @@
 ghost use Rattle.std.specs.Prelude.{◌≡◌, ◌≤◌, ◌⊎◌, ℕ, false, length, IfOk, IfErr, OnErr};
 ghost use Rattle.dnw_encoder.specs.dnw_decoder.Reading.{IsWantOfMemory};
 ghost use Rattle.drd_fields.specs.Fields.{FieldsAt, are_open};
-ghost use Rattle.drd_fields.specs.Reading.{RefusesWindow, StopsReading};
+ghost use Rattle.drd_fields.specs.Reading.{AreMisfits, RefusesValue, StopsReading};
 ghost use Rattle.drd_fields.specs.Writing.{canonical_octets};
 ghost use Rattle.drd_fields.specs.Equality.{AreFull, Tells, fields_eq};
 
@@ -14,19 +14,31 @@ use crate::window::read_window;
 use dnw_encoder::{BinDecoder, DecodeError, Restrict};
 use std::alloc::Global;
 
-/// A value whose octets are those of its fields.
+/// A value whose octets are those of its fields. An implementor says what the fields are one by one, and makes the value of
+/// them; where not all fields make up a value, it says why others don't.
 pub trait FieldData: Sized + Drop {
-    ghost use Rattle.std.specs.Prelude.{◌≡◌, List};
-    ghost use Rattle.drd_fields.specs.Fields.{Field, kinds_of};
+    ghost use Rattle.std.specs.Prelude.{◌≡◌, List, IfOk, IfErr};
+    ghost use Rattle.dnw_encoder.specs.dnw_codes.declared.error.DecodeError.{DecodeError as Error};
+    ghost use Rattle.dnw_encoder.specs.dnw_decoder.Reading.{IsWantOfMemory};
+    ghost use Rattle.drd_fields.specs.Fields.{AreSameFields, Field, kinds_of};
+    ghost use Rattle.drd_fields.specs.Reading.{no_misfits};
 
     /// The fields as they are read.
     type Parts: ReadFields + Drop;
 
     ghost fields: { Self → List Field };
 
-    /// The value of these fields.
-    fn of_parts(parts: Self::Parts) -> Self
-        ensures { fields result ≡ Self.Parts.fields parts };
+    /// What holds of a value in a message, beyond its fields. Of most types nothing does.
+    ghost is_valid: { Self → Type 0 } = { λ value. Unit {0} };
+
+    /// Fields that make up no valid value, and the error that says why.
+    ghost misfits: { List Field → Error → Type 0 } = { no_misfits };
+
+    /// The value of these fields. Refused are fields that make up none.
+    fn of_parts(parts: Self::Parts) -> Result<Self, DecodeError>
+        ensures ok { IfOk result (λ value. (fields value ≡ Self.Parts.fields parts) × is_valid value) }
+        ensures none { IfErr result (λ e. (value : Self) → is_valid value → AreSameFields (Self.Parts.fields parts) (fields value) → ⊥) }
+        ensures cause { IfErr result (λ e. misfits (Self.Parts.fields parts) e × (IsWantOfMemory e → ⊥)) };
 
     /// The fields, lent.
     fn fields(&self) -> Fields<'_>
@@ -37,9 +49,9 @@ pub trait FieldData: Sized + Drop {
 }
 
 impl<T: FieldData> RecordDataDecodable for T {
-    ghost reads = { λ message place value end. FieldsAt message place (T.fields value) end };
+    ghost reads = { λ message place value end. FieldsAt message place (T.fields value) end × T.is_valid value };
 
-    ghost refuses = { λ message place end e at. RefusesWindow message end T.Parts.kinds place e at };
+    ghost refuses = { λ message place end e at. RefusesValue T.misfits message end T.Parts.kinds place e at };
 
     fn read_data(
         alloc: Global,
@@ -47,7 +59,10 @@ impl<T: FieldData> RecordDataDecodable for T {
         length: Restrict<u16>,
     ) -> Result<T, DecodeError> {
         match read_window::<T::Parts>(alloc, decoder, length.unverified()) {
-            Ok(parts) => Ok(T::of_parts(parts)),
+            Ok(parts) => match T::of_parts(parts) {
+                Ok(value) => Ok(value),
+                Err(refused) => Err(refused),
+            },
             Err(refused) => Err(refused),
         }
     }
@@ -61,16 +76,26 @@ pub fn read_value<T: FieldData>(
 ) -> Result<T, DecodeError>
     requires { are_open T.Parts.kinds ≡ false }
     ensures ok { IfOk result (λ value. FieldsAt decoder.old.octets decoder.old.index (T.fields value) decoder.new.index) }
+    ensures valid { IfOk result (λ value. T.is_valid value) }
     ensures same { decoder.new.octets ≡ decoder.old.octets }
     ensures forward { decoder.old.index ≤ decoder.new.index }
     ensures within { decoder.new.index ≤ length decoder.new.octets }
     ensures err { OnErr result (decoder.new ≡ decoder.old) }
-    ensures refused { IfErr result (λ e. (end at : ℕ) × StopsReading decoder.old.octets end T.Parts.kinds decoder.old.index e at) }
+    ensures refused { IfErr result (λ e. (end : ℕ)
+        × (((at : ℕ) × StopsReading decoder.old.octets end T.Parts.kinds decoder.old.index e at)
+        ⊎ AreMisfits T.misfits decoder.old.octets end T.Parts.kinds decoder.old.index e)) }
     ensures none { IfErr result (λ e. IsWantOfMemory e
-        ⊎ ((value : T) (end : ℕ) → FieldsAt decoder.old.octets decoder.old.index (T.fields value) end → ⊥)) }
+        ⊎ ((value : T) (end : ℕ) → FieldsAt decoder.old.octets decoder.old.index (T.fields value) end → T.is_valid value → ⊥)) }
 {
+    let start = decoder.index();
     match read_data::<T::Parts>(alloc, decoder) {
-        Ok(parts) => Ok(T::of_parts(parts)),
+        Ok(parts) => match T::of_parts(parts) {
+            Ok(value) => Ok(value),
+            Err(refused) => {
+                decoder.set_index(start);
+                Err(refused)
+            }
+        },
         Err(refused) => Err(refused),
     }
 }

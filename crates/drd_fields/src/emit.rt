@@ -15,7 +15,6 @@ pub trait DataField {
     ghost use Rattle.dnw_encoder.specs.Effects.{Writes, IsRefusal};
     ghost use Rattle.drd_fields.specs.Fields.{Field};
     ghost use Rattle.drd_fields.specs.Writing.{EmitsField, EndsWithin, HasLongString, field_octets};
-    ghost use Rattle.drd_fields.specs.Equality.{IsFull, TellsApart, canonical_field, field_eq};
 
     ghost field: { Self → Field };
 
@@ -27,13 +26,6 @@ pub trait DataField {
         ensures ok { OnOk result (EmitsField (field self.now) (state encoder.old) (state encoder.new)) }
         ensures cause { IfErr result (λ e. IsRefusal (state encoder.old) (length (field_octets (field self.now))) e
             ⊎ HasLongString (field self.now) e) };
-
-    /// Whether two fields are equal, names up to the case of ASCII letters. Of names that are fully qualified it tells
-    /// exactly whether the canonical octets of the fields are the same.
-    fn is_same(&self, other: &Self) -> bool
-        ensures value { result ≡ field_eq (field self.now) (field other.now) }
-        ensures canonical { IsFull (field self.now) → IsFull (field other.now)
-            → TellsApart result (canonical_field (field self.now)) (canonical_field (field other.now)) };
 }
 
 /// Values that are written as fields, one behind the other.
@@ -42,8 +34,7 @@ pub trait DataFields {
     ghost use Rattle.dnw_encoder.specs.Encoders.{state};
     ghost use Rattle.dnw_encoder.specs.Effects.{Writes};
     ghost use Rattle.drd_fields.specs.Fields.{Field};
-    ghost use Rattle.drd_fields.specs.Writing.{EmitsFields, EndsWithin, RefusesFields, canonical_octets};
-    ghost use Rattle.drd_fields.specs.Equality.{AreFull, Tells, fields_eq};
+    ghost use Rattle.drd_fields.specs.Writing.{EmitsFields, EndsWithin, RefusesFields};
 
     ghost fields: { Self → List Field };
 
@@ -54,13 +45,6 @@ pub trait DataFields {
         ensures within { EndsWithin (state encoder.old) (state encoder.new) }
         ensures ok { OnOk result (EmitsFields (fields self.now) (state encoder.old) (state encoder.new)) }
         ensures cause { IfErr result (RefusesFields (fields self.now) (state encoder.old)) };
-
-    /// Whether all fields are equal; of names that are fully qualified it tells exactly whether the canonical octets of
-    /// the data are the same.
-    fn are_same(&self, other: &Self) -> bool
-        ensures value { result ≡ fields_eq (fields self.now) (fields other.now) }
-        ensures canonical { AreFull (fields self.now) → AreFull (fields other.now)
-            → Tells result (canonical_octets (fields self.now)) (canonical_octets (fields other.now)) };
 }
 
 /// A string of at most 255 octets, to be written behind its length.
@@ -82,11 +66,6 @@ impl DataField for u8 {
     fn emit_field(&self, encoder: &mut BinEncoder<'_>) -> Result<(), ProtoError> {
         encoder.emit_u8(*self)
     }
-
-    #[tactic(auto, using(crate::proofs::EqualityLaws::octet_apart))]
-    fn is_same(&self, other: &Self) -> bool {
-        *self == *other
-    }
 }
 
 impl DataField for u16 {
@@ -95,11 +74,6 @@ impl DataField for u16 {
     #[tactic(auto, using(crate::proofs::WritingLaws::puts_short))]
     fn emit_field(&self, encoder: &mut BinEncoder<'_>) -> Result<(), ProtoError> {
         encoder.emit_u16(*self)
-    }
-
-    #[tactic(auto, using(crate::proofs::EqualityLaws::short_apart))]
-    fn is_same(&self, other: &Self) -> bool {
-        *self == *other
     }
 }
 
@@ -110,11 +84,6 @@ impl DataField for u32 {
     fn emit_field(&self, encoder: &mut BinEncoder<'_>) -> Result<(), ProtoError> {
         encoder.emit_u32(*self)
     }
-
-    #[tactic(auto, using(crate::proofs::EqualityLaws::long_apart))]
-    fn is_same(&self, other: &Self) -> bool {
-        *self == *other
-    }
 }
 
 impl DataField for i32 {
@@ -124,11 +93,6 @@ impl DataField for i32 {
     fn emit_field(&self, encoder: &mut BinEncoder<'_>) -> Result<(), ProtoError> {
         encoder.emit_i32(*self)
     }
-
-    #[tactic(auto, using(crate::proofs::EqualityLaws::long_apart))]
-    fn is_same(&self, other: &Self) -> bool {
-        self.cast_unsigned() == other.cast_unsigned()
-    }
 }
 
 impl DataField for &Name {
@@ -136,14 +100,6 @@ impl DataField for &Name {
 
     fn emit_field(&self, encoder: &mut BinEncoder<'_>) -> Result<(), ProtoError> {
         (**self).emit(encoder)
-    }
-
-    #[tactic(auto, using(crate::proofs::EqualityLaws::name_apart))]
-    fn is_same(&self, other: &Self) -> bool {
-        // Asked for their labels, both show that they are names.
-        let _labels = self.iter();
-        let _others = other.iter();
-        **self == **other
     }
 }
 
@@ -154,11 +110,6 @@ impl DataField for StringField<'_> {
     fn emit_field(&self, encoder: &mut BinEncoder<'_>) -> Result<(), ProtoError> {
         encoder.emit_character_data(self.0)
     }
-
-    #[tactic(auto, using(crate::proofs::EqualityLaws::string_apart))]
-    fn is_same(&self, other: &Self) -> bool {
-        self.0 == other.0
-    }
 }
 
 impl DataFields for () {
@@ -167,11 +118,6 @@ impl DataFields for () {
     fn emit_fields(&self, encoder: &mut BinEncoder<'_>) -> Result<(), ProtoError> {
         let _start = encoder.offset();
         Ok(())
-    }
-
-    #[tactic(auto, using(crate::proofs::EqualityLaws::nothing_tells))]
-    fn are_same(&self, _other: &Self) -> bool {
-        true
     }
 }
 
@@ -183,11 +129,6 @@ impl<A: DataField, B: DataFields> DataFields for (A, B) {
         self.0.emit_field(encoder)?;
         self.1.emit_fields(encoder)
     }
-
-    #[tactic(auto, using(crate::proofs::EqualityLaws::front_tells))]
-    fn are_same(&self, other: &Self) -> bool {
-        self.0.is_same(&other.0) && self.1.are_same(&other.1)
-    }
 }
 
 impl DataFields for RestField<'_> {
@@ -196,11 +137,6 @@ impl DataFields for RestField<'_> {
     #[tactic(auto, using(crate::proofs::WritingLaws::puts_rest, crate::proofs::WritingLaws::emits_one))]
     fn emit_fields(&self, encoder: &mut BinEncoder<'_>) -> Result<(), ProtoError> {
         encoder.emit_vec(self.0)
-    }
-
-    #[tactic(auto, using(crate::proofs::EqualityLaws::rest_tells))]
-    fn are_same(&self, other: &Self) -> bool {
-        self.0 == other.0
     }
 }
 
@@ -229,11 +165,6 @@ impl DataFields for StringFields<'_> {
 
     fn emit_fields(&self, encoder: &mut BinEncoder<'_>) -> Result<(), ProtoError> {
         emit_strings(encoder, self.0)
-    }
-
-    #[tactic(auto, using(crate::proofs::EqualityLaws::strings_tell))]
-    fn are_same(&self, other: &Self) -> bool {
-        self.0 == other.0
     }
 }
 

@@ -16,11 +16,9 @@ pub use dnw_encoder::{
     NameEncoding, ParseError, ProtoError, RDataEncoding, Restrict,
 };
 
-mod back;
 mod data;
 mod decodable;
 mod emit;
-mod exact;
 mod few;
 mod field_ref;
 mod fields;
@@ -32,17 +30,15 @@ mod readable;
 mod strings;
 mod window;
 
-pub use back::is_read_back;
 pub use data::{FieldData, is_same_data, read_value};
 pub use decodable::RecordDataDecodable;
 pub use emit::{
     DataField, DataFields, RestField, StringField, StringFields, emit_data, emit_three,
 };
-pub use exact::read_exactly;
 pub use few::Fields;
 pub use field_ref::FieldRef;
 pub use fields::{CharacterString, CharacterStrings, Rest};
 pub use list::{are_same, cmp_list, hash_list};
-pub use read::{ReadField, ReadFields, read_data, read_data_within};
+pub use read::{ReadField, ReadFields, read_data};
 pub use readable::are_readable;
 pub use window::read_window;

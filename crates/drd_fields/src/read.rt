@@ -13,9 +13,8 @@ use std::alloc::Global;
 /// A value that is one field, whose end its octets tell.
 pub trait ReadField: Sized {
     ghost use Rattle.std.specs.Prelude.{◌≡◌, ◌≤◌, ◌⊎◌, ℕ, false, length, IfOk, IfErr, OnErr};
-    ghost use Rattle.dnw_encoder.specs.dnw_decoder.Reading.{IsWantOfMemory};
     ghost use Rattle.drd_fields.specs.Fields.{Field, Kind, kind_of, is_open, FieldAt};
-    ghost use Rattle.drd_fields.specs.Reading.{RefusesKind};
+    ghost use Rattle.drd_fields.specs.Reading.{RefusesKind, WantsMemory};
 
     ghost field: { Self → Field };
 
@@ -30,7 +29,7 @@ pub trait ReadField: Sized {
         ensures same { decoder.new.octets ≡ decoder.old.octets }
         ensures within { decoder.new.index ≤ length decoder.new.octets }
         ensures err { OnErr result (decoder.new ≡ decoder.old) }
-        ensures cause { IfErr result (λ e. (end : ℕ) → IsWantOfMemory e ⊎ RefusesKind decoder.old.octets end kind decoder.old.index e) };
+        ensures cause { IfErr result (λ e. (end : ℕ) → WantsMemory kind e ⊎ RefusesKind decoder.old.octets end kind decoder.old.index e) };
 }
 
 /// The fields of a value, from the first one on.
@@ -279,30 +278,5 @@ pub fn read_data<D: ReadFields + Drop>(
             decoder.set_index(start);
             Err(refused)
         }
-    }
-}
-
-/// The data of so many octets at the decoder's index, the last field of which goes to their end. On an error the decoder
-/// is at the field that can't be read.
-#[tactic(auto, using(crate::specs::FieldLaws::fields_forward, crate::specs::FieldLaws::stops_forward))]
-pub fn read_data_within<D: ReadFields + Drop>(
-    alloc: Global,
-    decoder: &mut BinDecoder<'_>,
-    len: u16,
-) -> Result<D, DecodeError>
-    requires { are_open D.kinds ≡ true }
-    ensures ok { IfOk result (λ found. FieldsAt decoder.old.octets decoder.old.index (D.fields found) (decoder.old.index + len)) }
-    ensures end { OnOk result (decoder.new.index ≡ decoder.old.index + len) }
-    ensures same { decoder.new.octets ≡ decoder.old.octets }
-    ensures forward { decoder.old.index ≤ decoder.new.index }
-    ensures within { decoder.new.index ≤ length decoder.new.octets }
-    ensures refused { IfErr result (λ e. StopsReading decoder.old.octets (decoder.old.index + len) D.kinds decoder.old.index e decoder.new.index) }
-    ensures none { IfErr result (λ e. IsWantOfMemory e
-        ⊎ ((fs : List Field) → kinds_of fs ≡ D.kinds → FieldsAt decoder.old.octets decoder.old.index fs (decoder.old.index + len) → ⊥)) }
-{
-    let end = decoder.index() + usize::from(len);
-    match D::read_fields(alloc, decoder, end) {
-        Ok(found) => Ok(found),
-        Err(refused) => Err(refused),
     }
 }

@@ -1,8 +1,8 @@
 -- Every number has a code of its own: where data of any codes stand, data of those that the numbers stand for do.
 use Rattle.std.proofs.Common.{◌≡◌, ℕ, ◌==◌, Bool, true, false, List, [], ◌∷◌, Some, refl, sym, ap, subst}
 use Rattle.std.specs.Prelude.{◌&&◌, nat_le, cond, if◌then◌else◌, find, unwrap_or}
-use Rattle.drd_order.proofs.drd_fields_lemmas.EqualityLaws.{from_test}
-use Rattle.drd_order.specs.drd_fields.Fields.{octet, short, rest, FieldsAt}
+use Rattle.drd_fields.proofs.EqualityLaws.{from_test}
+use Rattle.drd_fields.specs.Fields.{octet, short, rest, FieldsAt}
 use Rattle.drd_keys.specs.Cert.{cert_type_number, cert_type_of, named_cert_types, cert_algorithm_number, cert_algorithm_of, named_cert_algorithms, IsNamedCert}
 use Rattle.drd_keys.specs.Fields.{cert_fields, sshfp_fields, tlsa_fields}
 use Rattle.drd_keys.specs.Sshfp.{sshfp_algorithm_number, sshfp_algorithm_of, named_sshfp_algorithms, fingerprint_type_number, fingerprint_type_of, named_fingerprint_types, IsNamedSshfp}

@@ -1,7 +1,7 @@
 -- The numbers of CERT data (RFC 4398 2.1; RFC 4034 A.1 and its registry).
 use Rattle.std.specs.Prelude.{ℕ, ◌≡◌, ◌<◌, ◌^◌, ◌==◌, ◌&&◌, nat_le, Bool, List, [], ◌∷◌, if◌then◌else◌, unwrap_or, find}
 use Rattle.std.specs.Ordering.{on}
-use Rattle.drd_order.specs.dnw_decoder.Octets.{octets_16, Stands}
+use Rattle.drd_fields.specs.dnw_decoder.Octets.{octets_16, Stands}
 use Rattle.drd_keys.specs.declared.cert.CertType.{CertType}
 use Rattle.drd_keys.specs.declared.cert.CertType.TheVariants as cert_type
 use Rattle.drd_keys.specs.declared.cert.Algorithm.{Algorithm}

@@ -1,6 +1,6 @@
 -- The fields of record data of keys, certificates and fingerprints: numbers, and octets to the end.
 use Rattle.std.specs.Prelude.{List, [], ◌∷◌}
-use Rattle.drd_order.specs.drd_fields.Fields.{Field, octet, short, rest, Kind, an_octet, a_short, the_rest}
+use Rattle.drd_fields.specs.Fields.{Field, octet, short, rest, Kind, an_octet, a_short, the_rest}
 use Rattle.drd_keys.specs.Cert.{cert_type_number, cert_algorithm_number}
 use Rattle.drd_keys.specs.Sshfp.{sshfp_algorithm_number, fingerprint_type_number}
 use Rattle.drd_keys.specs.Tlsa.{cert_usage_number, selector_number, matching_number}

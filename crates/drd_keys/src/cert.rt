@@ -1,34 +1,31 @@
 //! CERT (RFC 4398).
-ghost use Rattle.std.specs.Prelude.{◌≡◌, ◌∷◌, [], Some, IfOk, ◌⊎◌, List, IfErr, map};
-ghost use Rattle.std.specs.Iterator.{Drains, IsFinite};
+ghost use Rattle.std.specs.Prelude.{◌≡◌, ◌∷◌, [], Some, IfOk};
 ghost use Rattle.std.specs.Cmp.{partial_equiv_from_equiv};
-ghost use Rattle.drd_order.specs.dnw_encoder.declared.modes.RDataEncoding.TheVariants.{Other};
-ghost use Rattle.drd_order.specs.drd_fields.Fields.{octet, short, rest, FieldsAt};
-ghost use Rattle.drd_order.specs.drd_fields.Equality.{Tells, fields_eq};
-ghost use Rattle.drd_order.proofs.drd_fields_lemmas.EqualityLaws.{data_equiv};
-ghost use Rattle.drd_order.specs.drd_fields.Reading.{StopsReading};
-ghost use Rattle.drd_order.specs.drd_fields.Writing.{EmitsData, RefusesFields, canonical_octets};
+ghost use Rattle.drd_fields.specs.dnw_encoder.declared.modes.RDataEncoding.TheVariants.{Other};
+ghost use Rattle.drd_fields.specs.Fields.{octet, short, rest};
+ghost use Rattle.drd_fields.specs.Equality.{Tells, fields_eq};
+ghost use Rattle.drd_fields.proofs.EqualityLaws.{data_equiv};
+ghost use Rattle.drd_fields.specs.Order.{fields_input};
+ghost use Rattle.drd_fields.proofs.OrderLaws.{fields-alike};
+ghost use Rattle.drd_fields.specs.Writing.{EmitsData, RefusesFields, canonical_octets};
 ghost use Rattle.base64.specs.Engines.{standard};
 ghost use Rattle.base64.specs.GeneralPurpose.{encode_of};
 ghost use Rattle.std.specs.String.{string_bytes};
-ghost use Rattle.drd_keys.specs.Fields.{cert_fields, cert_kinds};
+ghost use Rattle.drd_keys.specs.Fields.{cert_fields};
 ghost use Rattle.drd_keys.specs.Print.{cert_print};
-ghost use Rattle.drd_words.specs.Word.{IsOutOfMemory};
-ghost use Rattle.drd_keys.specs.Texts.{IsCertText};
+ghost use Rattle.drd_keys.specs.Texts.{IsCertText, RefusesCertText};
 
 mod codes;
 
 use base64::engine::general_purpose::STANDARD;
-use drd_order::{
-    BinDecoder, BinEncodable, BinEncoder, DataFields, RDataEncoding, RecordDataDecodable, Rest,
-    RestField, emit_data, read_data_within,
+use drd_fields::{
+    BinEncodable, BinEncoder, FieldData, FieldRef, Fields, RDataEncoding, Rest, RestField,
+    emit_data, hash_list, is_same_data,
 };
-use drd_words::{
-    Base64Data, DecodeError, Name, ParseError, ProtoError, Restrict, fmt_base64, read_tokens,
-};
+use drd_words::{Base64Data, DecodeError, ProtoError, TextData, fmt_base64};
 use std::alloc::{AllocError, Global};
-use std::convert::AsStr;
 use std::fmt;
+use std::hash::{Hash, Hasher};
 
 /// The kind of a certificate (RFC 4398 2.1). Two are equal where their numbers are.
 #[derive(Clone, Copy, Debug)]
@@ -121,29 +118,8 @@ impl CERT {
         STANDARD.encode(alloc, &self.cert_data)
     }
 
-    /// Reads three numbers, and the certificate in base64, in one word or several (RFC 4398 2.2). Refused are other words.
-    pub fn from_tokens<I: Iterator + Drop>(
-        alloc: Global,
-        tokens: I,
-        origin: Option<&Name>,
-    ) -> Result<CERT, ParseError>
-    where
-        I::Item: AsStr + Drop,
-        requires can { I.can_next tokens }
-        requires ends { IsFinite (I.remaining tokens) }
-        ensures ok { IfOk result (λ cert. (words : List I.Item) × Drains I.next_gives tokens words × IsCertText (map I.Item.text words) cert) }
-        ensures refused { IfErr result (λ e. IsOutOfMemory e ⊎ ((words : List I.Item) × Drains I.next_gives tokens words
-            × ((cert : CERT) → IsCertText (map I.Item.text words) cert → ⊥))) }
-    {
-        let (cert_type, (key_tag, (algorithm, Base64Data(octets)))) = read_tokens::<
-            (u16, (u16, (u8, Base64Data))),
-            I,
-        >(alloc, tokens, origin)?;
-        Ok(CERT::new(cert_type.into(), key_tag, algorithm.into(), octets))
-    }
-
-    // The fields of the data.
-    pub(crate) fn fields(&self) -> (u16, (u16, (u8, RestField<'_>)))
+    // The fields of the data, as they are written.
+    fn parts(&self) -> (u16, (u16, (u8, RestField<'_>)))
         ensures { short result.0 ∷ short result.1.0 ∷ octet result.1.1.0 ∷ rest result.1.1.1.0.now ∷ [] ≡ cert_fields self.now }
     {
         let cert_data = RestField(&self.cert_data);
@@ -154,35 +130,31 @@ impl CERT {
     }
 }
 
-impl RecordDataDecodable for CERT {
-    ghost use Rattle.std.specs.Prelude.{◌+◌, ◌≤◌, length as size, OnOk};
-    ghost use Rattle.drd_order.specs.dnw_decoder.Reading.{IsWantOfMemory};
+impl FieldData for CERT {
+    ghost use Rattle.std.proofs.Common.{refl};
     ghost use Rattle.drd_keys.specs.Cert.{IsNamedCert};
 
-    ghost reads = { λ message place cert end. FieldsAt message place (cert_fields cert) end × IsNamedCert cert };
+    type Parts = (u16, (u16, (u8, Rest)));
 
-    ghost refuses = { λ message place end e at. StopsReading message end cert_kinds place e at };
+    ghost fields = { cert_fields };
 
-    fn read_data(
-        alloc: Global,
-        decoder: &mut BinDecoder<'_>,
-        length: Restrict<u16>,
-    ) -> Result<CERT, DecodeError>
-        ensures ok { IfOk result (λ cert. FieldsAt decoder.old.octets decoder.old.index (cert_fields cert) (decoder.old.index + length)
-            × IsNamedCert cert) }
-        ensures end { OnOk result (decoder.new.index ≡ decoder.old.index + length) }
-        ensures same { decoder.new.octets ≡ decoder.old.octets }
-        ensures forward { decoder.old.index ≤ decoder.new.index }
-        ensures within { decoder.new.index ≤ size decoder.new.octets }
-        ensures refused { IfErr result (λ e. StopsReading decoder.old.octets (decoder.old.index + length) cert_kinds decoder.old.index e decoder.new.index) }
-        ensures none { IfErr result (λ e. IsWantOfMemory e
-            ⊎ ((cert : CERT) → FieldsAt decoder.old.octets decoder.old.index (cert_fields cert) (decoder.old.index + length) → ⊥)) }
-    {
-        let (cert_type, (key_tag, (algorithm, Rest(cert_data)))) = read_data_within::<
-            (u16, (u16, (u8, Rest))),
-        >(alloc, decoder, length.unverified())?;
+    ghost is_valid = { IsNamedCert };
+
+    fn of_parts(parts: (u16, (u16, (u8, Rest)))) -> Result<CERT, DecodeError> {
+        let (cert_type, (key_tag, (algorithm, Rest(cert_data)))) = parts;
         Ok(CERT::new(cert_type.into(), key_tag, algorithm.into(), cert_data))
     }
+
+    fn fields(&self) -> Fields<'_> {
+        Fields::new(&[
+            FieldRef::U16(self.cert_type.into()),
+            FieldRef::U16(self.key_tag),
+            FieldRef::U8(self.algorithm.into()),
+            FieldRef::Octets(&self.cert_data),
+        ])
+    }
+
+    ghost laws = { λ cert. refl };
 }
 
 impl BinEncodable for CERT {
@@ -191,8 +163,26 @@ impl BinEncodable for CERT {
     ghost refuses = { λ cert old e new. RefusesFields (cert_fields cert) old e };
 
     fn emit(&self, encoder: &mut BinEncoder<'_>) -> Result<(), ProtoError> {
-        emit_data(encoder, RDataEncoding::Other, &self.fields())
+        emit_data(encoder, RDataEncoding::Other, &self.parts())
     }
+}
+
+impl TextData for CERT {
+    ghost use Rattle.drd_keys.specs.TextLaws.{cert_parts};
+
+    type Parts = (u16, (u16, (u8, Base64Data)));
+
+    ghost is_text = { λ words origin cert. IsCertText words cert };
+
+    ghost refuses = { λ words origin e. RefusesCertText words e };
+
+    /// Three numbers, and the certificate in base64, in one word or several (RFC 4398 2.2).
+    fn of_words(parts: (u16, (u16, (u8, Base64Data)))) -> CERT {
+        let (cert_type, (key_tag, (algorithm, Base64Data(cert_data)))) = parts;
+        CERT::new(cert_type.into(), key_tag, algorithm.into(), cert_data)
+    }
+
+    ghost laws = { (λ words origin cert written. cert_parts words cert written, λ words origin e refused. refused) };
 }
 
 impl PartialEq for CERT {
@@ -205,12 +195,22 @@ impl PartialEq for CERT {
         ensures value { result ≡ fields_eq (cert_fields self.now) (cert_fields other.now) }
         ensures canonical { Tells result (canonical_octets (cert_fields self.now)) (canonical_octets (cert_fields other.now)) }
     {
-        self.fields().are_same(&other.fields())
+        is_same_data(self, other)
     }
 }
 
 impl Eq for CERT {
     ghost laws = { data_equiv cert_fields };
+}
+
+impl Hash for CERT {
+    ghost hash_input = { λ cert. fields_input (cert_fields cert) };
+
+    ghost respects_eq = { λ a b. fields-alike (cert_fields a) (cert_fields b) };
+
+    fn hash<H: Hasher>(&self, state: &mut H) {
+        hash_list(self.fields().as_slice(), state);
+    }
 }
 
 impl fmt::Display for CERT {

@@ -4,7 +4,6 @@
 pub mod cert;
 pub mod null;
 pub mod openpgpkey;
-mod order;
 pub mod smimea;
 pub mod sshfp;
 pub mod tlsa;

@@ -1,22 +1,24 @@
 //! NULL (RFC 1035 3.3.10).
-ghost use Rattle.std.specs.Prelude.{◌≡◌, ◌∷◌, [], ℕ, Some, IfOk};
+ghost use Rattle.std.specs.Prelude.{◌≡◌, ◌∷◌, [], Some};
 ghost use Rattle.std.specs.Cmp.{partial_equiv_from_equiv};
-ghost use Rattle.drd_order.specs.dnw_encoder.declared.modes.RDataEncoding.TheVariants.{Other};
-ghost use Rattle.drd_order.specs.drd_fields.Fields.{rest, FieldsAt};
-ghost use Rattle.drd_order.specs.drd_fields.Equality.{Tells, fields_eq};
-ghost use Rattle.drd_order.proofs.drd_fields_lemmas.EqualityLaws.{data_equiv};
-ghost use Rattle.drd_order.specs.drd_fields.Reading.{StopsReading};
-ghost use Rattle.drd_order.specs.drd_fields.Writing.{EmitsData, RefusesFields, canonical_octets};
-ghost use Rattle.drd_keys.specs.Fields.{null_fields, null_kinds};
+ghost use Rattle.drd_fields.specs.dnw_encoder.declared.modes.RDataEncoding.TheVariants.{Other};
+ghost use Rattle.drd_fields.specs.Fields.{rest};
+ghost use Rattle.drd_fields.specs.Equality.{Tells, fields_eq};
+ghost use Rattle.drd_fields.proofs.EqualityLaws.{data_equiv};
+ghost use Rattle.drd_fields.specs.Order.{fields_input};
+ghost use Rattle.drd_fields.proofs.OrderLaws.{fields-alike};
+ghost use Rattle.drd_fields.specs.Writing.{EmitsData, RefusesFields, canonical_octets};
+ghost use Rattle.drd_keys.specs.Fields.{null_fields};
 ghost use Rattle.drd_keys.specs.Print.{null_print};
 
-use drd_order::{
-    BinDecoder, BinEncodable, BinEncoder, DataFields, RDataEncoding, RecordDataDecodable, Rest,
-    RestField, emit_data, read_data_within,
+use drd_fields::{
+    BinEncodable, BinEncoder, FieldData, FieldRef, Fields, RDataEncoding, Rest, RestField,
+    emit_data, hash_list, is_same_data,
 };
-use drd_words::{DecodeError, ProtoError, Restrict, fmt_base64};
+use drd_words::{DecodeError, ProtoError, fmt_base64};
 use std::alloc::Global;
 use std::fmt;
+use std::hash::{Hash, Hasher};
 
 /// Any octets.
 #[derive(Clone, Debug, Drop)]
@@ -40,27 +42,31 @@ impl NULL {
         NULL { anything }
     }
 
-    // The fields of the data.
-    pub(crate) fn fields(&self) -> RestField<'_>
+    // The fields of the data, as they are written.
+    fn parts(&self) -> RestField<'_>
         ensures { rest result.0.now ∷ [] ≡ null_fields self.now }
     {
         RestField(&self.anything)
     }
 }
 
-impl RecordDataDecodable for NULL {
-    ghost reads = { λ message place null end. FieldsAt message place (null_fields null) end };
+impl FieldData for NULL {
+    ghost use Rattle.std.proofs.Common.{refl};
 
-    ghost refuses = { λ message place end e at. StopsReading message end null_kinds place e at };
+    type Parts = Rest;
 
-    fn read_data(
-        alloc: Global,
-        decoder: &mut BinDecoder<'_>,
-        length: Restrict<u16>,
-    ) -> Result<NULL, DecodeError> {
-        let Rest(anything) = read_data_within::<Rest>(alloc, decoder, length.unverified())?;
+    ghost fields = { null_fields };
+
+    fn of_parts(parts: Rest) -> Result<NULL, DecodeError> {
+        let Rest(anything) = parts;
         Ok(NULL::with(anything))
     }
+
+    fn fields(&self) -> Fields<'_> {
+        Fields::new(&[FieldRef::Octets(&self.anything)])
+    }
+
+    ghost laws = { λ null. refl };
 }
 
 impl BinEncodable for NULL {
@@ -69,7 +75,7 @@ impl BinEncodable for NULL {
     ghost refuses = { λ null old e new. RefusesFields (null_fields null) old e };
 
     fn emit(&self, encoder: &mut BinEncoder<'_>) -> Result<(), ProtoError> {
-        emit_data(encoder, RDataEncoding::Other, &self.fields())
+        emit_data(encoder, RDataEncoding::Other, &self.parts())
     }
 }
 
@@ -83,12 +89,22 @@ impl PartialEq for NULL {
         ensures value { result ≡ fields_eq (null_fields self.now) (null_fields other.now) }
         ensures canonical { Tells result (canonical_octets (null_fields self.now)) (canonical_octets (null_fields other.now)) }
     {
-        self.fields().are_same(&other.fields())
+        is_same_data(self, other)
     }
 }
 
 impl Eq for NULL {
     ghost laws = { data_equiv null_fields };
+}
+
+impl Hash for NULL {
+    ghost hash_input = { λ null. fields_input (null_fields null) };
+
+    ghost respects_eq = { λ a b. fields-alike (null_fields a) (null_fields b) };
+
+    fn hash<H: Hasher>(&self, state: &mut H) {
+        hash_list(self.fields().as_slice(), state);
+    }
 }
 
 impl fmt::Display for NULL {

@@ -1,28 +1,24 @@
 //! OPENPGPKEY (RFC 7929).
-ghost use Rattle.std.specs.Prelude.{◌≡◌, ◌∷◌, [], ℕ, Some, IfOk, ◌⊎◌, List, IfErr, map};
-ghost use Rattle.std.specs.Iterator.{Drains, IsFinite};
+ghost use Rattle.std.specs.Prelude.{◌≡◌, ◌∷◌, [], Some};
 ghost use Rattle.std.specs.Cmp.{partial_equiv_from_equiv};
-ghost use Rattle.drd_order.specs.dnw_encoder.declared.modes.RDataEncoding.TheVariants.{Other};
-ghost use Rattle.drd_order.specs.drd_fields.Fields.{rest, FieldsAt};
-ghost use Rattle.drd_order.specs.drd_fields.Equality.{Tells, fields_eq};
-ghost use Rattle.drd_order.proofs.drd_fields_lemmas.EqualityLaws.{data_equiv};
-ghost use Rattle.drd_order.specs.drd_fields.Reading.{StopsReading};
-ghost use Rattle.drd_order.specs.drd_fields.Writing.{EmitsData, RefusesFields, canonical_octets};
-ghost use Rattle.drd_keys.specs.Fields.{openpgpkey_fields, openpgpkey_kinds};
+ghost use Rattle.drd_fields.specs.dnw_encoder.declared.modes.RDataEncoding.TheVariants.{Other};
+ghost use Rattle.drd_fields.specs.Fields.{rest};
+ghost use Rattle.drd_fields.specs.Equality.{Tells, fields_eq};
+ghost use Rattle.drd_fields.proofs.EqualityLaws.{data_equiv};
+ghost use Rattle.drd_fields.specs.Order.{fields_input};
+ghost use Rattle.drd_fields.proofs.OrderLaws.{fields-alike};
+ghost use Rattle.drd_fields.specs.Writing.{EmitsData, RefusesFields, canonical_octets};
+ghost use Rattle.drd_keys.specs.Fields.{openpgpkey_fields};
 ghost use Rattle.drd_keys.specs.Print.{openpgpkey_print};
-ghost use Rattle.drd_words.specs.Word.{IsOutOfMemory};
-ghost use Rattle.drd_keys.specs.Texts.{IsOpenpgpkeyText};
+ghost use Rattle.drd_keys.specs.Texts.{IsOpenpgpkeyText, RefusesOpenpgpkeyText};
 
-use drd_order::{
-    BinDecoder, BinEncodable, BinEncoder, DataFields, RDataEncoding, RecordDataDecodable, Rest,
-    RestField, emit_data, read_data_within,
+use drd_fields::{
+    BinEncodable, BinEncoder, FieldData, FieldRef, Fields, RDataEncoding, Rest, RestField,
+    emit_data, hash_list, is_same_data,
 };
-use drd_words::{
-    Base64Data, DecodeError, Name, ParseError, ProtoError, Restrict, fmt_base64, read_tokens,
-};
-use std::alloc::Global;
-use std::convert::AsStr;
+use drd_words::{Base64Data, DecodeError, ProtoError, TextData, fmt_base64};
 use std::fmt;
+use std::hash::{Hash, Hasher};
 
 /// The OpenPGP public key of a mail address.
 #[derive(Clone, Debug, Drop)]
@@ -37,45 +33,31 @@ impl OPENPGPKEY {
         OPENPGPKEY { public_key }
     }
 
-    /// Reads the key in base64, in one word or several (RFC 7929 2.3). Refused are other words.
-    pub fn from_tokens<I: Iterator + Drop>(
-        alloc: Global,
-        tokens: I,
-        origin: Option<&Name>,
-    ) -> Result<OPENPGPKEY, ParseError>
-    where
-        I::Item: AsStr + Drop,
-        requires can { I.can_next tokens }
-        requires ends { IsFinite (I.remaining tokens) }
-        ensures ok { IfOk result (λ key. (words : List I.Item) × Drains I.next_gives tokens words × IsOpenpgpkeyText (map I.Item.text words) key) }
-        ensures refused { IfErr result (λ e. IsOutOfMemory e ⊎ ((words : List I.Item) × Drains I.next_gives tokens words
-            × ((key : OPENPGPKEY) → IsOpenpgpkeyText (map I.Item.text words) key → ⊥))) }
-    {
-        let Base64Data(public_key) = read_tokens::<Base64Data, I>(alloc, tokens, origin)?;
-        Ok(OPENPGPKEY::new(public_key))
-    }
-
-    // The fields of the data.
-    pub(crate) fn fields(&self) -> RestField<'_>
+    // The fields of the data, as they are written.
+    fn parts(&self) -> RestField<'_>
         ensures { rest result.0.now ∷ [] ≡ openpgpkey_fields self.now }
     {
         RestField(&self.public_key)
     }
 }
 
-impl RecordDataDecodable for OPENPGPKEY {
-    ghost reads = { λ message place key end. FieldsAt message place (openpgpkey_fields key) end };
+impl FieldData for OPENPGPKEY {
+    ghost use Rattle.std.proofs.Common.{refl};
 
-    ghost refuses = { λ message place end e at. StopsReading message end openpgpkey_kinds place e at };
+    type Parts = Rest;
 
-    fn read_data(
-        alloc: Global,
-        decoder: &mut BinDecoder<'_>,
-        length: Restrict<u16>,
-    ) -> Result<OPENPGPKEY, DecodeError> {
-        let Rest(public_key) = read_data_within::<Rest>(alloc, decoder, length.unverified())?;
+    ghost fields = { openpgpkey_fields };
+
+    fn of_parts(parts: Rest) -> Result<OPENPGPKEY, DecodeError> {
+        let Rest(public_key) = parts;
         Ok(OPENPGPKEY::new(public_key))
     }
+
+    fn fields(&self) -> Fields<'_> {
+        Fields::new(&[FieldRef::Octets(&self.public_key)])
+    }
+
+    ghost laws = { λ key. refl };
 }
 
 impl BinEncodable for OPENPGPKEY {
@@ -84,8 +66,24 @@ impl BinEncodable for OPENPGPKEY {
     ghost refuses = { λ key old e new. RefusesFields (openpgpkey_fields key) old e };
 
     fn emit(&self, encoder: &mut BinEncoder<'_>) -> Result<(), ProtoError> {
-        emit_data(encoder, RDataEncoding::Other, &self.fields())
+        emit_data(encoder, RDataEncoding::Other, &self.parts())
     }
+}
+
+impl TextData for OPENPGPKEY {
+    type Parts = Base64Data;
+
+    ghost is_text = { λ words origin key. IsOpenpgpkeyText words key };
+
+    ghost refuses = { λ words origin e. RefusesOpenpgpkeyText words e };
+
+    /// The key in base64, in one word or several (RFC 7929 2.3).
+    fn of_words(parts: Base64Data) -> OPENPGPKEY {
+        let Base64Data(public_key) = parts;
+        OPENPGPKEY::new(public_key)
+    }
+
+    ghost laws = { (λ words origin key written. (record { 0 = key.public_key }, written), λ words origin e refused. refused) };
 }
 
 impl PartialEq for OPENPGPKEY {
@@ -98,12 +96,22 @@ impl PartialEq for OPENPGPKEY {
         ensures value { result ≡ fields_eq (openpgpkey_fields self.now) (openpgpkey_fields other.now) }
         ensures canonical { Tells result (canonical_octets (openpgpkey_fields self.now)) (canonical_octets (openpgpkey_fields other.now)) }
     {
-        self.fields().are_same(&other.fields())
+        is_same_data(self, other)
     }
 }
 
 impl Eq for OPENPGPKEY {
     ghost laws = { data_equiv openpgpkey_fields };
+}
+
+impl Hash for OPENPGPKEY {
+    ghost hash_input = { λ key. fields_input (openpgpkey_fields key) };
+
+    ghost respects_eq = { λ a b. fields-alike (openpgpkey_fields a) (openpgpkey_fields b) };
+
+    fn hash<H: Hasher>(&self, state: &mut H) {
+        hash_list(self.fields().as_slice(), state);
+    }
 }
 
 impl fmt::Display for OPENPGPKEY {

@@ -1,24 +1,21 @@
 //! SMIMEA (RFC 8162).
-ghost use Rattle.std.specs.Prelude.{◌≡◌, Some, ◌⊎◌, List, IfOk, IfErr, map};
-ghost use Rattle.std.specs.Iterator.{Drains, IsFinite};
+ghost use Rattle.std.specs.Prelude.{◌≡◌, Some};
 ghost use Rattle.std.specs.Cmp.{partial_equiv_from_equiv};
-ghost use Rattle.drd_order.specs.dnw_encoder.declared.modes.RDataEncoding.TheVariants.{Other};
-ghost use Rattle.drd_order.specs.drd_fields.Equality.{Tells, fields_eq};
-ghost use Rattle.drd_order.proofs.drd_fields_lemmas.EqualityLaws.{data_equiv};
-ghost use Rattle.drd_order.specs.drd_fields.Fields.{FieldsAt};
-ghost use Rattle.drd_order.specs.drd_fields.Reading.{StopsReading};
-ghost use Rattle.drd_order.specs.drd_fields.Writing.{EmitsData, RefusesFields, canonical_octets};
-ghost use Rattle.drd_keys.specs.Fields.{smimea_fields, smimea_kinds};
+ghost use Rattle.drd_fields.specs.dnw_encoder.declared.modes.RDataEncoding.TheVariants.{Other};
+ghost use Rattle.drd_fields.specs.Equality.{Tells, fields_eq};
+ghost use Rattle.drd_fields.proofs.EqualityLaws.{data_equiv};
+ghost use Rattle.drd_fields.specs.Order.{fields_input};
+ghost use Rattle.drd_fields.proofs.OrderLaws.{fields-alike};
+ghost use Rattle.drd_fields.specs.Writing.{EmitsData, RefusesFields, canonical_octets};
+ghost use Rattle.drd_keys.specs.Fields.{smimea_fields};
 ghost use Rattle.drd_keys.specs.Print.{smimea_print};
-ghost use Rattle.drd_words.specs.Word.{IsOutOfMemory};
-ghost use Rattle.drd_keys.specs.Texts.{IsSmimeaText};
+ghost use Rattle.drd_keys.specs.Texts.{IsSmimeaText, RefusesSmimeaText};
 
 use crate::tlsa::{CertUsage, Matching, Selector, TLSA};
-use drd_order::{BinDecoder, BinEncodable, BinEncoder, RecordDataDecodable};
-use drd_words::{DecodeError, Name, ParseError, ProtoError, Restrict};
-use std::alloc::Global;
-use std::convert::AsStr;
+use drd_fields::{BinEncodable, BinEncoder, FieldData, Fields};
+use drd_words::{DecodeError, ProtoError, TextData};
 use std::fmt;
+use std::hash::{Hash, Hasher};
 use std::ops::Deref;
 
 /// The certificate, or the key, of the holder of a mail address, in the form of TLSA.
@@ -39,23 +36,6 @@ impl SMIMEA {
     {
         SMIMEA(TLSA::new(cert_usage, selector, matching, cert_data))
     }
-
-    /// Reads the words of TLSA (RFC 8162 2). Refused are other words.
-    pub fn from_tokens<I: Iterator + Drop>(
-        alloc: Global,
-        tokens: I,
-        origin: Option<&Name>,
-    ) -> Result<SMIMEA, ParseError>
-    where
-        I::Item: AsStr + Drop,
-        requires can { I.can_next tokens }
-        requires ends { IsFinite (I.remaining tokens) }
-        ensures ok { IfOk result (λ smimea. (words : List I.Item) × Drains I.next_gives tokens words × IsSmimeaText (map I.Item.text words) smimea) }
-        ensures refused { IfErr result (λ e. IsOutOfMemory e ⊎ ((words : List I.Item) × Drains I.next_gives tokens words
-            × ((smimea : SMIMEA) → IsSmimeaText (map I.Item.text words) smimea → ⊥))) }
-    {
-        Ok(SMIMEA(TLSA::from_tokens(alloc, tokens, origin)?))
-    }
 }
 
 impl Deref for SMIMEA {
@@ -68,32 +48,28 @@ impl Deref for SMIMEA {
     }
 }
 
-impl RecordDataDecodable for SMIMEA {
-    ghost use Rattle.std.specs.Prelude.{◌+◌, ◌≤◌, length as size, OnOk};
-    ghost use Rattle.drd_order.specs.dnw_decoder.Reading.{IsWantOfMemory};
+impl FieldData for SMIMEA {
+    ghost use Rattle.std.proofs.Common.{refl};
     ghost use Rattle.drd_keys.specs.Tlsa.{IsNamedTlsa};
 
-    ghost reads = { λ message place smimea end. FieldsAt message place (smimea_fields smimea) end × IsNamedTlsa smimea.0 };
+    type Parts = <TLSA as FieldData>::Parts;
 
-    ghost refuses = { λ message place end e at. StopsReading message end smimea_kinds place e at };
+    ghost fields = { smimea_fields };
 
-    fn read_data(
-        alloc: Global,
-        decoder: &mut BinDecoder<'_>,
-        length: Restrict<u16>,
-    ) -> Result<SMIMEA, DecodeError>
-        ensures ok { IfOk result (λ smimea. FieldsAt decoder.old.octets decoder.old.index (smimea_fields smimea) (decoder.old.index + length)
-            × IsNamedTlsa smimea.0) }
-        ensures end { OnOk result (decoder.new.index ≡ decoder.old.index + length) }
-        ensures same { decoder.new.octets ≡ decoder.old.octets }
-        ensures forward { decoder.old.index ≤ decoder.new.index }
-        ensures within { decoder.new.index ≤ size decoder.new.octets }
-        ensures refused { IfErr result (λ e. StopsReading decoder.old.octets (decoder.old.index + length) smimea_kinds decoder.old.index e decoder.new.index) }
-        ensures none { IfErr result (λ e. IsWantOfMemory e
-            ⊎ ((smimea : SMIMEA) → FieldsAt decoder.old.octets decoder.old.index (smimea_fields smimea) (decoder.old.index + length) → ⊥)) }
-    {
-        Ok(SMIMEA(TLSA::read_data(alloc, decoder, length)?))
+    ghost is_valid = { λ smimea. IsNamedTlsa smimea.0 };
+
+    fn of_parts(parts: <TLSA as FieldData>::Parts) -> Result<SMIMEA, DecodeError> {
+        match TLSA::of_parts(parts) {
+            Ok(tlsa) => Ok(SMIMEA(tlsa)),
+            Err(refused) => Err(refused),
+        }
     }
+
+    fn fields(&self) -> Fields<'_> {
+        self.0.fields()
+    }
+
+    ghost laws = { λ smimea. refl };
 }
 
 impl BinEncodable for SMIMEA {
@@ -104,6 +80,23 @@ impl BinEncodable for SMIMEA {
     fn emit(&self, encoder: &mut BinEncoder<'_>) -> Result<(), ProtoError> {
         self.0.emit(encoder)
     }
+}
+
+impl TextData for SMIMEA {
+    ghost use Rattle.drd_keys.specs.TextLaws.{tlsa_parts};
+
+    type Parts = <TLSA as TextData>::Parts;
+
+    ghost is_text = { λ words origin smimea. IsSmimeaText words smimea };
+
+    ghost refuses = { λ words origin e. RefusesSmimeaText words e };
+
+    /// The words of TLSA (RFC 8162 2).
+    fn of_words(parts: <TLSA as TextData>::Parts) -> SMIMEA {
+        SMIMEA(TLSA::of_words(parts))
+    }
+
+    ghost laws = { (λ words origin smimea written. tlsa_parts words smimea.0 written, λ words origin e refused. refused) };
 }
 
 impl PartialEq for SMIMEA {
@@ -122,6 +115,16 @@ impl PartialEq for SMIMEA {
 
 impl Eq for SMIMEA {
     ghost laws = { data_equiv smimea_fields };
+}
+
+impl Hash for SMIMEA {
+    ghost hash_input = { λ smimea. fields_input (smimea_fields smimea) };
+
+    ghost respects_eq = { λ a b. fields-alike (smimea_fields a) (smimea_fields b) };
+
+    fn hash<H: Hasher>(&self, state: &mut H) {
+        self.0.hash(state);
+    }
 }
 
 impl fmt::Display for SMIMEA {

@@ -1,30 +1,27 @@
 //! SSHFP (RFC 4255).
-ghost use Rattle.std.specs.Prelude.{◌≡◌, ◌∷◌, [], ℕ, Some, IfOk, ◌⊎◌, List, IfErr, map};
-ghost use Rattle.std.specs.Iterator.{Drains, IsFinite};
-ghost use Rattle.std.specs.Cmp.Rules.{comparing};
+ghost use Rattle.std.specs.Prelude.{◌≡◌, ◌∷◌, [], Some};
+ghost use Rattle.std.specs.Cmp.Rules.{comparing, hashing};
+ghost use Rattle.std.specs.Hash as fed;
 ghost use Rattle.std.proofs.Common.{rules};
 ghost use Rattle.std.specs.Cmp.{partial_equiv_from_equiv};
-ghost use Rattle.drd_order.specs.dnw_encoder.declared.modes.RDataEncoding.TheVariants.{Other};
-ghost use Rattle.drd_order.specs.drd_fields.Fields.{octet, rest, FieldsAt};
-ghost use Rattle.drd_order.specs.drd_fields.Equality.{Tells, fields_eq};
-ghost use Rattle.drd_order.proofs.drd_fields_lemmas.EqualityLaws.{data_equiv};
-ghost use Rattle.drd_order.specs.drd_fields.Reading.{StopsReading};
-ghost use Rattle.drd_order.specs.drd_fields.Writing.{EmitsData, RefusesFields, canonical_octets};
-ghost use Rattle.drd_keys.specs.Fields.{sshfp_fields, sshfp_kinds};
+ghost use Rattle.drd_fields.specs.dnw_encoder.declared.modes.RDataEncoding.TheVariants.{Other};
+ghost use Rattle.drd_fields.specs.Fields.{octet, rest};
+ghost use Rattle.drd_fields.specs.Equality.{Tells, fields_eq};
+ghost use Rattle.drd_fields.proofs.EqualityLaws.{data_equiv};
+ghost use Rattle.drd_fields.specs.Order.{fields_input};
+ghost use Rattle.drd_fields.proofs.OrderLaws.{fields-alike};
+ghost use Rattle.drd_fields.specs.Writing.{EmitsData, RefusesFields, canonical_octets};
+ghost use Rattle.drd_keys.specs.Fields.{sshfp_fields};
 ghost use Rattle.drd_keys.specs.Print.{sshfp_print};
-ghost use Rattle.drd_words.specs.Word.{IsOutOfMemory};
-ghost use Rattle.drd_keys.specs.Texts.{IsSshfpText};
+ghost use Rattle.drd_keys.specs.Texts.{IsSshfpText, RefusesSshfpText};
 
-use drd_order::{
-    BinDecoder, BinEncodable, BinEncoder, DataFields, RDataEncoding, RecordDataDecodable, Rest,
-    RestField, emit_data, read_data_within,
+use drd_fields::{
+    BinEncodable, BinEncoder, FieldData, FieldRef, Fields, RDataEncoding, Rest, RestField,
+    emit_data, hash_list, is_same_data,
 };
-use drd_words::{
-    DecodeError, HexData, Name, ParseError, ProtoError, Restrict, fmt_hex, read_tokens,
-};
-use std::alloc::Global;
-use std::convert::AsStr;
+use drd_words::{DecodeError, HexData, ProtoError, TextData, fmt_hex};
 use std::fmt;
+use std::hash::{Hash, Hasher};
 
 /// The algorithm of a host's key. Two algorithms are equal where their numbers are.
 #[derive(Clone, Copy, Debug)]
@@ -91,6 +88,18 @@ impl Eq for Algorithm {
     ghost laws = { Prim.search (comparing, rules) };
 }
 
+impl Hash for Algorithm {
+    ghost use Rattle.drd_keys.specs.Sshfp.{sshfp_algorithm_number};
+
+    ghost hash_input = { λ algorithm. fed.u8 (sshfp_algorithm_number algorithm) };
+
+    ghost respects_eq = { Prim.search (hashing, rules) };
+
+    fn hash<H: Hasher>(&self, state: &mut H) {
+        u8::from(*self).hash(state);
+    }
+}
+
 /// The hash of a fingerprint. Two are equal where their numbers are.
 #[derive(Clone, Copy, Debug)]
 pub enum FingerprintType {
@@ -147,6 +156,18 @@ impl Eq for FingerprintType {
     ghost laws = { Prim.search (comparing, rules) };
 }
 
+impl Hash for FingerprintType {
+    ghost use Rattle.drd_keys.specs.Sshfp.{fingerprint_type_number};
+
+    ghost hash_input = { λ fingerprint_type. fed.u8 (fingerprint_type_number fingerprint_type) };
+
+    ghost respects_eq = { Prim.search (hashing, rules) };
+
+    fn hash<H: Hasher>(&self, state: &mut H) {
+        u8::from(*self).hash(state);
+    }
+}
+
 /// A fingerprint of the key of a host that takes SSH connections.
 #[derive(Clone, Debug, Drop)]
 pub struct SSHFP {
@@ -172,29 +193,8 @@ impl SSHFP {
         }
     }
 
-    /// Reads two numbers, and the fingerprint in hex, in one word or several (RFC 4255 3.2). Refused are other words.
-    pub fn from_tokens<I: Iterator + Drop>(
-        alloc: Global,
-        tokens: I,
-        origin: Option<&Name>,
-    ) -> Result<SSHFP, ParseError>
-    where
-        I::Item: AsStr + Drop,
-        requires can { I.can_next tokens }
-        requires ends { IsFinite (I.remaining tokens) }
-        ensures ok { IfOk result (λ sshfp. (words : List I.Item) × Drains I.next_gives tokens words × IsSshfpText (map I.Item.text words) sshfp) }
-        ensures refused { IfErr result (λ e. IsOutOfMemory e ⊎ ((words : List I.Item) × Drains I.next_gives tokens words
-            × ((sshfp : SSHFP) → IsSshfpText (map I.Item.text words) sshfp → ⊥))) }
-    {
-        let (algorithm, (fingerprint_type, HexData(octets))) = read_tokens::<
-            (u8, (u8, HexData)),
-            I,
-        >(alloc, tokens, origin)?;
-        Ok(SSHFP::new(algorithm.into(), fingerprint_type.into(), octets))
-    }
-
-    // The fields of the data.
-    pub(crate) fn fields(&self) -> (u8, (u8, RestField<'_>))
+    // The fields of the data, as they are written.
+    fn parts(&self) -> (u8, (u8, RestField<'_>))
         ensures { octet result.0 ∷ octet result.1.0 ∷ rest result.1.1.0.now ∷ [] ≡ sshfp_fields self.now }
     {
         let fingerprint = RestField(&self.fingerprint);
@@ -205,35 +205,30 @@ impl SSHFP {
     }
 }
 
-impl RecordDataDecodable for SSHFP {
-    ghost use Rattle.std.specs.Prelude.{◌+◌, ◌≤◌, length as size, OnOk};
-    ghost use Rattle.drd_order.specs.dnw_decoder.Reading.{IsWantOfMemory};
+impl FieldData for SSHFP {
+    ghost use Rattle.std.proofs.Common.{refl};
     ghost use Rattle.drd_keys.specs.Sshfp.{IsNamedSshfp};
 
-    ghost reads = { λ message place sshfp end. FieldsAt message place (sshfp_fields sshfp) end × IsNamedSshfp sshfp };
+    type Parts = (u8, (u8, Rest));
 
-    ghost refuses = { λ message place end e at. StopsReading message end sshfp_kinds place e at };
+    ghost fields = { sshfp_fields };
 
-    fn read_data(
-        alloc: Global,
-        decoder: &mut BinDecoder<'_>,
-        length: Restrict<u16>,
-    ) -> Result<SSHFP, DecodeError>
-        ensures ok { IfOk result (λ sshfp. FieldsAt decoder.old.octets decoder.old.index (sshfp_fields sshfp) (decoder.old.index + length)
-            × IsNamedSshfp sshfp) }
-        ensures end { OnOk result (decoder.new.index ≡ decoder.old.index + length) }
-        ensures same { decoder.new.octets ≡ decoder.old.octets }
-        ensures forward { decoder.old.index ≤ decoder.new.index }
-        ensures within { decoder.new.index ≤ size decoder.new.octets }
-        ensures refused { IfErr result (λ e. StopsReading decoder.old.octets (decoder.old.index + length) sshfp_kinds decoder.old.index e decoder.new.index) }
-        ensures none { IfErr result (λ e. IsWantOfMemory e
-            ⊎ ((sshfp : SSHFP) → FieldsAt decoder.old.octets decoder.old.index (sshfp_fields sshfp) (decoder.old.index + length) → ⊥)) }
-    {
-        let (algorithm, (fingerprint_type, Rest(fingerprint))) = read_data_within::<
-            (u8, (u8, Rest)),
-        >(alloc, decoder, length.unverified())?;
+    ghost is_valid = { IsNamedSshfp };
+
+    fn of_parts(parts: (u8, (u8, Rest))) -> Result<SSHFP, DecodeError> {
+        let (algorithm, (fingerprint_type, Rest(fingerprint))) = parts;
         Ok(SSHFP::new(algorithm.into(), fingerprint_type.into(), fingerprint))
     }
+
+    fn fields(&self) -> Fields<'_> {
+        Fields::new(&[
+            FieldRef::U8(self.algorithm.into()),
+            FieldRef::U8(self.fingerprint_type.into()),
+            FieldRef::Octets(&self.fingerprint),
+        ])
+    }
+
+    ghost laws = { λ sshfp. refl };
 }
 
 impl BinEncodable for SSHFP {
@@ -242,8 +237,26 @@ impl BinEncodable for SSHFP {
     ghost refuses = { λ sshfp old e new. RefusesFields (sshfp_fields sshfp) old e };
 
     fn emit(&self, encoder: &mut BinEncoder<'_>) -> Result<(), ProtoError> {
-        emit_data(encoder, RDataEncoding::Other, &self.fields())
+        emit_data(encoder, RDataEncoding::Other, &self.parts())
     }
+}
+
+impl TextData for SSHFP {
+    ghost use Rattle.drd_keys.specs.TextLaws.{sshfp_parts};
+
+    type Parts = (u8, (u8, HexData));
+
+    ghost is_text = { λ words origin sshfp. IsSshfpText words sshfp };
+
+    ghost refuses = { λ words origin e. RefusesSshfpText words e };
+
+    /// Two numbers, and the fingerprint in hex, in one word or several (RFC 4255 3.2).
+    fn of_words(parts: (u8, (u8, HexData))) -> SSHFP {
+        let (algorithm, (fingerprint_type, HexData(fingerprint))) = parts;
+        SSHFP::new(algorithm.into(), fingerprint_type.into(), fingerprint)
+    }
+
+    ghost laws = { (λ words origin sshfp written. sshfp_parts words sshfp written, λ words origin e refused. refused) };
 }
 
 impl PartialEq for SSHFP {
@@ -256,12 +269,22 @@ impl PartialEq for SSHFP {
         ensures value { result ≡ fields_eq (sshfp_fields self.now) (sshfp_fields other.now) }
         ensures canonical { Tells result (canonical_octets (sshfp_fields self.now)) (canonical_octets (sshfp_fields other.now)) }
     {
-        self.fields().are_same(&other.fields())
+        is_same_data(self, other)
     }
 }
 
 impl Eq for SSHFP {
     ghost laws = { data_equiv sshfp_fields };
+}
+
+impl Hash for SSHFP {
+    ghost hash_input = { λ sshfp. fields_input (sshfp_fields sshfp) };
+
+    ghost respects_eq = { λ a b. fields-alike (sshfp_fields a) (sshfp_fields b) };
+
+    fn hash<H: Hasher>(&self, state: &mut H) {
+        hash_list(self.fields().as_slice(), state);
+    }
 }
 
 impl fmt::Display for SSHFP {

@@ -1,30 +1,27 @@
 //! TLSA (RFC 6698).
-ghost use Rattle.std.specs.Prelude.{◌≡◌, ◌∷◌, [], ℕ, Some, IfOk, ◌⊎◌, List, IfErr, map};
-ghost use Rattle.std.specs.Iterator.{Drains, IsFinite};
-ghost use Rattle.std.specs.Cmp.Rules.{comparing};
+ghost use Rattle.std.specs.Prelude.{◌≡◌, ◌∷◌, [], Some};
+ghost use Rattle.std.specs.Cmp.Rules.{comparing, hashing};
+ghost use Rattle.std.specs.Hash as fed;
 ghost use Rattle.std.proofs.Common.{rules};
 ghost use Rattle.std.specs.Cmp.{partial_equiv_from_equiv};
-ghost use Rattle.drd_order.specs.dnw_encoder.declared.modes.RDataEncoding.TheVariants.{Other};
-ghost use Rattle.drd_order.specs.drd_fields.Fields.{octet, rest, FieldsAt};
-ghost use Rattle.drd_order.specs.drd_fields.Equality.{Tells, fields_eq};
-ghost use Rattle.drd_order.proofs.drd_fields_lemmas.EqualityLaws.{data_equiv};
-ghost use Rattle.drd_order.specs.drd_fields.Reading.{StopsReading};
-ghost use Rattle.drd_order.specs.drd_fields.Writing.{EmitsData, RefusesFields, canonical_octets};
-ghost use Rattle.drd_keys.specs.Fields.{tlsa_fields, tlsa_kinds};
+ghost use Rattle.drd_fields.specs.dnw_encoder.declared.modes.RDataEncoding.TheVariants.{Other};
+ghost use Rattle.drd_fields.specs.Fields.{octet, rest};
+ghost use Rattle.drd_fields.specs.Equality.{Tells, fields_eq};
+ghost use Rattle.drd_fields.proofs.EqualityLaws.{data_equiv};
+ghost use Rattle.drd_fields.specs.Order.{fields_input};
+ghost use Rattle.drd_fields.proofs.OrderLaws.{fields-alike};
+ghost use Rattle.drd_fields.specs.Writing.{EmitsData, RefusesFields, canonical_octets};
+ghost use Rattle.drd_keys.specs.Fields.{tlsa_fields};
 ghost use Rattle.drd_keys.specs.Print.{tlsa_print};
-ghost use Rattle.drd_words.specs.Word.{IsOutOfMemory};
-ghost use Rattle.drd_keys.specs.Texts.{IsTlsaText};
+ghost use Rattle.drd_keys.specs.Texts.{IsTlsaText, RefusesTlsaText};
 
-use drd_order::{
-    BinDecoder, BinEncodable, BinEncoder, DataFields, RDataEncoding, RecordDataDecodable, Rest,
-    RestField, emit_data, read_data_within,
+use drd_fields::{
+    BinEncodable, BinEncoder, FieldData, FieldRef, Fields, RDataEncoding, Rest, RestField,
+    emit_data, hash_list, is_same_data,
 };
-use drd_words::{
-    DecodeError, HexData, Name, ParseError, ProtoError, Restrict, fmt_hex, read_tokens,
-};
-use std::alloc::Global;
-use std::convert::AsStr;
+use drd_words::{DecodeError, HexData, ProtoError, TextData, fmt_hex};
 use std::fmt;
+use std::hash::{Hash, Hasher};
 
 /// What the certificate is for (RFC 6698 2.1.1, RFC 7218 2.1). Two are equal where their numbers are.
 #[derive(Clone, Copy, Debug)]
@@ -93,6 +90,18 @@ impl Eq for CertUsage {
     ghost laws = { Prim.search (comparing, rules) };
 }
 
+impl Hash for CertUsage {
+    ghost use Rattle.drd_keys.specs.Tlsa.{cert_usage_number};
+
+    ghost hash_input = { λ cert_usage. fed.u8 (cert_usage_number cert_usage) };
+
+    ghost respects_eq = { Prim.search (hashing, rules) };
+
+    fn hash<H: Hasher>(&self, state: &mut H) {
+        u8::from(*self).hash(state);
+    }
+}
+
 /// Which part of a certificate is meant (RFC 6698 2.1.2, RFC 7218 2.2). Two are equal where their numbers are.
 #[derive(Clone, Copy, Debug)]
 pub enum Selector {
@@ -150,6 +159,18 @@ impl PartialEq for Selector {
 
 impl Eq for Selector {
     ghost laws = { Prim.search (comparing, rules) };
+}
+
+impl Hash for Selector {
+    ghost use Rattle.drd_keys.specs.Tlsa.{selector_number};
+
+    ghost hash_input = { λ selector. fed.u8 (selector_number selector) };
+
+    ghost respects_eq = { Prim.search (hashing, rules) };
+
+    fn hash<H: Hasher>(&self, state: &mut H) {
+        u8::from(*self).hash(state);
+    }
 }
 
 /// How that part stands in the data (RFC 6698 2.1.3, RFC 7218 2.3). Two are equal where their numbers are.
@@ -215,6 +236,18 @@ impl Eq for Matching {
     ghost laws = { Prim.search (comparing, rules) };
 }
 
+impl Hash for Matching {
+    ghost use Rattle.drd_keys.specs.Tlsa.{matching_number};
+
+    ghost hash_input = { λ matching. fed.u8 (matching_number matching) };
+
+    ghost respects_eq = { Prim.search (hashing, rules) };
+
+    fn hash<H: Hasher>(&self, state: &mut H) {
+        u8::from(*self).hash(state);
+    }
+}
+
 /// The certificate, or the key, that a TLS server shows.
 #[derive(Clone, Debug, Drop)]
 pub struct TLSA {
@@ -244,29 +277,8 @@ impl TLSA {
         }
     }
 
-    /// Reads three numbers, and the octets in hex, in one word or several (RFC 6698 2.2). Refused are other words.
-    pub fn from_tokens<I: Iterator + Drop>(
-        alloc: Global,
-        tokens: I,
-        origin: Option<&Name>,
-    ) -> Result<TLSA, ParseError>
-    where
-        I::Item: AsStr + Drop,
-        requires can { I.can_next tokens }
-        requires ends { IsFinite (I.remaining tokens) }
-        ensures ok { IfOk result (λ tlsa. (words : List I.Item) × Drains I.next_gives tokens words × IsTlsaText (map I.Item.text words) tlsa) }
-        ensures refused { IfErr result (λ e. IsOutOfMemory e ⊎ ((words : List I.Item) × Drains I.next_gives tokens words
-            × ((tlsa : TLSA) → IsTlsaText (map I.Item.text words) tlsa → ⊥))) }
-    {
-        let (cert_usage, (selector, (matching, HexData(octets)))) = read_tokens::<
-            (u8, (u8, (u8, HexData))),
-            I,
-        >(alloc, tokens, origin)?;
-        Ok(TLSA::new(cert_usage.into(), selector.into(), matching.into(), octets))
-    }
-
-    // The fields of the data.
-    pub(crate) fn fields(&self) -> (u8, (u8, (u8, RestField<'_>)))
+    // The fields of the data, as they are written.
+    fn parts(&self) -> (u8, (u8, (u8, RestField<'_>)))
         ensures { octet result.0 ∷ octet result.1.0 ∷ octet result.1.1.0 ∷ rest result.1.1.1.0.now ∷ [] ≡ tlsa_fields self.now }
     {
         let cert_data = RestField(&self.cert_data);
@@ -277,33 +289,18 @@ impl TLSA {
     }
 }
 
-impl RecordDataDecodable for TLSA {
-    ghost use Rattle.std.specs.Prelude.{◌+◌, ◌≤◌, length as size, OnOk};
-    ghost use Rattle.drd_order.specs.dnw_decoder.Reading.{IsWantOfMemory};
+impl FieldData for TLSA {
+    ghost use Rattle.std.proofs.Common.{refl};
     ghost use Rattle.drd_keys.specs.Tlsa.{IsNamedTlsa};
 
-    ghost reads = { λ message place tlsa end. FieldsAt message place (tlsa_fields tlsa) end × IsNamedTlsa tlsa };
+    type Parts = (u8, (u8, (u8, Rest)));
 
-    ghost refuses = { λ message place end e at. StopsReading message end tlsa_kinds place e at };
+    ghost fields = { tlsa_fields };
 
-    fn read_data(
-        alloc: Global,
-        decoder: &mut BinDecoder<'_>,
-        length: Restrict<u16>,
-    ) -> Result<TLSA, DecodeError>
-        ensures ok { IfOk result (λ tlsa. FieldsAt decoder.old.octets decoder.old.index (tlsa_fields tlsa) (decoder.old.index + length)
-            × IsNamedTlsa tlsa) }
-        ensures end { OnOk result (decoder.new.index ≡ decoder.old.index + length) }
-        ensures same { decoder.new.octets ≡ decoder.old.octets }
-        ensures forward { decoder.old.index ≤ decoder.new.index }
-        ensures within { decoder.new.index ≤ size decoder.new.octets }
-        ensures refused { IfErr result (λ e. StopsReading decoder.old.octets (decoder.old.index + length) tlsa_kinds decoder.old.index e decoder.new.index) }
-        ensures none { IfErr result (λ e. IsWantOfMemory e
-            ⊎ ((tlsa : TLSA) → FieldsAt decoder.old.octets decoder.old.index (tlsa_fields tlsa) (decoder.old.index + length) → ⊥)) }
-    {
-        let (cert_usage, (selector, (matching, Rest(cert_data)))) = read_data_within::<
-            (u8, (u8, (u8, Rest))),
-        >(alloc, decoder, length.unverified())?;
+    ghost is_valid = { IsNamedTlsa };
+
+    fn of_parts(parts: (u8, (u8, (u8, Rest)))) -> Result<TLSA, DecodeError> {
+        let (cert_usage, (selector, (matching, Rest(cert_data)))) = parts;
         Ok(TLSA::new(
             cert_usage.into(),
             selector.into(),
@@ -311,6 +308,17 @@ impl RecordDataDecodable for TLSA {
             cert_data,
         ))
     }
+
+    fn fields(&self) -> Fields<'_> {
+        Fields::new(&[
+            FieldRef::U8(self.cert_usage.into()),
+            FieldRef::U8(self.selector.into()),
+            FieldRef::U8(self.matching.into()),
+            FieldRef::Octets(&self.cert_data),
+        ])
+    }
+
+    ghost laws = { λ tlsa. refl };
 }
 
 impl BinEncodable for TLSA {
@@ -319,8 +327,31 @@ impl BinEncodable for TLSA {
     ghost refuses = { λ tlsa old e new. RefusesFields (tlsa_fields tlsa) old e };
 
     fn emit(&self, encoder: &mut BinEncoder<'_>) -> Result<(), ProtoError> {
-        emit_data(encoder, RDataEncoding::Other, &self.fields())
+        emit_data(encoder, RDataEncoding::Other, &self.parts())
     }
+}
+
+impl TextData for TLSA {
+    ghost use Rattle.drd_keys.specs.TextLaws.{tlsa_parts};
+
+    type Parts = (u8, (u8, (u8, HexData)));
+
+    ghost is_text = { λ words origin tlsa. IsTlsaText words tlsa };
+
+    ghost refuses = { λ words origin e. RefusesTlsaText words e };
+
+    /// Three numbers, and the octets in hex, in one word or several (RFC 6698 2.2).
+    fn of_words(parts: (u8, (u8, (u8, HexData)))) -> TLSA {
+        let (cert_usage, (selector, (matching, HexData(cert_data)))) = parts;
+        TLSA::new(
+            cert_usage.into(),
+            selector.into(),
+            matching.into(),
+            cert_data,
+        )
+    }
+
+    ghost laws = { (λ words origin tlsa written. tlsa_parts words tlsa written, λ words origin e refused. refused) };
 }
 
 impl PartialEq for TLSA {
@@ -333,12 +364,22 @@ impl PartialEq for TLSA {
         ensures value { result ≡ fields_eq (tlsa_fields self.now) (tlsa_fields other.now) }
         ensures canonical { Tells result (canonical_octets (tlsa_fields self.now)) (canonical_octets (tlsa_fields other.now)) }
     {
-        self.fields().are_same(&other.fields())
+        is_same_data(self, other)
     }
 }
 
 impl Eq for TLSA {
     ghost laws = { data_equiv tlsa_fields };
+}
+
+impl Hash for TLSA {
+    ghost hash_input = { λ tlsa. fields_input (tlsa_fields tlsa) };
+
+    ghost respects_eq = { λ a b. fields-alike (tlsa_fields a) (tlsa_fields b) };
+
+    fn hash<H: Hasher>(&self, state: &mut H) {
+        hash_list(self.fields().as_slice(), state);
+    }
 }
 
 impl fmt::Display for TLSA {

@@ -1,7 +1,7 @@
 -- The fields of record data that are names and numbers.
 use Rattle.std.specs.Prelude.{List, [], ◌∷◌}
 use Rattle.std.specs.Int.{w32, cast_unsigned}
-use Rattle.drd_order.specs.drd_fields.Fields.{Field, short, long, name, Kind, a_short, a_long, a_name}
+use Rattle.drd_fields.specs.Fields.{Field, short, long, name, Kind, a_short, a_long, a_name}
 use Rattle.drd_names.specs.declared.mx.MX.{MX}
 use Rattle.drd_names.specs.declared.aname.ANAME.{ANAME}
 use Rattle.drd_names.specs.declared.cname.CNAME.{CNAME}

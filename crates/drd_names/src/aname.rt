@@ -1,63 +1,31 @@
 //! ANAME (draft-ietf-dnsop-aname-04).
-ghost use Rattle.std.specs.Prelude.{◌≡◌, ◌∷◌, ◌⊎◌, [], ℕ, List, Some, IfOk, IfErr, map};
-ghost use Rattle.std.specs.Iterator.{Drains, IsFinite};
-ghost use Rattle.std.specs.Option.{option_copied};
+ghost use Rattle.std.specs.Prelude.{◌≡◌, ℕ, Some};
 ghost use Rattle.std.specs.Cmp.{partial_equiv_from_equiv};
-ghost use Rattle.drd_order.specs.dnw_encoder.declared.modes.RDataEncoding.TheVariants.{Other};
+ghost use Rattle.drd_fields.specs.dnw_encoder.declared.modes.RDataEncoding.TheVariants.{Other};
 ghost use Rattle.drd_words.specs.dnw_name.NamePrint.{name_print};
-ghost use Rattle.drd_order.specs.drd_fields.Fields.{name, FieldsAt};
-ghost use Rattle.drd_order.specs.drd_fields.Reading.{StopsReading};
-ghost use Rattle.drd_order.specs.drd_fields.Equality.{AreFull, Tells, fields_eq};
-ghost use Rattle.drd_order.proofs.drd_fields_lemmas.EqualityLaws.{data_equiv};
-ghost use Rattle.drd_order.specs.drd_fields.Writing.{EmitsData, RefusesFields, canonical_octets};
+ghost use Rattle.drd_fields.specs.Fields.{FieldsAt};
+ghost use Rattle.drd_fields.specs.Reading.{StopsReading};
+ghost use Rattle.drd_fields.specs.Equality.{AreFull, Tells, fields_eq};
+ghost use Rattle.drd_fields.proofs.EqualityLaws.{data_equiv};
+ghost use Rattle.drd_fields.specs.Order.{fields_input};
+ghost use Rattle.drd_fields.proofs.OrderLaws.{fields-alike};
+ghost use Rattle.drd_fields.specs.Writing.{EmitsData, RefusesFields, canonical_octets};
 ghost use Rattle.drd_names.specs.Fields.{aname_fields, one_name};
-ghost use Rattle.drd_names.specs.Texts.{IsAnameText};
-ghost use Rattle.drd_words.specs.Word.{IsOutOfMemory};
+ghost use Rattle.drd_names.specs.Texts.{IsAnameText, RefusesOneName};
 
-use drd_order::{
+use drd_fields::{
     BinDecodable, BinDecoder, BinEncodable, BinEncoder, FieldData, FieldRef, Fields, RDataEncoding,
-    emit_data, is_same_data, read_value,
+    emit_data, hash_list, is_same_data, read_value,
 };
-use drd_words::{DecodeError, Name, ParseError, ProtoError, read_tokens};
+use drd_words::{DecodeError, Name, ProtoError, TextData};
 use std::alloc::Global;
-use std::convert::AsStr;
 use std::fmt;
+use std::hash::{Hash, Hasher};
 use std::ops::Deref;
 
 /// A name whose addresses stand at the owner (draft-ietf-dnsop-aname-04).
 #[derive(Clone, Debug, Drop)]
 pub struct ANAME(pub Name);
-
-impl ANAME {
-    /// The data that words write: one name, which the origin completes if it is relative. Refused are words that are
-    /// missing, too many or unfit (RFC 1035 5.1).
-    pub fn from_tokens<I: Iterator + Drop>(
-        alloc: Global,
-        tokens: I,
-        origin: Option<&Name>,
-    ) -> Result<ANAME, ParseError>
-    where
-        I::Item: AsStr + Drop,
-        requires can { I.can_next tokens }
-        requires ends { IsFinite (I.remaining tokens) }
-        ensures ok { IfOk result (λ aname. (words : List I.Item) × Drains I.next_gives tokens words
-            × IsAnameText (map I.Item.text words) (option_copied origin.entry) aname) }
-        ensures refused { IfErr result (λ e. IsOutOfMemory e ⊎ ((words : List I.Item) × Drains I.next_gives tokens words
-            × ((aname : ANAME) → IsAnameText (map I.Item.text words) (option_copied origin.entry) aname → ⊥))) }
-    {
-        match read_tokens::<(Name, ()), I>(alloc, tokens, origin) {
-            Ok((name, ())) => Ok(ANAME(name)),
-            Err(refused) => Err(refused),
-        }
-    }
-
-    // The fields of the data, as they are written.
-    pub(crate) fn parts(&self) -> (&Name, ())
-        ensures { name result.0.now ∷ [] ≡ aname_fields self.now }
-    {
-        (&self.0, ())
-    }
-}
 
 impl Deref for ANAME {
     type Target = Name;
@@ -86,8 +54,8 @@ impl FieldData for ANAME {
 
     ghost fields = { aname_fields };
 
-    fn of_parts(name: Name) -> ANAME {
-        ANAME(name)
+    fn of_parts(name: Name) -> Result<ANAME, DecodeError> {
+        Ok(ANAME(name))
     }
 
     fn fields(&self) -> Fields<'_> {
@@ -97,13 +65,28 @@ impl FieldData for ANAME {
     ghost laws = { λ aname. refl };
 }
 
+impl TextData for ANAME {
+    type Parts = (Name, ());
+
+    ghost is_text = { IsAnameText };
+
+    ghost refuses = { RefusesOneName };
+
+    fn of_words(parts: (Name, ())) -> ANAME {
+        let (name, ()) = parts;
+        ANAME(name)
+    }
+
+    ghost laws = { (λ words origin aname written. (_, written), λ words origin e refused. refused) };
+}
+
 impl BinEncodable for ANAME {
     ghost emits = { λ aname. EmitsData Other (aname_fields aname) };
 
     ghost refuses = { λ aname old e new. RefusesFields (aname_fields aname) old e };
 
     fn emit(&self, encoder: &mut BinEncoder<'_>) -> Result<(), ProtoError> {
-        emit_data(encoder, RDataEncoding::Other, &self.parts())
+        emit_data(encoder, RDataEncoding::Other, &(&self.0, ()))
     }
 }
 
@@ -125,6 +108,16 @@ impl PartialEq for ANAME {
 
 impl Eq for ANAME {
     ghost laws = { data_equiv aname_fields };
+}
+
+impl Hash for ANAME {
+    ghost hash_input = { λ aname. fields_input (aname_fields aname) };
+
+    ghost respects_eq = { λ a b. fields-alike (aname_fields a) (aname_fields b) };
+
+    fn hash<H: Hasher>(&self, state: &mut H) {
+        hash_list(self.fields().as_slice(), state);
+    }
 }
 
 impl fmt::Display for ANAME {

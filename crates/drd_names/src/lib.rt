@@ -6,7 +6,6 @@ mod aname;
 mod cname;
 mod mx;
 mod ns;
-mod order;
 mod ptr;
 mod soa;
 mod srv;

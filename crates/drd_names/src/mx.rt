@@ -1,26 +1,25 @@
 //! MX (RFC 1035 3.3.9).
-ghost use Rattle.std.specs.Prelude.{◌≡◌, ◌∷◌, ◌⊎◌, [], ℕ, List, Some, IfOk, IfErr, map};
-ghost use Rattle.std.specs.Iterator.{Drains, IsFinite};
-ghost use Rattle.std.specs.Option.{option_copied};
+ghost use Rattle.std.specs.Prelude.{◌≡◌, ℕ, Some};
 ghost use Rattle.std.specs.Cmp.{partial_equiv_from_equiv};
-ghost use Rattle.drd_order.specs.dnw_encoder.declared.modes.RDataEncoding.TheVariants.{StandardRecord};
-ghost use Rattle.drd_order.specs.drd_fields.Fields.{short, name, FieldsAt};
-ghost use Rattle.drd_order.specs.drd_fields.Reading.{StopsReading};
-ghost use Rattle.drd_order.specs.drd_fields.Equality.{AreFull, Tells, fields_eq};
-ghost use Rattle.drd_order.proofs.drd_fields_lemmas.EqualityLaws.{data_equiv};
-ghost use Rattle.drd_order.specs.drd_fields.Writing.{EmitsData, RefusesFields, canonical_octets};
+ghost use Rattle.drd_fields.specs.dnw_encoder.declared.modes.RDataEncoding.TheVariants.{StandardRecord};
+ghost use Rattle.drd_fields.specs.Fields.{FieldsAt};
+ghost use Rattle.drd_fields.specs.Reading.{StopsReading};
+ghost use Rattle.drd_fields.specs.Equality.{AreFull, Tells, fields_eq};
+ghost use Rattle.drd_fields.proofs.EqualityLaws.{data_equiv};
+ghost use Rattle.drd_fields.specs.Order.{fields_input};
+ghost use Rattle.drd_fields.proofs.OrderLaws.{fields-alike};
+ghost use Rattle.drd_fields.specs.Writing.{EmitsData, RefusesFields, canonical_octets};
 ghost use Rattle.drd_names.specs.Fields.{mx_fields, mx_kinds};
-ghost use Rattle.drd_names.specs.Texts.{mx_print, IsMxText};
-ghost use Rattle.drd_words.specs.Word.{IsOutOfMemory};
+ghost use Rattle.drd_names.specs.Texts.{mx_print, IsMxText, RefusesMxText};
 
-use drd_order::{
+use drd_fields::{
     BinDecodable, BinDecoder, BinEncodable, BinEncoder, FieldData, FieldRef, Fields, RDataEncoding,
-    emit_data, is_same_data, read_value,
+    emit_data, hash_list, is_same_data, read_value,
 };
-use drd_words::{DecodeError, Name, ParseError, ProtoError, read_tokens};
+use drd_words::{DecodeError, Name, ProtoError, TextData};
 use std::alloc::Global;
-use std::convert::AsStr;
 use std::fmt;
+use std::hash::{Hash, Hasher};
 
 /// A mail exchange: a host that takes the owner's mail, the one of the lowest preference first.
 #[derive(Clone, Debug, Drop)]
@@ -38,35 +37,6 @@ impl MX {
             preference,
             exchange,
         }
-    }
-
-    /// The data that words write: the preference and the exchange, a name that the origin completes if it is
-    /// relative. Refused are words that are missing, too many or unfit (RFC 1035 5.1).
-    pub fn from_tokens<I: Iterator + Drop>(
-        alloc: Global,
-        tokens: I,
-        origin: Option<&Name>,
-    ) -> Result<MX, ParseError>
-    where
-        I::Item: AsStr + Drop,
-        requires can { I.can_next tokens }
-        requires ends { IsFinite (I.remaining tokens) }
-        ensures ok { IfOk result (λ mx. (words : List I.Item) × Drains I.next_gives tokens words
-            × IsMxText (map I.Item.text words) (option_copied origin.entry) mx) }
-        ensures refused { IfErr result (λ e. IsOutOfMemory e ⊎ ((words : List I.Item) × Drains I.next_gives tokens words
-            × ((mx : MX) → IsMxText (map I.Item.text words) (option_copied origin.entry) mx → ⊥))) }
-    {
-        match read_tokens::<(u16, (Name, ())), I>(alloc, tokens, origin) {
-            Ok((preference, (exchange, ()))) => Ok(MX::new(preference, exchange)),
-            Err(refused) => Err(refused),
-        }
-    }
-
-    // The fields of the data, as they are written.
-    pub(crate) fn parts(&self) -> (u16, (&Name, ()))
-        ensures { short result.0 ∷ name result.1.0.now ∷ [] ≡ mx_fields self.now }
-    {
-        (self.preference, (&self.exchange, ()))
     }
 }
 
@@ -87,9 +57,9 @@ impl FieldData for MX {
 
     ghost fields = { mx_fields };
 
-    fn of_parts(parts: (u16, (Name, ()))) -> MX {
+    fn of_parts(parts: (u16, (Name, ()))) -> Result<MX, DecodeError> {
         let (preference, (exchange, ())) = parts;
-        MX::new(preference, exchange)
+        Ok(MX::new(preference, exchange))
     }
 
     fn fields(&self) -> Fields<'_> {
@@ -102,13 +72,29 @@ impl FieldData for MX {
     ghost laws = { λ mx. refl };
 }
 
+impl TextData for MX {
+    type Parts = (u16, (Name, ()));
+
+    ghost is_text = { IsMxText };
+
+    ghost refuses = { RefusesMxText };
+
+    fn of_words(parts: (u16, (Name, ()))) -> MX {
+        let (preference, (exchange, ())) = parts;
+        MX::new(preference, exchange)
+    }
+
+    ghost laws = { (λ words origin mx written. (_, written), λ words origin e refused. refused) };
+}
+
 impl BinEncodable for MX {
     ghost emits = { λ mx. EmitsData StandardRecord (mx_fields mx) };
 
     ghost refuses = { λ mx old e new. RefusesFields (mx_fields mx) old e };
 
     fn emit(&self, encoder: &mut BinEncoder<'_>) -> Result<(), ProtoError> {
-        emit_data(encoder, RDataEncoding::StandardRecord, &self.parts())
+        let fields = (self.preference, (&self.exchange, ()));
+        emit_data(encoder, RDataEncoding::StandardRecord, &fields)
     }
 }
 
@@ -130,6 +116,16 @@ impl PartialEq for MX {
 
 impl Eq for MX {
     ghost laws = { data_equiv mx_fields };
+}
+
+impl Hash for MX {
+    ghost hash_input = { λ mx. fields_input (mx_fields mx) };
+
+    ghost respects_eq = { λ a b. fields-alike (mx_fields a) (mx_fields b) };
+
+    fn hash<H: Hasher>(&self, state: &mut H) {
+        hash_list(self.fields().as_slice(), state);
+    }
 }
 
 impl fmt::Display for MX {

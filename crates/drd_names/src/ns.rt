@@ -1,63 +1,31 @@
 //! NS (RFC 1035 3.3.11).
-ghost use Rattle.std.specs.Prelude.{◌≡◌, ◌∷◌, ◌⊎◌, [], ℕ, List, Some, IfOk, IfErr, map};
-ghost use Rattle.std.specs.Iterator.{Drains, IsFinite};
-ghost use Rattle.std.specs.Option.{option_copied};
+ghost use Rattle.std.specs.Prelude.{◌≡◌, ℕ, Some};
 ghost use Rattle.std.specs.Cmp.{partial_equiv_from_equiv};
-ghost use Rattle.drd_order.specs.dnw_encoder.declared.modes.RDataEncoding.TheVariants.{StandardRecord};
+ghost use Rattle.drd_fields.specs.dnw_encoder.declared.modes.RDataEncoding.TheVariants.{StandardRecord};
 ghost use Rattle.drd_words.specs.dnw_name.NamePrint.{name_print};
-ghost use Rattle.drd_order.specs.drd_fields.Fields.{name, FieldsAt};
-ghost use Rattle.drd_order.specs.drd_fields.Reading.{StopsReading};
-ghost use Rattle.drd_order.specs.drd_fields.Equality.{AreFull, Tells, fields_eq};
-ghost use Rattle.drd_order.proofs.drd_fields_lemmas.EqualityLaws.{data_equiv};
-ghost use Rattle.drd_order.specs.drd_fields.Writing.{EmitsData, RefusesFields, canonical_octets};
+ghost use Rattle.drd_fields.specs.Fields.{FieldsAt};
+ghost use Rattle.drd_fields.specs.Reading.{StopsReading};
+ghost use Rattle.drd_fields.specs.Equality.{AreFull, Tells, fields_eq};
+ghost use Rattle.drd_fields.proofs.EqualityLaws.{data_equiv};
+ghost use Rattle.drd_fields.specs.Order.{fields_input};
+ghost use Rattle.drd_fields.proofs.OrderLaws.{fields-alike};
+ghost use Rattle.drd_fields.specs.Writing.{EmitsData, RefusesFields, canonical_octets};
 ghost use Rattle.drd_names.specs.Fields.{ns_fields, one_name};
-ghost use Rattle.drd_names.specs.Texts.{IsNsText};
-ghost use Rattle.drd_words.specs.Word.{IsOutOfMemory};
+ghost use Rattle.drd_names.specs.Texts.{IsNsText, RefusesOneName};
 
-use drd_order::{
+use drd_fields::{
     BinDecodable, BinDecoder, BinEncodable, BinEncoder, FieldData, FieldRef, Fields, RDataEncoding,
-    emit_data, is_same_data, read_value,
+    emit_data, hash_list, is_same_data, read_value,
 };
-use drd_words::{DecodeError, Name, ParseError, ProtoError, read_tokens};
+use drd_words::{DecodeError, Name, ProtoError, TextData};
 use std::alloc::Global;
-use std::convert::AsStr;
 use std::fmt;
+use std::hash::{Hash, Hasher};
 use std::ops::Deref;
 
 /// A name server of the zone that begins at the owner (RFC 1035 3.3.11).
 #[derive(Clone, Debug, Drop)]
 pub struct NS(pub Name);
-
-impl NS {
-    /// The data that words write: one name, which the origin completes if it is relative. Refused are words that are
-    /// missing, too many or unfit (RFC 1035 5.1).
-    pub fn from_tokens<I: Iterator + Drop>(
-        alloc: Global,
-        tokens: I,
-        origin: Option<&Name>,
-    ) -> Result<NS, ParseError>
-    where
-        I::Item: AsStr + Drop,
-        requires can { I.can_next tokens }
-        requires ends { IsFinite (I.remaining tokens) }
-        ensures ok { IfOk result (λ ns. (words : List I.Item) × Drains I.next_gives tokens words
-            × IsNsText (map I.Item.text words) (option_copied origin.entry) ns) }
-        ensures refused { IfErr result (λ e. IsOutOfMemory e ⊎ ((words : List I.Item) × Drains I.next_gives tokens words
-            × ((ns : NS) → IsNsText (map I.Item.text words) (option_copied origin.entry) ns → ⊥))) }
-    {
-        match read_tokens::<(Name, ()), I>(alloc, tokens, origin) {
-            Ok((name, ())) => Ok(NS(name)),
-            Err(refused) => Err(refused),
-        }
-    }
-
-    // The fields of the data, as they are written.
-    pub(crate) fn parts(&self) -> (&Name, ())
-        ensures { name result.0.now ∷ [] ≡ ns_fields self.now }
-    {
-        (&self.0, ())
-    }
-}
 
 impl Deref for NS {
     type Target = Name;
@@ -86,8 +54,8 @@ impl FieldData for NS {
 
     ghost fields = { ns_fields };
 
-    fn of_parts(name: Name) -> NS {
-        NS(name)
+    fn of_parts(name: Name) -> Result<NS, DecodeError> {
+        Ok(NS(name))
     }
 
     fn fields(&self) -> Fields<'_> {
@@ -97,13 +65,28 @@ impl FieldData for NS {
     ghost laws = { λ ns. refl };
 }
 
+impl TextData for NS {
+    type Parts = (Name, ());
+
+    ghost is_text = { IsNsText };
+
+    ghost refuses = { RefusesOneName };
+
+    fn of_words(parts: (Name, ())) -> NS {
+        let (name, ()) = parts;
+        NS(name)
+    }
+
+    ghost laws = { (λ words origin ns written. (_, written), λ words origin e refused. refused) };
+}
+
 impl BinEncodable for NS {
     ghost emits = { λ ns. EmitsData StandardRecord (ns_fields ns) };
 
     ghost refuses = { λ ns old e new. RefusesFields (ns_fields ns) old e };
 
     fn emit(&self, encoder: &mut BinEncoder<'_>) -> Result<(), ProtoError> {
-        emit_data(encoder, RDataEncoding::StandardRecord, &self.parts())
+        emit_data(encoder, RDataEncoding::StandardRecord, &(&self.0, ()))
     }
 }
 
@@ -125,6 +108,16 @@ impl PartialEq for NS {
 
 impl Eq for NS {
     ghost laws = { data_equiv ns_fields };
+}
+
+impl Hash for NS {
+    ghost hash_input = { λ ns. fields_input (ns_fields ns) };
+
+    ghost respects_eq = { λ a b. fields-alike (ns_fields a) (ns_fields b) };
+
+    fn hash<H: Hasher>(&self, state: &mut H) {
+        hash_list(self.fields().as_slice(), state);
+    }
 }
 
 impl fmt::Display for NS {

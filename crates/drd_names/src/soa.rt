@@ -1,32 +1,27 @@
 //! SOA (RFC 1035 3.3.13).
-ghost use Rattle.std.specs.Prelude.{◌≡◌, ◌∷◌, ◌⊎◌, [], ℕ, List, Some, IfOk, IfErr, map};
+ghost use Rattle.std.specs.Prelude.{◌≡◌, ℕ, Some};
 ghost use Rattle.std.specs.Fmt.{WritesOnOk};
-ghost use Rattle.std.specs.Int.{w32, cast_unsigned};
-ghost use Rattle.std.specs.Iterator.{Drains, IsFinite};
-ghost use Rattle.std.specs.Option.{option_copied};
 ghost use Rattle.std.specs.Cmp.{partial_equiv_from_equiv};
-ghost use Rattle.drd_order.specs.dnw_encoder.declared.modes.RDataEncoding.TheVariants.{StandardRecord};
-ghost use Rattle.drd_order.specs.drd_fields.Fields.{long, name, FieldsAt};
-ghost use Rattle.drd_order.specs.drd_fields.Reading.{StopsReading};
-ghost use Rattle.drd_order.specs.drd_fields.Equality.{AreFull, Tells, fields_eq};
-ghost use Rattle.drd_order.proofs.drd_fields_lemmas.EqualityLaws.{data_equiv};
-ghost use Rattle.drd_order.specs.drd_fields.Writing.{EmitsData, RefusesFields, canonical_octets};
+ghost use Rattle.drd_fields.specs.dnw_encoder.declared.modes.RDataEncoding.TheVariants.{StandardRecord};
+ghost use Rattle.drd_fields.specs.Fields.{FieldsAt};
+ghost use Rattle.drd_fields.specs.Reading.{StopsReading};
+ghost use Rattle.drd_fields.specs.Equality.{AreFull, Tells, fields_eq};
+ghost use Rattle.drd_fields.proofs.EqualityLaws.{data_equiv};
+ghost use Rattle.drd_fields.specs.Order.{fields_input};
+ghost use Rattle.drd_fields.proofs.OrderLaws.{fields-alike};
+ghost use Rattle.drd_fields.specs.Writing.{EmitsData, RefusesFields, canonical_octets};
 ghost use Rattle.drd_names.specs.Fields.{soa_fields, soa_kinds};
 ghost use Rattle.drd_names.specs.Serials.{next_serial};
-ghost use Rattle.drd_names.specs.Texts.{soa_print, numbers_print, IsSoaText};
-ghost use Rattle.drd_words.specs.Word.{IsOutOfMemory};
+ghost use Rattle.drd_names.specs.Texts.{soa_print, numbers_print, IsSoaText, RefusesSoaText};
 
-use drd_order::{
+use drd_fields::{
     BinDecodable, BinDecoder, BinEncodable, BinEncoder, FieldData, FieldRef, Fields, RDataEncoding,
-    emit_three, is_same_data, read_value,
+    emit_three, hash_list, is_same_data, read_value,
 };
-use drd_words::{DecodeError, Name, ParseError, ProtoError, TimeInterval, TimeToLive, read_tokens};
+use drd_words::{DecodeError, Name, ProtoError, TextData, TimeInterval, TimeToLive};
 use std::alloc::Global;
-use std::convert::AsStr;
 use std::fmt;
-
-// Two names, the serial number and four intervals.
-type SoaFields<'a> = (&'a Name, (&'a Name, (u32, (i32, (i32, (i32, (u32, ())))))));
+use std::hash::{Hash, Hasher};
 
 // The fields as they are read.
 type SoaParts = (Name, (Name, (u32, (i32, (i32, (i32, (u32, ())))))));
@@ -100,53 +95,6 @@ impl SOA {
     {
         self.serial = self.serial.wrapping_add(1);
     }
-
-    /// The data that seven words write: two names, which the origin completes if they are relative, a number and four
-    /// times to live. Refused are words that are missing, too many or unfit (RFC 1035 5.1).
-    pub fn from_tokens<I: Iterator + Drop>(
-        alloc: Global,
-        tokens: I,
-        origin: Option<&Name>,
-    ) -> Result<SOA, ParseError>
-    where
-        I::Item: AsStr + Drop,
-        requires can { I.can_next tokens }
-        requires ends { IsFinite (I.remaining tokens) }
-        ensures ok { IfOk result (λ soa. (words : List I.Item) × Drains I.next_gives tokens words
-            × IsSoaText (map I.Item.text words) (option_copied origin.entry) soa) }
-        ensures refused { IfErr result (λ e. IsOutOfMemory e ⊎ ((words : List I.Item) × Drains I.next_gives tokens words
-            × ((soa : SOA) → IsSoaText (map I.Item.text words) (option_copied origin.entry) soa → ⊥))) }
-    {
-        match read_tokens::<Written, I>(alloc, tokens, origin) {
-            Ok(written) => {
-                let (mname, (rname, (serial, (refresh, (retry, (expire, (minimum, ()))))))) =
-                    written;
-                Ok(SOA {
-                    mname,
-                    rname,
-                    serial,
-                    refresh: refresh.0,
-                    retry: retry.0,
-                    expire: expire.0,
-                    minimum: minimum.0,
-                })
-            }
-            Err(refused) => Err(refused),
-        }
-    }
-
-    // The fields of the data, as they are written.
-    pub(crate) fn parts(&self) -> SoaFields<'_>
-        ensures { name result.0.now ∷ name result.1.0.now ∷ long result.1.1.0 ∷ long (cast_unsigned w32 result.1.1.1.0)
-            ∷ long (cast_unsigned w32 result.1.1.1.1.0) ∷ long (cast_unsigned w32 result.1.1.1.1.1.0) ∷ long result.1.1.1.1.1.1.0 ∷ []
-            ≡ soa_fields self.now }
-    {
-        let times = (
-            self.refresh,
-            (self.retry, (self.expire, (self.minimum, ()))),
-        );
-        (&self.mname, (&self.rname, (self.serial, times)))
-    }
 }
 
 impl BinDecodable for SOA {
@@ -166,9 +114,9 @@ impl FieldData for SOA {
 
     ghost fields = { soa_fields };
 
-    fn of_parts(parts: SoaParts) -> SOA {
+    fn of_parts(parts: SoaParts) -> Result<SOA, DecodeError> {
         let (mname, (rname, (serial, (refresh, (retry, (expire, (minimum, ()))))))) = parts;
-        SOA::new(mname, rname, serial, refresh, retry, expire, minimum)
+        Ok(SOA::new(mname, rname, serial, refresh, retry, expire, minimum))
     }
 
     fn fields(&self) -> Fields<'_> {
@@ -186,13 +134,35 @@ impl FieldData for SOA {
     ghost laws = { λ soa. refl };
 }
 
+impl TextData for SOA {
+    type Parts = Written;
+
+    ghost is_text = { IsSoaText };
+
+    ghost refuses = { RefusesSoaText };
+
+    fn of_words(parts: Written) -> SOA {
+        let (mname, (rname, (serial, (refresh, (retry, (expire, (minimum, ()))))))) = parts;
+        SOA::new(
+            mname, rname, serial, refresh.0, retry.0, expire.0, minimum.0,
+        )
+    }
+
+    ghost laws = { (λ words origin soa written. (_, written), λ words origin e refused. refused) };
+}
+
 impl BinEncodable for SOA {
     ghost emits = { λ soa. EmitsData StandardRecord (soa_fields soa) };
 
     ghost refuses = { λ soa old e new. RefusesFields (soa_fields soa) old e };
 
     fn emit(&self, encoder: &mut BinEncoder<'_>) -> Result<(), ProtoError> {
-        emit_three(encoder, RDataEncoding::StandardRecord, &self.parts())
+        let times = (
+            self.refresh,
+            (self.retry, (self.expire, (self.minimum, ()))),
+        );
+        let fields = (&self.mname, (&self.rname, (self.serial, times)));
+        emit_three(encoder, RDataEncoding::StandardRecord, &fields)
     }
 }
 
@@ -214,6 +184,16 @@ impl PartialEq for SOA {
 
 impl Eq for SOA {
     ghost laws = { data_equiv soa_fields };
+}
+
+impl Hash for SOA {
+    ghost hash_input = { λ soa. fields_input (soa_fields soa) };
+
+    ghost respects_eq = { λ a b. fields-alike (soa_fields a) (soa_fields b) };
+
+    fn hash<H: Hasher>(&self, state: &mut H) {
+        hash_list(self.fields().as_slice(), state);
+    }
 }
 
 impl fmt::Display for SOA {

@@ -1,26 +1,25 @@
 //! SRV (RFC 2782).
-ghost use Rattle.std.specs.Prelude.{◌≡◌, ◌∷◌, ◌⊎◌, [], ℕ, List, Some, IfOk, IfErr, map};
-ghost use Rattle.std.specs.Iterator.{Drains, IsFinite};
-ghost use Rattle.std.specs.Option.{option_copied};
+ghost use Rattle.std.specs.Prelude.{◌≡◌, ℕ, Some};
 ghost use Rattle.std.specs.Cmp.{partial_equiv_from_equiv};
-ghost use Rattle.drd_order.specs.dnw_encoder.declared.modes.RDataEncoding.TheVariants.{Canonical};
-ghost use Rattle.drd_order.specs.drd_fields.Fields.{short, name, FieldsAt};
-ghost use Rattle.drd_order.specs.drd_fields.Reading.{StopsReading};
-ghost use Rattle.drd_order.specs.drd_fields.Equality.{AreFull, Tells, fields_eq};
-ghost use Rattle.drd_order.proofs.drd_fields_lemmas.EqualityLaws.{data_equiv};
-ghost use Rattle.drd_order.specs.drd_fields.Writing.{EmitsData, RefusesFields, canonical_octets};
+ghost use Rattle.drd_fields.specs.dnw_encoder.declared.modes.RDataEncoding.TheVariants.{Canonical};
+ghost use Rattle.drd_fields.specs.Fields.{FieldsAt};
+ghost use Rattle.drd_fields.specs.Reading.{StopsReading};
+ghost use Rattle.drd_fields.specs.Equality.{AreFull, Tells, fields_eq};
+ghost use Rattle.drd_fields.proofs.EqualityLaws.{data_equiv};
+ghost use Rattle.drd_fields.specs.Order.{fields_input};
+ghost use Rattle.drd_fields.proofs.OrderLaws.{fields-alike};
+ghost use Rattle.drd_fields.specs.Writing.{EmitsData, RefusesFields, canonical_octets};
 ghost use Rattle.drd_names.specs.Fields.{srv_fields, srv_kinds};
-ghost use Rattle.drd_names.specs.Texts.{srv_print, IsSrvText};
-ghost use Rattle.drd_words.specs.Word.{IsOutOfMemory};
+ghost use Rattle.drd_names.specs.Texts.{srv_print, IsSrvText, RefusesSrvText};
 
-use drd_order::{
+use drd_fields::{
     BinDecodable, BinDecoder, BinEncodable, BinEncoder, FieldData, FieldRef, Fields, RDataEncoding,
-    emit_data, is_same_data, read_value,
+    emit_data, hash_list, is_same_data, read_value,
 };
-use drd_words::{DecodeError, Name, ParseError, ProtoError, read_tokens};
+use drd_words::{DecodeError, Name, ProtoError, TextData};
 use std::alloc::Global;
-use std::convert::AsStr;
 use std::fmt;
+use std::hash::{Hash, Hasher};
 
 /// Where a service is offered: a host and its port. Of several the lowest priority comes first; those of one priority
 /// share the load by their weights (RFC 2782).
@@ -46,40 +45,6 @@ impl SRV {
             target,
         }
     }
-
-    /// The data that words write: priority, weight, port and target, a name that the origin completes if it is
-    /// relative. Refused are words that are missing, too many or unfit (RFC 1035 5.1).
-    pub fn from_tokens<I: Iterator + Drop>(
-        alloc: Global,
-        tokens: I,
-        origin: Option<&Name>,
-    ) -> Result<SRV, ParseError>
-    where
-        I::Item: AsStr + Drop,
-        requires can { I.can_next tokens }
-        requires ends { IsFinite (I.remaining tokens) }
-        ensures ok { IfOk result (λ srv. (words : List I.Item) × Drains I.next_gives tokens words
-            × IsSrvText (map I.Item.text words) (option_copied origin.entry) srv) }
-        ensures refused { IfErr result (λ e. IsOutOfMemory e ⊎ ((words : List I.Item) × Drains I.next_gives tokens words
-            × ((srv : SRV) → IsSrvText (map I.Item.text words) (option_copied origin.entry) srv → ⊥))) }
-    {
-        match read_tokens::<(u16, (u16, (u16, (Name, ())))), I>(alloc, tokens, origin) {
-            Ok((priority, (weight, (port, (target, ()))))) => Ok(SRV::new(
-                priority, weight, port, target,
-            )),
-            Err(refused) => Err(refused),
-        }
-    }
-
-    // The fields of the data, as they are written.
-    pub(crate) fn parts(&self) -> (u16, (u16, (u16, (&Name, ()))))
-        ensures { short result.0 ∷ short result.1.0 ∷ short result.1.1.0 ∷ name result.1.1.1.0.now ∷ [] ≡ srv_fields self.now }
-    {
-        (
-            self.priority,
-            (self.weight, (self.port, (&self.target, ()))),
-        )
-    }
 }
 
 impl BinDecodable for SRV {
@@ -99,9 +64,9 @@ impl FieldData for SRV {
 
     ghost fields = { srv_fields };
 
-    fn of_parts(parts: (u16, (u16, (u16, (Name, ()))))) -> SRV {
+    fn of_parts(parts: (u16, (u16, (u16, (Name, ()))))) -> Result<SRV, DecodeError> {
         let (priority, (weight, (port, (target, ())))) = parts;
-        SRV::new(priority, weight, port, target)
+        Ok(SRV::new(priority, weight, port, target))
     }
 
     fn fields(&self) -> Fields<'_> {
@@ -116,13 +81,30 @@ impl FieldData for SRV {
     ghost laws = { λ srv. refl };
 }
 
+impl TextData for SRV {
+    type Parts = (u16, (u16, (u16, (Name, ()))));
+
+    ghost is_text = { IsSrvText };
+
+    ghost refuses = { RefusesSrvText };
+
+    fn of_words(parts: (u16, (u16, (u16, (Name, ()))))) -> SRV {
+        let (priority, (weight, (port, (target, ())))) = parts;
+        SRV::new(priority, weight, port, target)
+    }
+
+    ghost laws = { (λ words origin srv written. (_, written), λ words origin e refused. refused) };
+}
+
 impl BinEncodable for SRV {
     ghost emits = { λ srv. EmitsData Canonical (srv_fields srv) };
 
     ghost refuses = { λ srv old e new. RefusesFields (srv_fields srv) old e };
 
     fn emit(&self, encoder: &mut BinEncoder<'_>) -> Result<(), ProtoError> {
-        emit_data(encoder, RDataEncoding::Canonical, &self.parts())
+        let target = (&self.target, ());
+        let fields = (self.priority, (self.weight, (self.port, target)));
+        emit_data(encoder, RDataEncoding::Canonical, &fields)
     }
 }
 
@@ -144,6 +126,16 @@ impl PartialEq for SRV {
 
 impl Eq for SRV {
     ghost laws = { data_equiv srv_fields };
+}
+
+impl Hash for SRV {
+    ghost hash_input = { λ srv. fields_input (srv_fields srv) };
+
+    ghost respects_eq = { λ a b. fields-alike (srv_fields a) (srv_fields b) };
+
+    fn hash<H: Hasher>(&self, state: &mut H) {
+        hash_list(self.fields().as_slice(), state);
+    }
 }
 
 impl fmt::Display for SRV {

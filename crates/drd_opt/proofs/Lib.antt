@@ -5,4 +5,3 @@ pub mod ReadingLaws
 pub mod OrderLemmas
 pub mod WriteLemmas
 pub mod drd_fields_lemmas
-pub mod drd_order_lemmas

@@ -26,6 +26,7 @@ puts_data octets old new p within =
       stays = one.stays;
       size = one.size;
       exact = λ plain. subst (λ (o : List ℕ). WritesOctets o old new) (sym (append-nil octets)) p;
+      candidates = one.candidates;
       within = within;
     }
 

@@ -8,4 +8,3 @@ pub mod Reading
 pub mod SortedLaws
 pub use Rattle.drd_option.specs.drd_fields
 pub mod drd_option
-pub mod drd_order

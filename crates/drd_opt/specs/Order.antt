@@ -6,7 +6,7 @@ use Rattle.std.specs.List.{count_by}
 use Rattle.std.specs.Ordering.{on, then_cmp, nat_cmp, is_gt, is_lt}
 use Rattle.std.specs.declared.cmp.Ordering.{Ordering}
 use Rattle.drd_option.specs.Options.{counted_cmp}
-use Rattle.drd_order.specs.Order.{octets_cmp}
+use Rattle.drd_option.specs.drd_fields.Order.{octets_cmp}
 use Rattle.drd_opt.specs.Entries.{Entry, RawOption, raw_of, raw_octets, options_octets}
 use Rattle.drd_opt.specs.Equality.{same_raw}
 

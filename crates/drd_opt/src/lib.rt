@@ -1,10 +1,11 @@
 //! Record data of type OPT: options of EDNS (RFC 6891 6.1.2).
 //!
-//! Data are equal where they have the same options, in whatever order. `OPT::cmp` is a total order that says `Equal` there
-//! alone; of data that were read it is the order of their canonical octets, those of the options in order (RFC 4034 6.3).
+//! Data are equal where they have the same options, in whatever order. `OPT::cmp_data` is a total order that says `Equal`
+//! there alone; of data that were read it is the order of their canonical octets, those of the options in order (RFC 4034
+//! 6.3).
 #![tactic(auto)]
 
-pub use drd_option::RecordDataDecodable;
+pub use drd_option::{FieldData, Fields, RecordDataDecodable, cmp_list, hash_list};
 
 mod back;
 mod entry;

@@ -1,11 +1,10 @@
 //! OPT (RFC 6891 6.1).
 ghost use Rattle.std.specs.Prelude.{◌≡◌, ◌↔◌, ◌≤◌, ◌⊎◌, ◌∷◌, ◌++◌, [], ℕ, List, Some, length, map, find, slice_get, option_map, All, IfOk, OnOk, OnErr, IsTrue, IsPermutation};
 ghost use Rattle.std.specs.Borrow.{sem};
-ghost use Rattle.std.specs.Cmp.{partial_equiv_from_equiv, po};
-ghost use Rattle.std.proofs.Common.{refl};
-ghost use Rattle.std.specs.Ordering.{as_partial_cmp};
+ghost use Rattle.std.specs.Cmp.{partial_equiv_from_equiv};
 ghost use Rattle.drd_option.specs.dnw_encoder.declared.modes.RDataEncoding.TheVariants.{Other};
 ghost use Rattle.drd_option.specs.drd_fields.Fields.{rest};
+ghost use Rattle.drd_option.specs.drd_fields.Order.{octets_cmp};
 ghost use Rattle.drd_option.specs.drd_fields.Writing.{EmitsData, RefusesFields};
 ghost use Rattle.drd_option.specs.Codes.{edns_code_of};
 ghost use Rattle.drd_option.specs.Options.{option_code, option_octets};
@@ -14,8 +13,6 @@ ghost use Rattle.drd_opt.specs.Equality.{same_entries, entries_input};
 ghost use Rattle.drd_opt.specs.EqualityLaws.{entries_equiv, entries_fed};
 ghost use Rattle.drd_opt.specs.Lending.{LendsOptions};
 ghost use Rattle.drd_opt.specs.Order.{entries_cmp, canonical_entries};
-ghost use Rattle.drd_opt.specs.OrderLaws.{entries_total, entries_tie};
-ghost use Rattle.drd_order.specs.Order.{octets_cmp};
 ghost use Rattle.drd_opt.specs.Reading.{EntriesAt, HoldsEntries, RefusesEntries};
 
 use crate::entry::{emit_entry, fmt_entry};
@@ -106,6 +103,21 @@ impl OPT {
     {
         self.options.retain(|entry| entry.0 != code);
     }
+
+    /// The order of the options as they stand when they are put in order, by code, by the number of octets, then by these. Of
+    /// options that 16 bits can count, as all are that were read, it is the order of the canonical octets (RFC 4034 6.3). No
+    /// memory is taken; the time grows with the square of the number of options, except where both have the same in the same
+    /// order.
+    pub fn cmp_data(&self, other: &OPT) -> Ordering
+        ensures value { result ≡ entries_cmp self.now.options.items other.now.options.items }
+        ensures canonical { All FitsLengths (map raw_of self.now.options.items) → All FitsLengths (map raw_of other.now.options.items)
+            → result ≡ octets_cmp (canonical_entries self.now.options.items) (canonical_entries other.now.options.items) }
+        ensures read { (octets other_octets : List ℕ)
+            → HoldsEntries octets self.now.options.items → HoldsEntries other_octets other.now.options.items
+            → result ≡ octets_cmp (canonical_entries self.now.options.items) (canonical_entries other.now.options.items) }
+    {
+        cmp_entries(&self.options, &other.options)
+    }
 }
 
 impl RecordDataDecodable for OPT {
@@ -162,41 +174,6 @@ impl PartialEq for OPT {
 
 impl Eq for OPT {
     ghost laws = { entries_equiv };
-}
-
-impl Ord for OPT {
-    ghost cmp = { λ a b. entries_cmp a.options.items b.options.items };
-
-    ghost total = { entries_total };
-
-    ghost matches_partial_cmp = { λ a b. refl };
-
-    ghost matches_eq = { entries_tie };
-
-    /// The order of the options as they stand when they are put in order, by code, by the number of octets, then by these. Of
-    /// options that 16 bits can count, as all are that were read, it is the order of the canonical octets (RFC 4034 6.3). No
-    /// memory is taken; the time grows with the square of the number of options, except where both have the same in the same
-    /// order.
-    fn cmp(&self, other: &OPT) -> Ordering
-        ensures value { result ≡ entries_cmp self.now.options.items other.now.options.items }
-        ensures canonical { All FitsLengths (map raw_of self.now.options.items) → All FitsLengths (map raw_of other.now.options.items)
-            → result ≡ octets_cmp (canonical_entries self.now.options.items) (canonical_entries other.now.options.items) }
-        ensures read { (octets other_octets : List ℕ)
-            → HoldsEntries octets self.now.options.items → HoldsEntries other_octets other.now.options.items
-            → result ≡ octets_cmp (canonical_entries self.now.options.items) (canonical_entries other.now.options.items) }
-    {
-        cmp_entries(&self.options, &other.options)
-    }
-}
-
-impl PartialOrd for OPT {
-    ghost partial_cmp = { as_partial_cmp (λ a b. entries_cmp a.options.items b.options.items) };
-
-    ghost laws = { po entries_total entries_tie };
-
-    fn partial_cmp(&self, other: &OPT) -> Option<Ordering> {
-        Some(self.cmp(other))
-    }
 }
 
 impl Hash for OPT {

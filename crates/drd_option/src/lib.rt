@@ -2,10 +2,11 @@
 #![tactic(auto)]
 
 pub use drd_fields::{
-    BinDecodable, BinDecoder, BinEncodable, BinEncoder, DecodeError, EncodedSize, NameEncoding,
-    ProtoError, RecordDataDecodable, Restrict,
+    BinDecodable, BinDecoder, BinEncodable, BinEncoder, DecodeError, EncodedSize, FieldData,
+    FieldRef, Fields, NameEncoding, ProtoError, RecordDataDecodable, Restrict, are_readable,
+    cmp_list, hash_list,
 };
-pub use drd_words::{HEX, Label, LowerName, Name, RrKey};
+pub use drd_words::{HEX, Label, LowerName, Name, RrKey, TextData};
 
 mod code;
 mod nsid;

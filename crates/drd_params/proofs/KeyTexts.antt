@@ -1,6 +1,6 @@
 -- Keys that stand in texts.
 use Rattle.std.proofs.Common.{◌≡◌, ℕ, ◌<◌, ◌==◌, ◌&&◌, Bool, true, false, List, [], ◌∷◌, nat_lt, length, drop, nat_eq, nat_le, cond, refl, sym, ap, subst, ◌∙◌, arith}
-use Rattle.std.specs.Prelude.{Option, Some, None, Ok, codes, find, unwrap_or}
+use Rattle.std.specs.Prelude.{Option, Some, None, Ok, Err, codes, find, unwrap_or}
 use Rattle.std.specs.List.{starts_with}
 use Rattle.std.specs.Option.{option_or, option_map, ok_or}
 use Rattle.std.specs.Str.{all_ascii_digits, bytes_eq}
@@ -15,6 +15,10 @@ use Rattle.drd_params.specs.declared.key.SvcParamKey.TheVariants.{Mandatory, Alp
 pub key-found : {X E : Type 0} (o : Option X) (k : X) (e : E) → Ok k ≡ ok_or o e → o ≡ Some k
 key-found None k e is = absurd (cc is)
 key-found (Some x) k e is = cc is
+
+pub key-none : {X E : Type 0} (o : Option X) (e f : E) → Err e ≡ ok_or o f → (e ≡ f) × ((x : X) → o ≡ Some x → ⊥)
+key-none None e f is = (cc is, λ x found. cc found)
+key-none (Some x) e f is = absurd (cc is)
 
 abbrev AreKeys : List SvcParamKey → Type 0
 AreKeys [] = Unit {0}

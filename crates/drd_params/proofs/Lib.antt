@@ -15,4 +15,3 @@ pub use Rattle.drd_plain.proofs.drd_words_lemmas
 pub use Rattle.drd_plain.proofs.dnw_decoder_lemmas
 pub use Rattle.drd_plain.proofs.dnw_label_lemmas
 pub use Rattle.drd_plain.proofs.drd_fields_lemmas
-pub use Rattle.drd_plain.proofs.drd_order_lemmas

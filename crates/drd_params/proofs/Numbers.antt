@@ -71,23 +71,22 @@ number_behind : (message : List ℕ) (place : ℕ) (f : Field) (k : Kind) (behin
 number_behind message place f k behind are same there =
     field_behind message place f behind (subst (λ (x : Kind). AreNumbers (x ∷ [])) (sym same) are) there ∙ ap (λ (x : Kind). place + kind_size x) same
 
-later_cut : (message : List ℕ) (place behind first later : ℕ) (e : DecodeError) → behind ≡ place + first → IsWantOfMemory e ⊎ IsCut later message behind e → IsWantOfMemory e ⊎ IsCut (first + later) message place e
-later_cut message place behind first later e is (inl m) = inl m
-later_cut message place behind first later e is (inr cut) = inr (cut.0, omega (arith, is, cut.1))
+later_cut : (message : List ℕ) (place behind first later : ℕ) (e : DecodeError) → behind ≡ place + first → IsCut later message behind e → IsCut (first + later) message place e
+later_cut message place behind first later e is cut = (cut.0, omega (arith, is, cut.1))
 
 -- Where a number can't be read, the octets end before the last one would.
-pub numbers_cause : (message : List ℕ) (end : ℕ) (ks : List Kind) (place : ℕ) (e : DecodeError) (at : ℕ) → AreNumbers ks → StopsReading message end ks place e at → IsWantOfMemory e ⊎ IsCut (kinds_size ks) message place e
+numbers_cause : (message : List ℕ) (end : ℕ) (ks : List Kind) (place : ℕ) (e : DecodeError) (at : ℕ) → AreNumbers ks → StopsReading message end ks place e at → IsCut (kinds_size ks) message place e
 numbers_cause message end [] place e at are s = absurd s
-numbers_cause message end (an_octet ∷ ks) place e at are (inl (inl m, here)) = inl m
-numbers_cause message end (an_octet ∷ ks) place e at are (inl (inr cut, here)) = inr (cut.0, omega (arith, cut.1))
+numbers_cause message end (an_octet ∷ ks) place e at are (inl (inl m, here)) = absurd (cc m.1)
+numbers_cause message end (an_octet ∷ ks) place e at are (inl (inr cut, here)) = (cut.0, omega (arith, cut.1))
 numbers_cause message end (an_octet ∷ ks) place e at are (inr (f, behind, same, there, later)) =
     later_cut message place behind 1 (kinds_size ks) e (number_behind message place f an_octet behind tt same there) (numbers_cause message end ks behind e at are later)
-numbers_cause message end (a_short ∷ ks) place e at are (inl (inl m, here)) = inl m
-numbers_cause message end (a_short ∷ ks) place e at are (inl (inr cut, here)) = inr (cut.0, omega (arith, cut.1))
+numbers_cause message end (a_short ∷ ks) place e at are (inl (inl m, here)) = absurd (cc m.1)
+numbers_cause message end (a_short ∷ ks) place e at are (inl (inr cut, here)) = (cut.0, omega (arith, cut.1))
 numbers_cause message end (a_short ∷ ks) place e at are (inr (f, behind, same, there, later)) =
     later_cut message place behind 2 (kinds_size ks) e (number_behind message place f a_short behind tt same there) (numbers_cause message end ks behind e at are later)
-numbers_cause message end (a_long ∷ ks) place e at are (inl (inl m, here)) = inl m
-numbers_cause message end (a_long ∷ ks) place e at are (inl (inr cut, here)) = inr (cut.0, omega (arith, cut.1))
+numbers_cause message end (a_long ∷ ks) place e at are (inl (inl m, here)) = absurd (cc m.1)
+numbers_cause message end (a_long ∷ ks) place e at are (inl (inr cut, here)) = (cut.0, omega (arith, cut.1))
 numbers_cause message end (a_long ∷ ks) place e at are (inr (f, behind, same, there, later)) =
     later_cut message place behind 4 (kinds_size ks) e (number_behind message place f a_long behind tt same there) (numbers_cause message end ks behind e at are later)
 numbers_cause message end (a_name ∷ ks) place e at are s = absurd are
@@ -105,13 +104,11 @@ stands_first octets front behind is = record {
 pub numbers-refused : {X : Type 0} (fields : X → List Field) (kinds : List Kind) (message : List ℕ) (place : ℕ) (octets : List ℕ) (e : DecodeError) → ((x : X) → AreNumbers (kinds_of (fields x))) → AreNumbers kinds → message ≡ octets → place ≡ 0 → ((end at : ℕ) × StopsReading message end kinds place e at) → IsWantOfMemory e ⊎ ((x : X) (end : ℕ) → FieldsAt message place (fields x) end → ⊥) → IsWantOfMemory e ⊎ (IsShortOf (kinds_size kinds) octets e × ((x : X) (behind : List ℕ) → octets ≡ fields_octets (fields x) ++ behind → ⊥))
 numbers-refused fields kinds message place octets e are kind_are same start stops (inl m) = inl m
 numbers-refused fields kinds message place octets e are kind_are same start stops (inr none) =
-    elim (numbers_cause message stops.0 kinds place e stops.1 kind_are stops.2) [
-      | inl m ↦ inl m
-      | inr cut ↦ inr (
-        (cut.0, omega (arith, cut.1, ap length same, start)),
-        λ x behind is.
-            let front = fields_octets (fields x) in
-            let here : FieldsAt octets 0 (fields x) (length front) = stand_numbers octets 0 (fields x) (length front) (are x) (stands_first octets front behind is) in
-            none x (length front) (subst (λ (m : List ℕ). FieldsAt m place (fields x) (length front)) (sym same) (subst (λ (p : ℕ). FieldsAt octets p (fields x) (length front)) (sym start) here)),
-      )
-    ]
+    let cut = numbers_cause message stops.0 kinds place e stops.1 kind_are stops.2 in
+    inr (
+      (cut.0, omega (arith, cut.1, ap length same, start)),
+      λ x behind is.
+          let front = fields_octets (fields x) in
+          let here : FieldsAt octets 0 (fields x) (length front) = stand_numbers octets 0 (fields x) (length front) (are x) (stands_first octets front behind is) in
+          none x (length front) (subst (λ (m : List ℕ). FieldsAt m place (fields x) (length front)) (sym same) (subst (λ (p : ℕ). FieldsAt octets p (fields x) (length front)) (sym start) here)),
+    )

@@ -7,6 +7,7 @@ pub mod Params
 pub mod Writing
 pub mod Hashing
 pub mod Texts
+pub mod TextsLaws
 pub mod Print
 pub mod Equality
 pub use Rattle.drd_plain.specs.dnw_codes
@@ -15,6 +16,5 @@ pub use Rattle.drd_plain.specs.dnw_encoder
 pub use Rattle.drd_plain.specs.dnw_label
 pub use Rattle.drd_plain.specs.dnw_name
 pub use Rattle.drd_plain.specs.drd_fields
-pub use Rattle.drd_plain.specs.drd_order
 pub mod drd_plain
 pub use Rattle.drd_plain.specs.drd_words

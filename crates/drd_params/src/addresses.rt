@@ -1,6 +1,7 @@
 //! Addresses in lists.
 ghost use Rattle.std.specs.Prelude.{◌≡◌, ◌++◌, ◌⊎◌, List, length, IfOk, IfErr};
 ghost use Rattle.drd_plain.specs.Print.{a_print, aaaa_print};
+ghost use Rattle.drd_plain.specs.drd_words.Refusals.{RefusesIpv4, RefusesIpv6};
 ghost use Rattle.drd_params.specs.Hashing.{one_write};
 ghost use Rattle.drd_params.specs.Refusals.{IsShortOf};
 ghost use Rattle.drd_params.specs.Texts.{IsAEntry, IsAaaaEntry};
@@ -9,7 +10,7 @@ ghost use Rattle.drd_params.specs.Values.{a_octets, aaaa_octets};
 use crate::entry::Entry;
 use crate::write::append;
 use drd_plain::{
-    A, AAAA, BinDecodable, BinDecoder, BinEncoder, DecodeError, OrderField, ParseError, ProtoError,
+    A, AAAA, BinDecodable, BinDecoder, BinEncoder, DecodeError, FieldRef, ParseError, ProtoError,
 };
 use std::alloc::Global;
 use std::cmp::Ordering;
@@ -18,6 +19,7 @@ use std::hash::Hasher;
 
 impl Entry for A {
     ghost use Rattle.drd_params.specs.EntryLaws.{a_laws, a_told};
+    ghost use Rattle.drd_params.specs.TextsLaws.{a_causes};
 
     ghost spelled = { a_octets };
 
@@ -33,9 +35,13 @@ impl Entry for A {
 
     ghost written = { IsAEntry };
 
+    ghost unwritten = { RefusesIpv4 };
+
     ghost laws = { a_laws };
 
     ghost told = { a_told };
+
+    ghost causes = { a_causes };
 
     fn split(alloc: Global, octets: &[u8]) -> Result<(A, &[u8]), DecodeError> {
         let mut decoder = BinDecoder::new(octets);
@@ -83,7 +89,7 @@ impl Entry for A {
 
     #[tactic(auto, using(crate::specs::EntryLaws::a_fronts))]
     fn order(&self, other: &A) -> Ordering {
-        self.0.to_bits().cmp_field(&other.0.to_bits())
+        FieldRef::U32(self.0.to_bits()).cmp_field(FieldRef::U32(other.0.to_bits()))
     }
 
     #[tactic(auto, using(crate::proofs::NumberOctets::octets_of_32))]
@@ -94,6 +100,7 @@ impl Entry for A {
 
 impl Entry for AAAA {
     ghost use Rattle.drd_params.specs.EntryLaws.{aaaa_laws, aaaa_told};
+    ghost use Rattle.drd_params.specs.TextsLaws.{aaaa_causes};
 
     ghost spelled = { aaaa_octets };
 
@@ -109,9 +116,13 @@ impl Entry for AAAA {
 
     ghost written = { IsAaaaEntry };
 
+    ghost unwritten = { RefusesIpv6 };
+
     ghost laws = { aaaa_laws };
 
     ghost told = { aaaa_told };
+
+    ghost causes = { aaaa_causes };
 
     fn split(alloc: Global, octets: &[u8]) -> Result<(AAAA, &[u8]), DecodeError> {
         let mut decoder = BinDecoder::new(octets);

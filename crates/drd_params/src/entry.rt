@@ -8,12 +8,12 @@ ghost use Rattle.drd_plain.specs.drd_fields.Writing.{IsTooLong, string_octets};
 ghost use Rattle.drd_params.specs.Keys.{key_number, key_text, IsKey};
 ghost use Rattle.drd_params.specs.Hashing.{one_write, string_write};
 ghost use Rattle.drd_params.specs.Refusals.{IsShortOf, RefusesNext, RefusesText};
-ghost use Rattle.drd_params.specs.Texts.{IsKeyText, IsProtocolText};
+ghost use Rattle.drd_params.specs.Texts.{IsKeyText, IsProtocolText, RefusesKeyText, RefusesProtocolText};
 ghost use Rattle.drd_params.specs.Values.{IsShortText};
 
 use crate::key::SvcParamKey;
 use crate::write::{append, append_short};
-use drd_plain::{BinEncoder, DecodeError, OrderField, ParseError, ProtoError, StringField};
+use drd_plain::{BinEncoder, DecodeError, FieldRef, ParseError, ProtoError};
 use std::alloc::Global;
 use std::cmp::Ordering;
 use std::fmt;
@@ -25,13 +25,15 @@ pub trait Entry: Sized + Drop {
     ghost use Rattle.std.specs.Fmt.{WritesOnOk};
     ghost use Rattle.drd_plain.specs.dnw_codes.ProtoError.{IsMemory};
     ghost use Rattle.drd_plain.specs.dnw_codes.declared.error.DecodeError.{DecodeError as Error};
+    ghost use Rattle.drd_plain.specs.dnw_codes.declared.error.ParseError.{ParseError as TextError};
     ghost use Rattle.drd_plain.specs.dnw_codes.declared.error.ProtoError.{ProtoError as WriteError};
     ghost use Rattle.drd_plain.specs.dnw_decoder.Reading.{IsWantOfMemory};
     ghost use Rattle.drd_plain.specs.dnw_encoder.Encoders.{state};
     ghost use Rattle.drd_plain.specs.dnw_encoder.Effects.{IsRefusal, WritesOctets, Writes};
     ghost use Rattle.drd_plain.specs.drd_fields.Equality.{TellsApart};
+    ghost use Rattle.drd_plain.specs.drd_words.Refusals.{AreCauses};
     ghost use Rattle.drd_plain.specs.drd_words.Word.{IsOutOfMemory};
-    ghost use Rattle.drd_plain.specs.drd_order.Order.{OrdersFronts};
+    ghost use Rattle.drd_plain.specs.drd_fields.Order.{OrdersFronts};
     ghost use Rattle.std.specs.Hash.{HashWrites};
     ghost use Rattle.std.specs.List.{fold};
 
@@ -56,12 +58,18 @@ pub trait Entry: Sized + Drop {
     // The texts that stand for an entry.
     ghost written: { Self → List ℕ → Type 0 };
 
+    // Why a text stands for none.
+    ghost unwritten: { List ℕ → TextError → Type 0 };
+
     // An entry takes at least one octet, and ends where every other one would that begins there.
     ghost laws: { ((entry : Self) → 0 < length (spelled entry))
         × ((a b : Self) (xs ys : List ℕ) → spelled a ++ xs ≡ spelled b ++ ys → xs ≡ ys) };
 
     // A text tells how many octets an entry takes.
     ghost told: { (a b : Self) (text : List ℕ) → written a text → written b text → length (spelled a) ≡ length (spelled b) };
+
+    // A text is refused only where it stands for no entry, and never for want of memory.
+    ghost causes: { (text : List ℕ) → AreCauses (λ (entry : Self). written entry text) (unwritten text) };
 
     /// The entry that octets begin with, and those behind it.
     fn split(alloc: Global, octets: &[u8]) -> Result<(Self, &[u8]), DecodeError>
@@ -89,7 +97,8 @@ pub trait Entry: Sized + Drop {
     /// The entry that a text stands for.
     fn from_text(alloc: Global, text: &str) -> Result<Self, ParseError>
         ensures ok { IfOk result (λ entry. written entry text.now) }
-        ensures refused { IfErr result (λ e. IsOutOfMemory e ⊎ ((entry : Self) → written entry text.now → ⊥)) };
+        ensures refused { IfErr result (λ e. IsOutOfMemory e ⊎ ((entry : Self) → written entry text.now → ⊥)) }
+        ensures cause { IfErr result (λ e. IsOutOfMemory e ⊎ unwritten text.now e) };
 
     /// Writes the entry's text.
     fn show<W: fmt::Write>(&self, f: &mut fmt::Formatter<W>) -> fmt::Result
@@ -110,6 +119,7 @@ pub trait Entry: Sized + Drop {
 
 impl Entry for SvcParamKey {
     ghost use Rattle.drd_params.specs.EntryLaws.{key_laws, key_told};
+    ghost use Rattle.drd_params.specs.TextsLaws.{key_causes};
 
     ghost spelled = { λ key. octets_16 (key_number key) };
 
@@ -125,9 +135,13 @@ impl Entry for SvcParamKey {
 
     ghost written = { IsKeyText };
 
+    ghost unwritten = { RefusesKeyText };
+
     ghost laws = { key_laws };
 
     ghost told = { key_told };
+
+    ghost causes = { key_causes };
 
     fn split(_alloc: Global, octets: &[u8]) -> Result<(SvcParamKey, &[u8]), DecodeError> {
         let Some((high, behind)) = octets.split_first() else {
@@ -171,7 +185,7 @@ impl Entry for SvcParamKey {
     }
 
     fn order(&self, other: &SvcParamKey) -> Ordering {
-        u16::from(*self).cmp_field(&u16::from(*other))
+        FieldRef::U16(u16::from(*self)).cmp_field(FieldRef::U16(u16::from(*other)))
     }
 
     fn feed<H: Hasher>(&self, state: &mut H) {
@@ -181,6 +195,7 @@ impl Entry for SvcParamKey {
 
 impl Entry for String {
     ghost use Rattle.drd_params.specs.EntryLaws.{string_laws, string_told};
+    ghost use Rattle.drd_params.specs.TextsLaws.{protocol_causes};
 
     ghost spelled = { λ text. string_octets (string_bytes text) };
 
@@ -196,9 +211,13 @@ impl Entry for String {
 
     ghost written = { IsProtocolText };
 
+    ghost unwritten = { RefusesProtocolText };
+
     ghost laws = { string_laws };
 
     ghost told = { string_told };
+
+    ghost causes = { protocol_causes };
 
     fn split(alloc: Global, octets: &[u8]) -> Result<(String, &[u8]), DecodeError> {
         let Some((len, behind)) = octets.split_first() else {
@@ -264,11 +283,11 @@ impl Entry for String {
     }
 
     fn order(&self, other: &String) -> Ordering {
-        StringField(self.as_bytes()).cmp_field(&StringField(other.as_bytes()))
+        FieldRef::String(self.as_bytes()).cmp_field(FieldRef::String(other.as_bytes()))
     }
 
     fn feed<H: Hasher>(&self, state: &mut H) {
-        StringField(self.as_bytes()).hash_field(state);
+        FieldRef::String(self.as_bytes()).hash_field(state);
     }
 }
 

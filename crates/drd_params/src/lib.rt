@@ -2,10 +2,9 @@
 #![tactic(auto)]
 
 pub use drd_plain::{
-    A, AAAA, BinDecoder, BinEncodable, BinEncoder, DataField, DecodeError, HINFO, NAPTR, Name,
-    OrderField, ParseError, ProtoError, RDataEncoding, RecordDataDecodable, Rest, RestField,
-    Restrict, StringField, TXT, Words, emit_three, key_of, octet_at, read_data_within, read_tokens,
-    verify_flags, words_of_text,
+    A, AAAA, BinDecoder, BinEncodable, BinEncoder, DecodeError, FieldRef, HINFO, NAPTR, Name,
+    ParseError, ProtoError, RDataEncoding, RecordDataDecodable, Rest, RestField, Restrict, TXT,
+    TextData, Word, Words, emit_three, key_of, octet_at, read_window, verify_flags, words_of_text,
 };
 
 mod addresses;

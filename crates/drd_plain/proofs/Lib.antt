@@ -1,9 +1,8 @@
 pub mod Addresses
-pub mod Texts
+pub mod Reading
 pub use Rattle.drd_words.proofs.dnw_name_lemmas
 pub mod drd_words_lemmas
-pub use Rattle.drd_order.proofs.dnw_decoder_lemmas
-pub use Rattle.drd_order.proofs.dnw_encoder_lemmas
+pub use Rattle.drd_fields.proofs.dnw_decoder_lemmas
+pub use Rattle.drd_fields.proofs.dnw_encoder_lemmas
 pub use Rattle.drd_words.proofs.dnw_label_lemmas
-pub use Rattle.drd_order.proofs.drd_fields_lemmas
-pub mod drd_order_lemmas
+pub mod drd_fields_lemmas

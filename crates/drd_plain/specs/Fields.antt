@@ -3,7 +3,7 @@ use Rattle.std.specs.Prelude.{ℕ, Bool, List, [], ◌∷◌, get_or, map}
 use Rattle.std.specs.Char.{is_ascii_alphanumeric}
 use Rattle.std.specs.List.{list_all}
 use Rattle.std.specs.Net.Addr.{ipv4_bits, ipv6_segments}
-use Rattle.drd_order.specs.drd_fields.Fields.{Field, short, long, name, string, strings, Kind, a_short, a_long, a_name, a_string, all_strings}
+use Rattle.drd_fields.specs.Fields.{Field, short, long, name, string, strings, Kind, a_short, a_long, a_name, a_string, all_strings}
 use Rattle.drd_plain.specs.declared.a.A.{A}
 use Rattle.drd_plain.specs.declared.aaaa.AAAA.{AAAA}
 use Rattle.drd_plain.specs.declared.hinfo.HINFO.{HINFO}

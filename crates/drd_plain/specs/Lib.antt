@@ -2,11 +2,11 @@ pub mod Fields
 pub mod Print
 pub mod Reading
 pub mod Words
+pub mod WordsLaws
 pub use Rattle.drd_words.specs.dnw_codes
-pub use Rattle.drd_order.specs.dnw_decoder
-pub use Rattle.drd_order.specs.dnw_encoder
+pub use Rattle.drd_fields.specs.dnw_decoder
+pub use Rattle.drd_fields.specs.dnw_encoder
 pub use Rattle.drd_words.specs.dnw_label
 pub use Rattle.drd_words.specs.dnw_name
-pub use Rattle.drd_order.specs.drd_fields
-pub mod drd_order
+pub mod drd_fields
 pub mod drd_words

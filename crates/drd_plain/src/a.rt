@@ -1,28 +1,28 @@
 //! A (RFC 1035 3.4.1).
-ghost use Rattle.std.specs.Prelude.{◌≡◌, ◌∷◌, [], ℕ, List, ◌⊎◌, Some, Ok, Err, Result, IfOk, IfErr, map};
-ghost use Rattle.std.specs.Net.Addr.{ipv4_octets, ipv4_bits};
+ghost use Rattle.std.specs.Prelude.{◌≡◌, ◌∷◌, [], ℕ, Some};
+ghost use Rattle.std.specs.Net.Addr.{ipv4_octets};
 ghost use Rattle.std.specs.Net.Grammar.{Parses, IsIpv4Text};
 ghost use Rattle.std.specs.Cmp.{partial_equiv_from_equiv};
-ghost use Rattle.drd_order.specs.dnw_encoder.declared.modes.RDataEncoding.TheVariants.{Other};
-ghost use Rattle.drd_order.specs.drd_fields.Fields.{long, FieldsAt};
-ghost use Rattle.drd_order.specs.drd_fields.Reading.{RefusesWindow, StopsReading};
-ghost use Rattle.drd_order.specs.drd_fields.Equality.{AreFull, Tells, fields_eq};
-ghost use Rattle.drd_order.proofs.drd_fields_lemmas.EqualityLaws.{data_equiv};
-ghost use Rattle.drd_order.specs.drd_fields.Writing.{EmitsData, RefusesFields, canonical_octets};
+ghost use Rattle.drd_fields.specs.dnw_encoder.declared.modes.RDataEncoding.TheVariants.{Other};
+ghost use Rattle.drd_fields.specs.Fields.{long, FieldsAt};
+ghost use Rattle.drd_fields.specs.Reading.{StopsReading};
+ghost use Rattle.drd_fields.specs.Equality.{AreFull, Tells, fields_eq};
+ghost use Rattle.drd_fields.specs.Order.{fields_input};
+ghost use Rattle.drd_fields.proofs.EqualityLaws.{data_equiv};
+ghost use Rattle.drd_fields.proofs.OrderLaws.{fields-alike};
+ghost use Rattle.drd_fields.specs.Writing.{EmitsData, RefusesFields, canonical_octets};
 ghost use Rattle.drd_plain.specs.Fields.{a_fields, a_kinds};
-ghost use Rattle.std.specs.Iterator.{Drains, IsFinite};
-ghost use Rattle.drd_words.specs.Word.{IsOutOfMemory};
-ghost use Rattle.drd_plain.specs.Words.{IsAText};
+ghost use Rattle.drd_plain.specs.Words.{IsAText, RefusesAText};
 ghost use Rattle.drd_plain.specs.Print.{a_print};
 
-use drd_order::{
-    BinDecodable, BinDecoder, BinEncodable, BinEncoder, DataFields, RDataEncoding,
-    RecordDataDecodable, emit_data, read_data, read_exactly,
+use drd_fields::{
+    BinDecodable, BinDecoder, BinEncodable, BinEncoder, FieldData, FieldRef, Fields, RDataEncoding,
+    emit_data, hash_list, is_same_data, read_value,
 };
-use drd_words::{DecodeError, Name, ParseError, ProtoError, Restrict, read_tokens};
+use drd_words::{DecodeError, ProtoError, TextData};
 use std::alloc::Global;
-use std::convert::AsStr;
 use std::fmt;
+use std::hash::{Hash, Hasher};
 use std::net::{AddrParseError, Ipv4Addr};
 use std::ops::Deref;
 use std::str::FromStr;
@@ -39,29 +39,8 @@ impl A {
         A(Ipv4Addr::new(a, b, c, d))
     }
 
-    /// The address that one word writes with dots between its octets (RFC 1035 5.1).
-    pub fn from_tokens<I: Iterator + Drop>(
-        alloc: Global,
-        tokens: I,
-        origin: Option<&Name>,
-    ) -> Result<A, ParseError>
-    where
-        I::Item: AsStr + Drop,
-        requires can { I.can_next tokens }
-        requires ends { IsFinite (I.remaining tokens) }
-        ensures ok { IfOk result (λ value. (words : List I.Item) × Drains I.next_gives tokens words
-            × IsAText (map I.Item.text words) value) }
-        ensures refused { IfErr result (λ e. IsOutOfMemory e ⊎ ((words : List I.Item) × Drains I.next_gives tokens words
-            × ((value : A) → IsAText (map I.Item.text words) value → ⊥))) }
-    {
-        match read_tokens::<(Ipv4Addr, ()), I>(alloc, tokens, origin) {
-            Ok((address, ())) => Ok(A(address)),
-            Err(refused) => Err(refused),
-        }
-    }
-
-    // The fields of the data.
-    pub(crate) fn fields(&self) -> (u32, ())
+    // The fields of the data, as they are written.
+    pub(crate) fn parts(&self) -> (u32, ())
         ensures { long result.0 ∷ [] ≡ a_fields self.now }
     {
         (self.0.to_bits(), ())
@@ -113,31 +92,45 @@ impl BinDecodable for A {
 
     ghost refuses = { λ message place e. (end at : ℕ) × StopsReading message end a_kinds place e at };
 
-    #[tactic(auto, using(crate::proofs::Addresses::bits_back))]
     fn read(alloc: Global, decoder: &mut BinDecoder<'_>) -> Result<A, DecodeError> {
-        match read_data::<(u32, ())>(alloc, decoder) {
-            Ok((bits, ())) => Ok(A(Ipv4Addr::from_bits(bits))),
-            Err(refused) => Err(refused),
-        }
+        read_value(alloc, decoder)
     }
 }
 
-impl RecordDataDecodable for A {
-    ghost reads = { λ message place a end. FieldsAt message place (a_fields a) end };
+impl FieldData for A {
+    ghost use Rattle.std.proofs.Common.{refl};
 
-    ghost refuses = { λ message place end e at. RefusesWindow message end a_kinds place e at };
+    type Parts = (u32, ());
+
+    ghost fields = { a_fields };
 
     #[tactic(auto, using(crate::proofs::Addresses::bits_back))]
-    fn read_data(
-        alloc: Global,
-        decoder: &mut BinDecoder<'_>,
-        length: Restrict<u16>,
-    ) -> Result<A, DecodeError> {
-        match read_exactly::<(u32, ())>(alloc, decoder, length.unverified()) {
-            Ok((address, ())) => Ok(A(Ipv4Addr::from_bits(address))),
-            Err(refused) => Err(refused),
-        }
+    fn of_parts(parts: (u32, ())) -> Result<A, DecodeError> {
+        let (bits, ()) = parts;
+        Ok(A(Ipv4Addr::from_bits(bits)))
     }
+
+    fn fields(&self) -> Fields<'_> {
+        Fields::new(&[FieldRef::U32(self.0.to_bits())])
+    }
+
+    ghost laws = { λ a. refl };
+}
+
+/// One word writes the address, with dots between its octets (RFC 1035 5.1).
+impl TextData for A {
+    type Parts = (Ipv4Addr, ());
+
+    ghost is_text = { λ words origin a. IsAText words a };
+
+    ghost refuses = { λ words origin. RefusesAText words };
+
+    fn of_words(parts: (Ipv4Addr, ())) -> A {
+        let (address, ()) = parts;
+        A(address)
+    }
+
+    ghost laws = { (λ words origin a written. ((a.0, tt), written), λ words origin e refused. refused) };
 }
 
 impl BinEncodable for A {
@@ -146,7 +139,7 @@ impl BinEncodable for A {
     ghost refuses = { λ a old e new. RefusesFields (a_fields a) old e };
 
     fn emit(&self, encoder: &mut BinEncoder<'_>) -> Result<(), ProtoError> {
-        emit_data(encoder, RDataEncoding::Other, &self.fields())
+        emit_data(encoder, RDataEncoding::Other, &self.parts())
     }
 }
 
@@ -161,12 +154,22 @@ impl PartialEq for A {
         ensures canonical { AreFull (a_fields self.now) → AreFull (a_fields other.now)
             → Tells result (canonical_octets (a_fields self.now)) (canonical_octets (a_fields other.now)) }
     {
-        self.fields().are_same(&other.fields())
+        is_same_data(self, other)
     }
 }
 
 impl Eq for A {
     ghost laws = { data_equiv a_fields };
+}
+
+impl Hash for A {
+    ghost hash_input = { λ a. fields_input (a_fields a) };
+
+    ghost respects_eq = { λ a b. fields-alike (a_fields a) (a_fields b) };
+
+    fn hash<H: Hasher>(&self, state: &mut H) {
+        hash_list(FieldData::fields(self).as_slice(), state);
+    }
 }
 
 impl fmt::Display for A {

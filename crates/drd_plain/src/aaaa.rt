@@ -1,28 +1,28 @@
 //! AAAA (RFC 3596 2.2).
-ghost use Rattle.std.specs.Prelude.{◌≡◌, ◌∷◌, [], ℕ, List, ◌⊎◌, Some, Ok, Err, Result, IfOk, IfErr, map};
+ghost use Rattle.std.specs.Prelude.{◌≡◌, ◌∷◌, [], ℕ, Some};
 ghost use Rattle.std.specs.Net.Addr.{ipv6_segments};
 ghost use Rattle.std.specs.Net.Grammar.{Parses, IsIpv6Text};
 ghost use Rattle.std.specs.Cmp.{partial_equiv_from_equiv};
-ghost use Rattle.drd_order.specs.dnw_encoder.declared.modes.RDataEncoding.TheVariants.{Other};
-ghost use Rattle.drd_order.specs.drd_fields.Fields.{short, FieldsAt};
-ghost use Rattle.drd_order.specs.drd_fields.Reading.{RefusesWindow, StopsReading};
-ghost use Rattle.drd_order.specs.drd_fields.Equality.{AreFull, Tells, fields_eq};
-ghost use Rattle.drd_order.proofs.drd_fields_lemmas.EqualityLaws.{data_equiv};
-ghost use Rattle.drd_order.specs.drd_fields.Writing.{EmitsData, RefusesFields, canonical_octets};
-ghost use Rattle.drd_plain.specs.Fields.{aaaa_fields, aaaa_kinds, group};
-ghost use Rattle.std.specs.Iterator.{Drains, IsFinite};
-ghost use Rattle.drd_words.specs.Word.{IsOutOfMemory};
-ghost use Rattle.drd_plain.specs.Words.{IsAaaaText};
+ghost use Rattle.drd_fields.specs.dnw_encoder.declared.modes.RDataEncoding.TheVariants.{Other};
+ghost use Rattle.drd_fields.specs.Fields.{short, FieldsAt};
+ghost use Rattle.drd_fields.specs.Reading.{StopsReading};
+ghost use Rattle.drd_fields.specs.Equality.{AreFull, Tells, fields_eq};
+ghost use Rattle.drd_fields.specs.Order.{fields_input};
+ghost use Rattle.drd_fields.proofs.EqualityLaws.{data_equiv};
+ghost use Rattle.drd_fields.proofs.OrderLaws.{fields-alike};
+ghost use Rattle.drd_fields.specs.Writing.{EmitsData, RefusesFields, canonical_octets};
+ghost use Rattle.drd_plain.specs.Fields.{aaaa_fields, aaaa_kinds};
+ghost use Rattle.drd_plain.specs.Words.{IsAaaaText, RefusesAaaaText};
 ghost use Rattle.drd_plain.specs.Print.{aaaa_print};
 
-use drd_order::{
-    BinDecodable, BinDecoder, BinEncodable, BinEncoder, DataFields, RDataEncoding,
-    RecordDataDecodable, emit_data, read_data, read_exactly,
+use drd_fields::{
+    BinDecodable, BinDecoder, BinEncodable, BinEncoder, FieldData, FieldRef, Fields, RDataEncoding,
+    emit_data, hash_list, is_same_data, read_value,
 };
-use drd_words::{DecodeError, Name, ParseError, ProtoError, Restrict, read_tokens};
+use drd_words::{DecodeError, ProtoError, TextData};
 use std::alloc::Global;
-use std::convert::AsStr;
 use std::fmt;
+use std::hash::{Hash, Hasher};
 use std::net::{AddrParseError, Ipv6Addr};
 use std::ops::Deref;
 use std::str::FromStr;
@@ -42,29 +42,8 @@ impl AAAA {
         AAAA(Ipv6Addr::new(a, b, c, d, e, f, g, h))
     }
 
-    /// The address that one word writes (RFC 4291 2.2).
-    pub fn from_tokens<I: Iterator + Drop>(
-        alloc: Global,
-        tokens: I,
-        origin: Option<&Name>,
-    ) -> Result<AAAA, ParseError>
-    where
-        I::Item: AsStr + Drop,
-        requires can { I.can_next tokens }
-        requires ends { IsFinite (I.remaining tokens) }
-        ensures ok { IfOk result (λ value. (words : List I.Item) × Drains I.next_gives tokens words
-            × IsAaaaText (map I.Item.text words) value) }
-        ensures refused { IfErr result (λ e. IsOutOfMemory e ⊎ ((words : List I.Item) × Drains I.next_gives tokens words
-            × ((value : AAAA) → IsAaaaText (map I.Item.text words) value → ⊥))) }
-    {
-        match read_tokens::<(Ipv6Addr, ()), I>(alloc, tokens, origin) {
-            Ok((address, ())) => Ok(AAAA(address)),
-            Err(refused) => Err(refused),
-        }
-    }
-
-    // The fields of the data.
-    pub(crate) fn fields(&self) -> Groups
+    // The fields of the data, as they are written.
+    pub(crate) fn parts(&self) -> Groups
         ensures { short result.0 ∷ short result.1.0 ∷ short result.1.1.0 ∷ short result.1.1.1.0 ∷ short result.1.1.1.1.0
             ∷ short result.1.1.1.1.1.0 ∷ short result.1.1.1.1.1.1.0 ∷ short result.1.1.1.1.1.1.1.0 ∷ [] ≡ aaaa_fields self.now }
     {
@@ -119,30 +98,53 @@ impl BinDecodable for AAAA {
     ghost refuses = { λ message place e. (end at : ℕ) × StopsReading message end aaaa_kinds place e at };
 
     fn read(alloc: Global, decoder: &mut BinDecoder<'_>) -> Result<AAAA, DecodeError> {
-        match read_data::<Groups>(alloc, decoder) {
-            Ok((a, (b, (c, (d, (e, (f, (g, (h, ()))))))))) => Ok(AAAA::new(a, b, c, d, e, f, g, h)),
-            Err(refused) => Err(refused),
-        }
+        read_value(alloc, decoder)
     }
 }
 
-impl RecordDataDecodable for AAAA {
-    ghost reads = { λ message place aaaa end. FieldsAt message place (aaaa_fields aaaa) end };
+impl FieldData for AAAA {
+    ghost use Rattle.std.proofs.Common.{refl};
 
-    ghost refuses = { λ message place end e at. RefusesWindow message end aaaa_kinds place e at };
+    type Parts = Groups;
 
-    fn read_data(
-        alloc: Global,
-        decoder: &mut BinDecoder<'_>,
-        length: Restrict<u16>,
-    ) -> Result<AAAA, DecodeError> {
-        match read_exactly::<Groups>(alloc, decoder, length.unverified()) {
-            Ok((a, (b, (c, (d, (e, (f, (g, (last, ()))))))))) => Ok(AAAA::new(
-                a, b, c, d, e, f, g, last,
-            )),
-            Err(refused) => Err(refused),
-        }
+    ghost fields = { aaaa_fields };
+
+    fn of_parts(parts: Groups) -> Result<AAAA, DecodeError> {
+        let (a, (b, (c, (d, (e, (f, (g, (h, ())))))))) = parts;
+        Ok(AAAA::new(a, b, c, d, e, f, g, h))
     }
+
+    fn fields(&self) -> Fields<'_> {
+        let [a, b, c, d, e, f, g, h] = self.0.segments();
+        Fields::new(&[
+            FieldRef::U16(a),
+            FieldRef::U16(b),
+            FieldRef::U16(c),
+            FieldRef::U16(d),
+            FieldRef::U16(e),
+            FieldRef::U16(f),
+            FieldRef::U16(g),
+            FieldRef::U16(h),
+        ])
+    }
+
+    ghost laws = { λ aaaa. refl };
+}
+
+/// One word writes the address, as RFC 4291 2.2 has it.
+impl TextData for AAAA {
+    type Parts = (Ipv6Addr, ());
+
+    ghost is_text = { λ words origin aaaa. IsAaaaText words aaaa };
+
+    ghost refuses = { λ words origin. RefusesAaaaText words };
+
+    fn of_words(parts: (Ipv6Addr, ())) -> AAAA {
+        let (address, ()) = parts;
+        AAAA(address)
+    }
+
+    ghost laws = { (λ words origin aaaa written. ((aaaa.0, tt), written), λ words origin e refused. refused) };
 }
 
 impl BinEncodable for AAAA {
@@ -151,7 +153,7 @@ impl BinEncodable for AAAA {
     ghost refuses = { λ aaaa old e new. RefusesFields (aaaa_fields aaaa) old e };
 
     fn emit(&self, encoder: &mut BinEncoder<'_>) -> Result<(), ProtoError> {
-        emit_data(encoder, RDataEncoding::Other, &self.fields())
+        emit_data(encoder, RDataEncoding::Other, &self.parts())
     }
 }
 
@@ -166,12 +168,22 @@ impl PartialEq for AAAA {
         ensures canonical { AreFull (aaaa_fields self.now) → AreFull (aaaa_fields other.now)
             → Tells result (canonical_octets (aaaa_fields self.now)) (canonical_octets (aaaa_fields other.now)) }
     {
-        self.fields().are_same(&other.fields())
+        is_same_data(self, other)
     }
 }
 
 impl Eq for AAAA {
     ghost laws = { data_equiv aaaa_fields };
+}
+
+impl Hash for AAAA {
+    ghost hash_input = { λ aaaa. fields_input (aaaa_fields aaaa) };
+
+    ghost respects_eq = { λ a b. fields-alike (aaaa_fields a) (aaaa_fields b) };
+
+    fn hash<H: Hasher>(&self, state: &mut H) {
+        hash_list(FieldData::fields(self).as_slice(), state);
+    }
 }
 
 impl fmt::Display for AAAA {

@@ -1,29 +1,27 @@
 //! HINFO (RFC 1035 3.3.2).
-ghost use Rattle.std.specs.Prelude.{◌≡◌, ◌∷◌, [], ◌++◌, ℕ, List, ◌⊎◌, Some, Ok, Err, Result, IfOk, IfErr, map};
+ghost use Rattle.std.specs.Prelude.{◌≡◌, ◌∷◌, [], ℕ, Some};
 ghost use Rattle.std.specs.Cmp.{partial_equiv_from_equiv};
-ghost use Rattle.drd_order.specs.dnw_encoder.declared.modes.RDataEncoding.TheVariants.{Other};
-ghost use Rattle.drd_order.specs.drd_fields.Fields.{string, FieldsAt};
-ghost use Rattle.drd_order.specs.drd_fields.Reading.{RefusesWindow, StopsReading};
-ghost use Rattle.drd_order.specs.drd_fields.Equality.{AreFull, Tells, fields_eq};
-ghost use Rattle.drd_order.proofs.drd_fields_lemmas.EqualityLaws.{data_equiv};
-ghost use Rattle.drd_order.specs.drd_fields.Writing.{EmitsData, RefusesFields, canonical_octets};
+ghost use Rattle.drd_fields.specs.dnw_encoder.declared.modes.RDataEncoding.TheVariants.{Other};
+ghost use Rattle.drd_fields.specs.Fields.{string, FieldsAt};
+ghost use Rattle.drd_fields.specs.Reading.{StopsReading};
+ghost use Rattle.drd_fields.specs.Equality.{AreFull, Tells, fields_eq};
+ghost use Rattle.drd_fields.specs.Order.{fields_input};
+ghost use Rattle.drd_fields.proofs.EqualityLaws.{data_equiv};
+ghost use Rattle.drd_fields.proofs.OrderLaws.{fields-alike};
+ghost use Rattle.drd_fields.specs.Writing.{EmitsData, RefusesFields, canonical_octets};
 ghost use Rattle.drd_plain.specs.Fields.{hinfo_fields, hinfo_kinds};
-ghost use Rattle.std.specs.Iterator.{Drains, IsFinite};
-ghost use Rattle.drd_words.specs.Word.{IsOutOfMemory};
-ghost use Rattle.drd_plain.specs.Words.{IsHinfoText};
+ghost use Rattle.drd_plain.specs.Words.{IsHinfoText, RefusesHinfoText};
 ghost use Rattle.drd_plain.specs.Print.{hinfo_print};
 
-use drd_order::{
-    BinDecodable, BinDecoder, BinEncodable, BinEncoder, CharacterString, DataFields, RDataEncoding,
-    RecordDataDecodable, StringField, emit_three, read_data, read_exactly,
+use drd_fields::{
+    BinDecodable, BinDecoder, BinEncodable, BinEncoder, CharacterString, FieldData, FieldRef,
+    Fields, RDataEncoding, ReadFields, StringField, emit_three, hash_list, is_same_data,
+    read_value,
 };
-use drd_words::{
-    CharacterString as Word, DecodeError, Name, ParseError, ProtoError, Restrict, fmt_escaped,
-    read_tokens,
-};
+use drd_words::{CharacterString as Word, DecodeError, ProtoError, TextData, fmt_escaped};
 use std::alloc::Global;
-use std::convert::AsStr;
 use std::fmt;
+use std::hash::{Hash, Hasher};
 
 /// A host's processor and operating system, in at most 255 octets each.
 #[derive(Clone, Debug, Drop)]
@@ -49,30 +47,8 @@ impl HINFO {
         HINFO::new(cpu, os)
     }
 
-    /// The data that two words write, of at most 255 octets each (RFC 1035 5.1).
-    pub fn from_tokens<I: Iterator + Drop>(
-        alloc: Global,
-        tokens: I,
-        origin: Option<&Name>,
-    ) -> Result<HINFO, ParseError>
-    where
-        I::Item: AsStr + Drop,
-        requires can { I.can_next tokens }
-        requires ends { IsFinite (I.remaining tokens) }
-        ensures ok { IfOk result (λ value. (words : List I.Item) × Drains I.next_gives tokens words
-            × IsHinfoText (map I.Item.text words) value) }
-        ensures refused { IfErr result (λ e. IsOutOfMemory e ⊎ ((words : List I.Item) × Drains I.next_gives tokens words
-            × ((value : HINFO) → IsHinfoText (map I.Item.text words) value → ⊥))) }
-    {
-        let (cpu, (os, ())) = match read_tokens::<(Word, (Word, ())), I>(alloc, tokens, origin) {
-            Ok(words) => words,
-            Err(refused) => return Err(refused),
-        };
-        Ok(HINFO::new(cpu.into_bytes(), os.into_bytes()))
-    }
-
-    // The fields of the data.
-    pub(crate) fn fields(&self) -> (StringField<'_>, (StringField<'_>, ()))
+    // The fields of the data, as they are written.
+    pub(crate) fn parts(&self) -> (StringField<'_>, (StringField<'_>, ()))
         ensures { string result.0.0.now ∷ string result.1.0.0.now ∷ [] ≡ hinfo_fields self.now }
     {
         (StringField(&self.cpu), (StringField(&self.os), ()))
@@ -85,28 +61,66 @@ impl BinDecodable for HINFO {
     ghost refuses = { λ message place e. (end at : ℕ) × StopsReading message end hinfo_kinds place e at };
 
     fn read(alloc: Global, decoder: &mut BinDecoder<'_>) -> Result<HINFO, DecodeError> {
-        let (CharacterString(cpu), (CharacterString(os), ())) = read_data(alloc, decoder)?;
+        read_value(alloc, decoder)
+    }
+}
+
+impl ReadFields for HINFO {
+    ghost use Rattle.std.proofs.Common.{refl};
+    ghost use Rattle.drd_fields.specs.FieldLaws.{ordered_more};
+    ghost use Rattle.drd_fields.specs.Fields.{a_string};
+
+    ghost fields = { hinfo_fields };
+
+    ghost kinds = { hinfo_kinds };
+
+    ghost laws = { (λ hinfo. refl, ordered_more a_string (a_string ∷ []) refl (ordered_more a_string [] refl tt)) };
+
+    fn read_fields(
+        alloc: Global,
+        decoder: &mut BinDecoder<'_>,
+        end: usize,
+    ) -> Result<HINFO, DecodeError> {
+        let (CharacterString(cpu), (CharacterString(os), ())) = <(
+            CharacterString,
+            (CharacterString, ()),
+        )>::read_fields(alloc, decoder, end)?;
         Ok(HINFO::new(cpu, os))
     }
 }
 
-impl RecordDataDecodable for HINFO {
-    ghost reads = { λ message place hinfo end. FieldsAt message place (hinfo_fields hinfo) end };
+impl FieldData for HINFO {
+    ghost use Rattle.std.proofs.Common.{refl};
 
-    ghost refuses = { λ message place end e at. RefusesWindow message end hinfo_kinds place e at };
+    type Parts = HINFO;
 
-    fn read_data(
-        alloc: Global,
-        decoder: &mut BinDecoder<'_>,
-        length: Restrict<u16>,
-    ) -> Result<HINFO, DecodeError> {
-        match read_exactly(alloc, decoder, length.unverified()) {
-            Ok((CharacterString(kind), (CharacterString(system), ()))) => Ok(HINFO::new(
-                kind, system,
-            )),
-            Err(refused) => Err(refused),
-        }
+    ghost fields = { hinfo_fields };
+
+    fn of_parts(parts: HINFO) -> Result<HINFO, DecodeError> {
+        Ok(parts)
     }
+
+    fn fields(&self) -> Fields<'_> {
+        Fields::new(&[FieldRef::String(&self.cpu), FieldRef::String(&self.os)])
+    }
+
+    ghost laws = { λ hinfo. refl };
+}
+
+/// Two words write the strings, of at most 255 octets each (RFC 1035 5.1).
+impl TextData for HINFO {
+    type Parts = (Word, (Word, ()));
+
+    ghost is_text = { λ words origin hinfo. IsHinfoText words hinfo };
+
+    ghost refuses = { λ words origin. RefusesHinfoText words };
+
+    fn of_words(parts: (Word, (Word, ()))) -> HINFO {
+        let (cpu, (os, ())) = parts;
+        HINFO::new(cpu.into_bytes(), os.into_bytes())
+    }
+
+    ghost laws = { (λ words origin hinfo written. ((hinfo.cpu.items, (hinfo.os.items, tt)), written), λ words origin e refused. refused) };
 }
 
 impl BinEncodable for HINFO {
@@ -115,7 +129,7 @@ impl BinEncodable for HINFO {
     ghost refuses = { λ hinfo old e new. RefusesFields (hinfo_fields hinfo) old e };
 
     fn emit(&self, encoder: &mut BinEncoder<'_>) -> Result<(), ProtoError> {
-        emit_three(encoder, RDataEncoding::Other, &self.fields())
+        emit_three(encoder, RDataEncoding::Other, &self.parts())
     }
 }
 
@@ -130,12 +144,22 @@ impl PartialEq for HINFO {
         ensures canonical { AreFull (hinfo_fields self.now) → AreFull (hinfo_fields other.now)
             → Tells result (canonical_octets (hinfo_fields self.now)) (canonical_octets (hinfo_fields other.now)) }
     {
-        self.fields().are_same(&other.fields())
+        is_same_data(self, other)
     }
 }
 
 impl Eq for HINFO {
     ghost laws = { data_equiv hinfo_fields };
+}
+
+impl Hash for HINFO {
+    ghost hash_input = { λ hinfo. fields_input (hinfo_fields hinfo) };
+
+    ghost respects_eq = { λ a b. fields-alike (hinfo_fields a) (hinfo_fields b) };
+
+    fn hash<H: Hasher>(&self, state: &mut H) {
+        hash_list(FieldData::fields(self).as_slice(), state);
+    }
 }
 
 impl fmt::Display for HINFO {

@@ -1,14 +1,14 @@
 //! Record data of addresses and strings.
 #![tactic(auto)]
 
-pub use drd_order::{
+pub use drd_fields::{
     BinDecodable, BinDecoder, BinEncodable, BinEncoder, CharacterString, DataField, DataFields,
-    OrderField, OrderFields, RDataEncoding, RecordDataDecodable, Rest, RestField, StringField,
-    emit_three, read_data_within,
+    FieldData, FieldRef, Fields, RDataEncoding, ReadFields, RecordDataDecodable, Rest, RestField,
+    StringField, cmp_list, emit_three, hash_list, is_same_data, read_data, read_value, read_window,
 };
 pub use drd_words::{
-    DecodeError, Name, ParseError, ProtoError, Restrict, Word, Words, fmt_base64, fmt_escaped,
-    key_of, number_behind, octet_at, read_tokens, words_of_text,
+    DecodeError, Name, ParseError, ProtoError, Restrict, TextData, Word, Words, fmt_base64,
+    fmt_escaped, key_of, number_behind, octet_at, read_tokens, words_of_text,
 };
 
 mod a;
@@ -16,7 +16,6 @@ mod aaaa;
 mod flags;
 mod hinfo;
 mod naptr;
-mod order;
 mod print;
 mod txt;
 

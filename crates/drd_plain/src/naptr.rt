@@ -1,36 +1,32 @@
 //! NAPTR (RFC 3403 4).
-ghost use Rattle.std.specs.Prelude.{◌≡◌, ◌+◌, ◌≤◌, ◌∷◌, [], ℕ, List, ◌⊎◌, true, Some, Ok, Err, Result, IfOk, IfErr, OnOk, OnErr, length, map};
+ghost use Rattle.std.specs.Prelude.{◌≡◌, ◌∷◌, [], ℕ, ◌⊎◌, true, Some, IfErr, OnOk};
 ghost use Rattle.std.specs.Fmt.{WritesOnOk};
 ghost use Rattle.std.specs.Cmp.{partial_equiv_from_equiv};
-ghost use Rattle.std.specs.Iterator.{Drains, IsFinite};
-ghost use Rattle.std.specs.Option.{option_copied};
-ghost use Rattle.drd_words.specs.Word.{IsOutOfMemory};
-ghost use Rattle.drd_order.specs.dnw_decoder.Reading.{IsWantOfMemory};
-ghost use Rattle.drd_order.specs.dnw_encoder.Effects.{Writes};
-ghost use Rattle.drd_order.specs.dnw_encoder.Encoders.{state};
-ghost use Rattle.drd_order.specs.dnw_encoder.declared.modes.RDataEncoding.TheVariants.{Canonical};
-ghost use Rattle.drd_order.specs.drd_fields.Fields.{Field, short, string, name, FieldsAt, kinds_of};
-ghost use Rattle.drd_order.specs.drd_fields.Reading.{RefusesWindow, StopsReading};
-ghost use Rattle.drd_order.specs.drd_fields.Equality.{AreFull, Tells, fields_eq};
-ghost use Rattle.drd_order.proofs.drd_fields_lemmas.EqualityLaws.{data_equiv};
-ghost use Rattle.drd_order.specs.drd_fields.Writing.{EmitsData, RefusesFields, canonical_octets};
+ghost use Rattle.drd_fields.specs.dnw_encoder.Effects.{Writes};
+ghost use Rattle.drd_fields.specs.dnw_encoder.Encoders.{state};
+ghost use Rattle.drd_fields.specs.dnw_encoder.declared.modes.RDataEncoding.TheVariants.{Canonical};
+ghost use Rattle.drd_fields.specs.Fields.{short, string, name, FieldsAt};
+ghost use Rattle.drd_fields.specs.Reading.{AreMisfits, StopsReading};
+ghost use Rattle.drd_fields.specs.Equality.{AreFull, Tells, fields_eq};
+ghost use Rattle.drd_fields.specs.Order.{fields_input};
+ghost use Rattle.drd_fields.proofs.EqualityLaws.{data_equiv};
+ghost use Rattle.drd_fields.proofs.OrderLaws.{fields-alike};
+ghost use Rattle.drd_fields.specs.Writing.{EmitsData, RefusesFields, canonical_octets};
 ghost use Rattle.drd_plain.specs.Fields.{naptr_fields, naptr_kinds, are_alphanumeric};
 ghost use Rattle.drd_plain.specs.Print.{naptr_print, naptr_strings, quotation};
-ghost use Rattle.drd_plain.specs.Reading.{MissesNaptr, RefusesNaptr};
-ghost use Rattle.drd_plain.specs.Words.{IsNaptrText};
+ghost use Rattle.drd_plain.specs.Reading.{NaptrMisfits};
+ghost use Rattle.drd_plain.specs.Words.{IsNaptrText, RefusesNaptrText};
 
 use crate::flags::{Flags, verify_flags};
 use crate::print::fmt_quoted;
-use drd_order::{
-    BinDecodable, BinDecoder, BinEncodable, BinEncoder, CharacterString, DataField, DataFields,
-    RDataEncoding, RecordDataDecodable, StringField, emit_data, read_data, read_exactly,
+use drd_fields::{
+    BinDecodable, BinDecoder, BinEncodable, BinEncoder, CharacterString, DataField, FieldData,
+    FieldRef, Fields, RDataEncoding, StringField, emit_data, hash_list, is_same_data, read_value,
 };
-use drd_words::{
-    CharacterString as Word, DecodeError, Name, ParseError, ProtoError, Restrict, read_tokens,
-};
+use drd_words::{CharacterString as Word, DecodeError, Name, ProtoError, TextData};
 use std::alloc::Global;
-use std::convert::AsStr;
 use std::fmt;
+use std::hash::{Hash, Hasher};
 
 /// A rule by which a name is rewritten, or found at another one.
 #[derive(Clone, Debug, Drop)]
@@ -62,7 +58,7 @@ type NaptrFields<'a> = (
 );
 
 // What the data are read as.
-type Parts = (
+type NaptrParts = (
     u16,
     (
         u16,
@@ -103,35 +99,8 @@ impl NAPTR {
         }
     }
 
-    /// The data that six words write: order, preference, flags, services, regexp and replacement, a name that the origin
-    /// completes if it is relative. Refused are words that are missing, too many or unfit, such as flags with other
-    /// octets than ASCII letters and digits (RFC 3403 4.1, RFC 1035 5.1).
-    pub fn from_tokens<I: Iterator + Drop>(
-        alloc: Global,
-        tokens: I,
-        origin: Option<&Name>,
-    ) -> Result<NAPTR, ParseError>
-    where
-        I::Item: AsStr + Drop,
-        requires can { I.can_next tokens }
-        requires ends { IsFinite (I.remaining tokens) }
-        ensures ok { IfOk result (λ naptr. (words : List I.Item) × Drains I.next_gives tokens words
-            × IsNaptrText (map I.Item.text words) (option_copied origin.entry) naptr) }
-        ensures refused { IfErr result (λ e. IsOutOfMemory e ⊎ ((words : List I.Item) × Drains I.next_gives tokens words
-            × ((naptr : NAPTR) → IsNaptrText (map I.Item.text words) (option_copied origin.entry) naptr → ⊥))) }
-    {
-        let (order, (preference, (flags, (services, (regexp, (replacement, ())))))) =
-            match read_tokens::<Written, I>(alloc, tokens, origin) {
-                Ok(words) => words,
-                Err(refused) => return Err(refused),
-            };
-        let Flags(flags) = flags;
-        let (services, regexp) = (services.into_bytes(), regexp.into_bytes());
-        Ok(NAPTR::new(order, preference, flags, services, regexp, replacement))
-    }
-
-    // The fields of the data.
-    pub(crate) fn fields(&self) -> NaptrFields<'_>
+    // The fields of the data, as they are written.
+    pub(crate) fn parts(&self) -> NaptrFields<'_>
         ensures { short result.0 ∷ short result.1.0 ∷ string result.1.1.0.0.now ∷ string result.1.1.1.0.0.now
             ∷ string result.1.1.1.1.0.0.now ∷ name result.1.1.1.1.1.0.now ∷ [] ≡ naptr_fields self.now }
     {
@@ -159,100 +128,78 @@ fn emit_parts<A: DataField, B: DataField, C: DataField, D: DataField>(
     emit_data(encoder, RDataEncoding::Canonical, fields)
 }
 
-// The fields, whatever the flags are.
-fn read_parts(alloc: Global, decoder: &mut BinDecoder<'_>) -> Result<NAPTR, DecodeError>
-    ensures ok { IfOk result (λ naptr. FieldsAt decoder.old.octets decoder.old.index (naptr_fields naptr) decoder.new.index) }
-    ensures same { decoder.new.octets ≡ decoder.old.octets }
-    ensures forward { decoder.old.index ≤ decoder.new.index }
-    ensures within { decoder.new.index ≤ length decoder.new.octets }
-    ensures err { OnErr result (decoder.new ≡ decoder.old) }
-    ensures refused { IfErr result (λ e. (end at : ℕ) × StopsReading decoder.old.octets end naptr_kinds decoder.old.index e at) }
-    ensures none { IfErr result (λ e. IsWantOfMemory e
-        ⊎ ((fs : List Field) (end : ℕ) → kinds_of fs ≡ naptr_kinds → FieldsAt decoder.old.octets decoder.old.index fs end → ⊥)) }
-{
-    let (order, (preference, (flags, (services, (regexp, (replacement, ())))))) = match read_data::<
-        Parts,
-    >(alloc, decoder)
-    {
-        Ok(found) => found,
-        Err(refused) => return Err(refused),
-    };
-    let (CharacterString(flags), CharacterString(services)) = (flags, services);
-    let CharacterString(regexp) = regexp;
-    Ok(NAPTR::new(order, preference, flags, services, regexp, replacement))
-}
-
 impl BinDecodable for NAPTR {
     ghost reads = { λ message place naptr end. FieldsAt message place (naptr_fields naptr) end
         × (are_alphanumeric naptr.flags.items ≡ true) };
 
-    ghost refuses = { RefusesNaptr };
+    ghost refuses = { λ message place e. (end : ℕ) × (((at : ℕ) × StopsReading message end naptr_kinds place e at)
+        ⊎ AreMisfits NaptrMisfits message end naptr_kinds place e) };
 
     /// The rule that stands at the decoder's index. One whose flags are other octets than letters and digits is refused.
     fn read(alloc: Global, decoder: &mut BinDecoder<'_>) -> Result<NAPTR, DecodeError> {
-        let start = decoder.index();
-        match read_parts(alloc, decoder) {
-            Ok(naptr) => {
-                if verify_flags(&naptr.flags) {
-                    Ok(naptr)
-                } else {
-                    decoder.set_index(start);
-                    Err(DecodeError::Utf8)
-                }
-            }
-            Err(refused) => Err(refused),
-        }
+        read_value(alloc, decoder)
     }
 }
 
-// The fields of so many octets, whatever the flags are.
-fn read_exact_parts(
-    alloc: Global,
-    decoder: &mut BinDecoder<'_>,
-    len: u16,
-) -> Result<NAPTR, DecodeError>
-    ensures ok { IfOk result (λ naptr. FieldsAt decoder.old.octets decoder.old.index (naptr_fields naptr) (decoder.old.index + len)) }
-    ensures end { OnOk result (decoder.new.index ≡ decoder.old.index + len) }
-    ensures same { decoder.new.octets ≡ decoder.old.octets }
-    ensures forward { decoder.old.index ≤ decoder.new.index }
-    ensures within { decoder.new.index ≤ length decoder.new.octets }
-    ensures refused { IfErr result (λ e. RefusesWindow decoder.old.octets (decoder.old.index + len) naptr_kinds decoder.old.index e decoder.new.index) }
-    ensures none { IfErr result (λ e. IsWantOfMemory e
-        ⊎ ((fs : List Field) → kinds_of fs ≡ naptr_kinds → FieldsAt decoder.old.octets decoder.old.index fs (decoder.old.index + len) → ⊥)) }
-{
-    let (order, (preference, (flags, (services, (regexp, (replacement, ())))))) =
-        match read_exactly::<Parts>(alloc, decoder, len) {
-            Ok(found) => found,
-            Err(refused) => return Err(refused),
-        };
-    let (CharacterString(letters), CharacterString(services)) = (flags, services);
-    let CharacterString(regexp) = regexp;
-    Ok(NAPTR::new(order, preference, letters, services, regexp, replacement))
-}
+impl FieldData for NAPTR {
+    ghost use Rattle.std.proofs.Common.{refl};
 
-impl RecordDataDecodable for NAPTR {
-    ghost reads = { λ message place naptr end. FieldsAt message place (naptr_fields naptr) end
-        × (are_alphanumeric naptr.flags.items ≡ true) };
+    type Parts = NaptrParts;
 
-    ghost refuses = { MissesNaptr };
+    ghost fields = { naptr_fields };
 
-    /// The rule in so many octets. Refused are other octets in the flags than letters and digits.
-    fn read_data(
-        alloc: Global,
-        decoder: &mut BinDecoder<'_>,
-        length: Restrict<u16>,
-    ) -> Result<NAPTR, DecodeError> {
-        match read_exact_parts(alloc, decoder, length.unverified()) {
-            Ok(rule) => {
-                if verify_flags(&rule.flags) {
-                    Ok(rule)
-                } else {
-                    Err(DecodeError::Utf8)
-                }
-            }
-            Err(refused) => Err(refused),
+    ghost is_valid = { λ naptr. are_alphanumeric naptr.flags.items ≡ true };
+
+    ghost misfits = { NaptrMisfits };
+
+    /// The rule of these fields. Refused are other octets in the flags than letters and digits.
+    fn of_parts(parts: NaptrParts) -> Result<NAPTR, DecodeError> {
+        let (order, (preference, (flags, (services, (regexp, (replacement, ())))))) = parts;
+        let (CharacterString(flags), CharacterString(services)) = (flags, services);
+        let CharacterString(regexp) = regexp;
+        if verify_flags(&flags) {
+            Ok(NAPTR::new(order, preference, flags, services, regexp, replacement))
+        } else {
+            Err(DecodeError::Utf8)
         }
     }
+
+    fn fields(&self) -> Fields<'_> {
+        Fields::new(&[
+            FieldRef::U16(self.order),
+            FieldRef::U16(self.preference),
+            FieldRef::String(&self.flags),
+            FieldRef::String(&self.services),
+            FieldRef::String(&self.regexp),
+            FieldRef::Name(&self.replacement),
+        ])
+    }
+
+    ghost laws = { λ naptr. refl };
+}
+
+/// Six words write the data: order, preference, flags, services, regexp and replacement, a name that the origin completes
+/// if it is relative. Flags are ASCII letters and digits (RFC 3403 4.1, RFC 1035 5.1).
+impl TextData for NAPTR {
+    type Parts = Written;
+
+    ghost is_text = { IsNaptrText };
+
+    ghost refuses = { RefusesNaptrText };
+
+    fn of_words(parts: Written) -> NAPTR {
+        let (order, (preference, (flags, (services, (regexp, (replacement, ())))))) = parts;
+        NAPTR::new(
+            order,
+            preference,
+            flags.into_bytes(),
+            services.into_bytes(),
+            regexp.into_bytes(),
+            replacement,
+        )
+    }
+
+    ghost laws = { (λ words origin naptr written. ((naptr.order, (naptr.preference, (naptr.flags.items, (naptr.services.items, (naptr.regexp.items, (naptr.replacement, tt)))))), written), λ words origin e refused. refused) };
 }
 
 impl BinEncodable for NAPTR {
@@ -261,7 +208,7 @@ impl BinEncodable for NAPTR {
     ghost refuses = { λ naptr old e new. RefusesFields (naptr_fields naptr) old e };
 
     fn emit(&self, encoder: &mut BinEncoder<'_>) -> Result<(), ProtoError> {
-        emit_parts(encoder, &self.fields())
+        emit_parts(encoder, &self.parts())
     }
 }
 
@@ -277,12 +224,22 @@ impl PartialEq for NAPTR {
         ensures canonical { AreFull (naptr_fields self.now) → AreFull (naptr_fields other.now)
             → Tells result (canonical_octets (naptr_fields self.now)) (canonical_octets (naptr_fields other.now)) }
     {
-        self.fields().are_same(&other.fields())
+        is_same_data(self, other)
     }
 }
 
 impl Eq for NAPTR {
     ghost laws = { data_equiv naptr_fields };
+}
+
+impl Hash for NAPTR {
+    ghost hash_input = { λ naptr. fields_input (naptr_fields naptr) };
+
+    ghost respects_eq = { λ a b. fields-alike (naptr_fields a) (naptr_fields b) };
+
+    fn hash<H: Hasher>(&self, state: &mut H) {
+        hash_list(FieldData::fields(self).as_slice(), state);
+    }
 }
 
 impl fmt::Display for NAPTR {

@@ -1,30 +1,31 @@
 //! TXT (RFC 1035 3.3.14).
-ghost use Rattle.std.specs.Prelude.{◌≡◌, ◌∷◌, [], ◌++◌, ℕ, List, ◌⊎◌, Some, Ok, Err, Result, IfOk, IfErr, map};
+ghost use Rattle.std.specs.Prelude.{◌≡◌, ◌∷◌, [], Some, IfOk, map};
 ghost use Rattle.std.specs.Cmp.{partial_equiv_from_equiv};
-ghost use Rattle.drd_order.specs.dnw_encoder.declared.modes.RDataEncoding.TheVariants.{Other};
-ghost use Rattle.drd_order.specs.drd_fields.Fields.{strings, FieldsAt};
-ghost use Rattle.drd_order.specs.drd_fields.Reading.{StopsReading};
-ghost use Rattle.drd_order.specs.drd_fields.Equality.{AreFull, Tells, fields_eq};
-ghost use Rattle.drd_order.proofs.drd_fields_lemmas.EqualityLaws.{data_equiv};
-ghost use Rattle.drd_order.specs.drd_fields.Writing.{EmitsData, RefusesFields, canonical_octets};
-ghost use Rattle.drd_plain.specs.Fields.{txt_fields, txt_kinds, txt_strings};
-ghost use Rattle.std.specs.Iterator.{Drains, IsFinite};
-ghost use Rattle.drd_words.specs.Word.{IsOutOfMemory, IsStringWord};
+ghost use Rattle.drd_fields.specs.dnw_encoder.declared.modes.RDataEncoding.TheVariants.{Other};
+ghost use Rattle.drd_fields.specs.Fields.{strings};
+ghost use Rattle.drd_fields.specs.Equality.{AreFull, Tells, fields_eq};
+ghost use Rattle.drd_fields.specs.Order.{fields_input};
+ghost use Rattle.drd_fields.proofs.EqualityLaws.{data_equiv};
+ghost use Rattle.drd_fields.proofs.OrderLaws.{fields-alike};
+ghost use Rattle.drd_fields.specs.Writing.{EmitsData, RefusesFields, canonical_octets};
+ghost use Rattle.drd_plain.specs.Fields.{txt_fields, txt_strings};
+ghost use Rattle.drd_words.specs.Word.{IsStringWord};
 ghost use Rattle.drd_words.specs.Words.{EachWord};
-ghost use Rattle.drd_plain.specs.Words.{IsTxtText};
+ghost use Rattle.drd_words.specs.Refusals.{RefusesEach, RefusesString};
+ghost use Rattle.drd_words.specs.RefusalsLaws.{by_part, each_causes, string_causes};
+ghost use Rattle.drd_plain.specs.Words.{IsTxtText, RefusesTxtText};
 ghost use Rattle.drd_plain.specs.Print.{txt_print};
 
-use drd_order::{
-    BinDecoder, BinEncodable, BinEncoder, CharacterStrings, DataFields, RDataEncoding,
-    RecordDataDecodable, StringFields, emit_data, read_data_within,
+use drd_fields::{
+    BinEncodable, BinEncoder, CharacterStrings, FieldData, FieldRef, Fields, RDataEncoding,
+    StringFields, emit_data, hash_list, is_same_data,
 };
 use drd_words::{
-    CharacterString, DecodeError, Name, ParseError, ProtoError, Restrict, Word, Words, fmt_escaped,
-    read_tokens,
+    CharacterString, DecodeError, Name, ParseError, ProtoError, TextData, Word, Words, fmt_escaped,
 };
 use std::alloc::{AllocError, Global};
-use std::convert::AsStr;
 use std::fmt;
+use std::hash::{Hash, Hasher};
 
 /// Strings of at most 255 octets each.
 #[derive(Clone, Debug, Drop)]
@@ -52,42 +53,24 @@ impl TXT {
         Ok(TXT::new(strings))
     }
 
-    /// The data that words write, each one string of at most 255 octets (RFC 1035 5.1). Where there is no word there is
-    /// no string.
-    pub fn from_tokens<I: Iterator + Drop>(
-        alloc: Global,
-        tokens: I,
-        origin: Option<&Name>,
-    ) -> Result<TXT, ParseError>
-    where
-        I::Item: AsStr + Drop,
-        requires can { I.can_next tokens }
-        requires ends { IsFinite (I.remaining tokens) }
-        ensures ok { IfOk result (λ value. (words : List I.Item) × Drains I.next_gives tokens words
-            × IsTxtText (map I.Item.text words) value) }
-        ensures refused { IfErr result (λ e. IsOutOfMemory e ⊎ ((words : List I.Item) × Drains I.next_gives tokens words
-            × ((value : TXT) → IsTxtText (map I.Item.text words) value → ⊥))) }
-    {
-        match read_tokens::<StringWords, I>(alloc, tokens, origin) {
-            Ok(StringWords(txt_data)) => Ok(TXT::new(txt_data)),
-            Err(refused) => Err(refused),
-        }
-    }
-
-    // The fields of the data.
-    pub(crate) fn fields(&self) -> StringFields<'_>
+    // The fields of the data, as they are written.
+    pub(crate) fn parts(&self) -> StringFields<'_>
         ensures { strings (map (λ s. s.items) result.0.now) ∷ [] ≡ txt_fields self.now }
     {
         StringFields(&self.txt_data)
     }
 }
 
-// Strings that words write, each one of them.
+/// Strings that words write, each one of them.
 #[derive(Drop)]
-struct StringWords(Vec<Vec<u8>>);
+pub struct StringWords(Vec<Vec<u8>>);
 
 impl Words for StringWords {
     ghost written = { λ words origin strings. EachWord IsStringWord (map (λ s. s.items) strings.0.items) words };
+
+    ghost refuses = { λ words origin. RefusesEach IsStringWord RefusesString words };
+
+    ghost laws = { λ words origin. by_part (λ strings. map (λ s. s.items) strings.0.items) (each_causes string_causes words) };
 
     fn from_words(
         alloc: Global,
@@ -109,22 +92,39 @@ impl Words for StringWords {
     }
 }
 
-impl RecordDataDecodable for TXT {
-    ghost reads = { λ message place txt end. FieldsAt message place (txt_fields txt) end };
+impl FieldData for TXT {
+    ghost use Rattle.std.proofs.Common.{refl};
 
-    ghost refuses = { λ message place end e at. StopsReading message end txt_kinds place e at };
+    type Parts = CharacterStrings;
 
-    /// The strings in so many octets.
-    fn read_data(
-        alloc: Global,
-        decoder: &mut BinDecoder<'_>,
-        length: Restrict<u16>,
-    ) -> Result<TXT, DecodeError> {
-        match read_data_within(alloc, decoder, length.unverified()) {
-            Ok(CharacterStrings(txt_data)) => Ok(TXT::new(txt_data)),
-            Err(refused) => Err(refused),
-        }
+    ghost fields = { txt_fields };
+
+    fn of_parts(parts: CharacterStrings) -> Result<TXT, DecodeError> {
+        let CharacterStrings(txt_data) = parts;
+        Ok(TXT::new(txt_data))
     }
+
+    fn fields(&self) -> Fields<'_> {
+        Fields::new(&[FieldRef::Strings(&self.txt_data)])
+    }
+
+    ghost laws = { λ txt. refl };
+}
+
+/// Each word writes one string of at most 255 octets (RFC 1035 5.1). Where there is no word there is no string.
+impl TextData for TXT {
+    type Parts = StringWords;
+
+    ghost is_text = { λ words origin txt. IsTxtText words txt };
+
+    ghost refuses = { λ words origin. RefusesTxtText words };
+
+    fn of_words(parts: StringWords) -> TXT {
+        let StringWords(txt_data) = parts;
+        TXT::new(txt_data)
+    }
+
+    ghost laws = { (λ words origin txt written. (record { 0 = txt.txt_data }, written), λ words origin e refused. refused) };
 }
 
 impl BinEncodable for TXT {
@@ -133,7 +133,7 @@ impl BinEncodable for TXT {
     ghost refuses = { λ txt old e new. RefusesFields (txt_fields txt) old e };
 
     fn emit(&self, encoder: &mut BinEncoder<'_>) -> Result<(), ProtoError> {
-        emit_data(encoder, RDataEncoding::Other, &self.fields())
+        emit_data(encoder, RDataEncoding::Other, &self.parts())
     }
 }
 
@@ -148,12 +148,22 @@ impl PartialEq for TXT {
         ensures canonical { AreFull (txt_fields self.now) → AreFull (txt_fields other.now)
             → Tells result (canonical_octets (txt_fields self.now)) (canonical_octets (txt_fields other.now)) }
     {
-        self.fields().are_same(&other.fields())
+        is_same_data(self, other)
     }
 }
 
 impl Eq for TXT {
     ghost laws = { data_equiv txt_fields };
+}
+
+impl Hash for TXT {
+    ghost hash_input = { λ txt. fields_input (txt_fields txt) };
+
+    ghost respects_eq = { λ a b. fields-alike (txt_fields a) (txt_fields b) };
+
+    fn hash<H: Hasher>(&self, state: &mut H) {
+        hash_list(FieldData::fields(self).as_slice(), state);
+    }
 }
 
 impl fmt::Display for TXT {

@@ -30,14 +30,14 @@ use Rattle.drd_types.specs.drd_opt.Entries.{Entry, FitsLengths, RawOption, raw_o
 use Rattle.drd_types.specs.drd_opt.Order.{sorted_by, canonical_entries}
 use Rattle.drd_types.specs.drd_opt.Reading.{EntriesAt, HoldsEntries}
 use Rattle.drd_types.specs.drd_opt.declared.opt.OPT.{OPT}
-use Rattle.drd_types.specs.drd_order.Order.{octets_cmp}
+use Rattle.drd_types.specs.drd_fields.Order.{octets_cmp}
 use Rattle.std.specs.Ordering.{on}
 use Rattle.drd_rdata.specs.Fields.{encoding_of, rdata_fields}
 use Rattle.drd_rdata.specs.Reading.{RDataAt, HoldsAs, ReadsAs}
 use Rattle.drd_rdata.specs.Types.{Is, type_of}
 use Rattle.drd_rdata.specs.Order.{HasCanonical, canonical_data, type_number, data_form}
 use Rattle.drd_rdata.specs.Writing.{EmitsRData, StandsWritten}
-use Rattle.drd_rdata.proofs.Rows.{is_plain, kinds_ordered, plain_there, row_forms, same_kinds, to_row}
+use Rattle.drd_rdata.specs.RowsLaws.{is_plain, kinds_ordered, plain_there, row_forms, same_kinds, to_row}
 use Rattle.drd_rdata.specs.declared.rdata.RData.{RData}
 use Rattle.drd_rdata.specs.declared.rdata.RData.TheVariants as rdata
 

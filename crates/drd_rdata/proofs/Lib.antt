@@ -2,7 +2,6 @@ pub mod BackLaws
 pub mod OnceLaws
 pub mod WritingLaws
 pub mod WrittenLaws
-pub mod Rows
 pub mod Others
 pub mod Words
 pub use Rattle.drd_types.proofs.drd_opt_lemmas

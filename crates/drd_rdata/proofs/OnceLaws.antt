@@ -13,10 +13,8 @@ use Rattle.drd_types.specs.drd_opt.Entries.{Entry, RawOption, options_octets, ra
 use Rattle.drd_types.proofs.drd_opt_lemmas.OnceLaws.{entries_once}
 use Rattle.drd_rdata.specs.Fields.{rdata_fields}
 use Rattle.drd_rdata.specs.Reading.{HoldsAs, IsEmptyOf, ReadsAs}
-use Rattle.drd_rdata.specs.Types.{type_of}
-use Rattle.drd_rdata.proofs.Rows.{is_plain, kinds_ordered, plain_there, same_kinds, to_row}
+use Rattle.drd_rdata.specs.RowsLaws.{is_plain, kinds_ordered, plain_there, same_kinds, to_row}
 use Rattle.drd_rdata.specs.declared.rdata.RData.{RData}
-use Rattle.drd_rdata.specs.declared.rdata.RData.TheVariants as rdata
 
 -- Each number is one that its octets can hold.
 abbrev pub IsInRange : RData → Type 0

@@ -47,19 +47,9 @@ only_of Writes IsMemory Unsupported s words (Err e) same ok (inr (inl none)) =
     inr (λ value writes. none.2 value (subst (λ (ws : List (List ℕ)). Writes ws value) (sym (drained string_bytes s none.0 none.1 ∙ same)) writes))
 only_of Writes IsMemory Unsupported s words (Err e) same ok (inr (inr never)) = inr (never.1 words)
 
--- Data of one type that words write are data of all types that they write, and where words write none of the type, they write
--- none.
-module _ {T W V E : Type 0} (rdata : T → V) (Told : W → Type 0) (Writes : W → T → Type 0) (written : Result T E) where
-  pub ok_as : (r : Result V E) → IfOk r (λ value. (x : T) × (value ≡ rdata x) × (written ≡ Ok x)) → IfOk written (λ x. (words : W) × Told words × Writes words x) → IfOk r (λ value. (words : W) × Told words × ((x : T) × (value ≡ rdata x) × Writes words x))
-  ok_as (Ok value) same h =
-      let told = subst (λ (w : Result T E). IfOk w (λ x. (words : W) × Told words × Writes words x)) same.2 h in
-      (told.0, told.1, (same.0, same.1, told.2))
-  ok_as (Err e) same h = same
-
-  pub refused_as : (IsMemory Unsupported : E → Type 0) (r : Result V E) → IfErr r (λ e. written ≡ Err e) → IfErr written (λ e. IsMemory e ⊎ ((words : W) × Told words × ((x : T) → Writes words x → ⊥))) → IfErr r (λ e. IsMemory e ⊎ ((words : W) × Told words × ((value : V) → (x : T) × (value ≡ rdata x) × Writes words x → ⊥)) ⊎ Unsupported e)
-  refused_as IsMemory Unsupported (Ok value) same h = same
-  refused_as IsMemory Unsupported (Err e) same h =
-      elim (subst (λ (w : Result T E). IfErr w (λ e. IsMemory e ⊎ ((words : W) × Told words × ((x : T) → Writes words x → ⊥)))) same h) [
-        | inl memory ↦ inl memory
-        | inr none ↦ inr (inl (none.0, none.1, λ value there. none.2 there.0 there.2))
-      ]
+-- Where they are refused, those of the list are.
+pub fault_of : {X E : Type 0} (IsText : List (List ℕ) → Type 0) (Refuses : List (List ℕ) → E → Type 0) (IsMemory Unread : E → Type 0) (s : Iter (String Global)) (words : List (List ℕ)) (r : Result X E) → map string_bytes (iter_rest s) ≡ words → IsText words → IfErr r (λ e. IsMemory e ⊎ ((xs : List (Bor (String Global))) × Drains iter_steps s xs × Refuses (map (λ x. string_bytes x.now) xs) e)) → IfErr r (λ e. IsMemory e ⊎ Unread e ⊎ ((ws : List (List ℕ)) × IsText ws × Refuses ws e))
+fault_of IsText Refuses IsMemory Unread s words (Ok value) same there h = h
+fault_of IsText Refuses IsMemory Unread s words (Err e) same there (inl memory) = inl memory
+fault_of IsText Refuses IsMemory Unread s words (Err e) same there (inr refused) =
+    inr (inr (words, there, subst (λ (ws : List (List ℕ)). Refuses ws e) (drained string_bytes s refused.0 refused.1 ∙ same) refused.2))

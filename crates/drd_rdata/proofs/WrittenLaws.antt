@@ -22,7 +22,6 @@ use Rattle.drd_types.specs.dnw_wire.BitMaps.{AreTightMaps}
 use Rattle.drd_types.specs.dnw_wire.MapOrder.{tight_maps}
 use Rattle.drd_types.specs.dnw_wire.MapOrderLaws.{tight_written}
 use Rattle.drd_types.specs.drd_csync.Data.{csync_fields, csync_flags, CsyncAt}
-use Rattle.drd_types.specs.drd_csync.Writing.{RefusesEmitCsync}
 use Rattle.drd_types.specs.drd_csync.declared.csync.CSYNC.{CSYNC}
 use Rattle.drd_types.proofs.drd_fields_lemmas.BackLaws.{fields_full}
 use Rattle.drd_types.specs.drd_fields.Equality.{AreFull}

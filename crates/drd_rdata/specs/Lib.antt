@@ -5,6 +5,7 @@ pub mod Writing
 pub mod Texts
 pub mod Order
 pub mod OrderLaws
+pub mod RowsLaws
 pub mod dnw_codes
 pub use Rattle.drd_types.specs.dnw_wire
 pub use Rattle.drd_types.specs.drd_caa

@@ -11,7 +11,7 @@ use Rattle.dnw_codes.specs.RecordType.{record_type_number}
 use Rattle.drd_types.specs.drd_fields.Fields.{Field}
 use Rattle.drd_types.specs.drd_fields.Equality.{AreFull}
 use Rattle.drd_types.specs.drd_fields.Writing.{canonical_octets, fields_octets}
-use Rattle.drd_types.specs.drd_order.Order.{fields_cmp, fields_input}
+use Rattle.drd_types.specs.drd_fields.Order.{fields_cmp, fields_input}
 use Rattle.drd_svcb.specs.Fields.{svcb_code, svcb_fields}
 use Rattle.drd_types.specs.drd_csync.declared.csync.CSYNC.{CSYNC}
 use Rattle.drd_types.specs.drd_csync.Data.{csync_fields}

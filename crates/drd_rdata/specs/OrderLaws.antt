@@ -1,5 +1,5 @@
 -- Laws of the order of record data of every type.
-use Rattle.std.proofs.Common.{◌≡◌, ℕ, ◌++◌, true, List, Option, Some, None, refl, sym, ap, ◌∙◌, arith}
+use Rattle.std.proofs.Common.{◌≡◌, ℕ, zero, suc, ◌==◌, ◌++◌, Bool, true, false, if◌then◌else◌, List, [], Option, Some, None, refl, sym, ap, subst, ◌∙◌, arith}
 use Rattle.std.proofs.lemmas.Cmp.{then_total, on_total, nat_cmp_total}
 use Rattle.std.specs.Cmp.{IsTotalOrder, Equal-is}
 use Rattle.std.specs.Cmp.Lexicographic.{options_total, texts_ties}
@@ -12,12 +12,17 @@ use Rattle.std.proofs.lemmas.Cmp.{eq_by_cmp_equiv}
 use Rattle.std.specs.Hash as fed
 use Rattle.std.specs.Hash.{HashWrites}
 use Rattle.dnw_codes.specs.declared.record_type.RecordType.{RecordType}
-use Rattle.drd_types.specs.drd_fields.Fields.{Field}
-use Rattle.drd_types.specs.drd_order.Order.{Orders, fields_cmp, fields_input}
-use Rattle.drd_types.specs.drd_fields.Equality.{Tells}
+use Rattle.dnw_codes.specs.RecordType.{record_type_of}
+use Rattle.drd_types.specs.drd_fields.Fields.{AreOrdered, Field, Kind, kinds_of}
+use Rattle.drd_types.specs.drd_fields.Order.{Orders, fields_cmp, fields_input}
+use Rattle.drd_types.specs.drd_fields.Equality.{AreFull, Tells}
+use Rattle.drd_types.specs.drd_fields.Writing.{canonical_octets}
+use Rattle.drd_types.specs.drd_keys.Fields.{null_kinds}
+use Rattle.drd_rdata.specs.Fields.{kinds_for, rdata_fields}
+use Rattle.drd_rdata.specs.RowsLaws.{in_order, is_ordered, ordered_by}
 use Rattle.drd_types.proofs.drd_fields_lemmas.EqualityLaws.{same_octets, found_same, true_or_false}
-use Rattle.drd_types.proofs.drd_order_lemmas.OrderLaws.{fields_total, fields_ties, fields-alike}
-use Rattle.drd_types.proofs.drd_order_lemmas.OrderLaws.{data_total as fields_data_total}
+use Rattle.drd_types.proofs.drd_fields_lemmas.OrderLaws.{fields_total, fields_ties, fields-alike}
+use Rattle.drd_types.proofs.drd_fields_lemmas.OrderLaws.{data_total as fields_data_total}
 use Rattle.drd_svcb.specs.Fields.{svcb_code}
 use Rattle.drd_svcb.specs.Hashing.{svcb_input}
 use Rattle.drd_svcb.specs.HashingLaws.{svcb-alike}
@@ -26,32 +31,13 @@ use Rattle.drd_types.specs.drd_csync.OrderLaws.{csync_total, csync_ties, csync_f
 use Rattle.drd_types.specs.drd_opt.OrderLaws.{entries_total, entries_tie}
 use Rattle.drd_types.specs.drd_opt.EqualityLaws.{entries_fed}
 use Rattle.drd_types.specs.drd_opt.Equality.{entries_input}
-use Rattle.drd_svcb.specs.drd_plain.declared.a.A.{A}
-use Rattle.drd_svcb.specs.drd_plain.declared.aaaa.AAAA.{AAAA}
-use Rattle.drd_types.specs.drd_names.declared.aname.ANAME.{ANAME}
-use Rattle.drd_types.specs.drd_caa.declared.caa.CAA.{CAA}
-use Rattle.drd_types.specs.drd_keys.declared.cert.CERT.{CERT}
-use Rattle.drd_types.specs.drd_names.declared.cname.CNAME.{CNAME}
 use Rattle.drd_types.specs.drd_csync.declared.csync.CSYNC.{CSYNC}
-use Rattle.drd_svcb.specs.drd_plain.declared.hinfo.HINFO.{HINFO}
 use Rattle.drd_svcb.specs.declared.https.HTTPS.{HTTPS}
-use Rattle.drd_types.specs.drd_names.declared.mx.MX.{MX}
-use Rattle.drd_svcb.specs.drd_plain.declared.naptr.NAPTR.{NAPTR}
-use Rattle.drd_types.specs.drd_keys.declared.null.NULL.{NULL}
-use Rattle.drd_types.specs.drd_names.declared.ns.NS.{NS}
-use Rattle.drd_types.specs.drd_keys.declared.openpgpkey.OPENPGPKEY.{OPENPGPKEY}
 use Rattle.drd_types.specs.drd_opt.declared.opt.OPT.{OPT}
-use Rattle.drd_types.specs.drd_names.declared.ptr.PTR.{PTR}
-use Rattle.drd_types.specs.drd_keys.declared.smimea.SMIMEA.{SMIMEA}
-use Rattle.drd_types.specs.drd_names.declared.soa.SOA.{SOA}
-use Rattle.drd_types.specs.drd_names.declared.srv.SRV.{SRV}
-use Rattle.drd_types.specs.drd_keys.declared.sshfp.SSHFP.{SSHFP}
 use Rattle.drd_svcb.specs.declared.svcb.SVCB.{SVCB}
-use Rattle.drd_types.specs.drd_keys.declared.tlsa.TLSA.{TLSA}
-use Rattle.drd_svcb.specs.drd_plain.declared.txt.TXT.{TXT}
 use Rattle.drd_rdata.specs.declared.rdata.RData.{RData}
 use Rattle.drd_rdata.specs.declared.rdata.RData.TheVariants as rdata
-use Rattle.drd_rdata.specs.Order.{type_number, data_form, compared_fields, csync_of, opt_of, svcb_of, opt_cmp, svcb_cmp, data_cmp, rdata_cmp, rdata_eq, data_input, rdata_input}
+use Rattle.drd_rdata.specs.Order.{HasCanonical, type_number, data_form, compared_fields, csync_of, opt_of, svcb_of, opt_cmp, svcb_cmp, data_cmp, rdata_cmp, rdata_eq, data_input, rdata_input}
 
 data_total : IsTotalOrder data_cmp
 data_total =
@@ -80,140 +66,149 @@ then_second Less p e = absurd (cc e)
 then_second Equal p e = e
 then_second Greater p e = absurd (cc e)
 
-pub only_a : (other : RData) → type_number other ≡ 1 → data_form other ≡ 1
-    → (a : A) × (other ≡ rdata.A a)
-only_a (rdata.A a) number own = (a, refl)
-only_a other number own = absurd (omega (arith, number, own))
-
-pub only_aaaa : (other : RData) → type_number other ≡ 28 → data_form other ≡ 1
-    → (aaaa : AAAA) × (other ≡ rdata.AAAA aaaa)
-only_aaaa (rdata.AAAA aaaa) number own = (aaaa, refl)
-only_aaaa other number own = absurd (omega (arith, number, own))
-
-pub only_aname : (other : RData) → type_number other ≡ 65305 → data_form other ≡ 1
-    → (aname : ANAME) × (other ≡ rdata.ANAME aname)
-only_aname (rdata.ANAME aname) number own = (aname, refl)
-only_aname other number own = absurd (omega (arith, number, own))
-
-pub only_caa : (other : RData) → type_number other ≡ 257 → data_form other ≡ 1
-    → (caa : CAA) × (other ≡ rdata.CAA caa)
-only_caa (rdata.CAA caa) number own = (caa, refl)
-only_caa other number own = absurd (omega (arith, number, own))
-
-pub only_cert : (other : RData) → type_number other ≡ 37 → data_form other ≡ 1
-    → (cert : CERT) × (other ≡ rdata.CERT cert)
-only_cert (rdata.CERT cert) number own = (cert, refl)
-only_cert other number own = absurd (omega (arith, number, own))
-
-pub only_cname : (other : RData) → type_number other ≡ 5 → data_form other ≡ 1
-    → (cname : CNAME) × (other ≡ rdata.CNAME cname)
-only_cname (rdata.CNAME cname) number own = (cname, refl)
-only_cname other number own = absurd (omega (arith, number, own))
-
+-- Of these types data stand alone with their number and form.
 pub only_csync : (other : RData) → type_number other ≡ 62 → data_form other ≡ 1
     → (csync : CSYNC) × (other ≡ rdata.CSYNC csync)
 only_csync (rdata.CSYNC csync) number own = (csync, refl)
 only_csync other number own = absurd (omega (arith, number, own))
-
-pub only_hinfo : (other : RData) → type_number other ≡ 13 → data_form other ≡ 1
-    → (hinfo : HINFO) × (other ≡ rdata.HINFO hinfo)
-only_hinfo (rdata.HINFO hinfo) number own = (hinfo, refl)
-only_hinfo other number own = absurd (omega (arith, number, own))
 
 pub only_https : (other : RData) → type_number other ≡ 65 → data_form other ≡ 1
     → (https : HTTPS) × (other ≡ rdata.HTTPS https)
 only_https (rdata.HTTPS https) number own = (https, refl)
 only_https other number own = absurd (omega (arith, number, own))
 
-pub only_mx : (other : RData) → type_number other ≡ 15 → data_form other ≡ 1
-    → (mx : MX) × (other ≡ rdata.MX mx)
-only_mx (rdata.MX mx) number own = (mx, refl)
-only_mx other number own = absurd (omega (arith, number, own))
-
-pub only_naptr : (other : RData) → type_number other ≡ 35 → data_form other ≡ 1
-    → (naptr : NAPTR) × (other ≡ rdata.NAPTR naptr)
-only_naptr (rdata.NAPTR naptr) number own = (naptr, refl)
-only_naptr other number own = absurd (omega (arith, number, own))
-
-pub only_null : (other : RData) → type_number other ≡ 10 → data_form other ≡ 1
-    → (null : NULL) × (other ≡ rdata.NULL null)
-only_null (rdata.NULL null) number own = (null, refl)
-only_null other number own = absurd (omega (arith, number, own))
-
-pub only_ns : (other : RData) → type_number other ≡ 2 → data_form other ≡ 1
-    → (ns : NS) × (other ≡ rdata.NS ns)
-only_ns (rdata.NS ns) number own = (ns, refl)
-only_ns other number own = absurd (omega (arith, number, own))
-
-pub only_openpgpkey : (other : RData) → type_number other ≡ 61 → data_form other ≡ 1
-    → (openpgpkey : OPENPGPKEY) × (other ≡ rdata.OPENPGPKEY openpgpkey)
-only_openpgpkey (rdata.OPENPGPKEY openpgpkey) number own = (openpgpkey, refl)
-only_openpgpkey other number own = absurd (omega (arith, number, own))
-
 pub only_opt : (other : RData) → type_number other ≡ 41 → data_form other ≡ 1
     → (opt : OPT) × (other ≡ rdata.OPT opt)
 only_opt (rdata.OPT opt) number own = (opt, refl)
 only_opt other number own = absurd (omega (arith, number, own))
-
-pub only_ptr : (other : RData) → type_number other ≡ 12 → data_form other ≡ 1
-    → (ptr : PTR) × (other ≡ rdata.PTR ptr)
-only_ptr (rdata.PTR ptr) number own = (ptr, refl)
-only_ptr other number own = absurd (omega (arith, number, own))
-
-pub only_smimea : (other : RData) → type_number other ≡ 53 → data_form other ≡ 1
-    → (smimea : SMIMEA) × (other ≡ rdata.SMIMEA smimea)
-only_smimea (rdata.SMIMEA smimea) number own = (smimea, refl)
-only_smimea other number own = absurd (omega (arith, number, own))
-
-pub only_soa : (other : RData) → type_number other ≡ 6 → data_form other ≡ 1
-    → (soa : SOA) × (other ≡ rdata.SOA soa)
-only_soa (rdata.SOA soa) number own = (soa, refl)
-only_soa other number own = absurd (omega (arith, number, own))
-
-pub only_srv : (other : RData) → type_number other ≡ 33 → data_form other ≡ 1
-    → (srv : SRV) × (other ≡ rdata.SRV srv)
-only_srv (rdata.SRV srv) number own = (srv, refl)
-only_srv other number own = absurd (omega (arith, number, own))
-
-pub only_sshfp : (other : RData) → type_number other ≡ 44 → data_form other ≡ 1
-    → (sshfp : SSHFP) × (other ≡ rdata.SSHFP sshfp)
-only_sshfp (rdata.SSHFP sshfp) number own = (sshfp, refl)
-only_sshfp other number own = absurd (omega (arith, number, own))
 
 pub only_svcb : (other : RData) → type_number other ≡ 64 → data_form other ≡ 1
     → (svcb : SVCB) × (other ≡ rdata.SVCB svcb)
 only_svcb (rdata.SVCB svcb) number own = (svcb, refl)
 only_svcb other number own = absurd (omega (arith, number, own))
 
-pub only_tlsa : (other : RData) → type_number other ≡ 52 → data_form other ≡ 1
-    → (tlsa : TLSA) × (other ≡ rdata.TLSA tlsa)
-only_tlsa (rdata.TLSA tlsa) number own = (tlsa, refl)
-only_tlsa other number own = absurd (omega (arith, number, own))
+-- Data that are compared field by field.
+abbrev pub is_listed : RData → Bool
+is_listed (rdata.CSYNC csync) = false
+is_listed (rdata.HTTPS https) = false
+is_listed (rdata.OPT opt) = false
+is_listed (rdata.SVCB svcb) = false
+is_listed other = true
 
-pub only_txt : (other : RData) → type_number other ≡ 16 → data_form other ≡ 1
-    → (txt : TXT) × (other ≡ rdata.TXT txt)
-only_txt (rdata.TXT txt) number own = (txt, refl)
-only_txt other number own = absurd (omega (arith, number, own))
+listed_by : (v : RData) → ((x : CSYNC) → v ≡ rdata.CSYNC x → ⊥)
+    → ((x : HTTPS) → v ≡ rdata.HTTPS x → ⊥) → ((x : OPT) → v ≡ rdata.OPT x → ⊥)
+    → ((x : SVCB) → v ≡ rdata.SVCB x → ⊥) → is_listed v ≡ true
+listed_by (rdata.CSYNC x) csync https opt svcb = absurd (csync x refl)
+listed_by (rdata.HTTPS x) csync https opt svcb = absurd (https x refl)
+listed_by (rdata.OPT x) csync https opt svcb = absurd (opt x refl)
+listed_by (rdata.SVCB x) csync https opt svcb = absurd (svcb x refl)
+listed_by other csync https opt svcb = refl
 
-pub only_unknown : (other : RData) → data_form other ≡ 2
-    → (code : RecordType) × (null : NULL) × (other ≡ rdata.Unknown code null)
-only_unknown (rdata.Unknown code null) own = (code, null, refl)
-only_unknown other own = absurd (omega (arith, own))
+-- The number and the form tell the kinds of the fields.
+abbrev kinds_told : ℕ → ℕ → List Kind
+kinds_told number zero = []
+kinds_told number (suc zero) = if number == 0 then [] else kinds_for (record_type_of number)
+kinds_told number form = null_kinds
 
-pub only_update0 : (other : RData) → data_form other ≡ 0
-    → (code : RecordType) × (other ≡ rdata.Update0 code)
-only_update0 (rdata.Update0 code) own = (code, refl)
-only_update0 other own = absurd (omega (arith, own))
+told_kinds : (v : RData) → is_listed v ≡ true
+    → kinds_of (rdata_fields v) ≡ kinds_told (type_number v) (data_form v)
+told_kinds (rdata.CSYNC csync) listed = absurd (cc listed)
+told_kinds (rdata.HTTPS https) listed = absurd (cc listed)
+told_kinds (rdata.OPT opt) listed = absurd (cc listed)
+told_kinds (rdata.SVCB svcb) listed = absurd (cc listed)
+told_kinds other listed = refl
 
-pub only_zero : (other : RData) → type_number other ≡ 0 → data_form other ≡ 1 → other ≡ rdata.ZERO
-only_zero rdata.ZERO number own = refl
-only_zero other number own = absurd (omega (arith, number, own))
+ordered_told : (b : Bool) (t : RecordType) → is_ordered (if b then [] else kinds_for t) ≡ true
+ordered_told true t = refl
+ordered_told false t = in_order t
 
--- Fields in order, with nothing behind them.
-pub fields_alone : (fs gs : List Field) (r : Ordering) → r ≡ fields_cmp fs gs
-    → r ≡ ordering_then (fields_cmp fs gs) Equal
-fields_alone fs gs r e = e ∙ sym (then_equal (fields_cmp fs gs))
+told_order : (number form : ℕ) → is_ordered (kinds_told number form) ≡ true
+told_order number zero = refl
+told_order number (suc zero) = ordered_told (number == 0) (record_type_of number)
+told_order number form = refl
 
+listed_fields : (v : RData) → is_listed v ≡ true → compared_fields v ≡ rdata_fields v
+listed_fields (rdata.CSYNC csync) listed = absurd (cc listed)
+listed_fields (rdata.HTTPS https) listed = absurd (cc listed)
+listed_fields (rdata.OPT opt) listed = absurd (cc listed)
+listed_fields (rdata.SVCB svcb) listed = absurd (cc listed)
+listed_fields other listed = refl
+
+listed_has : (v : RData) (octets : List ℕ) → is_listed v ≡ true → HasCanonical v octets
+    → AreFull (compared_fields v) × (octets ≡ canonical_octets (compared_fields v))
+listed_has (rdata.CSYNC csync) octets listed has = absurd (cc listed)
+listed_has (rdata.HTTPS https) octets listed has = absurd (cc listed)
+listed_has (rdata.OPT opt) octets listed has = absurd (cc listed)
+listed_has (rdata.SVCB svcb) octets listed has = absurd (cc listed)
+listed_has other octets listed has = has
+
+-- Data that are compared field by field are no sets, no options and no services.
+listed_none : (v : RData) → is_listed v ≡ true
+    → (csync_of v ≡ None) × (opt_of v ≡ None) × (svcb_of v ≡ None)
+listed_none (rdata.CSYNC csync) listed = absurd (cc listed)
+listed_none (rdata.HTTPS https) listed = absurd (cc listed)
+listed_none (rdata.OPT opt) listed = absurd (cc listed)
+listed_none (rdata.SVCB svcb) listed = absurd (cc listed)
+listed_none other listed = (refl, refl, refl)
+
+-- The order of two that are none of these, and of one number and form.
+pub record IsListed (a b : RData) : Type 0 where
+  pub first : is_listed a ≡ true
+  pub second : is_listed b ≡ true
+  pub kinds : kinds_of (compared_fields a) ≡ kinds_of (compared_fields b)
+  pub ordered : AreOrdered (kinds_of (compared_fields a))
+
+pub both_listed : (a b : RData) → type_number a ≡ type_number b → data_form a ≡ data_form b
+    → ((x : CSYNC) → a ≡ rdata.CSYNC x → ⊥) → ((x : HTTPS) → a ≡ rdata.HTTPS x → ⊥)
+    → ((x : OPT) → a ≡ rdata.OPT x → ⊥) → ((x : SVCB) → a ≡ rdata.SVCB x → ⊥) → IsListed a b
+both_listed a b n f csync https opt svcb =
+    let first = listed_by a csync https opt svcb in
+    let second =
+    listed_by b
+    (λ x e. let y = only_csync a (n ∙ ap type_number e) (f ∙ ap data_form e) in csync y.0 y.1)
+    (λ x e. let y = only_https a (n ∙ ap type_number e) (f ∙ ap data_form e) in https y.0 y.1)
+    (λ x e. let y = only_opt a (n ∙ ap type_number e) (f ∙ ap data_form e) in opt y.0 y.1)
+    (λ x e. let y = only_svcb a (n ∙ ap type_number e) (f ∙ ap data_form e) in svcb y.0 y.1) in
+    let kinds_a = ap kinds_of (listed_fields a first) ∙ told_kinds a first in
+    let kinds_b = ap kinds_of (listed_fields b second) ∙ told_kinds b second in
+    record {
+      first = first;
+      second = second;
+      kinds =
+          kinds_a ∙ ap (λ (k : ℕ). kinds_told k (data_form a)) n
+          ∙ ap (kinds_told (type_number b)) f ∙ sym kinds_b;
+      ordered =
+          subst AreOrdered (sym kinds_a)
+          (ordered_by (kinds_told (type_number a) (data_form a))
+          (told_order (type_number a) (data_form a)));
+    }
+
+pub listed_cmp : (a b : RData) → IsListed a b → (r : Ordering)
+    → r ≡ fields_cmp (compared_fields a) (compared_fields b) → r ≡ data_cmp a b
+listed_cmp a b both r e =
+    let x = listed_none a both.first in
+    let y = listed_none b both.second in
+    let none : ordering_then (option_cmp csync_cmp (csync_of a) (csync_of b))
+    (ordering_then (option_cmp opt_cmp (opt_of a) (opt_of b))
+    (option_cmp svcb_cmp (svcb_of a) (svcb_of b)))
+    ≡ Equal = rw (x.0, y.0, x.1, y.1, x.2, y.2) refl in
+    e
+    ∙ sym
+    (ap (ordering_then (fields_cmp (compared_fields a) (compared_fields b))) none
+    ∙ then_equal (fields_cmp (compared_fields a) (compared_fields b)))
+
+pub listed_orders : (a b : RData) → IsListed a b → (r : Ordering)
+    → (kinds_of (compared_fields a) ≡ kinds_of (compared_fields b)
+    → AreOrdered (kinds_of (compared_fields a)) → AreFull (compared_fields a)
+    → AreFull (compared_fields b)
+    → Orders r (canonical_octets (compared_fields a)) (canonical_octets (compared_fields b)))
+    → (xs ys : List ℕ) → HasCanonical a xs → HasCanonical b ys → Orders r xs ys
+listed_orders a b both r orders xs ys p q =
+    let x = listed_has a xs both.first p in
+    let y = listed_has b ys both.second q in
+    rw (x.1, y.1) (orders both.kinds both.ordered x.0 y.0)
+
+-- Sets, options and services, one of a type behind another.
 pub sets_alone : (a b : CSYNC) (r : Ordering) → r ≡ csync_cmp a b
     → r ≡ data_cmp (rdata.CSYNC a) (rdata.CSYNC b)
 sets_alone a b r e = e ∙ sym (then_equal (csync_cmp a b))
@@ -221,6 +216,16 @@ sets_alone a b r e = e ∙ sym (then_equal (csync_cmp a b))
 pub options_alone : (a b : OPT) (r : Ordering) → r ≡ opt_cmp a b
     → r ≡ data_cmp (rdata.OPT a) (rdata.OPT b)
 options_alone a b r e = e ∙ sym (then_equal (opt_cmp a b))
+
+-- What is fed of data that are compared field by field.
+pub listed_input : (v : RData) → ((x : CSYNC) → v ≡ rdata.CSYNC x → ⊥)
+    → ((x : HTTPS) → v ≡ rdata.HTTPS x → ⊥) → ((x : OPT) → v ≡ rdata.OPT x → ⊥)
+    → ((x : SVCB) → v ≡ rdata.SVCB x → ⊥) → data_input v ≡ fields_input (compared_fields v)
+listed_input (rdata.CSYNC x) csync https opt svcb = absurd (csync x refl)
+listed_input (rdata.HTTPS x) csync https opt svcb = absurd (https x refl)
+listed_input (rdata.OPT x) csync https opt svcb = absurd (opt x refl)
+listed_input (rdata.SVCB x) csync https opt svcb = absurd (svcb x refl)
+listed_input other csync https opt svcb = refl
 
 -- An order of octets tells whether they are the same.
 pub ordered_tells : (o : Ordering) (xs ys : List ℕ) → Orders o xs ys → Tells (is_eq o) xs ys

@@ -7,24 +7,22 @@ use Rattle.dnw_codes.specs.RecordType.{record_type_number}
 use Rattle.dnw_codes.specs.declared.record_type.RecordType.{RecordType}
 use Rattle.dnw_codes.specs.declared.record_type.RecordType.TheVariants as kind
 use Rattle.drd_types.specs.dnw_decoder.Reading.{IsWantOfMemory}
-use Rattle.drd_types.specs.drd_fields.Fields.{FieldsAt}
-use Rattle.drd_types.specs.drd_fields.Reading.{RefusesWindow, StopsReading}
-use Rattle.drd_svcb.specs.drd_plain.Fields.{a_kinds, aaaa_kinds, are_alphanumeric, hinfo_kinds, txt_kinds}
-use Rattle.drd_types.specs.drd_names.Fields.{mx_kinds, one_name, soa_kinds, srv_kinds}
+use Rattle.drd_types.specs.drd_fields.Fields.{Field, FieldsAt}
+use Rattle.drd_types.specs.drd_fields.Reading.{RefusesValue, no_misfits}
+use Rattle.drd_svcb.specs.drd_plain.Fields.{are_alphanumeric}
+use Rattle.drd_svcb.specs.drd_plain.Reading.{NaptrMisfits}
 use Rattle.drd_types.specs.drd_keys.Cert.{IsNamedCert}
-use Rattle.drd_types.specs.drd_keys.Fields.{cert_kinds, null_kinds, openpgpkey_kinds, smimea_kinds, sshfp_kinds, tlsa_kinds}
 use Rattle.drd_types.specs.drd_keys.Sshfp.{IsNamedSshfp}
 use Rattle.drd_types.specs.drd_keys.Tlsa.{IsNamedTlsa}
 use Rattle.drd_types.specs.drd_caa.Fields.{IsCaa}
-use Rattle.drd_svcb.specs.drd_plain.Reading.{MissesNaptr}
-use Rattle.drd_types.specs.drd_caa.Reading.{RefusesCaa}
+use Rattle.drd_types.specs.drd_caa.Reading.{CaaMisfits}
 use Rattle.drd_types.specs.drd_csync.Data.{CsyncAt}
 use Rattle.drd_types.specs.drd_csync.Reading.{RefusesCsync}
 use Rattle.drd_types.specs.drd_opt.Reading.{EntriesAt, RefusesEntries}
 use Rattle.drd_types.specs.drd_opt.declared.opt.OPT.{OPT}
 use Rattle.drd_svcb.specs.drd_params.Params.{AreParams}
 use Rattle.drd_svcb.specs.Reading.{RefusesSvcb}
-use Rattle.drd_rdata.specs.Fields.{rdata_fields}
+use Rattle.drd_rdata.specs.Fields.{kinds_for, rdata_fields}
 use Rattle.drd_rdata.specs.Types.{type_of}
 use Rattle.drd_rdata.specs.declared.rdata.RData.{RData}
 use Rattle.drd_rdata.specs.declared.rdata.RData.TheVariants as rdata
@@ -109,41 +107,31 @@ ReadsAs record_type message place len value =
     ((len ≡ 0) × IsEmptyOf record_type value)
     ⊎ ((0 < len) × HoldsAs record_type message place value (place + len))
 
--- Why the octets up to an end are no data of this type, and where reading them stops.
+-- Fields that are no data of their type, as the error says: flags of NAPTR, a tag of CAA.
+abbrev pub misfits_for : RecordType → List Field → DecodeError → Type 0
+misfits_for kind.CAA = CaaMisfits
+misfits_for kind.NAPTR = NaptrMisfits
+misfits_for other = no_misfits
+
+-- A type that no record has data of.
+abbrev pub HasNoData : RecordType → ℕ → DecodeError → ℕ → Type 0
+HasNoData record_type place e at =
+    (e ≡ UnknownRecordTypeValue (record_type_number record_type)) × (at ≡ place)
+
+-- Why the octets up to an end are no data of this type, and where reading them stops: a field can't
+-- be read, the fields end elsewhere, or they are no data. Sets of types, options and services have
+-- causes of their own.
 abbrev pub StopsAs : RecordType → List ℕ → ℕ → ℕ → DecodeError → ℕ → Type 0
-StopsAs kind.A message place end e at = RefusesWindow message end a_kinds place e at
-StopsAs kind.AAAA message place end e at = RefusesWindow message end aaaa_kinds place e at
-StopsAs kind.ANAME message place end e at = RefusesWindow message end one_name place e at
-StopsAs kind.CAA message place end e at = RefusesCaa message place end e at
-StopsAs kind.CERT message place end e at = StopsReading message end cert_kinds place e at
-StopsAs kind.CNAME message place end e at = RefusesWindow message end one_name place e at
-StopsAs kind.CSYNC message place end e at = RefusesCsync message place end e at
-StopsAs kind.HINFO message place end e at = RefusesWindow message end hinfo_kinds place e at
-StopsAs kind.HTTPS message place end e at = RefusesSvcb message place end e at
-StopsAs kind.MX message place end e at = RefusesWindow message end mx_kinds place e at
-StopsAs kind.NAPTR message place end e at = MissesNaptr message place end e at
-StopsAs kind.NULL message place end e at = StopsReading message end null_kinds place e at
-StopsAs kind.NS message place end e at = RefusesWindow message end one_name place e at
-StopsAs kind.OPENPGPKEY message place end e at =
-    StopsReading message end openpgpkey_kinds place e at
-StopsAs kind.OPT message place end e at = RefusesEntries message place end e at
-StopsAs kind.PTR message place end e at = RefusesWindow message end one_name place e at
-StopsAs kind.SMIMEA message place end e at = StopsReading message end smimea_kinds place e at
-StopsAs kind.SOA message place end e at = RefusesWindow message end soa_kinds place e at
-StopsAs kind.SRV message place end e at = RefusesWindow message end srv_kinds place e at
-StopsAs kind.SSHFP message place end e at = StopsReading message end sshfp_kinds place e at
-StopsAs kind.SVCB message place end e at = RefusesSvcb message place end e at
-StopsAs kind.TLSA message place end e at = StopsReading message end tlsa_kinds place e at
-StopsAs kind.TXT message place end e at = StopsReading message end txt_kinds place e at
-StopsAs kind.ZERO message place end e at =
-    (e ≡ UnknownRecordTypeValue (record_type_number kind.ZERO)) × (at ≡ place)
-StopsAs kind.ANY message place end e at =
-    (e ≡ UnknownRecordTypeValue (record_type_number kind.ANY)) × (at ≡ place)
-StopsAs kind.AXFR message place end e at =
-    (e ≡ UnknownRecordTypeValue (record_type_number kind.AXFR)) × (at ≡ place)
-StopsAs kind.IXFR message place end e at =
-    (e ≡ UnknownRecordTypeValue (record_type_number kind.IXFR)) × (at ≡ place)
-StopsAs other message place end e at = StopsReading message end null_kinds place e at
+StopsAs kind.CSYNC = RefusesCsync
+StopsAs kind.HTTPS = RefusesSvcb
+StopsAs kind.OPT = RefusesEntries
+StopsAs kind.SVCB = RefusesSvcb
+StopsAs kind.ZERO = λ message place end e at. HasNoData kind.ZERO place e at
+StopsAs kind.ANY = λ message place end e at. HasNoData kind.ANY place e at
+StopsAs kind.AXFR = λ message place end e at. HasNoData kind.AXFR place e at
+StopsAs kind.IXFR = λ message place end e at. HasNoData kind.IXFR place e at
+StopsAs other = λ message place end e at.
+    RefusesValue (misfits_for other) message end (kinds_for other) place e at
 
 -- The number of octets up to where reading stopped comes first: where it is not the length of the
 -- data, that is the error, and the cause does not show.
@@ -157,3 +145,8 @@ abbrev pub RefusesAs : RecordType → List ℕ → ℕ → ℕ → DecodeError �
 RefusesAs record_type message place len e =
     (cause : DecodeError) × (at : ℕ) × StopsAs record_type message place (place + len) cause at
     × (IsWantOfMemory cause → ⊥) × Shows place len cause at e
+
+-- Memory was wanted for a part of the data that takes some.
+abbrev pub WantsMemoryAs : RecordType → List ℕ → ℕ → ℕ → DecodeError → Type 0
+WantsMemoryAs record_type message place len e =
+    IsWantOfMemory e × (at : ℕ) × StopsAs record_type message place (place + len) e at

@@ -1,19 +1,21 @@
 -- Record data of every type in words (RFC 1035 5.1).
 use Rattle.std.specs.Prelude.{ℕ, Bool, true, false, List, [], codes, Option}
 use Rattle.drd_svcb.specs.dnw_name.DomainName.{DomainName}
+use Rattle.dnw_codes.specs.declared.error.ParseError.{ParseError}
 use Rattle.dnw_codes.specs.declared.record_type.RecordType.{RecordType}
 use Rattle.dnw_codes.specs.declared.record_type.RecordType.TheVariants as kind
 use Rattle.drd_svcb.specs.dnw_name.NamePrint.{name_print}
 use Rattle.drd_types.specs.drd_caa.Print.{caa_print}
-use Rattle.drd_types.specs.drd_caa.Words.{IsCaaText}
-use Rattle.drd_types.specs.drd_csync.Texts.{IsCsyncText, csync_print}
+use Rattle.drd_types.specs.drd_caa.Words.{IsCaaText, RefusesCaaText}
+use Rattle.drd_types.specs.drd_csync.Texts.{IsCsyncText, RefusesCsyncText, csync_print}
 use Rattle.drd_types.specs.drd_keys.Print.{cert_print, null_print, openpgpkey_print, smimea_print, sshfp_print, tlsa_print}
-use Rattle.drd_types.specs.drd_keys.Texts.{IsCertText, IsOpenpgpkeyText, IsSmimeaText, IsSshfpText, IsTlsaText}
-use Rattle.drd_types.specs.drd_names.Texts.{IsAnameText, IsCnameText, IsMxText, IsNsText, IsPtrText, IsSoaText, IsSrvText, mx_print, soa_print, srv_print}
+use Rattle.drd_types.specs.drd_keys.Texts.{IsCertText, IsOpenpgpkeyText, IsSmimeaText, IsSshfpText, IsTlsaText, RefusesCertText, RefusesOpenpgpkeyText, RefusesSmimeaText, RefusesSshfpText, RefusesTlsaText}
+use Rattle.drd_types.specs.drd_names.Texts.{IsAnameText, IsCnameText, IsMxText, IsNsText, IsPtrText, IsSoaText, IsSrvText, RefusesMxText, RefusesOneName, RefusesSoaText, RefusesSrvText, mx_print, soa_print, srv_print}
 use Rattle.drd_types.specs.drd_opt.Entries.{entries_print}
 use Rattle.drd_svcb.specs.drd_plain.Print.{a_print, aaaa_print, hinfo_print, naptr_print, txt_print}
-use Rattle.drd_svcb.specs.drd_plain.Words.{IsAText, IsAaaaText, IsHinfoText, IsNaptrText, IsTxtText}
+use Rattle.drd_svcb.specs.drd_plain.Words.{IsAText, IsAaaaText, IsHinfoText, IsNaptrText, IsTxtText, RefusesAText, RefusesAaaaText, RefusesHinfoText, RefusesNaptrText, RefusesTxtText}
 use Rattle.drd_svcb.specs.Print.{svcb_print}
+use Rattle.drd_svcb.specs.ParamRefusals.{RefusesSvcbText}
 use Rattle.drd_svcb.specs.Texts.{IsSvcbText}
 use Rattle.drd_rdata.specs.Types.{Is}
 use Rattle.drd_rdata.specs.declared.rdata.RData.{RData}
@@ -50,6 +52,32 @@ IsTextOf kind.SVCB words origin value = Is rdata.SVCB (λ svcb. IsSvcbText words
 IsTextOf kind.TLSA words origin value = Is rdata.TLSA (λ tlsa. IsTlsaText words tlsa) value
 IsTextOf kind.TXT words origin value = Is rdata.TXT (λ txt. IsTxtText words txt) value
 IsTextOf other words origin value = ⊥
+
+-- Why the words write no data of a record of this type: by the first that is missing, one too many,
+-- or unfit.
+abbrev pub RefusesTextOf : RecordType → List (List ℕ) → Option DomainName → ParseError → Type 0
+RefusesTextOf kind.A words origin e = RefusesAText words e
+RefusesTextOf kind.AAAA words origin e = RefusesAaaaText words e
+RefusesTextOf kind.ANAME words origin e = RefusesOneName words origin e
+RefusesTextOf kind.CAA words origin e = RefusesCaaText words e
+RefusesTextOf kind.CERT words origin e = RefusesCertText words e
+RefusesTextOf kind.CNAME words origin e = RefusesOneName words origin e
+RefusesTextOf kind.CSYNC words origin e = RefusesCsyncText words e
+RefusesTextOf kind.HINFO words origin e = RefusesHinfoText words e
+RefusesTextOf kind.HTTPS words origin e = RefusesSvcbText words origin e
+RefusesTextOf kind.MX words origin e = RefusesMxText words origin e
+RefusesTextOf kind.NAPTR words origin e = RefusesNaptrText words origin e
+RefusesTextOf kind.NS words origin e = RefusesOneName words origin e
+RefusesTextOf kind.OPENPGPKEY words origin e = RefusesOpenpgpkeyText words e
+RefusesTextOf kind.PTR words origin e = RefusesOneName words origin e
+RefusesTextOf kind.SMIMEA words origin e = RefusesSmimeaText words e
+RefusesTextOf kind.SOA words origin e = RefusesSoaText words origin e
+RefusesTextOf kind.SRV words origin e = RefusesSrvText words origin e
+RefusesTextOf kind.SSHFP words origin e = RefusesSshfpText words e
+RefusesTextOf kind.SVCB words origin e = RefusesSvcbText words origin e
+RefusesTextOf kind.TLSA words origin e = RefusesTlsaText words e
+RefusesTextOf kind.TXT words origin e = RefusesTxtText words e
+RefusesTextOf other words origin e = ⊥
 
 -- The types whose data have a text.
 abbrev pub has_text : RecordType → Bool

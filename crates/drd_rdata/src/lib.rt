@@ -17,6 +17,7 @@ mod rdata;
 mod read;
 mod record_data;
 mod text;
+mod text_type;
 
 pub use back::is_read_back;
 pub use rdata::RData;

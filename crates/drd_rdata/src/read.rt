@@ -1,20 +1,16 @@
 //! Record data in messages.
-ghost use Rattle.std.specs.Prelude.{◌≡◌, ◌+◌, ◌<◌, ◌≤◌, ◌⊎◌, ℕ, List, length as size, MatchBool, IfOk, IfErr, OnOk};
+ghost use Rattle.std.specs.Prelude.{◌≡◌, ◌+◌, ◌<◌, ◌≤◌, ◌⊎◌, ℕ, length as size, IfOk, IfErr, OnOk};
 ghost use Rattle.dnw_codes.specs.RecordType.{record_type_number};
 ghost use Rattle.dnw_codes.specs.declared.error.DecodeError.TheVariants.{UnknownRecordTypeValue};
 ghost use Rattle.dnw_codes.specs.declared.error.DecodeError.{DecodeError as Error};
-ghost use Rattle.drd_types.specs.dnw_decoder.Reading.{IsWantOfMemory};
-ghost use Rattle.drd_rdata.specs.declared.rdata.RData.{RData as Rdata};
-ghost use Rattle.drd_types.specs.drd_fields.Fields.{FieldsAt};
-ghost use Rattle.drd_types.specs.drd_fields.Reading.{StopsReading};
-ghost use Rattle.drd_types.specs.drd_keys.Fields.{null_fields, null_kinds};
-ghost use Rattle.drd_rdata.specs.declared.rdata.RData.TheVariants.{Unknown};
 ghost use Rattle.dnw_codes.specs.declared.error.ProtoError.{ProtoError as WritingError};
+ghost use Rattle.drd_types.specs.dnw_decoder.Reading.{IsWantOfMemory};
 ghost use Rattle.drd_types.specs.dnw_encoder.State.{State};
-ghost use Rattle.drd_rdata.specs.Writing.{RefusesRData, WantsRoom};
+ghost use Rattle.drd_rdata.specs.declared.rdata.RData.{RData as Rdata};
 ghost use Rattle.drd_rdata.specs.Order.{HasCanonical, canonical_data};
+ghost use Rattle.drd_rdata.specs.Reading.{IsEmptyOf, IsOther, HoldsAs, ReadsAs, RefusesAs, Shows, WantsMemoryAs};
 ghost use Rattle.drd_rdata.specs.Types.{Is, type_of};
-ghost use Rattle.drd_rdata.specs.Reading.{IsEmptyOf, HoldsAs, ReadsAs, StopsAs, RefusesAs, Shows};
+ghost use Rattle.drd_rdata.specs.Writing.{RefusesRData, WantsRoom};
 
 use crate::rdata::RData;
 use crate::record_data::RecordData;
@@ -49,8 +45,8 @@ impl RData {
         ensures same { decoder.new.octets ≡ decoder.old.octets }
         ensures forward { decoder.old.index ≤ decoder.new.index }
         ensures within { decoder.new.index ≤ size decoder.new.octets }
-        ensures refused { IfErr result (λ e. IsWantOfMemory e
-            ⊎ ((0 < length) × RefusesAs record_type decoder.old.octets decoder.old.index length e)) }
+        ensures refused { IfErr result (λ e. (0 < length) × (WantsMemoryAs record_type decoder.old.octets decoder.old.index length e
+            ⊎ RefusesAs record_type decoder.old.octets decoder.old.index length e)) }
         ensures none { IfErr result (λ e. IsWantOfMemory e
             ⊎ ((value : Rdata) → ReadsAs record_type decoder.old.octets decoder.old.index length value → ⊥)) }
     {
@@ -85,7 +81,7 @@ impl RData {
         ensures same { decoder.new.octets ≡ decoder.old.octets }
         ensures forward { decoder.old.index ≤ decoder.new.index }
         ensures within { decoder.new.index ≤ size decoder.new.octets }
-        ensures refused { IfErr result (λ e. IsWantOfMemory e
+        ensures refused { IfErr result (λ e. WantsMemoryAs record_type decoder.old.octets decoder.old.index length e
             ⊎ RefusesAs record_type decoder.old.octets decoder.old.index length e) }
         ensures none { IfErr result (λ e. IsWantOfMemory e
             ⊎ ((value : Rdata) → HoldsAs record_type decoder.old.octets decoder.old.index value (decoder.old.index + length) → ⊥)) }
@@ -133,7 +129,8 @@ fn read_as<T: RecordDataDecodable + RecordData + Drop>(
     ensures same { decoder.new.octets ≡ decoder.old.octets }
     ensures forward { decoder.old.index ≤ decoder.new.index }
     ensures within { decoder.new.index ≤ size decoder.new.octets }
-    ensures refused { IfErr result (λ e. IsWantOfMemory e ⊎ ((cause : Error) × (at : ℕ)
+    ensures refused { IfErr result (λ e. (IsWantOfMemory e × (at : ℕ)
+        × T.refuses decoder.old.octets decoder.old.index (decoder.old.index + length) e at) ⊎ ((cause : Error) × (at : ℕ)
         × T.refuses decoder.old.octets decoder.old.index (decoder.old.index + length) cause at
         × (IsWantOfMemory cause → ⊥) × Shows decoder.old.index length cause at e)) }
     ensures none { IfErr result (λ e. IsWantOfMemory e ⊎ ((value : Rdata)
@@ -192,18 +189,16 @@ fn read_unknown(
     code: RecordType,
     length: Restrict<u16>,
 ) -> Result<RData, DecodeError>
-    ensures ok { IfOk result
-        (λ value. Is (Unknown code)
-        (λ null. FieldsAt decoder.old.octets decoder.old.index (null_fields null) (decoder.old.index + length)) value) }
+    requires { IsOther code }
+    ensures ok { IfOk result (λ value. HoldsAs code decoder.old.octets decoder.old.index value (decoder.old.index + length)) }
     ensures end { OnOk result (decoder.new.index ≡ decoder.old.index + length) }
     ensures same { decoder.new.octets ≡ decoder.old.octets }
     ensures forward { decoder.old.index ≤ decoder.new.index }
     ensures within { decoder.new.index ≤ size decoder.new.octets }
-    ensures refused { IfErr result (λ e. IsWantOfMemory e ⊎ ((cause : Error) × (at : ℕ)
-        × StopsReading decoder.old.octets (decoder.old.index + length) null_kinds decoder.old.index cause at
-        × (IsWantOfMemory cause → ⊥) × Shows decoder.old.index length cause at e)) }
-    ensures none { IfErr result (λ e. IsWantOfMemory e ⊎ ((value : Rdata)
-        → Is (Unknown code) (λ null. FieldsAt decoder.old.octets decoder.old.index (null_fields null) (decoder.old.index + length)) value → ⊥)) }
+    ensures refused { IfErr result (λ e. WantsMemoryAs code decoder.old.octets decoder.old.index length e
+        ⊎ RefusesAs code decoder.old.octets decoder.old.index length e) }
+    ensures none { IfErr result (λ e. IsWantOfMemory e
+        ⊎ ((value : Rdata) → HoldsAs code decoder.old.octets decoder.old.index value (decoder.old.index + length) → ⊥)) }
 {
     let start = decoder.index();
     match NULL::read_data(alloc, decoder, length) {

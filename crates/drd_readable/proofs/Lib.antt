@@ -1,4 +1,3 @@
-pub mod AloneLaws
 pub mod DataLaws
 pub mod OptionLaws
 mod Params

@@ -18,7 +18,7 @@ use Rattle.drd_option.specs.declared.subnet.ClientSubnet.{ClientSubnet}
 use Rattle.drd_rdata.specs.drd_opt.Entries.{Entry, RawOption, raw_option, FitsLengths, options_octets, raw_octets}
 use Rattle.drd_rdata.proofs.drd_opt_lemmas.FitLaws.{option_fits}
 use Rattle.drd_rdata.specs.drd_opt.Reading.{AreEntriesOf, HoldsEntries}
-use Rattle.drd_readable.proofs.AloneLaws.{whole}
+use Rattle.drd_option.proofs.drd_fields_lemmas.ReadableLaws.{whole}
 use Rattle.drd_readable.specs.Options.{StandsSomewhere, HasOwnForm, IsPadded}
 
 -- ---- entries one by one

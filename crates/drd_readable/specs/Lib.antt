@@ -1,4 +1,3 @@
-pub mod Alone
 pub mod Options
 pub mod Data
 pub use Rattle.drd_rdata.specs.dnw_codes

@@ -1,42 +1,33 @@
 //! Data of certificates and fingerprints: each code is the one that its number stands for, as those that are read.
 ghost use Rattle.std.specs.Prelude.{◌≡◌, ◌↔◌, IsTrue};
-ghost use Rattle.drd_rdata.specs.drd_keys.Cert.{cert_algorithm_number, cert_algorithm_of, cert_type_number, cert_type_of};
-ghost use Rattle.drd_rdata.specs.drd_keys.Sshfp.{fingerprint_type_number, fingerprint_type_of, sshfp_algorithm_number, sshfp_algorithm_of};
-ghost use Rattle.drd_rdata.specs.drd_keys.Tlsa.{cert_usage_number, cert_usage_of, matching_number, matching_of, selector_number, selector_of};
-ghost use Rattle.drd_rdata.specs.declared.rdata.RData.TheVariants as variant;
-ghost use Rattle.drd_readable.specs.Data.{CanBeRead};
+ghost use Rattle.drd_rdata.specs.drd_keys.Cert.{cert_algorithm_number, cert_algorithm_of, cert_type_number, cert_type_of, IsNamedCert};
+ghost use Rattle.drd_rdata.specs.drd_keys.Sshfp.{fingerprint_type_number, fingerprint_type_of, sshfp_algorithm_number, sshfp_algorithm_of, IsNamedSshfp};
+ghost use Rattle.drd_rdata.specs.drd_keys.Tlsa.{cert_usage_number, cert_usage_of, matching_number, matching_of, selector_number, selector_of, IsNamedTlsa};
 
 use drd_rdata::cert::{Algorithm as KeyAlgorithm, CertType};
 use drd_rdata::sshfp::{Algorithm, FingerprintType};
 use drd_rdata::tlsa::{CertUsage, Matching, Selector};
-use drd_rdata::{CERT, SMIMEA, SSHFP, TLSA};
+use drd_rdata::{CERT, SSHFP, TLSA};
 
 /// Whether kind and algorithm are those of their numbers.
-pub(crate) fn can_read_cert(cert: &CERT) -> bool
-    ensures { IsTrue result ↔ CanBeRead (variant.CERT cert.now) }
+pub(crate) fn is_named_cert(cert: &CERT) -> bool
+    ensures { IsTrue result ↔ IsNamedCert cert.now }
 {
     is_own_kind(cert.cert_type) && is_own_key_algorithm(cert.algorithm)
 }
 
 /// Whether algorithm and hash are those of their numbers.
-pub(crate) fn can_read_sshfp(sshfp: &SSHFP) -> bool
-    ensures { IsTrue result ↔ CanBeRead (variant.SSHFP sshfp.now) }
+pub(crate) fn is_named_sshfp(sshfp: &SSHFP) -> bool
+    ensures { IsTrue result ↔ IsNamedSshfp sshfp.now }
 {
     is_own_algorithm(sshfp.algorithm) && is_own_hash(sshfp.fingerprint_type)
 }
 
 /// Whether use, part and form are those of their numbers.
-pub(crate) fn can_read_tlsa(tlsa: &TLSA) -> bool
-    ensures { IsTrue result ↔ CanBeRead (variant.TLSA tlsa.now) }
+pub(crate) fn is_named_tlsa(tlsa: &TLSA) -> bool
+    ensures { IsTrue result ↔ IsNamedTlsa tlsa.now }
 {
     is_own_usage(tlsa.cert_usage) && is_own_part(tlsa.selector) && is_own_form(tlsa.matching)
-}
-
-/// Whether those of TLSA can.
-pub(crate) fn can_read_smimea(smimea: &SMIMEA) -> bool
-    ensures { IsTrue result ↔ CanBeRead (variant.SMIMEA smimea.now) }
-{
-    can_read_tlsa(&smimea.0)
 }
 
 fn is_own_kind(kind: CertType) -> bool

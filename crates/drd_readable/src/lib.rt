@@ -7,8 +7,8 @@
 
 pub use drd_option::{
     BinDecodable, BinDecoder, BinEncodable, BinEncoder, ClientSubnet, EdnsCode, EdnsOption,
-    EncodedSize, HEX, Label, LowerName, NSIDPayload, Name, NameEncoding, RecordDataDecodable,
-    RrKey,
+    EncodedSize, FieldData, FieldRef, Fields, HEX, Label, LowerName, NSIDPayload, Name,
+    NameEncoding, RecordDataDecodable, RrKey, TextData,
 };
 pub use drd_params::{
     A, AAAA, Alpn, EchConfigList, HINFO, IpHint, Mandatory, NAPTR, SvcParamKey, SvcParamValue, TXT,
@@ -22,10 +22,8 @@ pub use drd_rdata::{
 
 mod keys;
 mod kinds;
-mod names;
 mod options;
 mod readable;
 mod services;
-mod strings;
 
 pub use readable::is_readable;

@@ -1,15 +1,16 @@
 //! Whether record data can be read.
 ghost use Rattle.std.specs.Prelude.{◌↔◌, IsTrue};
-ghost use Rattle.drd_rdata.specs.Reading.{IsReadable};
+ghost use Rattle.drd_rdata.specs.Reading.{IsReadable, IsValid};
+ghost use Rattle.drd_rdata.specs.drd_caa.Fields.{IsCaa};
 ghost use Rattle.drd_readable.specs.Data.{CanBeRead};
 
-use crate::keys::{can_read_cert, can_read_smimea, can_read_sshfp, can_read_tlsa};
+use crate::keys::{is_named_cert, is_named_sshfp, is_named_tlsa};
 use crate::kinds::{can_read_csync, is_other};
-use crate::names::{can_read_soa, ends_at_root};
 use crate::options::can_read_opt;
-use crate::services::can_read_service;
-use crate::strings::{can_read_caa, can_read_hinfo, can_read_naptr, can_read_txt};
-use drd_rdata::RData;
+use crate::services::{are_params, can_read_service};
+use drd_option::are_readable;
+use drd_params::verify_flags;
+use drd_rdata::{CAA, RData, is_tag};
 
 /// Whether record data can be read: in some message they stand as data of their type, and take octets (RFC 1035 3.2.1).
 /// They do where all names end at the root, strings have at most 255 octets, and there is at least one in TXT; where flags
@@ -28,29 +29,50 @@ fn can_be_read(rdata: &RData) -> bool
     ensures { IsTrue result ↔ CanBeRead rdata.now }
 {
     match rdata {
-        RData::A(_) | RData::AAAA(_) => true,
-        RData::ANAME(aname) => ends_at_root(&aname.0),
-        RData::CAA(caa) => can_read_caa(caa),
-        RData::CERT(cert) => can_read_cert(cert),
-        RData::CNAME(cname) => ends_at_root(&cname.0),
         RData::CSYNC(csync) => can_read_csync(csync),
-        RData::HINFO(hinfo) => can_read_hinfo(hinfo),
         RData::HTTPS(https) => can_read_service(&https.0),
-        RData::MX(mx) => ends_at_root(&mx.exchange),
-        RData::NAPTR(naptr) => can_read_naptr(naptr),
-        RData::NULL(null) => !null.anything.is_empty(),
-        RData::NS(ns) => ends_at_root(&ns.0),
-        RData::OPENPGPKEY(openpgpkey) => !openpgpkey.public_key.is_empty(),
         RData::OPT(opt) => can_read_opt(opt),
-        RData::PTR(ptr) => ends_at_root(&ptr.0),
-        RData::SMIMEA(smimea) => can_read_smimea(smimea),
-        RData::SOA(soa) => can_read_soa(soa),
-        RData::SRV(srv) => ends_at_root(&srv.target),
-        RData::SSHFP(sshfp) => can_read_sshfp(sshfp),
         RData::SVCB(svcb) => can_read_service(svcb),
-        RData::TLSA(tlsa) => can_read_tlsa(tlsa),
-        RData::TXT(txt) => can_read_txt(txt),
-        RData::Unknown { code, rdata } => is_other(*code) && !rdata.anything.is_empty(),
-        RData::Update0(_) | RData::ZERO => false,
+        _ => is_valid(rdata) && are_readable(rdata.fields().as_slice()),
     }
+}
+
+// Whether data hold what their type asks for beyond the form of their fields.
+fn is_valid(rdata: &RData) -> bool
+    ensures { IsTrue result ↔ IsValid rdata.now }
+{
+    match rdata {
+        RData::CAA(caa) => is_property(caa),
+        RData::CERT(cert) => is_named_cert(cert),
+        RData::HTTPS(https) => are_params(&https.0.svc_params),
+        RData::NAPTR(naptr) => verify_flags(&naptr.flags),
+        RData::SMIMEA(smimea) => is_named_tlsa(&smimea.0),
+        RData::SSHFP(sshfp) => is_named_sshfp(sshfp),
+        RData::SVCB(svcb) => are_params(&svcb.svc_params),
+        RData::TLSA(tlsa) => is_named_tlsa(tlsa),
+        RData::Unknown { code, .. } => is_other(*code),
+        RData::Update0(_) | RData::ZERO => false,
+        RData::A(_)
+        | RData::AAAA(_)
+        | RData::ANAME(_)
+        | RData::CNAME(_)
+        | RData::CSYNC(_)
+        | RData::HINFO(_)
+        | RData::MX(_)
+        | RData::NULL(_)
+        | RData::NS(_)
+        | RData::OPENPGPKEY(_)
+        | RData::OPT(_)
+        | RData::PTR(_)
+        | RData::SOA(_)
+        | RData::SRV(_)
+        | RData::TXT(_) => true,
+    }
+}
+
+// Whether the tag is 1 to 15 letters and digits, and the reserved flags have seven bits (RFC 8659 4.1).
+fn is_property(caa: &CAA) -> bool
+    ensures { IsTrue result ↔ IsCaa caa.now }
+{
+    is_tag(&caa.tag) && caa.reserved_flags < 128
 }

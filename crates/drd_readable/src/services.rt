@@ -4,12 +4,22 @@ ghost use Rattle.drd_params.specs.Keys.{IsKey, key_number, key_of};
 ghost use Rattle.drd_params.specs.Params.{AreParams, IsParam};
 ghost use Rattle.drd_params.specs.Values.{IsShortText, IsUnknown, IsValueOf, value_octets};
 ghost use Rattle.drd_params.specs.declared.key.SvcParamKey.TheVariants as of;
+ghost use Rattle.drd_option.specs.drd_fields.Readable.{EndsAtRoot};
 ghost use Rattle.drd_readable.specs.Data.{IsService};
 ghost use Rattle.std.specs.List.{All};
 
-use crate::names::ends_at_root;
+use drd_option::Name;
 use drd_params::{SvcParamKey, SvcParamValue};
 use drd_rdata::SVCB;
+
+// Whether a name ends at the root, as each name in a message does (RFC 1035 3.1).
+fn ends_at_root(name: &Name) -> bool
+    ensures { IsTrue result ↔ EndsAtRoot name.now }
+{
+    // That its labels are those of a name is so of every name.
+    let _labels = name.num_labels();
+    name.is_fqdn()
+}
 
 /// Whether the target ends at the root, and the parameters are some of a record.
 pub(crate) fn can_read_service(svcb: &SVCB) -> bool
@@ -18,8 +28,8 @@ pub(crate) fn can_read_service(svcb: &SVCB) -> bool
     ends_at_root(&svcb.target_name) && are_params(&svcb.svc_params)
 }
 
-// Whether keys rise strictly, each with a value of its own.
-fn are_params(params: &[(SvcParamKey, SvcParamValue)]) -> bool
+/// Whether keys rise strictly, each with a value of its own.
+pub(crate) fn are_params(params: &[(SvcParamKey, SvcParamValue)]) -> bool
     ensures { IsTrue result ↔ AreParams params.now }
 {
     let mut least = 0;

@@ -5,8 +5,11 @@ use Rattle.std.specs.List.{slice_split, onto_first}
 use Rattle.std.specs.Prelude.{Option, Some, None, MatchOption}
 use Rattle.std.proofs.lemmas.Bool.Decides.{nat_tests}
 use Rattle.std.proofs.lemmas.List.Splits.{slice_split-cons_yes, slice_split-cons_no}
-use Rattle.drd_params.proofs.drd_words_lemmas.EachWord.{each-more, each-one}
+use Rattle.drd_params.proofs.drd_words_lemmas.EachWord.{each-more}
+use Rattle.drd_params.specs.dnw_codes.declared.error.ParseError.{ParseError}
+use Rattle.drd_params.specs.drd_words.Refusals.{RefusesEach}
 use Rattle.drd_params.specs.drd_words.Words.{EachWord}
+use Rattle.drd_svcb.specs.ParamRefusals.{RefusesList}
 use Rattle.drd_svcb.specs.Texts.{is_comma, IsListText}
 
 abbrev parts_of : List ℕ → List (List ℕ)
@@ -56,9 +59,14 @@ module _ {A : Type 0} (One : A → List ℕ → Type 0) where
   pub ahead-end : (text : List ℕ) (found : List A) → Ahead text found None → IsListText One found text
   ahead-end text found ahead = subst (λ (ps : List (List ℕ)). EachWord One found ps) (sym (ahead.parts ∙ append-nil ahead.front)) ahead.each
 
-  pub ahead-none : {M : Type 0} (text : List ℕ) (found : List A) (left : Bor (List ℕ)) (part : List ℕ) (behind : Option (Bor (List ℕ))) → Ahead text found (Some left) → parts_of left.now ≡ part ∷ parts_left behind → M ⊎ ((x : A) → One x part → ⊥) → M ⊎ ((xs : List A) → IsListText One xs text → ⊥)
-  ahead-none text found left part behind ahead cut (inl m) = inl m
-  ahead-none text found left part behind ahead cut (inr none) = inr (λ xs all.
+  refused-behind : (Unwritten : List ℕ → ParseError → Type 0) (e : ParseError) (xs : List A) (front : List (List ℕ)) (part : List ℕ) (later : List (List ℕ)) → EachWord One xs front → Unwritten part e → RefusesEach One Unwritten (front ++ part ∷ later) e
+  refused-behind Unwritten e [] [] part later each here = inl here
+  refused-behind Unwritten e [] (w ∷ ws) part later each here = absurd each
+  refused-behind Unwritten e (x ∷ xs) [] part later each here = absurd each
+  refused-behind Unwritten e (x ∷ xs) (w ∷ ws) part later each here = inr (x, each.0, refused-behind Unwritten e xs ws part later each.1 here)
+
+  pub ahead-refused : {M : Type 0} (Unwritten : List ℕ → ParseError → Type 0) (e : ParseError) (text : List ℕ) (found : List A) (left : Bor (List ℕ)) (part : List ℕ) (behind : Option (Bor (List ℕ))) → Ahead text found (Some left) → parts_of left.now ≡ part ∷ parts_left behind → M ⊎ Unwritten part e → M ⊎ RefusesList One Unwritten text e
+  ahead-refused Unwritten e text found left part behind ahead cut (inl m) = inl m
+  ahead-refused Unwritten e text found left part behind ahead cut (inr here) =
       let whole = ahead.parts ∙ ap (λ (ps : List (List ℕ)). ahead.front ++ ps) cut in
-      let here = each-one One xs ahead.front part (parts_left behind) (subst (λ (ps : List (List ℕ)). EachWord One xs ps) whole all) in
-      none here.0 here.1)
+      inr (subst (λ (ps : List (List ℕ)). RefusesEach One Unwritten ps e) (sym whole) (refused-behind Unwritten e found ahead.front part (parts_left behind) ahead.each here))

@@ -8,8 +8,8 @@ use Rattle.std.specs.declared.cmp.Ordering.TheVariants.{Less, Equal, Greater}
 use Rattle.std.proofs.lemmas.List.Concat.{flat_map-cons}
 use Rattle.drd_params.specs.dnw_decoder.Octets.{octets_16}
 use Rattle.drd_params.specs.drd_fields.Fields.{Field, short, rest}
-use Rattle.drd_params.specs.drd_order.Order.{field_cmp, fields_cmp, octets_cmp, Orders, OrdersFronts}
-use Rattle.drd_params.proofs.drd_order_lemmas.OrderLaws.{cmp_one, cmp_strings, short_orders}
+use Rattle.drd_params.specs.drd_fields.Order.{field_cmp, fields_cmp, octets_cmp, Orders, OrdersFronts}
+use Rattle.drd_fields.proofs.OrderLaws.{cmp_one, cmp_strings, short_orders}
 use Rattle.drd_params.specs.Equality.{told_length, value_kind, value_code, param_code, params_code}
 use Rattle.drd_params.specs.Keys.{key_number, key_of}
 use Rattle.drd_params.specs.Params.{Param, Rise, AreParams, params_octets}

@@ -1,17 +1,26 @@
 -- Parameters in words.
 use Rattle.std.proofs.Common.{◌≡◌, ◌<◌, ◌≤◌, ◌+◌, ℕ, zero, suc, List, [], ◌∷◌, ◌++◌, length, map, take, drop, get_or, refl, sym, ap, subst, ◌∙◌, arith, ◌⊎◌, inl, inr}
+use Rattle.std.specs.Prelude.{Err}
 use Rattle.std.specs.Borrow.{Bor}
 use Rattle.std.specs.List.{before_first, after_first}
+use lib.Chars.{codes}
+use Rattle.std.specs.Option.{ok_or}
 use Rattle.std.proofs.lemmas.List.{append_cancel_right, map-append}
+use Rattle.drd_params.specs.dnw_codes.declared.error.ParseError.{ParseError}
+use Rattle.drd_params.specs.dnw_codes.declared.error.ParseError.TheVariants.{UnexpectedToken}
+use Rattle.drd_params.specs.drd_words.Refusals.{IsMessage}
+use Rattle.drd_params.specs.drd_words.Word.{IsOutOfMemory}
 use Rattle.drd_params.specs.drd_words.Words.{EachWord}
 use Rattle.drd_params.proofs.drd_words_lemmas.EachWord.{each-step}
-use Rattle.drd_params.specs.Keys.{key_number}
+use Rattle.drd_params.specs.Keys.{key_number, key_of_text}
 use Rattle.drd_params.specs.Params.{Param, IsParam, Rise}
-use Rattle.drd_params.specs.Texts.{IsKeyText}
+use Rattle.drd_params.specs.Texts.{IsKeyText, RefusesKeyText}
 use Rattle.drd_params.specs.Values.{value_octets}
 use Rattle.drd_params.specs.declared.key.SvcParamKey.{SvcParamKey}
 use Rattle.drd_params.specs.declared.value.SvcParamValue.{SvcParamValue}
-use Rattle.drd_params.proofs.KeyTexts.{key-one, key-once}
+use Rattle.drd_params.proofs.KeyTexts.{key-none, key-one, key-once}
+use Rattle.drd_svcb.specs.ParamRefusals.{RefusesValueText, NoParamText, RefusesParamTexts}
+use Rattle.drd_svcb.specs.ParamRefusalsLaws.{value_causes}
 use Rattle.drd_svcb.specs.Texts.{is_equals, IsValueText, IsUnquoted, IsParamText, AreParamTexts}
 use Rattle.drd_svcb.proofs.ValueTexts.{value-length, value-of}
 
@@ -36,10 +45,6 @@ pub param-is : (word inner : List ℕ) (k : SvcParamKey) (v : SvcParamValue) →
 param-is word inner k v is quotes told few =
     let key = key-one k (before_first is_equals word) is in
     (record { key = is; text = inner; quotes = quotes; value = told }, record { number = key.small; key = key.one; value = value-of k v inner told; few = few })
-
-pub no-value : {M : Type 0} (word inner : List ℕ) (k : SvcParamKey) → IsKeyText k (before_first is_equals word) → IsUnquoted (after_first is_equals word) inner → M ⊎ ((v : SvcParamValue) → IsValueText k v inner → ⊥) → M ⊎ ((p : Param) → IsParamText p word → IsParam p → ⊥)
-no-value word inner k is quotes (inl m) = inl m
-no-value word inner k is quotes (inr none) = inr (λ p h param. none p.1 (text-of word inner k is quotes p h).1)
 
 pub too-long : (word inner : List ℕ) (k : SvcParamKey) (v : SvcParamValue) → IsKeyText k (before_first is_equals word) → IsUnquoted (after_first is_equals word) inner → IsValueText k v inner → 65535 < length (value_octets v) → (p : Param) → IsParamText p word → IsParam p → ⊥
 too-long word inner k v is quotes told long p h param =
@@ -80,21 +85,60 @@ split-at [] i d h = absurd (omega (arith, h))
 split-at (x ∷ xs) zero d h = refl
 split-at (x ∷ xs) (suc i) d h = ap (λ t. x ∷ t) (split-at xs i d (omega (arith, h)))
 
+-- The words, with the one at an index between those before it and those behind it.
+parts-at : (words : List (Bor (List ℕ))) (i : ℕ) (d : Bor (List ℕ)) → i < length words → map now_of words ≡ map now_of (take i words) ++ now_of (get_or words i d) ∷ map now_of (drop (suc i) words)
+parts-at words i d small =
+    ap (map now_of) (split-at words i d small) ∙ map-append now_of (take i words) (get_or words i d ∷ drop (suc i) words)
+
 param-at : (found : List Param) (words : List (Bor (List ℕ))) (i least : ℕ) (d : Bor (List ℕ)) → i < length words → Done found words i least → (ps : List Param) → AreParamTexts ps (map now_of words) → (p : Param) × IsParamText p (get_or words i d).now × IsParam p × (least ≤ key_number p.0)
 param-at found words i least d small done ps all =
-    let parts : map now_of words ≡ map now_of (take i words) ++ now_of (get_or words i d) ∷ map now_of (drop (suc i) words) =
-    ap (map now_of) (split-at words i d small) ∙ map-append now_of (take i words) (get_or words i d ∷ drop (suc i) words) in
     rise-at ps found (map now_of (take i words)) (now_of (get_or words i d)) (map now_of (drop (suc i) words)) 0 least all.1.0
-    (subst (λ (ws : List (List ℕ)). EachWord IsParamText ps ws) parts all.0) all.1.1 done.each done.rise
+    (subst (λ (ws : List (List ℕ)). EachWord IsParamText ps ws) (parts-at words i d small) all.0) all.1.1 done.each done.rise
 
-pub no-param : {M V : Type 0} (items : V → List Param) (found : List Param) (words : List (Bor (List ℕ))) (i least : ℕ) (d : Bor (List ℕ)) → i < length words → Done found words i least → M ⊎ ((p : Param) → IsParamText p (get_or words i d).now → IsParam p → ⊥) → M ⊎ ((v : V) → AreParamTexts (items v) (map now_of words) → ⊥)
-no-param items found words i least d small done (inl m) = inl m
-no-param items found words i least d small done (inr none) = inr (λ v all.
+pub no-param : {M V : Type 0} (e : ParseError) (items : V → List Param) (found : List Param) (words : List (Bor (List ℕ))) (i least : ℕ) (d : Bor (List ℕ)) → i < length words → Done found words i least → M ⊎ NoParamText (get_or words i d).now e → M ⊎ ((v : V) → AreParamTexts (items v) (map now_of words) → ⊥)
+no-param e items found words i least d small done (inl m) = inl m
+no-param e items found words i least d small done (inr none) = inr (λ v all.
     let here = param-at found words i least d small done (items v) all in
-    none here.0 here.1 here.2)
+    none.1 here.0 here.1 here.2)
 
 pub no-order : {V : Type 0} (items : V → List Param) (found : List Param) (words : List (Bor (List ℕ))) (i least : ℕ) (d : Bor (List ℕ)) (p : Param) → i < length words → Done found words i least → IsParamText p (get_or words i d).now → key_number p.0 < least → (v : V) → AreParamTexts (items v) (map now_of words) → ⊥
 no-order items found words i least d p small done is below v all =
     let here = param-at found words i least d small done (items v) all in
     let same : key_number here.0.0 ≡ key_number p.0 = ap key_number (key-once here.0.0 p.0 (before_first is_equals (now_of (get_or words i d))) here.1.key is.key) in
     omega (arith, here.3, same, below)
+
+-- Why a word is no parameter: its key, its value or its length.
+pub cause-of-key : (word text : List ℕ) (e : ParseError) → text ≡ before_first is_equals word → Err e ≡ ok_or (key_of_text text) UnexpectedToken → NoParamText word e
+cause-of-key word text e parts is =
+    let none : RefusesKeyText (before_first is_equals word) e = subst (λ (t : List ℕ). RefusesKeyText t e) parts (key-none (key_of_text text) e UnexpectedToken is) in
+    (inl none, λ p h param. none.1 p.0 h.key)
+
+pub cause-of-value : {M : Type 0} (word inner : List ℕ) (k : SvcParamKey) (e : ParseError) → IsKeyText k (before_first is_equals word) → IsUnquoted (after_first is_equals word) inner → M ⊎ RefusesValueText k inner e → M ⊎ NoParamText word e
+cause-of-value word inner k e is quotes (inl m) = inl m
+cause-of-value word inner k e is quotes (inr why) =
+    inr (inr (inl (k, is, inner, quotes, why)), λ p h param. (value_causes k inner).none e why p.1 (text-of word inner k is quotes p h).1)
+
+pub cause-of-length : (word inner : List ℕ) (k : SvcParamKey) (v : SvcParamValue) (e : ParseError) → IsMessage (codes "a value has at most 65,535 octets") e → IsKeyText k (before_first is_equals word) → IsUnquoted (after_first is_equals word) inner → IsValueText k v inner → 65535 < length (value_octets v) → NoParamText word e
+cause-of-length word inner k v e says is quotes told long =
+    (inr (inr (says, (k, v), record { key = is; text = inner; quotes = quotes; value = told }, long)), too-long word inner k v is quotes told long)
+
+-- A word that is refused behind parameters whose keys rise.
+cause-behind : (e : ParseError) (least above : ℕ) (found : List Param) (front : List (List ℕ)) (word : List ℕ) (later : List (List ℕ)) → EachWord IsParamText found front → Rise least found above → RefusesParamTexts above (word ∷ later) e → RefusesParamTexts least (front ++ word ∷ later) e
+cause-behind e least above [] [] word later each rise here = subst (λ (n : ℕ). RefusesParamTexts n (word ∷ later) e) rise here
+cause-behind e least above [] (w ∷ ws) word later each rise here = absurd each
+cause-behind e least above (p ∷ ps) [] word later each rise here = absurd each
+cause-behind e least above (p ∷ ps) (w ∷ ws) word later each rise here =
+    inr (p, each.0, rise.0, inr (rise.1, cause-behind e (key_number p.0 + 1) above ps ws word later each.1 rise.2 here))
+
+cause-at : (e : ParseError) (found : List Param) (words : List (Bor (List ℕ))) (i least : ℕ) (d : Bor (List ℕ)) → i < length words → Done found words i least → ((later : List (List ℕ)) → RefusesParamTexts least ((get_or words i d).now ∷ later) e) → RefusesParamTexts 0 (map now_of words) e
+cause-at e found words i least d small done here =
+    subst (λ (ws : List (List ℕ)). RefusesParamTexts 0 ws e) (sym (parts-at words i d small))
+    (cause-behind e 0 least found (map now_of (take i words)) (now_of (get_or words i d)) (map now_of (drop (suc i) words)) done.each done.rise (here (map now_of (drop (suc i) words))))
+
+pub cause-of-param : (e : ParseError) (found : List Param) (words : List (Bor (List ℕ))) (i least : ℕ) (d : Bor (List ℕ)) → i < length words → Done found words i least → IsOutOfMemory e ⊎ NoParamText (get_or words i d).now e → IsOutOfMemory e ⊎ RefusesParamTexts 0 (map now_of words) e
+cause-of-param e found words i least d small done (inl m) = inl m
+cause-of-param e found words i least d small done (inr none) = inr (cause-at e found words i least d small done (λ later. inl none))
+
+pub cause-of-order : (e : ParseError) (found : List Param) (words : List (Bor (List ℕ))) (i least : ℕ) (d : Bor (List ℕ)) (p : Param) → IsMessage (codes "the keys of parameters rise") e → i < length words → Done found words i least → IsParamText p (get_or words i d).now × IsParam p → key_number p.0 < least → RefusesParamTexts 0 (map now_of words) e
+cause-of-order e found words i least d p says small done is below =
+    cause-at e found words i least d small done (λ later. inr (p, is.0, is.1, inl (below, says)))

@@ -15,9 +15,10 @@ use Rattle.drd_params.specs.dnw_name.DomainName.{DomainName}
 use Rattle.drd_params.specs.drd_fields.Equality.{Tells, TellsApart, canonical_field}
 use Rattle.drd_params.proofs.drd_fields_lemmas.EqualityLaws.{front_tells}
 use Rattle.drd_params.specs.drd_fields.Fields.{FieldsAt, name}
+use Rattle.drd_params.specs.drd_fields.Reading.{RefusesWindow, StopsReading}
 use Rattle.drd_params.specs.drd_fields.Writing.{canonical_octets}
 use Rattle.drd_params.specs.Params.{Param, AreParams, NoParams, params_octets}
-use Rattle.drd_svcb.specs.Fields.{svcb_fields, svcb_parts}
+use Rattle.drd_svcb.specs.Fields.{svcb_fields, svcb_kinds, svcb_parts}
 use Rattle.drd_svcb.specs.Reading.{HasNoParams}
 use Rattle.drd_svcb.specs.declared.svcb.SVCB.{SVCB}
 
@@ -33,6 +34,11 @@ rest_same message place a b n m s t end p q =
 pub rest-fits : (message : List ℕ) (place priority : ℕ) (target : DomainName) (octets : List ℕ) (end : ℕ) → FieldsAt message place (svcb_parts priority target octets) end → place + length octets ≤ end
 rest-fits message place priority target octets end p =
     omega (arith, p.1.behind, (spelled_within message p.0 (length message) p.0 target.labels p.2.0 p.2.1.spelled).0, p.2.2.1.behind, p.2.2.2)
+
+-- Data that go to the end don't end elsewhere.
+pub no-rest : (message : List ℕ) (place end : ℕ) (e : DecodeError) (at : ℕ) → RefusesWindow message end svcb_kinds place e at → StopsReading message end svcb_kinds place e at
+no-rest message place end e at (inl stops) = stops
+no-rest message place end e at (inr other) = absurd (cc other.closed)
 
 -- Where the rest is refused as parameters, no data stand.
 pub no-svcb : (message : List ℕ) (place priority : ℕ) (target : DomainName) (octets : List ℕ) (end left : ℕ) (e : DecodeError) → FieldsAt message place (svcb_parts priority target octets) end → IsWantOfMemory e ⊎ ((behind : List ℕ) × NoParams octets e behind × (length behind ≡ left)) → IsWantOfMemory e ⊎ ((svcb : SVCB) → FieldsAt message place (svcb_fields svcb) end × AreParams svcb.svc_params.items → ⊥)

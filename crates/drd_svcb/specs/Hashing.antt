@@ -2,7 +2,7 @@
 use Rattle.std.specs.Prelude.{◌∷◌, [], ◌++◌}
 use Rattle.std.specs.Hash.{HashWrites}
 use Rattle.drd_params.specs.drd_fields.Fields.{short, name}
-use Rattle.drd_params.specs.drd_order.Order.{fields_input}
+use Rattle.drd_params.specs.drd_fields.Order.{fields_input}
 use Rattle.drd_svcb.specs.ParamsHashing.{params_input}
 use Rattle.drd_svcb.specs.declared.svcb.SVCB.{SVCB}
 

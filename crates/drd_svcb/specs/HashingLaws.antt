@@ -3,10 +3,10 @@ use Rattle.std.specs.Prelude.{◌≡◌, ◌&&◌, Bool, true, ◌∷◌, [], �
 use Rattle.std.proofs.Common.{refl, ap, ◌∙◌}
 use Rattle.std.specs.Hash.{HashWrites}
 use Rattle.drd_params.specs.drd_fields.Equality.{field_eq, fields_eq}
-use Rattle.drd_order.proofs.drd_fields_lemmas.EqualityLaws.{both_true}
+use Rattle.drd_fields.proofs.EqualityLaws.{both_true}
 use Rattle.drd_params.specs.drd_fields.Fields.{short, name}
-use Rattle.drd_params.specs.drd_order.Order.{fields_input}
-use Rattle.drd_order.proofs.OrderLaws.{fields-alike}
+use Rattle.drd_params.specs.drd_fields.Order.{fields_input}
+use Rattle.drd_fields.proofs.OrderLaws.{fields-alike}
 use Rattle.drd_params.specs.Equality.{params_code}
 use Rattle.drd_svcb.specs.ParamsHashing.{params_input}
 use Rattle.drd_svcb.specs.ParamsHashingLaws.{params-alike}

@@ -6,6 +6,8 @@ pub mod Hashing
 pub mod ParamsHashing
 pub mod ParamsHashingLaws
 pub mod Texts
+pub mod ParamRefusals
+pub mod ParamRefusalsLaws
 pub mod Writing
 pub mod Print
 pub use Rattle.drd_params.specs.dnw_name

@@ -6,7 +6,7 @@ use Rattle.std.specs.List.{flat_map}
 use Rattle.std.specs.String.{string_bytes}
 use Rattle.drd_params.specs.dnw_decoder.Octets.{octets_16}
 use Rattle.drd_params.specs.drd_fields.Writing.{string_octets}
-use Rattle.drd_params.specs.drd_order.Order.{string_input}
+use Rattle.drd_params.specs.drd_fields.Order.{string_input}
 use Rattle.drd_params.specs.Hashing.{one_write, string_write}
 use Rattle.drd_params.specs.Keys.{key_number}
 use Rattle.drd_params.specs.Params.{Param}

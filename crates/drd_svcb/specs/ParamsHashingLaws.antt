@@ -9,9 +9,9 @@ use Rattle.std.proofs.lemmas.List.{append_cancel_right, length-append}
 use Rattle.std.proofs.lemmas.List.Concat.{flat_map-cons}
 use Rattle.drd_params.specs.dnw_decoder.Octets.{octets_16}
 use Rattle.drd_params.specs.drd_fields.Equality.{fields_eq}
-use Rattle.drd_order.proofs.drd_fields_lemmas.EqualityLaws.{both_true, from_test, same_octets}
+use Rattle.drd_fields.proofs.EqualityLaws.{both_true, from_test, same_octets}
 use Rattle.drd_params.specs.drd_fields.Writing.{string_octets}
-use Rattle.drd_params.specs.drd_order.Order.{string_input}
+use Rattle.drd_params.specs.drd_fields.Order.{string_input}
 use Rattle.drd_params.specs.EntryLaws.{key_laws, a_laws, aaaa_laws, string_laws}
 use Rattle.drd_params.specs.Equality.{told_length, value_kind, params_code}
 use Rattle.drd_params.specs.Hashing.{one_write, string_write}

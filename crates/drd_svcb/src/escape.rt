@@ -1,7 +1,8 @@
 //! Octets as texts with escapes (RFC 1035 5.1, with octal digits).
-ghost use Rattle.std.specs.Prelude.{◌⊎◌, ℕ, List, IfOk, IfErr};
+ghost use Rattle.std.specs.Prelude.{◌⊎◌, IfOk, IfErr};
 ghost use Rattle.drd_params.specs.drd_words.Word.{IsOutOfMemory};
 ghost use Rattle.drd_svcb.specs.Escapes.{EscapedText};
+ghost use Rattle.drd_svcb.specs.ParamRefusals.{RefusesEscapes};
 
 use drd_params::{ParseError, octet_at};
 use std::alloc::{AllocError, Global};
@@ -10,7 +11,7 @@ use std::alloc::{AllocError, Global};
 /// ones of an octet.
 pub(crate) fn unescaped(alloc: Global, text: &[u8]) -> Result<Vec<u8>, ParseError>
     ensures ok { IfOk result (λ octets. EscapedText text.now octets.items) }
-    ensures refused { IfErr result (λ e. IsOutOfMemory e ⊎ ((octets : List ℕ) → EscapedText text.now octets → ⊥)) }
+    ensures refused { IfErr result (λ e. IsOutOfMemory e ⊎ RefusesEscapes text.now e) }
 {
     let mut octets = match Vec::with_capacity(alloc, text.len()) {
         Ok(octets) => octets,

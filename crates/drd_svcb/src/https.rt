@@ -1,57 +1,32 @@
 //! HTTPS (RFC 9460 9).
-ghost use Rattle.std.specs.Prelude.{◌≡◌, ◌⊎◌, List, Some, map, IfOk, IfErr};
-ghost use Rattle.std.specs.Iterator.{Drains, IsFinite};
-ghost use Rattle.std.specs.Option.{option_copied};
-ghost use Rattle.drd_params.specs.drd_words.Word.{IsOutOfMemory};
-ghost use Rattle.drd_svcb.specs.Texts.{IsSvcbText};
+ghost use Rattle.std.specs.Prelude.{◌≡◌, Some};
 ghost use Rattle.std.specs.Cmp.{partial_equiv_from_equiv};
 ghost use Rattle.drd_params.specs.dnw_encoder.declared.modes.RDataEncoding.TheVariants.{Other};
 ghost use Rattle.drd_params.specs.drd_fields.Fields.{FieldsAt};
 ghost use Rattle.drd_params.specs.drd_fields.Equality.{AreFull, Tells, fields_eq};
-ghost use Rattle.drd_order.proofs.drd_fields_lemmas.EqualityLaws.{data_equiv};
+ghost use Rattle.drd_fields.proofs.EqualityLaws.{data_equiv};
 ghost use Rattle.drd_params.specs.drd_fields.Writing.{EmitsData, canonical_octets};
 ghost use Rattle.drd_params.specs.Params.{AreParams};
 ghost use Rattle.drd_svcb.specs.Fields.{svcb_code, svcb_fields};
 ghost use Rattle.drd_svcb.specs.Print.{svcb_print};
+ghost use Rattle.drd_svcb.specs.ParamRefusals.{RefusesSvcbText};
 ghost use Rattle.drd_svcb.specs.Reading.{RefusesSvcb};
+ghost use Rattle.drd_svcb.specs.Texts.{IsSvcbText};
 ghost use Rattle.drd_svcb.specs.Writing.{RefusesEmitSvcb};
 
 use crate::svcb::SVCB;
+use crate::words::ParamWords;
 use drd_params::{
-    BinDecoder, BinEncodable, BinEncoder, DecodeError, Name, ParseError, ProtoError,
-    RecordDataDecodable, Restrict,
+    BinDecoder, BinEncodable, BinEncoder, DecodeError, Name, ProtoError, RecordDataDecodable,
+    Restrict, TextData,
 };
 use std::alloc::Global;
-use std::convert::AsStr;
 use std::fmt;
 use std::ops::Deref;
 
 /// Where a web service is, and how it is reached, in the form of SVCB.
 #[derive(Clone, Debug, Drop)]
 pub struct HTTPS(pub SVCB);
-
-impl HTTPS {
-    /// The data that words write, as those of SVCB.
-    pub fn from_tokens<I: Iterator + Drop>(
-        alloc: Global,
-        tokens: I,
-        origin: Option<&Name>,
-    ) -> Result<HTTPS, ParseError>
-    where
-        I::Item: AsStr + Drop,
-        requires can { I.can_next tokens }
-        requires ends { IsFinite (I.remaining tokens) }
-        ensures ok { IfOk result (λ https. (words : List I.Item) × Drains I.next_gives tokens words
-            × IsSvcbText (map I.Item.text words) (option_copied origin.entry) https.0) }
-        ensures refused { IfErr result (λ e. IsOutOfMemory e ⊎ ((words : List I.Item) × Drains I.next_gives tokens words
-            × ((https : HTTPS) → IsSvcbText (map I.Item.text words) (option_copied origin.entry) https.0 → ⊥))) }
-    {
-        match SVCB::from_tokens(alloc, tokens, origin) {
-            Ok(written) => Ok(HTTPS(written)),
-            Err(refused) => Err(refused),
-        }
-    }
-}
 
 impl Deref for HTTPS {
     type Target = SVCB;
@@ -80,6 +55,21 @@ impl RecordDataDecodable for HTTPS {
             Err(refused) => Err(refused),
         }
     }
+}
+
+impl TextData for HTTPS {
+    type Parts = (u16, (Name, ParamWords));
+
+    ghost is_text = { λ words origin https. IsSvcbText words origin https.0 };
+
+    ghost refuses = { RefusesSvcbText };
+
+    /// The data of these parts, as those of SVCB.
+    fn of_words(parts: (u16, (Name, ParamWords))) -> HTTPS {
+        HTTPS(SVCB::of_words(parts))
+    }
+
+    ghost laws = { (λ words origin https written. ((https.0.svc_priority, (https.0.target_name, record { 0 = https.0.svc_params })), written), λ words origin e refused. refused) };
 }
 
 impl BinEncodable for HTTPS {

@@ -4,7 +4,7 @@ ghost use Rattle.std.specs.Hash as fed;
 ghost use Rattle.std.specs.List.{flat_map, fold};
 ghost use Rattle.drd_svcb.specs.ParamsHashing.{list_input, param_input, params_input, value_input};
 
-use drd_params::{Entry, OrderField, StringField, SvcParamKey, SvcParamValue};
+use drd_params::{Entry, FieldRef, SvcParamKey, SvcParamValue};
 use std::hash::Hasher;
 
 // Feeds entries to a hasher, behind their number.
@@ -27,9 +27,9 @@ fn feed_value<H: Hasher>(state: &mut H, value: &SvcParamValue)
         SvcParamValue::NoDefaultAlpn => {}
         SvcParamValue::Port(port) => state.write(&port.to_be_bytes()),
         SvcParamValue::Ipv4Hint(hint) => feed_all(state, &hint.0),
-        SvcParamValue::EchConfigList(ech) => StringField(&ech.0).hash_field(state),
+        SvcParamValue::EchConfigList(ech) => FieldRef::String(&ech.0).hash_field(state),
         SvcParamValue::Ipv6Hint(hint) => feed_all(state, &hint.0),
-        SvcParamValue::Unknown(unknown) => StringField(&unknown.0).hash_field(state),
+        SvcParamValue::Unknown(unknown) => FieldRef::String(&unknown.0).hash_field(state),
     }
 }
 

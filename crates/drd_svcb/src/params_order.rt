@@ -1,7 +1,7 @@
 //! Parameters in order.
 ghost use Rattle.std.specs.Prelude.{◌≡◌};
 ghost use Rattle.std.specs.List.{flat_map};
-ghost use Rattle.drd_params.specs.drd_order.Order.{Orders, fields_cmp, octets_cmp};
+ghost use Rattle.drd_params.specs.drd_fields.Order.{Orders, fields_cmp, octets_cmp};
 ghost use Rattle.drd_params.specs.Equality.{param_code, params_code, told_length, value_code, value_kind};
 ghost use Rattle.drd_params.specs.Params.{AreParams, params_octets};
 ghost use Rattle.drd_params.specs.dnw_decoder.Octets.{octets_16};

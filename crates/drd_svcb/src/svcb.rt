@@ -1,34 +1,28 @@
 //! SVCB (RFC 9460 2).
-ghost use Rattle.std.specs.Prelude.{◌≡◌, ◌∷◌, [], ℕ, List, ◌⊎◌, ◌+◌, ◌≤◌, Some, length, map, IfOk, IfErr, OnOk};
-ghost use Rattle.drd_params.specs.dnw_decoder.Reading.{IsWantOfMemory};
+ghost use Rattle.std.specs.Prelude.{◌≡◌, ◌∷◌, Some};
+ghost use Rattle.std.specs.Cmp.{partial_equiv_from_equiv};
+ghost use Rattle.std.specs.Fmt.{WritesOnOk};
 ghost use Rattle.drd_params.specs.dnw_encoder.declared.modes.RDataEncoding.TheVariants.{Other};
-ghost use Rattle.drd_params.specs.drd_fields.Fields.{Field, FieldsAt, kinds_of};
-ghost use Rattle.drd_params.specs.drd_fields.Reading.{StopsReading};
+ghost use Rattle.drd_params.specs.drd_fields.Fields.{FieldsAt};
 ghost use Rattle.drd_params.specs.drd_fields.Equality.{AreFull, Tells, fields_eq};
-ghost use Rattle.drd_order.proofs.drd_fields_lemmas.EqualityLaws.{data_equiv};
+ghost use Rattle.drd_fields.proofs.EqualityLaws.{data_equiv};
 ghost use Rattle.drd_params.specs.drd_fields.Writing.{EmitsData, canonical_octets};
 ghost use Rattle.drd_params.specs.Params.{AreParams};
-ghost use Rattle.std.specs.Cmp.{partial_equiv_from_equiv};
-ghost use Rattle.drd_svcb.specs.Fields.{svcb_code, svcb_fields, svcb_kinds, svcb_parts};
-ghost use Rattle.std.specs.Fmt.{WritesOnOk};
 ghost use Rattle.drd_params.specs.Print.{param_print};
+ghost use Rattle.drd_svcb.specs.Fields.{svcb_code, svcb_fields};
+ghost use Rattle.drd_svcb.specs.ParamRefusals.{RefusesSvcbText};
 ghost use Rattle.drd_svcb.specs.Print.{params_print, svcb_print};
 ghost use Rattle.drd_svcb.specs.Reading.{RefusesSvcb};
-ghost use Rattle.drd_svcb.specs.Writing.{RefusesEmitSvcb};
-ghost use Rattle.std.specs.Iterator.{Drains, IsFinite};
-ghost use Rattle.std.specs.Option.{option_copied};
-ghost use Rattle.drd_params.specs.drd_words.Word.{IsOutOfMemory};
 ghost use Rattle.drd_svcb.specs.Texts.{IsSvcbText};
+ghost use Rattle.drd_svcb.specs.Writing.{RefusesEmitSvcb};
 
 use crate::words::ParamWords;
 use drd_params::{
-    BinDecoder, BinEncodable, BinEncoder, DataField, DecodeError, Name, ParseError, ProtoError,
-    RDataEncoding, RecordDataDecodable, Rest, RestField, Restrict, SvcParamKey, SvcParamValue,
-    are_same_params, emit_three, fmt_param, read_data_within, read_params_until, read_tokens,
-    write_params,
+    BinDecoder, BinEncodable, BinEncoder, DecodeError, FieldRef, Name, ProtoError, RDataEncoding,
+    RecordDataDecodable, Rest, RestField, Restrict, SvcParamKey, SvcParamValue, TextData,
+    are_same_params, emit_three, fmt_param, read_params_until, read_window, write_params,
 };
 use std::alloc::Global;
-use std::convert::AsStr;
 use std::fmt;
 
 /// Where a service is, and how it is reached.
@@ -59,35 +53,6 @@ impl SVCB {
             svc_params,
         }
     }
-
-    /// The data that words write: the priority, the target, which the origin completes if it is relative, and for each
-    /// parameter a key, alone or with `=` and a value behind it, by rising keys (RFC 9460 2.1). Lists stand between
-    /// commas without escapes, configurations in base64, and octets of other keys with escapes of octal digits; a value
-    /// between quotes loses both. Refused are words that are missing or unfit.
-    pub fn from_tokens<I: Iterator + Drop>(
-        alloc: Global,
-        tokens: I,
-        origin: Option<&Name>,
-    ) -> Result<SVCB, ParseError>
-    where
-        I::Item: AsStr + Drop,
-        requires can { I.can_next tokens }
-        requires ends { IsFinite (I.remaining tokens) }
-        ensures ok { IfOk result (λ svcb. (words : List I.Item) × Drains I.next_gives tokens words
-            × IsSvcbText (map I.Item.text words) (option_copied origin.entry) svcb) }
-        ensures refused { IfErr result (λ e. IsOutOfMemory e ⊎ ((words : List I.Item) × Drains I.next_gives tokens words
-            × ((svcb : SVCB) → IsSvcbText (map I.Item.text words) (option_copied origin.entry) svcb → ⊥))) }
-    {
-        let (svc_priority, (target_name, ParamWords(svc_params))) = match read_tokens::<
-            (u16, (Name, ParamWords)),
-            I,
-        >(alloc, tokens, origin)
-        {
-            Ok(words) => words,
-            Err(refused) => return Err(refused),
-        };
-        Ok(SVCB::new(svc_priority, target_name, svc_params))
-    }
 }
 
 impl PartialEq for SVCB {
@@ -102,11 +67,10 @@ impl PartialEq for SVCB {
             → AreParams self.now.svc_params.items → AreParams other.now.svc_params.items
             → Tells result (canonical_octets (svcb_fields self.now)) (canonical_octets (svcb_fields other.now)) }
     {
-        if !self.svc_priority.is_same(&other.svc_priority) {
+        if !FieldRef::U16(self.svc_priority).is_same(FieldRef::U16(other.svc_priority)) {
             return false;
         }
-        let target = &self.target_name;
-        if !target.is_same(&&other.target_name) {
+        if !FieldRef::Name(&self.target_name).is_same(FieldRef::Name(&other.target_name)) {
             return false;
         }
         are_same_params(&self.svc_params, &other.svc_params)
@@ -115,28 +79,6 @@ impl PartialEq for SVCB {
 
 impl Eq for SVCB {
     ghost laws = { data_equiv svcb_code };
-}
-
-// The fields, whatever the octets of the parameters are.
-fn read_parts(
-    alloc: Global,
-    decoder: &mut BinDecoder<'_>,
-    len: u16,
-) -> Result<(u16, Name, Vec<u8>), DecodeError>
-    ensures ok { IfOk result (λ found.
-        FieldsAt decoder.old.octets decoder.old.index (svcb_parts found.0 found.1 found.2.items) (decoder.old.index + len)) }
-    ensures end { OnOk result (decoder.new.index ≡ decoder.old.index + len) }
-    ensures same { decoder.new.octets ≡ decoder.old.octets }
-    ensures forward { decoder.old.index ≤ decoder.new.index }
-    ensures within { decoder.new.index ≤ length decoder.new.octets }
-    ensures refused { IfErr result (λ e. StopsReading decoder.old.octets (decoder.old.index + len) svcb_kinds decoder.old.index e decoder.new.index) }
-    ensures none { IfErr result (λ e. IsWantOfMemory e
-        ⊎ ((fs : List Field) → kinds_of fs ≡ svcb_kinds → FieldsAt decoder.old.octets decoder.old.index fs (decoder.old.index + len) → ⊥)) }
-{
-    match read_data_within::<(u16, (Name, Rest))>(alloc, decoder, len) {
-        Ok((priority, (target, Rest(octets)))) => Ok((priority, target, octets)),
-        Err(refused) => Err(refused),
-    }
 }
 
 impl RecordDataDecodable for SVCB {
@@ -152,7 +94,11 @@ impl RecordDataDecodable for SVCB {
         decoder: &mut BinDecoder<'_>,
         length: Restrict<u16>,
     ) -> Result<SVCB, DecodeError> {
-        let (priority, target, octets) = match read_parts(alloc, decoder, length.unverified()) {
+        let (priority, (target, Rest(octets))) = match read_window::<(u16, (Name, Rest))>(
+            alloc,
+            decoder,
+            length.unverified(),
+        ) {
             Ok(parts) => parts,
             Err(refused) => return Err(refused),
         };
@@ -164,6 +110,24 @@ impl RecordDataDecodable for SVCB {
             }
         }
     }
+}
+
+impl TextData for SVCB {
+    type Parts = (u16, (Name, ParamWords));
+
+    ghost is_text = { IsSvcbText };
+
+    ghost refuses = { RefusesSvcbText };
+
+    /// The data of the priority, the target, which the origin completes if it is relative, and for each parameter a key,
+    /// alone or with `=` and a value behind it, by rising keys (RFC 9460 2.1). Lists stand between commas without escapes,
+    /// configurations in base64, and octets of other keys with escapes of octal digits; a value between quotes loses both.
+    fn of_words(parts: (u16, (Name, ParamWords))) -> SVCB {
+        let (svc_priority, (target_name, ParamWords(svc_params))) = parts;
+        SVCB::new(svc_priority, target_name, svc_params)
+    }
+
+    ghost laws = { (λ words origin svcb written. ((svcb.svc_priority, (svcb.target_name, record { 0 = svcb.svc_params })), written), λ words origin e refused. refused) };
 }
 
 impl BinEncodable for SVCB {

@@ -1,11 +1,10 @@
 //! Values of parameters in texts.
-ghost use Rattle.std.specs.Prelude.{◌≡◌, ◌<◌, ◌⊎◌, ◌∷◌, [], ℕ, List, length, MatchOption, IfOk, IfErr, OnErr};
+ghost use Rattle.std.specs.Prelude.{◌≡◌, ◌<◌, ◌⊎◌, ◌∷◌, [], length, MatchOption, IfOk, IfErr};
 ghost use Rattle.std.specs.List.{slice_split};
 ghost use Rattle.drd_params.specs.drd_words.Data.{IsBase64Text};
-ghost use Rattle.drd_params.specs.drd_words.Word.{IsOutOfMemory, IsNumberWord};
+ghost use Rattle.drd_params.specs.drd_words.Word.{IsOutOfMemory};
 ghost use Rattle.drd_params.specs.declared.key.SvcParamKey.TheVariants as of;
-ghost use Rattle.drd_params.specs.declared.value.SvcParamValue.{SvcParamValue as Value};
-ghost use Rattle.drd_svcb.specs.Escapes.{EscapedText};
+ghost use Rattle.drd_svcb.specs.ParamRefusals.{RefusesEch, RefusesList, RefusesValueText};
 ghost use Rattle.drd_svcb.specs.Texts.{is_comma, IsListText, IsValueText};
 
 use crate::escape::unescaped;
@@ -13,17 +12,19 @@ use base64::DecodeAllocError;
 use base64::engine::general_purpose::STANDARD;
 use drd_params::{
     Alpn, EchConfigList, Entry, IpHint, Mandatory, ParseError, SvcParamKey, SvcParamValue, Unknown,
+    Word,
 };
 use std::alloc::{AllocError, Global};
 
-/// The value of a key that a text writes. Refused is a text that writes none.
+/// The value of a key that a text writes. Refused is a text that writes none, by its first entry that stands for none, or as
+/// a whole.
 pub(crate) fn value_of(
     alloc: Global,
     key: SvcParamKey,
     text: &str,
 ) -> Result<SvcParamValue, ParseError>
     ensures ok { IfOk result (λ value. IsValueText key value text.now) }
-    ensures refused { IfErr result (λ e. IsOutOfMemory e ⊎ ((value : Value) → IsValueText key value text.now → ⊥)) }
+    ensures refused { IfErr result (λ e. IsOutOfMemory e ⊎ RefusesValueText key text.now e) }
 {
     match key {
         SvcParamKey::Mandatory => match entries_of(alloc, text) {
@@ -35,7 +36,7 @@ pub(crate) fn value_of(
             Err(refused) => Err(refused),
         },
         SvcParamKey::NoDefaultAlpn => no_value(text),
-        SvcParamKey::Port => match port_of(text) {
+        SvcParamKey::Port => match u16::from_word(alloc, text, None) {
             Ok(port) => Ok(SvcParamValue::Port(port)),
             Err(refused) => Err(refused),
         },
@@ -63,7 +64,7 @@ pub(crate) fn value_of(
 // The entries between commas.
 fn entries_of<T: Entry>(alloc: Global, text: &str) -> Result<Vec<T>, ParseError>
     ensures ok { IfOk result (λ entries. IsListText T.written entries.items text.now) }
-    ensures refused { IfErr result (λ e. IsOutOfMemory e ⊎ ((entries : List T) → IsListText T.written entries text.now → ⊥)) }
+    ensures refused { IfErr result (λ e. IsOutOfMemory e ⊎ RefusesList T.written T.unwritten text.now e) }
 {
     let mut entries = Vec::new(alloc);
     let mut rest = Some(text);
@@ -95,7 +96,7 @@ fn cut_at_comma(text: &str) -> (&str, Option<&str>)
 // No octets, for the key that has none.
 fn no_value(text: &str) -> Result<SvcParamValue, ParseError>
     ensures ok { IfOk result (λ value. IsValueText of.NoDefaultAlpn value text.now) }
-    ensures refused { OnErr result ((value : Value) → IsValueText of.NoDefaultAlpn value text.now → ⊥) }
+    ensures refused { IfErr result (RefusesValueText of.NoDefaultAlpn text.now) }
 {
     if text.is_empty() {
         Ok(SvcParamValue::NoDefaultAlpn)
@@ -104,25 +105,10 @@ fn no_value(text: &str) -> Result<SvcParamValue, ParseError>
     }
 }
 
-// The number of 16 bits that decimal digits alone write.
-fn port_of(text: &str) -> Result<u16, ParseError>
-    ensures ok { IfOk result (λ port. IsNumberWord 16 port text.now) }
-    ensures refused { OnErr result ((port : ℕ) → IsNumberWord 16 port text.now → ⊥) }
-{
-    if text.starts_with('+') {
-        return Err(ParseError::ParseInt);
-    }
-    match text.parse() {
-        Ok(port) => Ok(port),
-        Err(_) => Err(ParseError::ParseInt),
-    }
-}
-
 // The octets of a text in base64, which isn't empty.
 fn base64_octets(alloc: Global, text: &str) -> Result<Vec<u8>, ParseError>
     ensures ok { IfOk result (λ octets. (0 < length text.now) × IsBase64Text octets.items text.now) }
-    ensures refused { IfErr result (λ e. IsOutOfMemory e
-        ⊎ ((octets : List ℕ) → (0 < length text.now) × IsBase64Text octets text.now → ⊥)) }
+    ensures refused { IfErr result (λ e. IsOutOfMemory e ⊎ RefusesEch text.now e) }
 {
     if text.is_empty() {
         return Err(ParseError::MissingToken("base64"));

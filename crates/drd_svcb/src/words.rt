@@ -1,8 +1,11 @@
 //! Parameters in words (RFC 9460 2.1).
 ghost use Rattle.std.specs.Prelude.{◌≡◌, ◌⊎◌, IfOk, IfErr};
 ghost use Rattle.std.specs.List.{before_first, after_first};
-ghost use Rattle.drd_params.specs.Params.{Param, IsParam};
+ghost use Rattle.drd_params.specs.Params.{IsParam};
 ghost use Rattle.drd_params.specs.drd_words.Word.{IsOutOfMemory};
+ghost use Rattle.drd_params.specs.drd_words.RefusalsLaws.{by_part};
+ghost use Rattle.drd_svcb.specs.ParamRefusals.{NoParamText, RefusesParamTexts};
+ghost use Rattle.drd_svcb.specs.ParamRefusalsLaws.{texts_causes};
 ghost use Rattle.drd_svcb.specs.Texts.{is_equals, IsUnquoted, IsParamText, AreParamTexts};
 
 use crate::value::value_of;
@@ -11,10 +14,14 @@ use std::alloc::{AllocError, Global};
 
 /// The parameters that words write, each one of them.
 #[derive(Drop)]
-pub(crate) struct ParamWords(pub(crate) Vec<(SvcParamKey, SvcParamValue)>);
+pub struct ParamWords(pub(crate) Vec<(SvcParamKey, SvcParamValue)>);
 
 impl Words for ParamWords {
     ghost written = { λ words origin params. AreParamTexts params.0.items words };
+
+    ghost refuses = { λ words origin. RefusesParamTexts 0 words };
+
+    ghost laws = { λ words origin. by_part (λ params. params.0.items) (texts_causes words) };
 
     fn from_words(
         alloc: Global,
@@ -45,8 +52,7 @@ impl Words for ParamWords {
 // The parameter of a word.
 fn param_of(alloc: Global, word: &str) -> Result<(SvcParamKey, SvcParamValue), ParseError>
     ensures ok { IfOk result (λ param. IsParamText param word.now × IsParam param) }
-    ensures refused { IfErr result (λ e. IsOutOfMemory e
-        ⊎ ((param : Param) → IsParamText param word.now → IsParam param → ⊥)) }
+    ensures refused { IfErr result (λ e. IsOutOfMemory e ⊎ NoParamText word.now e) }
 {
     let (key, value) = parts_of(word);
     let key: SvcParamKey = match key.parse() {

@@ -2,4 +2,3 @@ pub use Rattle.drd_names_keys.proofs.dnw_decoder_lemmas
 pub use Rattle.drd_names_keys.proofs.dnw_encoder_lemmas
 pub mod drd_fields_lemmas
 pub mod drd_opt_lemmas
-pub mod drd_order_lemmas

@@ -8,4 +8,4 @@ pub use drd_names_keys::{
     ANAME, BinDecoder, BinEncodable, BinEncoder, CERT, CNAME, CSYNC, MX, NS, NULL, OPENPGPKEY, PTR,
     SMIMEA, SOA, SRV, SSHFP, TLSA, cert, sshfp, tlsa,
 };
-pub use drd_opt::{OPT, RecordDataDecodable};
+pub use drd_opt::{FieldData, Fields, OPT, RecordDataDecodable, cmp_list, hash_list};

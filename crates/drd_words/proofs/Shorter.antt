@@ -3,7 +3,7 @@ use Rattle.std.proofs.Common.{◌≡◌, ℕ, ◌<◌, ◌≤◌, suc, ◌&&◌,
 use Rattle.std.specs.Prelude.{Result, Ok, Err, Option, Some, None, MatchBool}
 use Rattle.dnw_lexer.specs.dnw_codes.declared.error.LexerError.{LexerError}
 use Rattle.dnw_lexer.specs.dnw_codes.Ascii.{is_blank}
-use Rattle.dnw_lexer.specs.Lexer.{WordResult, Words, words_before, at_line_end, behind_line_end, begins_blank, without_blanks, line_end, without_comment, ends_word, StringText, ListText, closes, word, refused, unclosed, Lexeme, blank, end_of_line, Unread, unread, Given, lexeme_given, bare_lexeme, bare_given, string_given, list_given, BareToken, StringToken, ListToken, WordToken, LineToken, IsToken}
+use Rattle.dnw_lexer.specs.Lexer.{WordResult, Words, words_before, at_line_end, behind_line_end, begins_blank, without_blanks, line_end, without_comment, ends_word, ListText, closes, word, refused, unclosed, Lexeme, blank, end_of_line, Unread, unread, Given, lexeme_given, bare_lexeme, bare_given, string_given, list_given, BareToken, StringToken, ListToken, WordToken, LineToken, IsToken}
 use Rattle.dnw_lexer.proofs.LeftLaws.{left, plain-shorter, string-left, gap-left, list-shorter}
 
 abbrev words_left : Words → ℕ

@@ -1,5 +1,7 @@
 pub mod Data
 pub mod Print
+pub mod Refusals
+pub mod RefusalsLaws
 pub mod Text
 pub mod Word
 pub mod Words

@@ -1,10 +1,12 @@
 //! Octets in base64 and hex.
-ghost use Rattle.std.specs.Prelude.{◌≡◌, ◌⊎◌, ℕ, List, Ok, IfOk, IfErr, map};
+ghost use Rattle.std.specs.Prelude.{◌≡◌, ◌⊎◌, ℕ, List, Ok, IfOk, IfErr, map, codes};
 ghost use Rattle.std.specs.List.{flat_map};
 ghost use Rattle.std.specs.String.{string_bytes};
 ghost use Rattle.hex.specs.Hex.{decode_of, encode_lower};
 ghost use Rattle.drd_words.specs.Word.{IsOutOfMemory};
 ghost use Rattle.drd_words.specs.Data.{IsBase64Text, IsHexText, IsBase64Words, IsHexWords};
+ghost use Rattle.drd_words.specs.Refusals.{RefusesBase64, RefusesHex, RefusesJoined};
+ghost use Rattle.drd_words.specs.RefusalsLaws.{by_part, joined_causes};
 
 use crate::words::Words;
 use base64::DecodeAllocError;
@@ -20,6 +22,10 @@ pub struct Base64Data(pub Vec<u8>);
 
 impl Words for Base64Data {
     ghost written = { λ words origin octets. IsBase64Words octets.0.items words };
+
+    ghost refuses = { λ words origin. RefusesJoined (codes "base64") IsBase64Text words };
+
+    ghost laws = { λ words origin. by_part (λ octets. octets.0.items) (joined_causes (codes "base64") IsBase64Text words) };
 
     fn from_words(
         alloc: Global,
@@ -43,6 +49,10 @@ pub struct HexData(pub Vec<u8>);
 
 impl Words for HexData {
     ghost written = { λ words origin octets. IsHexWords octets.0.items words };
+
+    ghost refuses = { λ words origin. RefusesJoined (codes "hex") IsHexText words };
+
+    ghost laws = { λ words origin. by_part (λ octets. octets.0.items) (joined_causes (codes "hex") IsHexText words) };
 
     fn from_words(
         alloc: Global,
@@ -76,6 +86,7 @@ fn base64_octets(alloc: Global, text: &[u8]) -> Result<Vec<u8>, ParseError>
     ensures ok { IfOk result (λ octets. IsBase64Text octets.items text.now) }
     ensures refused { IfErr result (λ e. IsOutOfMemory e
         ⊎ ((octets : List ℕ) → IsBase64Text octets text.now → ⊥)) }
+    ensures cause { IfErr result (λ e. IsOutOfMemory e ⊎ RefusesBase64 text.now e) }
 {
     match STANDARD.decode(alloc, text) {
         Ok(octets) => Ok(octets),
@@ -102,6 +113,7 @@ impl HEX {
         ensures ok { IfOk result (λ octets. IsHexText octets.items text.now) }
         ensures refused { IfErr result (λ e. IsOutOfMemory e
             ⊎ ((octets : List ℕ) → IsHexText octets text.now → ⊥)) }
+        ensures cause { IfErr result (λ e. IsOutOfMemory e ⊎ RefusesHex text.now e) }
     {
         match hex::decode(alloc, text.as_bytes()) {
             Ok(octets) => Ok(octets),

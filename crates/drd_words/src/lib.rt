@@ -2,7 +2,8 @@
 //! a text, and what is printed in their place.
 //!
 //! `Word` reads one word and `Words` all that are left. `(A, B)` reads a word as `A` and the rest as `B`, and `()`
-//! that no word is left, so `(u16, (Name, ()))` reads the words of an MX record.
+//! that no word is left, so `(u16, (Name, ()))` reads the words of an MX record. `TextData` are data that are made of
+//! such parts.
 #![tactic(auto)]
 
 pub use dnw_lexer::{DecodeError, ParseError, ProtoError, Restrict, number_behind};
@@ -11,6 +12,7 @@ pub use dnw_name::{IpNet, Label, LowerName, Name, PrefixLenError, RrKey, key_of,
 mod data;
 mod print;
 mod text;
+mod text_data;
 mod tokens;
 mod word;
 mod words;
@@ -18,6 +20,7 @@ mod words;
 pub use data::{Base64Data, HEX, HexData};
 pub use print::{fmt_base64, fmt_escaped, fmt_hex};
 pub use text::{read_text, words_of_text};
+pub use text_data::TextData;
 pub use tokens::read_tokens;
 pub use word::{CharacterString, TimeInterval, TimeToLive, Word};
 pub use words::Words;

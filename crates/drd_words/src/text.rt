@@ -7,6 +7,7 @@ ghost use Rattle.dnw_lexer.specs.Lexer.{Lexeme, unread};
 ghost use Rattle.dnw_lexer.specs.Tokens.{IsLexeme};
 ghost use Rattle.drd_words.specs.Text.{lexeme_words, IsSplitInto, TextRefused};
 ghost use Rattle.drd_words.specs.Word.{IsOutOfMemory};
+ghost use Rattle.drd_words.specs.Refusals.{RefusesText};
 
 use crate::words::{Words, push, texts};
 use dnw_lexer::{Lexer, LexerError, ParseError, Token};
@@ -23,6 +24,7 @@ pub fn read_text<T: Words>(alloc: Global, text: &str) -> Result<T, ParseError>
     ensures only { (words : List (List ℕ)) → IsSplitInto text.now words
         → MatchResult result (λ value. T.written words None value) (λ e. IsOutOfMemory e ⊎ ((value : T) → T.written words None value → ⊥)) }
     ensures cause { (e : ParseError) → TextRefused text.now e → MatchResult result (λ value. ⊥) (λ given. IsOutOfMemory given ⊎ (given ≡ e)) }
+    ensures told { IfErr result (λ e. IsOutOfMemory e ⊎ RefusesText (λ words. T.refuses words None) text.now e) }
 {
     let words = match words_of_text(alloc, text) {
         Ok(words) => words,

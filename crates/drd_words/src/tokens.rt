@@ -24,6 +24,8 @@ where
         × T.written (map I.Item.text words) (option_copied origin.entry) value) }
     ensures refused { IfErr result (λ e. IsOutOfMemory e ⊎ ((words : List I.Item) × Drains I.next_gives tokens words
         × ((value : T) → T.written (map I.Item.text words) (option_copied origin.entry) value → ⊥))) }
+    ensures cause { IfErr result (λ e. IsOutOfMemory e ⊎ ((words : List I.Item) × Drains I.next_gives tokens words
+        × T.refuses (map I.Item.text words) (option_copied origin.entry) e)) }
 {
     let words: Vec<I::Item> = match tokens.collect(alloc) {
         Ok(words) => words,

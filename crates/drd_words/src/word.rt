@@ -2,7 +2,10 @@
 ghost use Rattle.std.specs.Prelude.{◌≡◌, ◌<◌, ◌≤◌, ◌^◌, ◌⊎◌, ℕ, List, Option, IfOk, IfErr, length};
 ghost use Rattle.std.specs.Option.{option_copied};
 ghost use Rattle.dnw_name.specs.DomainName.{DomainName};
+ghost use Rattle.dnw_lexer.specs.dnw_codes.declared.error.ParseError.{ParseError};
 ghost use Rattle.drd_words.specs.Word.{IsOutOfMemory, IsNumberWord, IsTtlWord, IsIntervalWord, IsNameWord, IsStringWord};
+ghost use Rattle.drd_words.specs.Refusals.{AreCauses, RefusesNumber, RefusesTtl, RefusesInterval, RefusesNameWord, RefusesString};
+ghost use Rattle.drd_words.specs.RefusalsLaws.{by_part, number_causes, ttl_causes, interval_causes, name_causes, string_causes};
 
 use dnw_lexer::{ParseError, ProtoError, parse_ttl};
 use dnw_name::Name;
@@ -15,15 +18,26 @@ pub trait Word: Sized + Drop {
     /// The word's octets, the origin if there is one, and the value.
     ghost written: { List ℕ → Option DomainName → Self → Type 0 };
 
+    /// The word's octets, the origin if there is one, and the error where the word stands for no value.
+    ghost refuses: { List ℕ → Option DomainName → ParseError → Type 0 };
+
     /// The value of a word. Refused is a word that stands for none.
     fn from_word(alloc: Global, word: &str, origin: Option<&Name>) -> Result<Self, ParseError>
         ensures ok { IfOk result (λ value. written word.now (option_copied origin.entry) value) }
         ensures refused { IfErr result (λ e. IsOutOfMemory e
-            ⊎ ((value : Self) → written word.now (option_copied origin.entry) value → ⊥)) };
+            ⊎ ((value : Self) → written word.now (option_copied origin.entry) value → ⊥)) }
+        ensures cause { IfErr result (λ e. IsOutOfMemory e ⊎ refuses word.now (option_copied origin.entry) e) };
+
+    // A word is refused only where it stands for no value, and never for want of memory.
+    ghost laws: { (word : List ℕ) (origin : Option DomainName) → AreCauses (written word origin) (refuses word origin) };
 }
 
 impl Word for u8 {
     ghost written = { λ word origin n. IsNumberWord 8 n word };
+
+    ghost refuses = { λ word origin. RefusesNumber 8 word };
+
+    ghost laws = { λ word origin. number_causes 8 word };
 
     fn from_word(_alloc: Global, word: &str, _origin: Option<&Name>) -> Result<u8, ParseError> {
         if word.starts_with('+') {
@@ -39,6 +53,10 @@ impl Word for u8 {
 impl Word for u16 {
     ghost written = { λ word origin n. IsNumberWord 16 n word };
 
+    ghost refuses = { λ word origin. RefusesNumber 16 word };
+
+    ghost laws = { λ word origin. number_causes 16 word };
+
     fn from_word(_alloc: Global, word: &str, _origin: Option<&Name>) -> Result<u16, ParseError> {
         if word.starts_with('+') {
             return Err(ParseError::ParseInt);
@@ -52,6 +70,10 @@ impl Word for u16 {
 
 impl Word for u32 {
     ghost written = { λ word origin n. IsNumberWord 32 n word };
+
+    ghost refuses = { λ word origin. RefusesNumber 32 word };
+
+    ghost laws = { λ word origin. number_causes 32 word };
 
     fn from_word(_alloc: Global, word: &str, _origin: Option<&Name>) -> Result<u32, ParseError> {
         if word.starts_with('+') {
@@ -70,6 +92,10 @@ pub struct TimeToLive(pub u32);
 
 impl Word for TimeToLive {
     ghost written = { λ word origin time. IsTtlWord time.0 word };
+
+    ghost refuses = { λ word origin. RefusesTtl word };
+
+    ghost laws = { λ word origin. by_part (λ time. time.0) (ttl_causes word) };
 
     fn from_word(
         _alloc: Global,
@@ -90,6 +116,10 @@ pub struct TimeInterval(pub i32);
 impl Word for TimeInterval {
     ghost written = { λ word origin interval. IsIntervalWord interval.0 word };
 
+    ghost refuses = { λ word origin. RefusesInterval word };
+
+    ghost laws = { λ word origin. by_part (λ interval. interval.0) (interval_causes word) };
+
     fn from_word(
         _alloc: Global,
         word: &str,
@@ -109,6 +139,10 @@ impl Word for TimeInterval {
 
 impl Word for Name {
     ghost written = { λ word origin name. IsNameWord origin name word };
+
+    ghost refuses = { λ word origin. RefusesNameWord origin word };
+
+    ghost laws = { λ word origin. name_causes origin word };
 
     fn from_word(alloc: Global, word: &str, origin: Option<&Name>) -> Result<Name, ParseError> {
         match Name::parse(alloc, word, origin) {
@@ -162,6 +196,10 @@ impl CharacterString {
 impl Word for CharacterString {
     ghost written = { λ word origin string. IsStringWord string word };
 
+    ghost refuses = { λ word origin. RefusesString word };
+
+    ghost laws = { λ word origin. string_causes word };
+
     fn from_word(
         alloc: Global,
         word: &str,
@@ -180,8 +218,14 @@ impl Word for CharacterString {
 
 impl Word for Ipv4Addr {
     ghost use Rattle.std.specs.Net.Grammar.{IsIpv4Text};
+    ghost use Rattle.drd_words.specs.Refusals.{RefusesIpv4};
+    ghost use Rattle.drd_words.specs.RefusalsLaws.{ipv4_causes};
 
     ghost written = { λ word origin address. IsIpv4Text word address };
+
+    ghost refuses = { λ word origin. RefusesIpv4 word };
+
+    ghost laws = { λ word origin. ipv4_causes word };
 
     fn from_word(
         _alloc: Global,
@@ -197,8 +241,14 @@ impl Word for Ipv4Addr {
 
 impl Word for Ipv6Addr {
     ghost use Rattle.std.specs.Net.Grammar.{IsIpv6Text};
+    ghost use Rattle.drd_words.specs.Refusals.{RefusesIpv6};
+    ghost use Rattle.drd_words.specs.RefusalsLaws.{ipv6_causes};
 
     ghost written = { λ word origin address. IsIpv6Text word address };
+
+    ghost refuses = { λ word origin. RefusesIpv6 word };
+
+    ghost laws = { λ word origin. ipv6_causes word };
 
     fn from_word(
         _alloc: Global,

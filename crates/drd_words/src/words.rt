@@ -3,7 +3,10 @@ ghost use Rattle.std.specs.Prelude.{◌≡◌, ◌++◌, ◌∷◌, [], ◌⊎�
 ghost use Rattle.std.specs.Option.{option_copied};
 ghost use Rattle.dnw_name.specs.DomainName.{DomainName};
 ghost use Rattle.drd_words.specs.Word.{IsOutOfMemory};
+ghost use Rattle.dnw_lexer.specs.dnw_codes.declared.error.ParseError.{ParseError};
 ghost use Rattle.drd_words.specs.Words.{NoWords, OneThen, EachWord};
+ghost use Rattle.drd_words.specs.Refusals.{AreCauses, RefusesMore, RefusesOneThen, RefusesEach};
+ghost use Rattle.drd_words.specs.RefusalsLaws.{by_part, more_causes, one_then_causes, each_causes};
 
 use crate::word::Word;
 use dnw_lexer::ParseError;
@@ -16,16 +19,28 @@ pub trait Words: Sized + Drop {
     /// The words, each as its octets, the origin if there is one, and the value.
     ghost written: { List (List ℕ) → Option DomainName → Self → Type 0 };
 
+    /// The words, the origin if there is one, and the error where they stand for no value: that of the first word that is
+    /// missing, one too many, or unfit.
+    ghost refuses: { List (List ℕ) → Option DomainName → ParseError → Type 0 };
+
     /// The value of these words. Refused are words that stand for none.
     fn from_words(alloc: Global, words: &[&str], origin: Option<&Name>) -> Result<Self, ParseError>
         ensures ok { IfOk result (λ value. written (map (λ w. w.now) words.now) (option_copied origin.entry) value) }
         ensures refused { IfErr result (λ e. IsOutOfMemory e
-            ⊎ ((value : Self) → written (map (λ w. w.now) words.now) (option_copied origin.entry) value → ⊥)) };
+            ⊎ ((value : Self) → written (map (λ w. w.now) words.now) (option_copied origin.entry) value → ⊥)) }
+        ensures cause { IfErr result (λ e. IsOutOfMemory e ⊎ refuses (map (λ w. w.now) words.now) (option_copied origin.entry) e) };
+
+    // Words are refused only where they stand for no value, and never for want of memory.
+    ghost laws: { (words : List (List ℕ)) (origin : Option DomainName) → AreCauses (written words origin) (refuses words origin) };
 }
 
 /// No word.
 impl Words for () {
     ghost written = { λ words origin value. NoWords words };
+
+    ghost refuses = { λ words origin. RefusesMore words };
+
+    ghost laws = { λ words origin. more_causes words };
 
     fn from_words(
         _alloc: Global,
@@ -45,6 +60,11 @@ impl<A: Word, B: Words> Words for (A, B) {
     ghost written = { λ words origin value.
         OneThen (λ word. A.written word origin value.0) (λ rest. B.written rest origin value.1) words };
 
+    ghost refuses = { λ words origin.
+        RefusesOneThen (λ x word. A.written word origin x) (λ word. A.refuses word origin) (λ rest. B.refuses rest origin) words };
+
+    ghost laws = { λ words origin. one_then_causes (λ word. A.laws word origin) (λ rest. B.laws rest origin) words };
+
     fn from_words(
         alloc: Global,
         words: &[&str],
@@ -62,6 +82,10 @@ impl<A: Word, B: Words> Words for (A, B) {
 /// One word for each value.
 impl<A: Word> Words for Vec<A> {
     ghost written = { λ words origin values. EachWord (λ x word. A.written word origin x) values.items words };
+
+    ghost refuses = { λ words origin. RefusesEach (λ x word. A.written word origin x) (λ word. A.refuses word origin) words };
+
+    ghost laws = { λ words origin. by_part (λ values. values.items) (each_causes (λ word. A.laws word origin) words) };
 
     fn from_words(
         alloc: Global,

@@ -1,15 +1,17 @@
 //! The kinds of certificates and the algorithms of their keys, by their numbers (RFC 4398 2.1, 2.2).
 ghost use Rattle.std.specs.Prelude.{◌≡◌, Some};
 ghost use Rattle.std.specs.Fmt.{decimal};
-ghost use Rattle.std.specs.Cmp.Rules.{comparing};
+ghost use Rattle.std.specs.Cmp.Rules.{comparing, hashing};
+ghost use Rattle.std.specs.Hash as fed;
 ghost use Rattle.std.proofs.Common.{rules};
-ghost use Rattle.drd_order.specs.drd_fields.Fields.{octet};
+ghost use Rattle.drd_fields.specs.Fields.{octet};
 
 use crate::cert::{Algorithm, CertType};
-use drd_order::{BinDecodable, BinDecoder};
+use drd_fields::{BinDecodable, BinDecoder};
 use drd_words::DecodeError;
 use std::alloc::Global;
 use std::fmt;
+use std::hash::{Hash, Hasher};
 
 impl From<u16> for CertType {
     ghost use Rattle.drd_keys.specs.Cert.{cert_type_number, cert_type_of};
@@ -79,8 +81,20 @@ impl Eq for CertType {
     ghost laws = { Prim.search (comparing, rules) };
 }
 
+impl Hash for CertType {
+    ghost use Rattle.drd_keys.specs.Cert.{cert_type_number};
+
+    ghost hash_input = { λ cert_type. fed.u16 (cert_type_number cert_type) };
+
+    ghost respects_eq = { Prim.search (hashing, rules) };
+
+    fn hash<H: Hasher>(&self, state: &mut H) {
+        u16::from(*self).hash(state);
+    }
+}
+
 impl BinDecodable for CertType {
-    ghost use Rattle.drd_order.specs.dnw_decoder.Reading.{IsCut};
+    ghost use Rattle.drd_fields.specs.dnw_decoder.Reading.{IsCut};
     ghost use Rattle.drd_keys.specs.Cert.{CertTypeAt};
 
     ghost reads = { CertTypeAt };
@@ -188,8 +202,20 @@ impl Eq for Algorithm {
     ghost laws = { Prim.search (comparing, rules) };
 }
 
+impl Hash for Algorithm {
+    ghost use Rattle.drd_keys.specs.Cert.{cert_algorithm_number};
+
+    ghost hash_input = { λ algorithm. fed.u8 (cert_algorithm_number algorithm) };
+
+    ghost respects_eq = { Prim.search (hashing, rules) };
+
+    fn hash<H: Hasher>(&self, state: &mut H) {
+        u8::from(*self).hash(state);
+    }
+}
+
 impl BinDecodable for Algorithm {
-    ghost use Rattle.drd_order.specs.dnw_decoder.Reading.{IsCut};
+    ghost use Rattle.drd_fields.specs.dnw_decoder.Reading.{IsCut};
     ghost use Rattle.drd_keys.specs.Cert.{CertAlgorithmAt};
 
     ghost reads = { CertAlgorithmAt };

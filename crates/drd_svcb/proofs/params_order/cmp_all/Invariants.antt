@@ -1,6 +1,6 @@
 use Rattle.std.proofs.Common.{◌≡◌, length}
 use Rattle.std.specs.List.{flat_map}
-use Rattle.drd_params.specs.drd_order.Order.{octets_cmp}
+use Rattle.drd_params.specs.drd_fields.Order.{octets_cmp}
 use Rattle.drd_svcb.proofs.params_order.cmp_all.Given as goal
 
 abbrev pub invariant-entries : goal.invariant-entries

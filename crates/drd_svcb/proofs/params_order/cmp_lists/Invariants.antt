@@ -1,5 +1,5 @@
 use Rattle.std.proofs.Common.{◌≡◌, length}
-use Rattle.drd_params.specs.drd_order.Order.{fields_cmp}
+use Rattle.drd_params.specs.drd_fields.Order.{fields_cmp}
 use Rattle.drd_params.specs.Equality.{params_code}
 use Rattle.drd_svcb.proofs.params_order.cmp_lists.Given as goal
 

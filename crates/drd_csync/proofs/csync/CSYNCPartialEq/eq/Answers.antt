@@ -1,6 +1,6 @@
 use Rattle.std.proofs.Common.{Bool, subst, sym}
-use Rattle.drd_order.specs.drd_fields.Equality.{Tells}
-use Rattle.drd_order.specs.drd_fields.Writing.{fields_octets}
+use Rattle.drd_fields.specs.Equality.{Tells}
+use Rattle.drd_fields.specs.Writing.{fields_octets}
 use Rattle.drd_csync.specs.Data.{csync_fields}
 use Rattle.drd_csync.proofs.Equality.{csync_tells}
 use Rattle.drd_csync.proofs.csync.CSYNCPartialEq.eq.Goals as goal

@@ -1,9 +1,6 @@
-use Rattle.std.proofs.Common.{inl, inr, refl}
 use Rattle.drd_plain.specs.Fields.{a_fields}
+use Rattle.drd_plain.proofs.Reading.{none_there}
 use Rattle.drd_plain.proofs.a.ABinDecodable.read.Goals as goal
 
-pub returns-in-Err-clause-none : goal.returns-in-Err-clause-none
-returns-in-Err-clause-none c = elim (rw c.in-Err.is at c.read_data.ensures.none) [
-  | inl memory ↦ inl memory
-  | inr none ↦ inr (λ value end there. none (a_fields value) end refl there)
-]
+pub returns-clause-none : goal.returns-clause-none
+returns-clause-none c = none_there a_fields c.args.decoder.now.octets c.args.decoder.now.index c.read_value.result c.read_value.ensures.none

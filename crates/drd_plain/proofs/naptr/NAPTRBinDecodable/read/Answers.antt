@@ -1,16 +1,7 @@
-use Rattle.std.proofs.Common.{inl, inr, refl, ap, sym, ◌∙◌}
+use Rattle.std.proofs.Common.{◌≡◌, true}
 use Rattle.drd_plain.specs.Fields.{naptr_fields, are_alphanumeric}
-use Rattle.drd_plain.proofs.Texts.{no_naptr}
+use Rattle.drd_plain.proofs.Reading.{none_valid}
 use Rattle.drd_plain.proofs.naptr.NAPTRBinDecodable.read.Goals as goal
 
-pub returns-else-verify_flags-clause-refused : goal.returns-else-verify_flags-clause-refused
-returns-else-verify_flags-clause-refused c = inr (refl, c.in-Ok.naptr, c.read_parts.new.decoder.index, rw c.in-Ok.is at c.read_parts.ensures.ok, ap are_alphanumeric (sym c.deref.ensures.value) ∙ (sym c.verify_flags.ensures ∙ c.if-verify_flags.false))
-
-pub returns-else-verify_flags-clause-none : goal.returns-else-verify_flags-clause-none
-returns-else-verify_flags-clause-none c = inr (no_naptr c.args.decoder.now.octets c.args.decoder.now.index c.in-Ok.naptr c.read_parts.new.decoder.index (rw c.in-Ok.is at c.read_parts.ensures.ok) (ap are_alphanumeric (sym c.deref.ensures.value) ∙ (sym c.verify_flags.ensures ∙ c.if-verify_flags.false)))
-
-pub returns-in-Err-clause-none : goal.returns-in-Err-clause-none
-returns-in-Err-clause-none c = elim (rw c.in-Err.is at c.read_parts.ensures.none) [
-  | inl memory ↦ inl memory
-  | inr none ↦ inr (λ value end there. none (naptr_fields value) end refl there.0)
-]
+pub returns-clause-none : goal.returns-clause-none
+returns-clause-none c = none_valid naptr_fields (λ naptr. are_alphanumeric naptr.flags.items ≡ true) c.args.decoder.now.octets c.args.decoder.now.index c.read_value.result c.read_value.ensures.none

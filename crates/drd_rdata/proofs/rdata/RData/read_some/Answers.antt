@@ -1,7 +1,7 @@
 use Rattle.std.proofs.Common.{◌+◌}
 use Rattle.dnw_codes.specs.declared.record_type.RecordType.TheVariants as kind
-use Rattle.drd_rdata.proofs.Others.{NotOwn, ok_other, none_other}
-use Rattle.drd_rdata.proofs.Rows.{ok_row, none_row}
+use Rattle.drd_rdata.proofs.Others.{NotOwn, is_other}
+use Rattle.drd_rdata.specs.RowsLaws.{ok_row, none_row}
 use Rattle.drd_rdata.proofs.rdata.RData.read_some.Goals as goal
 
 pub returns-in-A-clause-ok : goal.returns-in-A-clause-ok
@@ -234,12 +234,25 @@ returns-in-TXT-clause-none c =
     rw c.in-TXT.is
     (none_row kind.TXT c.args.decoder.now.octets c.args.decoder.now.index (c.args.decoder.now.index + c.args.length) c.read_as-in-TXT.result c.read_as-in-TXT.ensures.none)
 
-pub returns-in_default-clause-ok : goal.returns-in_default-clause-ok
-returns-in_default-clause-ok c =
+pub read_unknown-requires : goal.read_unknown-requires
+read_unknown-requires c =
     let other : NotOwn c.args.record_type = record { a = c.in_default.not-A; aaaa = c.in_default.not-AAAA; aname = c.in_default.not-ANAME; any = c.in_default.not-ANY; axfr = c.in_default.not-AXFR; caa = c.in_default.not-CAA; cert = c.in_default.not-CERT; cname = c.in_default.not-CNAME; csync = c.in_default.not-CSYNC; hinfo = c.in_default.not-HINFO; https = c.in_default.not-HTTPS; ixfr = c.in_default.not-IXFR; mx = c.in_default.not-MX; naptr = c.in_default.not-NAPTR; ns = c.in_default.not-NS; null = c.in_default.not-NULL; openpgpkey = c.in_default.not-OPENPGPKEY; opt = c.in_default.not-OPT; ptr = c.in_default.not-PTR; smimea = c.in_default.not-SMIMEA; soa = c.in_default.not-SOA; srv = c.in_default.not-SRV; sshfp = c.in_default.not-SSHFP; svcb = c.in_default.not-SVCB; tlsa = c.in_default.not-TLSA; txt = c.in_default.not-TXT; zero = c.in_default.not-ZERO } in
-    ok_other c.args.record_type other c.args.decoder.now.octets c.args.decoder.now.index (c.args.decoder.now.index + c.args.length) c.read_unknown.result c.read_unknown.ensures.ok
+    is_other c.args.record_type other
 
-pub returns-in_default-clause-none : goal.returns-in_default-clause-none
-returns-in_default-clause-none c =
-    let other : NotOwn c.args.record_type = record { a = c.in_default.not-A; aaaa = c.in_default.not-AAAA; aname = c.in_default.not-ANAME; any = c.in_default.not-ANY; axfr = c.in_default.not-AXFR; caa = c.in_default.not-CAA; cert = c.in_default.not-CERT; cname = c.in_default.not-CNAME; csync = c.in_default.not-CSYNC; hinfo = c.in_default.not-HINFO; https = c.in_default.not-HTTPS; ixfr = c.in_default.not-IXFR; mx = c.in_default.not-MX; naptr = c.in_default.not-NAPTR; ns = c.in_default.not-NS; null = c.in_default.not-NULL; openpgpkey = c.in_default.not-OPENPGPKEY; opt = c.in_default.not-OPT; ptr = c.in_default.not-PTR; smimea = c.in_default.not-SMIMEA; soa = c.in_default.not-SOA; srv = c.in_default.not-SRV; sshfp = c.in_default.not-SSHFP; svcb = c.in_default.not-SVCB; tlsa = c.in_default.not-TLSA; txt = c.in_default.not-TXT; zero = c.in_default.not-ZERO } in
-    none_other c.args.record_type other c.args.decoder.now.octets c.args.decoder.now.index (c.args.decoder.now.index + c.args.length) c.read_unknown.result c.read_unknown.ensures.none
+pub returns-in-AAAA-clause-refused : goal.returns-in-AAAA-clause-refused
+returns-in-AAAA-clause-refused c = rw c.in-AAAA.is c.read_as-in-AAAA.ensures.refused
+
+pub returns-in-CAA-clause-refused : goal.returns-in-CAA-clause-refused
+returns-in-CAA-clause-refused c = rw c.in-CAA.is c.read_as-in-CAA.ensures.refused
+
+pub returns-in-HTTPS-clause-refused : goal.returns-in-HTTPS-clause-refused
+returns-in-HTTPS-clause-refused c = rw c.in-HTTPS.is c.read_as-in-HTTPS.ensures.refused
+
+pub returns-in-NAPTR-clause-refused : goal.returns-in-NAPTR-clause-refused
+returns-in-NAPTR-clause-refused c = rw c.in-NAPTR.is c.read_as-in-NAPTR.ensures.refused
+
+pub returns-in-SOA-clause-refused : goal.returns-in-SOA-clause-refused
+returns-in-SOA-clause-refused c = rw c.in-SOA.is c.read_as-in-SOA.ensures.refused
+
+pub returns-in-SVCB-clause-refused : goal.returns-in-SVCB-clause-refused
+returns-in-SVCB-clause-refused c = rw c.in-SVCB.is c.read_as-in-SVCB.ensures.refused

@@ -4,8 +4,8 @@ use Rattle.std.specs.String.{string_bytes}
 use Rattle.dnw_codes.specs.declared.error.ParseError.TheVariants.{UnsupportedRecordType}
 use Rattle.drd_svcb.specs.drd_words.Text.{IsSplitInto, TextRefused}
 use Rattle.drd_svcb.specs.drd_words.Word.{IsOutOfMemory}
-use Rattle.drd_rdata.specs.Texts.{IsTextOf}
-use Rattle.drd_rdata.proofs.Words.{ok_of, refused_of, only_of}
+use Rattle.drd_rdata.specs.Texts.{IsTextOf, RefusesTextOf}
+use Rattle.drd_rdata.proofs.Words.{ok_of, refused_of, only_of, fault_of}
 use Rattle.drd_rdata.proofs.rdata.RData.try_from_str.Goals as goal
 
 pub returns-clause-ok : goal.returns-clause-ok
@@ -19,3 +19,6 @@ returns-clause-only c = λ words read.
     only_of (λ ws value. IsTextOf c.args.record_type ws None value) IsOutOfMemory (λ e. e ≡ UnsupportedRecordType c.args.record_type) c.iter.result words
     c.from_tokens.result (ap (map string_bytes) (c.iter.ensures.rest ∙ c.deref.ensures.value) ∙ c.in-Ok.ensures.only words read)
     c.from_tokens.ensures.ok c.from_tokens.ensures.refused
+
+pub returns-clause-fault : goal.returns-clause-fault
+returns-clause-fault c = λ has. fault_of (IsSplitInto c.args.text.now) (λ ws e. RefusesTextOf c.args.record_type ws None e) IsOutOfMemory (TextRefused c.args.text.now) c.iter.result (map string_bytes c.in-Ok.words.items) c.from_tokens.result (ap (map string_bytes) (c.iter.ensures.rest ∙ c.deref.ensures.value)) c.in-Ok.ensures.ok (c.from_tokens.ensures.cause has)

@@ -1,4 +1,4 @@
-use Rattle.std.proofs.Common.{rules, inr}
+use Rattle.std.proofs.Common.{rules, refl, inr}
 use Rattle.drd_words.proofs.Numbers.{number-read, number-refused}
 use Rattle.drd_words.proofs.word.U8Word.from_word.Goals as goal
 
@@ -7,3 +7,6 @@ returns-in-Ok-clause-ok c = number-read 8 c.in-Ok.number c.args.word.now c.in-Ok
 
 pub returns-in-Err-clause-refused : goal.returns-in-Err-clause-refused
 returns-in-Err-clause-refused c = inr (number-refused 8 c.args.word.now c.in-Err.field-0 c.in-Err.ensures.value.0 (search rules))
+
+pub returns-in-Err-clause-cause : goal.returns-in-Err-clause-cause
+returns-in-Err-clause-cause c = inr (refl, number-refused 8 c.args.word.now c.in-Err.field-0 c.in-Err.ensures.value.0 (search rules))

@@ -1,6 +1,6 @@
 use Rattle.std.proofs.Common.{inr, refl, arith}
-use Rattle.drd_order.specs.dnw_decoder.Octets.{octets_16}
-use Rattle.drd_order.proofs.dnw_decoder_lemmas.Standing.{cut_none}
+use Rattle.drd_fields.specs.dnw_decoder.Octets.{octets_16}
+use Rattle.drd_fields.proofs.dnw_decoder_lemmas.Standing.{cut_none}
 use Rattle.drd_keys.proofs.cert.codes.CertTypeBinDecodable.read.Goals as goal
 
 pub returns-in-Err-clause-none : goal.returns-in-Err-clause-none

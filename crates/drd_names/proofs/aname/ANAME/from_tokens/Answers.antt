@@ -1,8 +1,0 @@
-use Rattle.std.proofs.Common.{inl, inr}
-use Rattle.drd_names.proofs.aname.ANAME.from_tokens.Goals as goal
-
-pub returns-in-Err-clause-refused : goal.returns-in-Err-clause-refused
-returns-in-Err-clause-refused g c = elim c.in-Err.ensures.refused [
-  | inl memory ↦ inl memory
-  | inr found ↦ inr (found.0, found.1, λ aname written. found.2 (aname.0, tt) written)
-]

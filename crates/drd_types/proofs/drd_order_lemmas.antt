@@ -1,1 +1,0 @@
-pub use Rattle.drd_opt.proofs.drd_order_lemmas.OrderLaws
