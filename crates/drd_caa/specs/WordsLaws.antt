@@ -8,9 +8,10 @@ use Rattle.drd_caa.specs.Words.{IsTagWord, RefusesTag}
 
 pub tag_causes : (word : List ℕ) → AreCauses (λ tag. IsTagWord tag word) (RefusesTag word)
 tag_causes word =
-    tested_causes (is_caa_tag word) (codes "a CAA tag is 1 to 15 letters and digits") (λ tag written. written)
-    (no_causes (λ tag. tag ≡ word))
+    tested_causes (is_caa_tag word) (codes "a CAA tag is 1 to 15 letters and digits")
+    (λ tag written. written) (no_causes (λ tag. tag ≡ word))
 
 pub tag_one : (word : List ℕ) → IsOneCause (RefusesTag word)
 tag_one word =
-    tested_one (is_caa_tag word) (codes "a CAA tag is 1 to 15 letters and digits") (record { one = λ e f h. absurd h })
+    tested_one (is_caa_tag word) (codes "a CAA tag is 1 to 15 letters and digits")
+    (record { one = λ e f h. absurd h })

@@ -10,7 +10,10 @@ use Rattle.drd_plain.specs.Words.{IsFlagsWord, RefusesFlags}
 pub flags_causes : (word : List ℕ) → AreCauses (λ flags. IsFlagsWord flags word) (RefusesFlags word)
 flags_causes word =
     tested_causes (are_alphanumeric word) (codes "flags are ASCII letters and digits")
-    (λ flags written. (written.0, sym (ap are_alphanumeric written.0.0) ∙ written.1)) (string_causes word)
+    (λ flags written. (written.0, sym (ap are_alphanumeric written.0.0) ∙ written.1))
+    (string_causes word)
 
 pub flags_one : (word : List ℕ) → IsOneCause (RefusesFlags word)
-flags_one word = tested_one (are_alphanumeric word) (codes "flags are ASCII letters and digits") (string_one word)
+flags_one word =
+    tested_one (are_alphanumeric word) (codes "flags are ASCII letters and digits")
+    (string_one word)

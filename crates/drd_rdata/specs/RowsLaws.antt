@@ -63,7 +63,8 @@ from_row other message place value end row = rw row.1 (refl, row.2)
 pub record IsKept (t : RecordType) : Type 1 where
   pub row : Row t ≡ StandsIn (rdata.Unknown t)
   pub kinds : kinds_for t ≡ null_kinds
-  pub stops : StopsAs t ≡ (λ message place end e at. RefusesValue no_misfits message end null_kinds place e at)
+  pub stops : StopsAs t
+      ≡ (λ message place end e at. RefusesValue no_misfits message end null_kinds place e at)
 
 pub kept : (t : RecordType) → IsOther t → IsKept t
 kept kind.A is = absurd is

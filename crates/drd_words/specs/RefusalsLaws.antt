@@ -38,7 +38,8 @@ one_error Written error no_memory = record {
 
 pub only_error : (error : ParseError) → AreAlike error error → IsOneCause (λ e. e ≡ error)
 only_error error alike = record {
-  one = λ e f h k. subst (λ (x : ParseError). AreAlike e x) (sym k) (subst (λ (x : ParseError). AreAlike x error) (sym h) alike);
+  one = λ e f h k. subst (λ (x : ParseError). AreAlike e x) (sym k)
+      (subst (λ (x : ParseError). AreAlike x error) (sym h) alike);
 }
 
 -- What is one cause is one where more is known of it.
@@ -174,58 +175,78 @@ more_one (word ∷ words) = only_error UnexpectedToken refl
 -- All words that are left, joined.
 pub joined_causes : (what : List ℕ) (Whole : List ℕ → List ℕ → Type 0) (words : List (List ℕ))
     → AreCauses (λ octets. Joined (Whole octets) words) (RefusesJoined what Whole words)
-joined_causes what Whole [] = record { none = λ e h octets written. written; memory = missing_memory what }
-joined_causes what Whole (word ∷ words) = one_error (λ octets. Joined (Whole octets) (word ∷ words)) DataEncoding (λ m. m)
+joined_causes what Whole [] =
+    record { none = λ e h octets written. written; memory = missing_memory what }
+joined_causes what Whole (word ∷ words) =
+    one_error (λ octets. Joined (Whole octets) (word ∷ words)) DataEncoding (λ m. m)
 
 pub joined_one : (what : List ℕ) (Whole : List ℕ → List ℕ → Type 0) (words : List (List ℕ))
     → IsOneCause (RefusesJoined what Whole words)
 joined_one what Whole [] = missing_one what
 joined_one what Whole (word ∷ words) = also_one (only_error DataEncoding refl)
 
-module _ {A : Type 0} {One : A → List ℕ → Type 0} {RefusesOne : List ℕ → ParseError → Type 0} (first : (word : List ℕ) → AreCauses (λ x. One x word) (RefusesOne word)) where
-  front_memory : (Rest : ParseError → Type 0) (word : List ℕ) → ((e : ParseError) → Rest e → IsOutOfMemory e → ⊥) → (e : ParseError)
+module _ {A : Type 0} {One : A → List ℕ → Type 0} {RefusesOne : List ℕ → ParseError → Type 0}
+    (first : (word : List ℕ) → AreCauses (λ x. One x word) (RefusesOne word)) where
+  front_memory : (Rest : ParseError → Type 0) (word : List ℕ)
+      → ((e : ParseError) → Rest e → IsOutOfMemory e → ⊥) → (e : ParseError)
       → RefusesOne word e ⊎ ((x : A) × One x word × Rest e) → IsOutOfMemory e → ⊥
   front_memory Rest word memory e (inl h) = (first word).memory e h
   front_memory Rest word memory e (inr h) = memory e h.2
 
-  module _ {B : Type 0} {Rest : B → List (List ℕ) → Type 0} {RefusesRest : List (List ℕ) → ParseError → Type 0} (rest : (words : List (List ℕ)) → AreCauses (λ y. Rest y words) (RefusesRest words)) where
-    one_then_none : (word : List ℕ) (words : List (List ℕ)) (e : ParseError) → RefusesOne word e ⊎ ((x : A) × One x word × RefusesRest words e) → (pair : A × B) → One pair.0 word × Rest pair.1 words → ⊥
+  module _ {B : Type 0} {Rest : B → List (List ℕ) → Type 0}
+      {RefusesRest : List (List ℕ) → ParseError → Type 0}
+      (rest : (words : List (List ℕ)) → AreCauses (λ y. Rest y words) (RefusesRest words)) where
+    one_then_none : (word : List ℕ) (words : List (List ℕ)) (e : ParseError)
+        → RefusesOne word e ⊎ ((x : A) × One x word × RefusesRest words e) → (pair : A × B)
+        → One pair.0 word × Rest pair.1 words → ⊥
     one_then_none word words e (inl h) pair written = (first word).none e h pair.0 written.0
     one_then_none word words e (inr h) pair written = (rest words).none e h.2 pair.1 written.1
 
-    pub one_then_causes : (words : List (List ℕ)) → AreCauses (λ (pair : A × B). OneThen (One pair.0) (Rest pair.1) words) (RefusesOneThen One RefusesOne RefusesRest words)
-    one_then_causes [] = record { none = λ e h pair written. written; memory = missing_memory (codes "a word") }
+    pub one_then_causes : (words : List (List ℕ))
+        → AreCauses (λ (pair : A × B). OneThen (One pair.0) (Rest pair.1) words)
+        (RefusesOneThen One RefusesOne RefusesRest words)
+    one_then_causes [] =
+        record { none = λ e h pair written. written; memory = missing_memory (codes "a word") }
     one_then_causes (word ∷ words) = record {
       none = one_then_none word words;
       memory = front_memory (RefusesRest words) word (rest words).memory;
     }
 
-  each_none : (words : List (List ℕ)) (e : ParseError) → RefusesEach One RefusesOne words e → (xs : List A) → EachWord One xs words → ⊥
+  each_none : (words : List (List ℕ)) (e : ParseError) → RefusesEach One RefusesOne words e
+      → (xs : List A) → EachWord One xs words → ⊥
   each_none [] e h xs written = absurd h
   each_none (word ∷ words) e h [] written = written
   each_none (word ∷ words) e (inl h) (x ∷ xs) written = (first word).none e h x written.0
   each_none (word ∷ words) e (inr h) (x ∷ xs) written = each_none words e h.2 xs written.1
 
-  each_memory : (words : List (List ℕ)) (e : ParseError) → RefusesEach One RefusesOne words e → IsOutOfMemory e → ⊥
+  each_memory : (words : List (List ℕ)) (e : ParseError) → RefusesEach One RefusesOne words e
+      → IsOutOfMemory e → ⊥
   each_memory [] e h = absurd h
-  each_memory (word ∷ words) e h = front_memory (RefusesEach One RefusesOne words) word (each_memory words) e h
+  each_memory (word ∷ words) e h =
+      front_memory (RefusesEach One RefusesOne words) word (each_memory words) e h
 
-  pub each_causes : (words : List (List ℕ)) → AreCauses (λ xs. EachWord One xs words) (RefusesEach One RefusesOne words)
+  pub each_causes : (words : List (List ℕ))
+      → AreCauses (λ xs. EachWord One xs words) (RefusesEach One RefusesOne words)
   each_causes words = record { none = each_none words; memory = each_memory words }
 
   -- The first word comes first.
   module _ (same : (word : List ℕ) → IsOneCause (RefusesOne word)) where
     front_one : (Rest : ParseError → Type 0) (word : List ℕ) → IsOneCause Rest → (e f : ParseError)
-        → RefusesOne word e ⊎ ((x : A) × One x word × Rest e) → RefusesOne word f ⊎ ((x : A) × One x word × Rest f) → AreAlike e f
+        → RefusesOne word e ⊎ ((x : A) × One x word × Rest e)
+        → RefusesOne word f ⊎ ((x : A) × One x word × Rest f) → AreAlike e f
     front_one Rest word cause e f (inl h) (inl k) = (same word).one e f h k
     front_one Rest word cause e f (inl h) (inr k) = absurd ((first word).none e h k.0 k.1)
     front_one Rest word cause e f (inr h) (inl k) = absurd ((first word).none f k h.0 h.1)
     front_one Rest word cause e f (inr h) (inr k) = cause.one e f h.2 k.2
 
-    pub one_then_one : {RefusesRest : List (List ℕ) → ParseError → Type 0} → ((words : List (List ℕ)) → IsOneCause (RefusesRest words)) → (words : List (List ℕ)) → IsOneCause (RefusesOneThen One RefusesOne RefusesRest words)
+    pub one_then_one : {RefusesRest : List (List ℕ) → ParseError → Type 0}
+        → ((words : List (List ℕ)) → IsOneCause (RefusesRest words)) → (words : List (List ℕ))
+        → IsOneCause (RefusesOneThen One RefusesOne RefusesRest words)
     one_then_one rest [] = missing_one (codes "a word")
-    one_then_one {RefusesRest} rest (word ∷ words) = record { one = front_one (RefusesRest words) word (rest words) }
+    one_then_one {RefusesRest} rest (word ∷ words) =
+        record { one = front_one (RefusesRest words) word (rest words) }
 
     pub each_one : (words : List (List ℕ)) → IsOneCause (RefusesEach One RefusesOne words)
     each_one [] = record { one = λ e f h. absurd h }
-    each_one (word ∷ words) = record { one = front_one (RefusesEach One RefusesOne words) word (each_one words) }
+    each_one (word ∷ words) =
+        record { one = front_one (RefusesEach One RefusesOne words) word (each_one words) }
