@@ -1,10 +1,10 @@
--- Options that were read are written as octets from which the same are read.
-use Rattle.std.proofs.Common.{◌≡◌, ℕ, ◌/◌, ◌%◌, List, [], ◌∷◌, ◌++◌, inl, inr, length, take, drop, map, refl, sym, ap, subst, ◌∙◌, arith, append-nil}
-use Rattle.std.proofs.lemmas.List.{take_at, length-append, length-take, nil_from_length}
+-- Options that were read are written as octets that hold them, and from which the same are read.
+use Rattle.std.proofs.Common.{◌≡◌, ℕ, ◌+◌, ◌-◌, ◌/◌, ◌%◌, List, [], ◌∷◌, ◌++◌, inl, inr, length, take, drop, replicate, map, refl, sym, ap, subst, ◌∙◌, arith, append-nil}
+use Rattle.std.proofs.lemmas.List.{take_at, drop_all, length-append, length-take, nil_from_length}
 use Rattle.std.proofs.lemmas.List.Elements.{All-nil}
 use Rattle.std.specs.List.{All}
-use Rattle.drd_option.specs.Codes.{edns_code_number}
-use Rattle.drd_option.specs.Options.{option_octets, IsOptionOf}
+use Rattle.drd_option.specs.Codes.{edns_code_number, edns_code_of}
+use Rattle.drd_option.specs.Options.{option_octets, HasNoForm, IsOptionOf}
 use Rattle.drd_option.specs.Subnets.{family_of, address_size, address_octets, prefix_octets, prefix_size, subnet_head, subnet_octets, SubnetAt}
 use Rattle.drd_option.specs.declared.subnet.ClientSubnet.{ClientSubnet}
 use Rattle.drd_option.specs.declared.option.EdnsOption.{EdnsOption}
@@ -77,3 +77,49 @@ read_back source ws vs (inl all) found = all_back all.raws ws vs all.fit all.ent
 read_back source ws vs (inr none) found =
     let empty : HoldsEntries (entries_octets []) vs = subst (λ (es : List Entry). HoldsEntries (entries_octets es) vs) none.none found in
     subst (λ (es : List Entry). map raw_of vs ≡ map raw_of es) (sym none.none) (all_back [] [] vs (All-nil FitsLengths) tt empty)
+
+-- The octets of a subnet that was read hold it.
+subnet_own : (octets : List ℕ) (s : ClientSubnet) (end : ℕ) → SubnetAt octets 0 s end → (behind : ℕ) × SubnetAt (subnet_octets s) 0 s behind
+subnet_own octets s end there =
+    let n = prefix_size s.address s.source_prefix in
+    let b = take n (address_octets s.address) in
+    let front = there.1.front in
+    let taken : b ≡ front = ap (λ (o : List ℕ). take n o) there.1.padded ∙ take_at front _ n there.1.long in
+    let h = subnet_head (family_of s.address) s.source_prefix s.scope_prefix in
+    let none : drop (4 + length b) (subnet_octets s) ≡ [] = drop_all (4 + length b) (subnet_octets s) (omega (arith, length-append h b)) in (
+      4 + length b,
+      (
+        record { there = refl; behind = refl },
+        record {
+          front = b;
+          long = ap length taken ∙ there.1.long;
+          there = record { there = sym (append-nil b) ∙ ap (λ (o : List ℕ). b ++ o) (sym none); behind = refl };
+          padded = subst (λ (o : List ℕ). address_octets s.address ≡ o ++ replicate (address_size s.address - length o) 0) (sym taken) there.1.padded;
+        },
+      ),
+    )
+
+-- Options that were read are those of their own codes and octets.
+option_own : (code : ℕ) (octets : List ℕ) (w : EdnsOption) → IsOptionOf code octets w → IsOptionOf code (option_octets w) w
+option_own code octets (DAU a) is = (is.0, refl)
+option_own code octets (NSID p) is = (is.0, refl)
+option_own code octets (Subnet s) is = (is.0, subnet_own octets s is.1.0 is.1.1)
+option_own code octets (Unknown n k) is = (is.0, refl, subst (HasNoForm code) (sym is.1) is.2)
+
+entry_own : (r : RawOption) (w : Entry) → IsEntryOf r w → IsEntryOf (raw_of w) w
+entry_own r w is = record {
+  code = is.code ∙ ap edns_code_of (sym (entry_number r w is));
+  option = subst (λ (c : ℕ). IsOptionOf c (option_octets w.1) w.1) (sym (entry_number r w is)) (option_own r.code r.octets w.1 is.option);
+}
+
+entries_own : (rs : List RawOption) (ws : List Entry) → AreEntriesOf rs ws → AreEntriesOf (map raw_of ws) ws
+entries_own [] [] are = tt
+entries_own (r ∷ rs) (w ∷ ws) are = (entry_own r w are.0, entries_own rs ws are.1)
+entries_own [] (w ∷ ws) are = absurd are
+entries_own (r ∷ rs) [] are = absurd are
+
+pub options_own : (source : List ℕ) (ws : List Entry) → HoldsEntries source ws → HoldsEntries (entries_octets ws) ws
+options_own source ws (inl all) =
+    inl (record { raws = map raw_of ws; fit = all_fit all.raws ws all.fit all.entries_of; whole = refl; entries_of = entries_own all.raws ws all.entries_of })
+options_own source ws (inr none) =
+    subst (λ (es : List Entry). HoldsEntries (entries_octets es) es) (sym none.none) (inl (record { raws = []; fit = All-nil FitsLengths; whole = refl; entries_of = tt }))

@@ -1,5 +1,6 @@
 pub mod BackLaws
 pub mod OnceLaws
+pub mod ReadBackLaws
 pub mod WritingLaws
 pub mod WrittenLaws
 pub mod Others

@@ -1,0 +1,102 @@
+-- What was read for a type and written stands for it where it is written, by an encoder in any mode: names in the form in which it writes
+-- them, and all else as it is.
+use Rattle.std.proofs.Common.{◌≡◌, ℕ, List, [], ◌∷◌, refl, sym, subst, ◌∙◌}
+use Rattle.dnw_codes.specs.declared.record_type.RecordType.{RecordType}
+use Rattle.drd_types.specs.dnw_decoder.Octets.{Stands}
+use Rattle.drd_types.specs.dnw_encoder.Effects.{Sound, StaysTrue}
+use Rattle.drd_types.proofs.dnw_encoder_lemmas.Laws.{holds_map}
+use Rattle.drd_types.specs.dnw_encoder.State.{State}
+use Rattle.drd_types.specs.dnw_encoder.declared.modes.NameEncoding.{NameEncoding}
+use Rattle.drd_types.specs.drd_fields.Fields.{Field, rest, FieldsAt}
+use Rattle.drd_types.specs.drd_fields.Writing.{encoded_fields}
+use Rattle.drd_types.specs.drd_opt.Entries.{Entry, entries_octets}
+use Rattle.drd_types.proofs.drd_opt_lemmas.BackLaws.{options_own}
+use Rattle.drd_types.specs.drd_opt.Reading.{EntriesAt, HoldsEntries}
+use Rattle.drd_rdata.specs.Fields.{rdata_fields}
+use Rattle.drd_rdata.specs.Reading.{HoldsAs, IsValid}
+use Rattle.drd_rdata.specs.Types.{type_of}
+use Rattle.drd_rdata.specs.Writing.{EmitsRData, StandsWritten}
+use Rattle.drd_types.specs.dnw_encoder.Names.{encoded_name}
+use Rattle.drd_svcb.specs.declared.svcb.SVCB.{SVCB}
+use Rattle.drd_rdata.specs.declared.rdata.RData.{RData}
+use Rattle.drd_rdata.specs.declared.rdata.RData.TheVariants as rdata
+use Rattle.drd_rdata.proofs.BackLaws.{emitted_stands}
+
+-- The data as they are written: names fully qualified, and in lower case where the encoder writes them so.
+abbrev encoded_service : NameEncoding → SVCB → SVCB
+encoded_service encoding svcb = record svcb { target_name = encoded_name encoding svcb.target_name }
+
+abbrev pub encoded_data : NameEncoding → RData → RData
+encoded_data encoding (rdata.ANAME aname) =
+    rdata.ANAME (record aname { 0 = encoded_name encoding aname.0 })
+encoded_data encoding (rdata.CNAME cname) =
+    rdata.CNAME (record cname { 0 = encoded_name encoding cname.0 })
+encoded_data encoding (rdata.HTTPS https) =
+    rdata.HTTPS (record https { 0 = encoded_service encoding https.0 })
+encoded_data encoding (rdata.MX mx) =
+    rdata.MX (record mx { exchange = encoded_name encoding mx.exchange })
+encoded_data encoding (rdata.NAPTR naptr) =
+    rdata.NAPTR (record naptr { replacement = encoded_name encoding naptr.replacement })
+encoded_data encoding (rdata.NS ns) = rdata.NS (record ns { 0 = encoded_name encoding ns.0 })
+encoded_data encoding (rdata.PTR ptr) = rdata.PTR (record ptr { 0 = encoded_name encoding ptr.0 })
+encoded_data encoding (rdata.SOA soa) =
+    rdata.SOA
+    (record soa { mname = encoded_name encoding soa.mname; rname = encoded_name encoding soa.rname })
+encoded_data encoding (rdata.SRV srv) =
+    rdata.SRV (record srv { target = encoded_name encoding srv.target })
+encoded_data encoding (rdata.SVCB svcb) = rdata.SVCB (encoded_service encoding svcb)
+encoded_data encoding other = other
+
+options_there : (source message : List ℕ) (place : ℕ) (ws : List Entry) (end : ℕ) → HoldsEntries source ws → FieldsAt message place (rest (entries_octets ws) ∷ []) end → EntriesAt message place ws end
+options_there source message place ws end held written = record {
+  octets = entries_octets ws;
+  there = subst (λ (p : ℕ). Stands message place (entries_octets ws) p) (sym written.2) written.1;
+  holds = options_own source ws held;
+}
+
+-- The fields of the data as they are written are their fields as they are written.
+fields_encoded : (encoding : NameEncoding) (v : RData) → encoded_fields encoding (rdata_fields v) ≡ rdata_fields (encoded_data encoding v)
+fields_encoded encoding rdata.ZERO = refl
+fields_encoded encoding v = refl
+
+valid_encoded : (encoding : NameEncoding) (v : RData) → IsValid v → IsValid (encoded_data encoding v)
+valid_encoded encoding rdata.ZERO valid = valid
+valid_encoded encoding v valid = valid
+
+type_encoded : (encoding : NameEncoding) (v : RData) → type_of (encoded_data encoding v) ≡ type_of v
+type_encoded encoding rdata.ZERO = refl
+type_encoded encoding v = refl
+
+-- Data that were read, and stand somewhere as an encoder wrote them, stand there for their type.
+pub encoded_there : (t : RecordType) (source : List ℕ) (start stop : ℕ) (v : RData)
+    (encoding : NameEncoding) (message : List ℕ) (place end : ℕ)
+    → HoldsAs t source start v stop → StandsWritten v encoding message place end
+    → HoldsAs t message place (encoded_data encoding v) end
+encoded_there t source start stop (rdata.CSYNC csync) encoding message place end held written =
+    (held.0, written)
+encoded_there t source start stop (rdata.OPT opt) encoding message place end held written =
+    (held.0, options_there held.1.octets message place opt.options.items end held.1.holds written)
+encoded_there t source start stop v encoding message place end held written = (
+  type_encoded encoding v ∙ held.0,
+  (
+    subst (λ (gs : List Field). FieldsAt message place gs end) (fields_encoded encoding v) written,
+    valid_encoded encoding v held.1.1,
+  ),
+)
+
+-- What was read for a type and is written stands for it where it is written, in the finished message too: all types, OPT among them, and
+-- all modes of an encoder, canonical form among them.
+pub written_back : (t : RecordType) (source : List ℕ) (start stop : ℕ) (v : RData)
+    → HoldsAs t source start v stop → (old new : State) → Sound old → EmitsRData v old new
+    → (encoding : NameEncoding)
+    × StaysTrue new new.offset
+    (λ message. HoldsAs t message old.offset (encoded_data encoding v) new.offset)
+written_back t source start stop v held old new sound e =
+    let stands = emitted_stands v old new sound e in (
+      stands.0,
+      holds_map new.offset new
+          (λ message. StandsWritten v stands.0 message old.offset new.offset)
+          (λ message. HoldsAs t message old.offset (encoded_data stands.0 v) new.offset)
+          (λ message written. encoded_there t source start stop v stands.0 message old.offset new.offset held written)
+          stands.1,
+    )
