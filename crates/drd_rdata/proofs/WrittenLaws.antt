@@ -74,7 +74,7 @@ pub encoded_full : (encoding : NameEncoding) (n : DomainName) → is_lower encod
 encoded_full encoding n same full =
     ap (λ (b : Bool). domain_name true (cond b (map str_to_ascii_lowercase n.labels) n.labels)) same ∙ ap (λ (f : Bool). domain_name f n.labels) (sym full)
 
-encoded_same : (encoding : NameEncoding) (fs : List Field) → is_lower encoding ≡ false → AreFull fs → encoded_fields encoding fs ≡ fs
+pub encoded_same : (encoding : NameEncoding) (fs : List Field) → is_lower encoding ≡ false → AreFull fs → encoded_fields encoding fs ≡ fs
 encoded_same encoding [] same full = refl
 encoded_same encoding (octet n ∷ fs) same full = ap (λ (gs : List Field). octet n ∷ gs) (encoded_same encoding fs same full.1)
 encoded_same encoding (short n ∷ fs) same full = ap (λ (gs : List Field). short n ∷ gs) (encoded_same encoding fs same full.1)
