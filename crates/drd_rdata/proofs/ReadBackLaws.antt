@@ -20,7 +20,7 @@ use Rattle.drd_types.specs.dnw_encoder.Names.{encoded_name}
 use Rattle.drd_svcb.specs.declared.svcb.SVCB.{SVCB}
 use Rattle.drd_rdata.specs.declared.rdata.RData.{RData}
 use Rattle.drd_rdata.specs.declared.rdata.RData.TheVariants as rdata
-use Rattle.drd_rdata.proofs.BackLaws.{emitted_stands}
+use Rattle.drd_rdata.proofs.BackLaws.{Alike, alike, emitted_stands}
 
 -- The data as they are written: names fully qualified, and in lower case where the encoder writes them so.
 abbrev encoded_service : NameEncoding → SVCB → SVCB
@@ -84,19 +84,29 @@ encoded_there t source start stop v encoding message place end held written = (
   ),
 )
 
--- What was read for a type and is written stands for it where it is written, in the finished message too: all types, OPT among them, and
--- all modes of an encoder, canonical form among them.
+-- Data of a type read back where they were written: as written they stand there, and all that is read there for the type is equal to them,
+-- by the same canonical octets.
+pub record ReadsBack (t : RecordType) (encoding : NameEncoding) (v : RData) (message : List ℕ)
+    (place end : ℕ) : Type 0 where
+  pub there : HoldsAs t message place (encoded_data encoding v) end
+  pub equal : (w : RData) → HoldsAs t message place w end → Alike v w
+
+-- What was read for a type and is written reads back where it is written, in the finished message too: all types, OPT among them, and all
+-- modes of an encoder, canonical form among them.
 pub written_back : (t : RecordType) (source : List ℕ) (start stop : ℕ) (v : RData)
     → HoldsAs t source start v stop → (old new : State) → Sound old → EmitsRData v old new
     → (encoding : NameEncoding)
     × StaysTrue new new.offset
-    (λ message. HoldsAs t message old.offset (encoded_data encoding v) new.offset)
+    (λ message. ReadsBack t encoding v message old.offset new.offset)
 written_back t source start stop v held old new sound e =
     let stands = emitted_stands v old new sound e in (
       stands.0,
       holds_map new.offset new
           (λ message. StandsWritten v stands.0 message old.offset new.offset)
-          (λ message. HoldsAs t message old.offset (encoded_data stands.0 v) new.offset)
-          (λ message written. encoded_there t source start stop v stands.0 message old.offset new.offset held written)
+          (λ message. ReadsBack t stands.0 v message old.offset new.offset)
+          (λ message written. record {
+            there = encoded_there t source start stop v stands.0 message old.offset new.offset held written;
+            equal = λ w found. alike t source start stop v w stands.0 message old.offset new.offset held written found;
+          })
           stands.1,
     )
