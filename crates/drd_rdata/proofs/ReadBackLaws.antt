@@ -22,10 +22,11 @@ use Rattle.drd_rdata.specs.declared.rdata.RData.{RData}
 use Rattle.drd_rdata.specs.declared.rdata.RData.TheVariants as rdata
 use Rattle.drd_rdata.proofs.BackLaws.{Alike, alike, emitted_stands}
 
--- The data as they are written: names fully qualified, and in lower case where the encoder writes them so.
+-- A service as it is written (RFC 9460 2.2): its target in the form in which the encoder writes names.
 abbrev encoded_service : NameEncoding → SVCB → SVCB
 encoded_service encoding svcb = record svcb { target_name = encoded_name encoding svcb.target_name }
 
+-- The data as they are written: names fully qualified, and in lower case where the encoder writes them so (RFC 4034 6.2).
 abbrev pub encoded_data : NameEncoding → RData → RData
 encoded_data encoding (rdata.ANAME aname) =
     rdata.ANAME (record aname { 0 = encoded_name encoding aname.0 })
