@@ -1,5 +1,2 @@
-pub mod Frames
 pub mod Programs
-pub mod Runs
-pub mod Servers
-pub mod Serving
+pub mod authority_server

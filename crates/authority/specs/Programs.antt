@@ -6,14 +6,14 @@ use Rattle.authority_load.specs.declared.text.TextError.{TextError}
 use Rattle.authority_load.specs.declared.text.TextError.TheVariants as texts
 use Rattle.authority.specs.declared.program.Fault.{Fault}
 use Rattle.authority.specs.declared.program.Fault.TheVariants as faults
-use Rattle.authority.specs.declared.stream.StreamError.{StreamError}
-use Rattle.authority.specs.declared.stream.StreamError.TheVariants as streams
+use Rattle.authority_server.specs.declared.stream.StreamError.{StreamError}
+use Rattle.authority_server.specs.declared.stream.StreamError.TheVariants as streams
 use Rattle.authority_load.specs.zst_zone.declared.settings.ZoneType.TheVariants as kinds
 use Rattle.authority_load.specs.zst_zone.declared.settings.AxfrPolicy.TheVariants as policies
-use Rattle.zsv_message.specs.dnw_name.DomainName.{DomainName}
+use Rattle.authority_server.specs.dnw_name.DomainName.{DomainName}
 use Rattle.authority_load.specs.zst_zone.Zones.{View}
 use Rattle.authority_load.specs.ZoneText.{IsOwnerText, IsNumberText, IsZoneText, IsLoadFault}
-use Rattle.authority.specs.Frames.{ServesFrames, ServesUntil}
+use Rattle.authority_server.specs.Frames.{ServesFrames, ServesUntil}
 
 -- Three words: an origin that ends at the root, a file, and a moment of 64 bits.
 pub record AreWords (words : List (List ℕ)) (origin : DomainName) (now : ℕ) : Type 0 where

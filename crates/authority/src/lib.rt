@@ -5,11 +5,9 @@ pub use authority_load::{
     AxfrPolicy, InMemoryZoneHandler, LoadCause, LoadError, Lookup, LowerName, NxProofKind,
     ProtoError, RrKey, Salt, ZoneSettings, ZoneType, load_zone,
 };
+pub use authority_server::{
+    A, Arrival, Authority, DNSClass, Label, NS, Name, NoSuite, Protocol, RData, Record, RecordSet,
+    RecordType, SOA, ServeError, StreamError,
+};
 
 pub mod program;
-mod server;
-mod stream;
-
-pub use server::{Arrival, Authority, NoSuite, Protocol, ServeError};
-pub use stream::StreamError;
-pub use zsv_message::{A, DNSClass, Label, NS, Name, RData, Record, RecordSet, RecordType, SOA};

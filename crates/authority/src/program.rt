@@ -4,17 +4,15 @@ ghost use Rattle.std.specs.Prelude.{◌≡◌, true, map, option_copied};
 ghost use Rattle.std.specs.String.{string_bytes};
 ghost use Rattle.authority.specs.Programs.{Answers, StatusIs, TextGives, WordsGive, read_or_usage, status_of};
 
-use crate::server::{Authority, NoSuite};
-use crate::stream::StreamError;
 use authority_load::{
     AxfrPolicy, InMemoryZoneHandler, LoadError, TextError, ZoneSettings, ZoneType, load_zone,
     parse_owner, parse_u64,
 };
+use authority_server::{Authority, Name, NoSuite, StreamError};
 use std::alloc::Global;
 use std::io::{Read, Write};
 use std::net::{Ipv4Addr, SocketAddr, SocketAddrV4};
 use thiserror::Error;
-use zsv_message::Name;
 
 /// The program's zone is signed by nobody.
 #[derive(Clone, Copy, Debug)]

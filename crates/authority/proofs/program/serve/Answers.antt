@@ -1,9 +1,9 @@
 use Rattle.std.proofs.Common.{◌≡◌, ap, refl, inr, option_copied}
 use Rattle.std.specs.Prelude.{ℕ, List, Option}
 use Rattle.std.specs.declared.net.SocketAddr.{SocketAddr}
-use Rattle.authority.specs.Serving.{World}
-use Rattle.authority.specs.declared.stream.StreamError.{StreamError}
-use Rattle.authority.specs.Frames.{ServesFrames, ServesUntil}
+use Rattle.authority_server.specs.Serving.{World}
+use Rattle.authority_server.specs.declared.stream.StreamError.{StreamError}
+use Rattle.authority_server.specs.Frames.{ServesFrames, ServesUntil}
 use Rattle.authority.proofs.program.serve.Goals as goal
 
 over_same : {old new first : World} {source : SocketAddr} {moment : ℕ} {left rest before after : Option (List ℕ)} → old ≡ first → new ≡ old → ServesFrames old source moment left rest before after new → ServesFrames first source moment left rest before after first

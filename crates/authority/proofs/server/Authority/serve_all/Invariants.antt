@@ -1,9 +1,0 @@
-use Rattle.std.proofs.Common.{◌+◌, ◌≤◌, length, vec_len, vec_capacity}
-use Rattle.authority.proofs.ServedRuns.{Served}
-use Rattle.authority.proofs.server.Authority.serve_all.Given as goal
-
-abbrev pub invariant-loop-arrival : goal.invariant-loop-arrival
-invariant-loop-arrival g l = record {
-  served : Served l.initial.self l.arrivals l.initial.answers.items l.answers.items l.arrival-index l.self;
-  room : vec_len l.answers + length l.arrivals ≤ vec_capacity l.answers + l.arrival-index;
-}

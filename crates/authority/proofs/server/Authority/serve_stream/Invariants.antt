@@ -1,9 +1,0 @@
-use Rattle.std.proofs.Common.{◌≡◌}
-use Rattle.authority.proofs.StreamRuns.{Counted}
-use Rattle.authority.proofs.server.Authority.serve_stream.Given as goal
-
-abbrev pub invariant-frames : goal.invariant-frames
-invariant-frames g l = record {
-  same : l.self ≡ l.initial.self;
-  served : Counted l.initial.self l.src l.now (g.R.Read.remaining l.initial.reader) (g.R.Read.remaining l.reader) (g.W.Write.contents l.initial.writer) (g.W.Write.contents l.writer) l.self l.counter;
-}

@@ -1,0 +1,207 @@
+-- The definitions computed on worked rows: a zone with a start of authority and one address, and what it is asked.
+use Rattle.std.proofs.Common.{◌≡◌, ℕ, Bool, true, false, List, [], ◌∷◌, ◌++◌, refl, arith}
+use Rattle.std.specs.Prelude.{codes, pos, None}
+use Rattle.zst_zone.specs.dnw_codes.declared.record_type.RecordType.TheVariants as types
+use Rattle.zst_zone.specs.dnw_codes.declared.dns_class.DNSClass.TheVariants as classes
+use Rattle.zsv_message.specs.drd_rdata.declared.rdata.RData.TheVariants as rdata
+use Rattle.zsv_message.specs.zst_record.declared.records.Record.{Record}
+use Rattle.zst_zone.specs.declared.settings.ZoneType.TheVariants as kinds
+use Rattle.zst_zone.specs.declared.settings.AxfrPolicy.TheVariants as policies
+use Rattle.zsv_message.specs.declared.header.MessageType.TheVariants as messages
+use Rattle.zsv_message.specs.declared.header.OpCode.TheVariants as operations
+use Rattle.zsv_message.specs.declared.header.ResponseCode.{ResponseCode}
+use Rattle.zsv_message.specs.declared.header.ResponseCode.TheVariants as responses
+use Rattle.zsv_message.specs.declared.header.Metadata.{Metadata}
+use Rattle.zsv_message.specs.declared.request.Query.{Query}
+use Rattle.zsv_message.specs.dnw_name.DomainName.{DomainName, name_octets, name_eq, is_at_or_below}
+use Rattle.std.specs.Cmp.Lexicographic.{slice_cmp}
+use Rattle.std.specs.Ordering.{nat_cmp}
+use Rattle.std.specs.declared.cmp.Ordering.TheVariants.{Less}
+use Rattle.zsv_message.specs.dnw_name.NameKey.{rank, name_key}
+use Rattle.std.specs.Net.Addr.{ipv4_bits}
+use Rattle.zsv_message.specs.dnw_decoder.Octets.{octets_32}
+use Rattle.zsv_message.specs.Headers.{header_of}
+use Rattle.zsv_message.specs.drd_rdata.Writing.{written_octets}
+use Rattle.zsv_message.specs.zst_record.Records.{fixed_octets, plain}
+use Rattle.zsv_message.specs.dnw_decoder.Spelling.{NameAt, at_end, at_label}
+use Rattle.zsv_message.specs.Requests.{Request, QuestionAt}
+use Rattle.zst_zone.specs.Zones.{View, lookup_result, answered, name_exists, name_error, out_of_zone}
+use Rattle.authority_server.specs.Serving.{reply_parts}
+
+abbrev example : DomainName
+example = record { fqdn = true; labels = codes "example" ∷ codes "com" ∷ [] }
+
+abbrev below : List ℕ → DomainName
+below first = record { fqdn = true; labels = first ∷ codes "example" ∷ codes "com" ∷ [] }
+
+abbrev elsewhere : DomainName
+elsewhere = record { fqdn = true; labels = codes "example" ∷ codes "org" ∷ [] }
+
+abbrev start : Record
+start = record {
+  name = example;
+  dns_class = classes.IN;
+  ttl = 3600;
+  rdata = rdata.SOA (record { mname = below (codes "ns"); rname = below (codes "admin"); serial = 1; refresh = pos 3600; retry = pos 1800; expire = pos 604800; minimum = 86400 });
+}
+
+abbrev address : Record
+address = record { name = below (codes "www"); dns_class = classes.IN; ttl = 3600; rdata = rdata.A (record { 0 = record { octets = 192 ∷ 0 ∷ 2 ∷ 1 ∷ [] } }) }
+
+abbrev zone : View
+zone = record {
+  origin = example;
+  zone_type = kinds.Primary;
+  axfr_policy = policies.AllowAll;
+  nx_proof_kind = None;
+  sets = record { owner = example; record_type = types.SOA; records = start ∷ [] } ∷ record { owner = below (codes "www"); record_type = types.A; records = address ∷ [] } ∷ [];
+}
+
+-- Twelve octets of header, and a question for the address of www.example.com.
+abbrev question : List ℕ
+question = 18 ∷ 52 ∷ 0 ∷ 0 ∷ 0 ∷ 1 ∷ 0 ∷ 0 ∷ 0 ∷ 0 ∷ 0 ∷ 0 ∷ 3 ∷ 119 ∷ 119 ∷ 119 ∷ 7 ∷ 101 ∷ 120 ∷ 97 ∷ 109 ∷ 112 ∷ 108 ∷ 101 ∷ 3 ∷ 99 ∷ 111 ∷ 109 ∷ 0 ∷ 0 ∷ 1 ∷ 0 ∷ 1 ∷ []
+
+abbrev plain_metadata : Metadata
+plain_metadata = record {
+  id = 4660;
+  message_type = messages.Query;
+  op_code = operations.Query;
+  authoritative = false;
+  truncation = false;
+  recursion_desired = false;
+  recursion_available = false;
+  authentic_data = false;
+  checking_disabled = false;
+  response_code = responses.NoError;
+}
+
+-- The header of the question.
+question_header : header_of question ≡ record { metadata = plain_metadata; counts = record { queries = 1; answers = 0; authorities = 0; additionals = 0 } }
+question_header = refl
+
+-- A header with every flag: a4 10 is a response of operation 4 with AA and CD, 85 80 one with AA, RD and RA.
+flags_of_notify : (header_of (0 ∷ 0 ∷ 164 ∷ 16 ∷ [])).metadata ≡ record {
+  id = 0;
+  message_type = messages.Response;
+  op_code = operations.Notify;
+  authoritative = true;
+  truncation = false;
+  recursion_desired = false;
+  recursion_available = false;
+  authentic_data = false;
+  checking_disabled = true;
+  response_code = responses.NoError;
+}
+flags_of_notify = refl
+
+-- Names are equal up to case, and lie below what their labels end in.
+names_in_another_case : name_eq (below (codes "WwW")) (below (codes "www")) ≡ true
+names_in_another_case = refl
+
+www_below_the_zone : is_at_or_below (below (codes "www")) example ≡ true
+www_below_the_zone = refl
+
+the_zone_not_below_www : is_at_or_below example (below (codes "www")) ≡ false
+the_zone_not_below_www = refl
+
+elsewhere_not_below : is_at_or_below elsewhere example ≡ false
+elsewhere_not_below = refl
+
+-- The zone's answers.
+an_address : lookup_result zone (below (codes "wWw")) types.A ≡ answered (address ∷ [])
+an_address = refl
+
+a_missing_type : lookup_result zone (below (codes "www")) types.AAAA ≡ name_exists
+a_missing_type = refl
+
+a_missing_name : lookup_result zone (below (codes "z")) types.A ≡ name_error
+a_missing_name = refl
+
+outside : lookup_result zone elsewhere types.A ≡ out_of_zone
+outside = refl
+
+-- The address record takes 31 octets, four of them data.
+address_octets : name_octets address.name ++ fixed_octets address 4 ++ written_octets address.rdata ≡ name_octets (below (codes "www")) ++ (0 ∷ 1 ∷ 0 ∷ 1 ∷ 0 ∷ 0 ∷ 14 ∷ 16 ∷ 0 ∷ 4 ∷ 192 ∷ 0 ∷ 2 ∷ 1 ∷ [])
+unfolding octets_32 ipv4_bits
+address_octets = refl
+
+address_size : plain address ≡ 31
+unfolding octets_32
+address_size = refl
+
+-- The start of authority takes 78 octets, 55 of them data.
+start_size : plain start ≡ 78
+unfolding octets_32
+start_size = refl
+
+-- The name asked for is spelled from octet 12 on, and ends at 29.
+name_asked : NameAt question 12 (below (codes "www")) 29
+name_asked = record {
+  full = refl;
+  spelled = at_label (omega arith) (record { some = omega arith; few = omega arith }) (record { there = refl; behind = refl })
+      (at_label (omega arith) (record { some = omega arith; few = omega arith }) (record { there = refl; behind = refl })
+      (at_label (omega arith) (record { some = omega arith; few = omega arith }) (record { there = refl; behind = refl })
+      (at_end (omega arith) (record { there = refl; behind = refl }))));
+  size = omega arith;
+}
+
+question_asked : QuestionAt question 12 (record { name = below (codes "www"); query_type = types.A; query_class = classes.IN }) 33
+question_asked = record {
+  middle = 29;
+  last = 31;
+  name = name_asked;
+  query_type = record { number = 1; small = omega arith; there = record { there = refl; behind = refl }; means = refl };
+  query_class = record { number = 1; small = omega arith; there = record { there = refl; behind = refl }; means = refl };
+}
+
+abbrev asks : Metadata → List Query → Request
+asks m qs = record { metadata = m; questions = qs; question_octets = [] }
+
+abbrev one : DomainName → Query
+one name = record { name = name; query_type = types.A; query_class = classes.IN }
+
+abbrev answer_metadata : Bool → ResponseCode → Metadata
+answer_metadata authoritative code = record {
+  id = 4660;
+  message_type = messages.Response;
+  op_code = operations.Query;
+  authoritative = authoritative;
+  truncation = false;
+  recursion_desired = false;
+  recursion_available = false;
+  authentic_data = false;
+  checking_disabled = false;
+  response_code = code;
+}
+
+-- What full replies hold.
+address_parts : reply_parts zone (asks plain_metadata (one (below (codes "www")) ∷ [])) ≡ record { metadata = answer_metadata true responses.NoError; answers = address ∷ []; authorities = [] }
+address_parts = refl
+
+missing_parts : reply_parts zone (asks plain_metadata (one (below (codes "z")) ∷ [])) ≡ record { metadata = answer_metadata true responses.NXDomain; answers = []; authorities = start ∷ [] }
+missing_parts = refl
+
+outside_parts : reply_parts zone (asks plain_metadata (one elsewhere ∷ [])) ≡ record { metadata = answer_metadata false responses.Refused; answers = []; authorities = [] }
+outside_parts = refl
+
+no_question_parts : reply_parts zone (asks plain_metadata []) ≡ record { metadata = answer_metadata false responses.FormErr; answers = []; authorities = [] }
+no_question_parts = refl
+
+-- Keys rise in the canonical order: the nine names of RFC 4034, section 6.1.
+abbrev named : List (List ℕ) → DomainName
+named labels = record { fqdn = true; labels = labels }
+
+abbrev rises : List (List ℕ) → List (List ℕ) → Type 0
+rises a b = slice_cmp nat_cmp (name_key (named a)) (name_key (named b)) ≡ Less
+
+canonical_order :
+    rises (codes "example" ∷ []) (codes "a" ∷ codes "example" ∷ [])
+    × rises (codes "a" ∷ codes "example" ∷ []) (codes "yljkjljk" ∷ codes "a" ∷ codes "example" ∷ [])
+    × rises (codes "yljkjljk" ∷ codes "a" ∷ codes "example" ∷ []) (codes "Z" ∷ codes "a" ∷ codes "example" ∷ [])
+    × rises (codes "Z" ∷ codes "a" ∷ codes "example" ∷ []) (codes "zABC" ∷ codes "a" ∷ codes "EXAMPLE" ∷ [])
+    × rises (codes "zABC" ∷ codes "a" ∷ codes "EXAMPLE" ∷ []) (codes "z" ∷ codes "example" ∷ [])
+    × rises (codes "z" ∷ codes "example" ∷ []) ((1 ∷ []) ∷ codes "z" ∷ codes "example" ∷ [])
+    × rises ((1 ∷ []) ∷ codes "z" ∷ codes "example" ∷ []) (codes "*" ∷ codes "z" ∷ codes "example" ∷ [])
+    × rises (codes "*" ∷ codes "z" ∷ codes "example" ∷ []) ((200 ∷ []) ∷ codes "z" ∷ codes "example" ∷ [])
+unfolding rank
+canonical_order = (refl, refl, refl, refl, refl, refl, refl, refl)

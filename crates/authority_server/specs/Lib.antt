@@ -1,0 +1,5 @@
+pub mod Frames
+pub mod Runs
+pub mod Servers
+pub mod Serving
+pub use Rattle.zsv_message.specs.dnw_name

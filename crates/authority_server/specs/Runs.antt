@@ -1,0 +1,32 @@
+-- A run of the server over messages as they arrive.
+use Rattle.std.specs.Prelude.{◌≡◌, ℕ, List, [], ◌∷◌, ◌++◌, length, take, Option, option_map}
+use Rattle.std.proofs.Common.{Vec, Global}
+use Rattle.authority_server.specs.declared.server.Arrival.{Arrival}
+use Rattle.authority_server.specs.Serving.{World, Received, Serves, ServesAll}
+
+-- The octets of an answer.
+abbrev pub octets_of : Option (Vec ℕ Global) → Option (List ℕ)
+octets_of answer = option_map (λ reply. reply.items) answer
+
+-- A message as it arrived, without its loans.
+abbrev pub received_of : Arrival → Received
+received_of arrival = record {
+  message = arrival.message.now;
+  source = arrival.src;
+  transport = arrival.protocol;
+  now = arrival.now;
+}
+
+-- One message served, its answer behind those before.
+abbrev pub ServesNext : World → Received → List (Option (Vec ℕ Global))
+    → List (Option (Vec ℕ Global)) → World → Type 0
+ServesNext old message before after new =
+    (answer : Option (Vec ℕ Global)) × (after ≡ before ++ answer ∷ [])
+    × Serves old message (octets_of answer) new
+
+-- The first messages served in order, as many as answers came; the rest is untouched.
+abbrev pub ServesFront : World → List Received → List (Option (List ℕ)) → List (Option (List ℕ))
+    → World → Type 0
+ServesFront old messages before after new =
+    (answers : List (Option (List ℕ))) × (after ≡ before ++ answers)
+    × ServesAll old (take (length answers) messages) answers new

@@ -1,0 +1,13 @@
+//! The server, from the octets of a request to the octets of its reply: message by message, or frame by frame of a stream.
+//!
+//! `Authority::serve` and `serve_all` meet the serving theorem (`Serves`, `ServesAll`), and `serve_stream` the same over
+//! frames (`ServesFrames`).
+#![tactic(auto)]
+
+pub use zsv_message::{A, DNSClass, Label, NS, Name, RData, Record, RecordSet, RecordType, SOA};
+
+mod server;
+mod stream;
+
+pub use server::{Arrival, Authority, NoSuite, Protocol, ServeError};
+pub use stream::StreamError;
