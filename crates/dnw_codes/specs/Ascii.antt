@@ -31,6 +31,10 @@ close_parenthesis = 41
 abbrev pub asterisk : ℕ
 asterisk = 42
 
+-- `+`
+abbrev pub plus_sign : ℕ
+plus_sign = 43
+
 -- `,`
 abbrev pub comma : ℕ
 comma = 44

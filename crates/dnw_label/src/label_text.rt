@@ -1,6 +1,7 @@
 //! Labels in texts.
 ghost use Rattle.std.specs.Prelude.{◌≡◌, ◌≢◌, ◌||◌, ◌&&◌, ◌==◌, ◌<◌, ◌∷◌, [], ◌⊎◌, ℕ, List, IfOk, IfErr, MatchBool, true, false};
 ghost use Rattle.std.specs.List.{list_all};
+ghost use Rattle.dnw_codes.specs.Ascii.{full_stop};
 ghost use Rattle.dnw_codes.specs.ProtoError.{IsMemory};
 ghost use Rattle.dnw_label.specs.LabelText.{LabelText, IsTextLabel, is_label_text, starts_label, continues_label};
 
@@ -100,8 +101,8 @@ fn label_octets(alloc: Global, text: &[u8]) -> Result<(SmallVec<u8, 24>, &[u8]),
 
 // Whether a text is at its end or at a dot.
 fn ends_label(text: &[u8]) -> bool
-    ensures { MatchBool result ((text.now ≡ []) ⊎ ((rest : List ℕ) × (text.now ≡ 46 ∷ rest)))
-        ((c : ℕ) × (rest : List ℕ) × (text.now ≡ c ∷ rest) × (c ≢ 46)) }
+    ensures { MatchBool result ((text.now ≡ []) ⊎ ((rest : List ℕ) × (text.now ≡ full_stop ∷ rest)))
+        ((c : ℕ) × (rest : List ℕ) × (text.now ≡ c ∷ rest) × (c ≢ full_stop)) }
 {
     match text.split_first() {
         Some((first, _)) => *first == b'.',

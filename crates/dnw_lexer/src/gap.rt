@@ -1,6 +1,6 @@
 //! What stands between words.
 ghost use Rattle.std.specs.Prelude.{◌≡◌, ◌∷◌, ◌||◌, ◌==◌, not, false, if◌then◌else◌, chars};
-ghost use Rattle.dnw_codes.specs.Ascii.{is_blank};
+ghost use Rattle.dnw_codes.specs.Ascii.{is_blank, line_feed, semicolon};
 ghost use Rattle.dnw_lexer.specs.Lexer.{at_line_end, behind_line_end, without_blanks, line_end, without_comment, after_gap, begins_blank};
 
 use crate::character::split_char;
@@ -98,14 +98,14 @@ pub fn behind_gap(text: &str) -> &str
 
 // Whether a character stands in a gap.
 fn passes(comment: bool, c: char, behind: &str) -> bool
-    ensures { result ≡ (comment || is_blank c || at_line_end (c ∷ chars behind.now) || c == 59) }
+    ensures { result ≡ (comment || is_blank c || at_line_end (c ∷ chars behind.now) || c == semicolon) }
 {
     comment || is_blank(c) || at_line_end(c, behind) || c == ';'
 }
 
 // Whether a comment goes on behind a character of a gap.
 fn in_comment(comment: bool, c: char) -> bool
-    ensures { result ≡ (if comment then not (c == 10) else c == 59) }
+    ensures { result ≡ (if comment then not (c == line_feed) else c == semicolon) }
 {
     if comment { c != '\n' } else { c == ';' }
 }

@@ -3,7 +3,7 @@ ghost use Rattle.std.specs.Prelude.{◌≡◌, ◌≢◌, ◌==◌, ◌&&◌, �
 ghost use Rattle.std.specs.Str.{encode_utf8_all};
 ghost use Rattle.std.specs.String.{string_bytes};
 ghost use Rattle.dnw_codes.specs.declared.error.LexerError.TheVariants.{Memory, EOF, UnrecognizedChar};
-ghost use Rattle.dnw_codes.specs.Ascii.{is_octal};
+ghost use Rattle.dnw_codes.specs.Ascii.{backslash, close_parenthesis, is_octal};
 ghost use Rattle.dnw_lexer.specs.Lexer.{PlainText, StringText, ends_word, plain_character, escape, octal_at};
 
 use crate::character::{push, split_char};
@@ -47,10 +47,11 @@ fn ends_word(inside: bool, c: char, behind: &str) -> bool
 
 // The character that stays in a plain word with this one, if any, and what stands behind.
 fn plain_unit<'a>(c: char, behind: &'a str) -> Result<(Option<char>, &'a str), LexerError>
-    ensures ok { IfOk result (λ found. (c ≢ 41) × MatchOption found.0 ((c ≢ 92) × (chars found.1.now ≡ chars behind.now))
-        (λ d. (c ≡ 92) × (chars behind.now ≡ d ∷ chars found.1.now))) }
+    ensures ok { IfOk result (λ found. (c ≢ close_parenthesis) × MatchOption found.0 ((c ≢ backslash) × (chars found.1.now ≡ chars behind.now))
+        (λ d. (c ≡ backslash) × (chars behind.now ≡ d ∷ chars found.1.now))) }
     ensures text { IfOk result (λ found. IsUtf8 found.1.now) }
-    ensures err { IfErr result (λ e. ((c ≡ 41) × (e ≡ UnrecognizedChar c)) ⊎ ((c ≡ 92) × (chars behind.now ≡ []) × (e ≡ EOF))) }
+    ensures err { IfErr result (λ e. ((c ≡ close_parenthesis) × (e ≡ UnrecognizedChar c))
+        ⊎ ((c ≡ backslash) × (chars behind.now ≡ []) × (e ≡ EOF))) }
 {
     match c {
         ')' => Err(LexerError::UnrecognizedChar(c)),
@@ -107,10 +108,10 @@ pub fn quoted_string<'a>(alloc: Global, text: &'a str) -> Result<(String, &'a st
 
 // The character of a string that a character stands for, or a backslash with what is behind it.
 fn string_unit<'a>(c: char, behind: &'a str) -> Result<(char, &'a str), LexerError>
-    ensures ok { IfOk result (λ found. MatchBool (c == 92) (escape (chars behind.now) ≡ Ok (found.0, chars found.1.now))
+    ensures ok { IfOk result (λ found. MatchBool (c == backslash) (escape (chars behind.now) ≡ Ok (found.0, chars found.1.now))
         ((found.0 ≡ c) × (chars found.1.now ≡ chars behind.now))) }
     ensures text { IfOk result (λ found. IsUtf8 found.1.now) }
-    ensures err { IfErr result (λ e. (c ≡ 92) × (escape (chars behind.now) ≡ Err e)) }
+    ensures err { IfErr result (λ e. (c ≡ backslash) × (escape (chars behind.now) ≡ Err e)) }
 {
     if c == '\\' {
         escape(behind)

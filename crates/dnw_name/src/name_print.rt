@@ -2,6 +2,7 @@
 ghost use Rattle.std.specs.Prelude.{◌≡◌, ◌∷◌, IfOk, All, Some};
 ghost use Rattle.std.specs.Fmt.{WritesOnOk};
 ghost use Rattle.std.specs.String.{string_bytes};
+ghost use Rattle.dnw_net.specs.dnw_codes.Ascii.{full_stop};
 ghost use Rattle.dnw_net.specs.dnw_label.LabelPrint.{label_print};
 ghost use Rattle.dnw_net.specs.dnw_label.LabelText.{IsTextLabel};
 ghost use Rattle.dnw_name.specs.NameText.{NameText};
@@ -89,7 +90,7 @@ fn fmt_labels<W: fmt::Write>(f: &mut fmt::Formatter<W>, name: &Name) -> fmt::Res
 
 // Writes a dot and a label.
 fn fmt_later_label<W: fmt::Write>(f: &mut fmt::Formatter<W>, label: &[u8]) -> fmt::Result
-    ensures { WritesOnOk W.write_str_gives f.old result (46 ∷ label_print label.now) f.new }
+    ensures { WritesOnOk W.write_str_gives f.old result (full_stop ∷ label_print label.now) f.new }
 {
     f.write_char('.')?;
     fmt_label(f, label)

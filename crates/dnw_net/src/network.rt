@@ -1,6 +1,7 @@
 //! Networks of the labels below `in-addr.arpa.` and `ip6.arpa.` (RFC 1035 3.5, RFC 3596 2.5).
 ghost use Rattle.std.specs.Prelude.{ℕ, ◌≢◌, ◌↔◌, IsTrue, slice_index, ◌≡◌, ◌+◌, ◌-◌, ◌*◌, ◌<◌, ◌≤◌, ◌∷◌, [], List, true, length, replicate, decimal, codes, All, IfOk, IfErr, OnErr, IfSome, IfNone};
 ghost use Rattle.std.specs.declared.net.ip_addr.IpAddr.{IpAddr as Address};
+ghost use Rattle.dnw_label.specs.dnw_codes.Ascii.{digit_zero, plus_sign};
 ghost use Rattle.dnw_label.specs.dnw_codes.declared.error.ProtoError.TheVariants.{ParseInt};
 ghost use Rattle.dnw_label.specs.Label.{label_eq};
 ghost use Rattle.dnw_net.specs.ArpaLabels.{IsBelowSuffix, suffix_label, WriteNumbers, digit_label, hex_digits};
@@ -126,7 +127,7 @@ impl Numerals for Octets {
 
 // Whether there is neither a plus sign nor a zero in front of other digits.
 fn starts_plainly(label: &[u8]) -> bool
-    ensures { IsTrue result ↔ ((slice_index label.now 0 ≢ 43) × (slice_index label.now 0 ≡ 48 → length label.now ≡ 1)) }
+    ensures { IsTrue result ↔ ((slice_index label.now 0 ≢ plus_sign) × (slice_index label.now 0 ≡ digit_zero → length label.now ≡ 1)) }
 {
     match label.first() {
         Some(b'+') => false,
