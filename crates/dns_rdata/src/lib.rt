@@ -5,8 +5,8 @@
 #![tactic(auto)]
 
 pub use drd_readable::{
-    A, AAAA, ANAME, CAA, CERT, CNAME, CSYNC, FieldData, FieldRef, Fields, HEX, HINFO, HTTPS, MX,
-    NAPTR, NS, NULL, OPENPGPKEY, OPT, PTR, RData, RecordData, RecordDataDecodable, SMIMEA, SOA,
+    A, AAAA, ANAME, CAA, CERT, CNAME, CSYNC, FieldData, FieldRef, Fields, HEX, HINFO, HTTPS, IpNet,
+    MX, NAPTR, NS, NULL, OPENPGPKEY, OPT, PTR, RData, RecordData, RecordDataDecodable, SMIMEA, SOA,
     SRV, SSHFP, SVCB, TLSA, TXT, TextData, cert, is_readable, sshfp, tlsa,
 };
 

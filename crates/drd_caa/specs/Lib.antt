@@ -7,3 +7,4 @@ pub mod Tags
 pub mod Values
 pub mod Words
 pub mod WordsLaws
+pub mod drd_plain

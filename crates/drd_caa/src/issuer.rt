@@ -7,7 +7,7 @@ ghost use Rattle.std.specs.Str.{IsUtf8};
 ghost use Rattle.drd_plain.specs.dnw_codes.ProtoError.{IsMemory};
 ghost use Rattle.drd_plain.specs.dnw_name.DomainName.{DomainName};
 ghost use Rattle.drd_plain.specs.drd_words.Words.{EachWord};
-ghost use Rattle.drd_plain.specs.dnw_codes.Ascii.{is_blank};
+ghost use Rattle.drd_plain.specs.dnw_codes.Ascii.{hyphen, is_blank, semicolon};
 ghost use Rattle.drd_caa.specs.Issue.{Parameter, parameter, behind_blanks, trim, is_key, is_value, IsParameter, AreParameters, IsIssuer, IsIssueValue, issue_value, CanIssue, AreFit};
 
 use crate::key_value::KeyValue;
@@ -119,9 +119,9 @@ fn issuer_of(alloc: Global, octets: &[u8]) -> Result<Option<Name>, ProtoError>
 
 // The parameters that stand behind the issuer's semicolon.
 fn parameters_of(alloc: Global, octets: &[u8]) -> Result<Vec<KeyValue>, ProtoError>
-    ensures ok { IfOk result (λ ps. AreParameters (slice_split (λ c. c == 59) octets.now) ps.items) }
+    ensures ok { IfOk result (λ ps. AreParameters (slice_split (λ c. c == semicolon) octets.now) ps.items) }
     ensures refused { IfErr result (λ e. IsMemory e
-        ⊎ ((ps : List Parameter) → AreParameters (slice_split (λ c. c == 59) octets.now) ps → ⊥)) }
+        ⊎ ((ps : List Parameter) → AreParameters (slice_split (λ c. c == semicolon) octets.now) ps → ⊥)) }
 {
     if trimmed(octets).is_empty() {
         return Ok(Vec::new(alloc));
@@ -131,9 +131,9 @@ fn parameters_of(alloc: Global, octets: &[u8]) -> Result<Vec<KeyValue>, ProtoErr
 
 // A parameter between each two semicolons.
 fn each_parameter(alloc: Global, octets: &[u8]) -> Result<Vec<KeyValue>, ProtoError>
-    ensures ok { IfOk result (λ ps. EachWord IsParameter ps.items (slice_split (λ c. c == 59) octets.now)) }
+    ensures ok { IfOk result (λ ps. EachWord IsParameter ps.items (slice_split (λ c. c == semicolon) octets.now)) }
     ensures refused { IfErr result (λ e. IsMemory e
-        ⊎ ((ps : List Parameter) → EachWord IsParameter ps (slice_split (λ c. c == 59) octets.now) → ⊥)) }
+        ⊎ ((ps : List Parameter) → EachWord IsParameter ps (slice_split (λ c. c == semicolon) octets.now) → ⊥)) }
 {
     let mut parameters = Vec::new(alloc);
     let mut rest = octets;
@@ -191,7 +191,7 @@ fn is_key(key: &[u8]) -> bool
 }
 
 fn has_key_octets(key: &[u8]) -> bool
-    ensures { result ≡ list_all (λ c. is_ascii_alphanumeric c || c == 45) key.now }
+    ensures { result ≡ list_all (λ c. is_ascii_alphanumeric c || c == hyphen) key.now }
 {
     key.iter()
         .all(|octet| octet.is_ascii_alphanumeric() || *octet == b'-')

@@ -2,9 +2,12 @@
 ghost use Rattle.std.specs.Prelude.{◌≡◌};
 ghost use Rattle.std.specs.String.{string_bytes};
 ghost use Rattle.std.specs.Cmp.{partial_equiv_from_equiv};
+ghost use Rattle.std.specs.Cmp.Rules.{hashing};
+ghost use Rattle.std.proofs.Common.{rules};
 ghost use Rattle.drd_caa.specs.Issue.{parameter, parameter_eq};
 ghost use Rattle.drd_caa.specs.IssueLaws.{parameter_equiv};
 
+use std::hash::{Hash, Hasher};
 use std::marker::Model;
 
 /// A parameter of an issuer: a key and a value (RFC 8659 4.2). A contract sees it as a `Parameter`, the octets of both.
@@ -59,4 +62,18 @@ impl PartialEq for KeyValue {
 
 impl Eq for KeyValue {
     ghost laws = { parameter_equiv };
+}
+
+impl Hash for KeyValue {
+    ghost use Rattle.std.specs.Prelude.{◌++◌};
+    ghost use Rattle.std.specs.Hash as fed;
+
+    ghost hash_input = { λ pair. fed.str pair.key ++ fed.str pair.value };
+
+    ghost respects_eq = { Prim.search (hashing, rules) };
+
+    fn hash<H: Hasher>(&self, state: &mut H) {
+        self.key.hash(state);
+        self.value.hash(state);
+    }
 }

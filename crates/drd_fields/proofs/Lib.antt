@@ -1,4 +1,5 @@
 pub mod BackLaws
+pub mod NoneLaws
 pub mod EqualityLaws
 pub mod OnceLaws
 pub mod OrderLaws

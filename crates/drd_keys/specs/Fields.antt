@@ -5,7 +5,6 @@ use Rattle.drd_keys.specs.Cert.{cert_type_number, cert_algorithm_number}
 use Rattle.drd_keys.specs.Sshfp.{sshfp_algorithm_number, fingerprint_type_number}
 use Rattle.drd_keys.specs.Tlsa.{cert_usage_number, selector_number, matching_number}
 use Rattle.drd_keys.specs.declared.cert.CERT.{CERT}
-use Rattle.drd_keys.specs.declared.null.NULL.{NULL}
 use Rattle.drd_keys.specs.declared.openpgpkey.OPENPGPKEY.{OPENPGPKEY}
 use Rattle.drd_keys.specs.declared.smimea.SMIMEA.{SMIMEA}
 use Rattle.drd_keys.specs.declared.sshfp.SSHFP.{SSHFP}
@@ -19,13 +18,6 @@ cert_fields cert =
 
 abbrev pub cert_kinds : List Kind
 cert_kinds = a_short ∷ a_short ∷ an_octet ∷ the_rest ∷ []
-
--- RFC 1035 3.3.10: anything at all.
-abbrev pub null_fields : NULL → List Field
-null_fields null = rest null.anything.items ∷ []
-
-abbrev pub null_kinds : List Kind
-null_kinds = the_rest ∷ []
 
 -- RFC 7929 2.1: the key.
 abbrev pub openpgpkey_fields : OPENPGPKEY → List Field

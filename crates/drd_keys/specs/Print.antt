@@ -9,7 +9,6 @@ use Rattle.drd_keys.specs.Cert.{cert_type_number, cert_algorithm_number}
 use Rattle.drd_keys.specs.Sshfp.{sshfp_algorithm_number, fingerprint_type_number}
 use Rattle.drd_keys.specs.Tlsa.{cert_usage_number, selector_number, matching_number}
 use Rattle.drd_keys.specs.declared.cert.CERT.{CERT}
-use Rattle.drd_keys.specs.declared.null.NULL.{NULL}
 use Rattle.drd_keys.specs.declared.openpgpkey.OPENPGPKEY.{OPENPGPKEY}
 use Rattle.drd_keys.specs.declared.smimea.SMIMEA.{SMIMEA}
 use Rattle.drd_keys.specs.declared.sshfp.SSHFP.{SSHFP}
@@ -21,10 +20,6 @@ cert_print cert =
     decimal (cert_type_number cert.cert_type) ++ codes " " ++ decimal cert.key_tag ++ codes " "
     ++ decimal (cert_algorithm_number cert.algorithm) ++ codes " "
     ++ encode_of standard cert.cert_data.items
-
--- The octets in base64.
-abbrev pub null_print : NULL → List ℕ
-null_print null = encode_of standard null.anything.items
 
 -- RFC 7929 2.3: the key in base64.
 abbrev pub openpgpkey_print : OPENPGPKEY → List ℕ

@@ -1,15 +1,13 @@
-//! Record data of keys, certificates and fingerprints, and data that are octets alone.
+//! Record data of keys, certificates and fingerprints.
 #![tactic(auto)]
 
 pub mod cert;
-pub mod null;
 pub mod openpgpkey;
 pub mod smimea;
 pub mod sshfp;
 pub mod tlsa;
 
 pub use cert::CERT;
-pub use null::NULL;
 pub use openpgpkey::OPENPGPKEY;
 pub use smimea::SMIMEA;
 pub use sshfp::SSHFP;

@@ -4,5 +4,5 @@
 #![tactic(auto)]
 
 pub use drd_csync::{BinDecoder, BinEncodable, BinEncoder, CSYNC};
-pub use drd_keys::{CERT, NULL, OPENPGPKEY, SMIMEA, SSHFP, TLSA, cert, sshfp, tlsa};
+pub use drd_keys::{CERT, OPENPGPKEY, SMIMEA, SSHFP, TLSA, cert, sshfp, tlsa};
 pub use drd_names::{ANAME, CNAME, MX, NS, PTR, SOA, SRV};

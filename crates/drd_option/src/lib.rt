@@ -6,7 +6,7 @@ pub use drd_fields::{
     FieldRef, Fields, NameEncoding, ProtoError, RecordDataDecodable, Restrict, are_readable,
     cmp_list, hash_list,
 };
-pub use drd_words::{HEX, Label, LowerName, Name, RrKey, TextData};
+pub use drd_words::{HEX, IpNet, Label, LowerName, Name, RrKey, TextData};
 
 mod code;
 mod nsid;

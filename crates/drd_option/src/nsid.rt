@@ -1,8 +1,11 @@
 //! The identifier of a name server (RFC 5001).
 ghost use Rattle.std.specs.Prelude.{◌≡◌, ◌≤◌, ◌<◌, length, IfOk, IfErr};
+ghost use Rattle.std.specs.Cmp.Rules.{comparing, hashing};
+ghost use Rattle.std.proofs.Common.{rules};
 ghost use Rattle.drd_option.specs.Options.{IsLong};
 
 use drd_fields::ProtoError;
+use std::hash::{Hash, Hasher};
 use std::marker::Model;
 
 /// The identifier of a name server: octets of its own choice, none of them in a query (RFC 5001 2.3). A contract sees it as
@@ -40,5 +43,35 @@ impl NSIDPayload {
         ensures within { length self.now ≤ 65535 }
     {
         &self.payload
+    }
+}
+
+impl PartialEq for NSIDPayload {
+    ghost use Rattle.std.specs.Prelude.{nat_eq};
+    ghost use Rattle.std.specs.Cmp.Lexicographic.{pointwise};
+
+    ghost eq = { pointwise nat_eq };
+
+    ghost laws = { Prim.search (comparing, rules) };
+
+    /// Whether the octets are the same.
+    fn eq(&self, other: &NSIDPayload) -> bool {
+        self.payload == other.payload
+    }
+}
+
+impl Eq for NSIDPayload {
+    ghost laws = { Prim.search (comparing, rules) };
+}
+
+impl Hash for NSIDPayload {
+    ghost use Rattle.std.specs.Prelude.{◌∷◌, []};
+
+    ghost hash_input = { λ identifier. identifier ∷ [] };
+
+    ghost respects_eq = { Prim.search (hashing, rules) };
+
+    fn hash<H: Hasher>(&self, state: &mut H) {
+        state.write(&self.payload);
     }
 }

@@ -6,17 +6,17 @@ use Rattle.std.proofs.lemmas.List.{take_more}
 use Rattle.std.proofs.lemmas.List.Concat.{flat_map-cons}
 use Rattle.std.proofs.lemmas.List.Elements.{Contains-get_or}
 use Rattle.std.proofs.lemmas.List.Folds.{length-flat_map-take}
-use Rattle.drd_plain.specs.dnw_codes.declared.error.ProtoError.{ProtoError}
-use Rattle.drd_plain.specs.dnw_codes.declared.error.ProtoError.TheVariants.{MaxBufferSizeExceeded}
-use Rattle.drd_plain.specs.dnw_encoder.Effects.{IsRefusal, WritesOctets, Writes}
-use Rattle.drd_plain.proofs.dnw_encoder_lemmas.Laws.{writes_then, writes_same}
-use Rattle.drd_plain.specs.dnw_encoder.State.{State}
+use Rattle.drd_address.specs.dnw_codes.declared.error.ProtoError.{ProtoError}
+use Rattle.drd_address.specs.dnw_codes.declared.error.ProtoError.TheVariants.{MaxBufferSizeExceeded}
+use Rattle.drd_address.specs.dnw_encoder.Effects.{IsRefusal, WritesOctets, Writes}
+use Rattle.drd_address.proofs.dnw_encoder_lemmas.Laws.{writes_then, writes_same}
+use Rattle.drd_address.specs.dnw_encoder.State.{State}
 use Rattle.std.specs.Prelude.{String, Result, Ok, Err, IfErr, OnOk}
 use Rattle.std.specs.String.{string_bytes}
 use Rattle.std.specs.declared.alloc.Global.{Global}
-use Rattle.drd_plain.specs.dnw_decoder.Octets.{octets_16}
-use Rattle.drd_plain.specs.drd_fields.Writing.{IsTooLong}
-use Rattle.drd_plain.proofs.drd_fields_lemmas.WritingLaws.{puts_then, puts_none}
+use Rattle.drd_address.specs.dnw_decoder.Octets.{octets_16}
+use Rattle.drd_address.specs.drd_fields.Writing.{IsTooLong}
+use Rattle.drd_address.proofs.drd_fields_lemmas.WritingLaws.{puts_then, puts_none}
 use Rattle.drd_params.specs.Values.{text_octets}
 use Rattle.drd_params.specs.Writing.{RefusesValueWriting}
 use Rattle.drd_params.specs.declared.value.Alpn.{Alpn}

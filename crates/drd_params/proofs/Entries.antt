@@ -3,7 +3,7 @@ use Rattle.std.proofs.Common.{◌≡◌, ℕ, ◌<◌, ◌⊎◌, inl, inr, List
 use Rattle.std.specs.List.{flat_map}
 use Rattle.std.proofs.lemmas.Grind.{flat_map-append}
 use Rattle.std.proofs.lemmas.List.Concat.{flat_map-cons}
-use Rattle.drd_plain.specs.dnw_codes.declared.error.DecodeError.{DecodeError}
+use Rattle.drd_address.specs.dnw_codes.declared.error.DecodeError.{DecodeError}
 use Rattle.drd_params.specs.Refusals.{RefusesNext}
 
 -- What stands behind the first entries of any list of these octets is a list too.

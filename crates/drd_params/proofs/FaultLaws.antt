@@ -7,9 +7,9 @@ use Rattle.std.specs.String.{string_bytes}
 use Rattle.std.specs.declared.alloc.Global.{Global}
 use Rattle.std.proofs.lemmas.List.Concat.{flat_map-cons}
 use Rattle.std.proofs.lemmas.Str.{IsUtf8-string_bytes}
-use Rattle.drd_plain.specs.dnw_codes.declared.error.DecodeError.{DecodeError}
-use Rattle.drd_plain.specs.declared.a.A.{A}
-use Rattle.drd_plain.specs.declared.aaaa.AAAA.{AAAA}
+use Rattle.drd_address.specs.dnw_codes.declared.error.DecodeError.{DecodeError}
+use Rattle.drd_address.specs.declared.a.A.{A}
+use Rattle.drd_address.specs.declared.aaaa.AAAA.{AAAA}
 use Rattle.drd_params.specs.EntryLaws.{strings_same, length_a, key_laws, string_laws, a_laws, aaaa_laws}
 use Rattle.drd_params.specs.Keys.{key_number, key_of}
 use Rattle.drd_params.specs.Params.{Param, param_octets, params_octets, IsParam, Rise, AreParams, RefusesParam, IsOutOfOrder, RefusesParams}

@@ -1,7 +1,7 @@
 -- What fills a message from a place on is one list of octets.
 use Rattle.std.proofs.Common.{◌≡◌, ℕ, ◌⊎◌, inl, inr, List, arith}
-use Rattle.drd_plain.specs.dnw_codes.declared.error.DecodeError.{DecodeError}
-use Rattle.drd_plain.proofs.dnw_decoder_lemmas.Standing.{stands_same}
+use Rattle.drd_address.specs.dnw_codes.declared.error.DecodeError.{DecodeError}
+use Rattle.drd_address.proofs.dnw_decoder_lemmas.Standing.{stands_same}
 use Rattle.drd_params.specs.Reading.{FillsMessage, ValueAt}
 use Rattle.drd_params.specs.Refusals.{NoValue}
 use Rattle.drd_params.specs.Values.{value_octets}

@@ -6,7 +6,7 @@ use Rattle.std.specs.Option.{option_or, option_map, ok_or}
 use Rattle.std.specs.Str.{all_ascii_digits, bytes_eq}
 use Rattle.std.specs.Str.Parse.{digits_value}
 use Rattle.std.proofs.lemmas.Bool.Decides.{nat_tests}
-use Rattle.drd_plain.specs.dnw_codes.Digits.{number_of_digits, number_behind}
+use Rattle.drd_address.specs.dnw_codes.Digits.{number_of_digits, number_behind}
 use Rattle.drd_params.specs.Keys.{key_number, key_of, key_name, named_keys, IsKey}
 use Rattle.drd_params.specs.Texts.{IsKeyText}
 use Rattle.drd_params.specs.declared.key.SvcParamKey.{SvcParamKey}

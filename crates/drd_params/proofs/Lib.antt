@@ -11,7 +11,7 @@ mod Numbers
 mod ReadParams
 mod Strings
 mod SameLemmas
-pub use Rattle.drd_plain.proofs.drd_words_lemmas
-pub use Rattle.drd_plain.proofs.dnw_decoder_lemmas
-pub use Rattle.drd_plain.proofs.dnw_label_lemmas
-pub use Rattle.drd_plain.proofs.drd_fields_lemmas
+pub use Rattle.drd_address.proofs.drd_words_lemmas
+pub use Rattle.drd_address.proofs.dnw_decoder_lemmas
+pub use Rattle.drd_address.proofs.dnw_label_lemmas
+pub use Rattle.drd_address.proofs.drd_fields_lemmas

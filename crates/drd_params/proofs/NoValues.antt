@@ -4,11 +4,11 @@ use Rattle.std.specs.List.{flat_map}
 use Rattle.std.specs.Prelude.{String}
 use Rattle.std.specs.declared.alloc.Global.{Global}
 use Rattle.std.proofs.lemmas.List.Concat.{flat_map-cons}
-use Rattle.drd_plain.specs.dnw_codes.declared.error.DecodeError.{DecodeError}
-use Rattle.drd_plain.specs.dnw_codes.declared.error.DecodeError.TheVariants.{IncorrectRDataLengthRead, InsufficientBytes, SvcParamMissingValue}
-use Rattle.drd_plain.specs.dnw_decoder.Reading.{IsWantOfMemory}
-use Rattle.drd_plain.specs.declared.a.A.{A}
-use Rattle.drd_plain.specs.declared.aaaa.AAAA.{AAAA}
+use Rattle.drd_address.specs.dnw_codes.declared.error.DecodeError.{DecodeError}
+use Rattle.drd_address.specs.dnw_codes.declared.error.DecodeError.TheVariants.{IncorrectRDataLengthRead, InsufficientBytes, SvcParamMissingValue}
+use Rattle.drd_address.specs.dnw_decoder.Reading.{IsWantOfMemory}
+use Rattle.drd_address.specs.declared.a.A.{A}
+use Rattle.drd_address.specs.declared.aaaa.AAAA.{AAAA}
 use Rattle.drd_params.specs.EntryLaws.{key_laws, string_laws}
 use Rattle.drd_params.specs.Refusals.{IsShortOf, NoValue, RefusesNext, RefusesText}
 use Rattle.drd_params.specs.Values.{IsValueOf, value_octets, key_octets, text_octets, a_octets, aaaa_octets}

@@ -1,13 +1,13 @@
 -- Numbers that stand one behind the other.
 use Rattle.std.proofs.Common.{◌≡◌, ℕ, ◌+◌, ◌⊎◌, inl, inr, List, [], ◌∷◌, ◌++◌, length, drop, refl, sym, ap, subst, ◌∙◌, arith}
 use Rattle.std.proofs.lemmas.List.{drop_at}
-use Rattle.drd_plain.specs.dnw_codes.declared.error.DecodeError.{DecodeError}
-use Rattle.drd_plain.specs.dnw_decoder.Octets.{octets_16, octets_32, Stands}
-use Rattle.drd_plain.specs.dnw_decoder.Reading.{IsCut, IsWantOfMemory}
-use Rattle.drd_plain.proofs.dnw_decoder_lemmas.Standing.{stands_joined, stands_split}
-use Rattle.drd_plain.specs.drd_fields.Fields.{Field, octet, short, long, name, string, strings, rest, Kind, an_octet, a_short, a_long, a_name, a_string, all_strings, the_rest, kind_of, kinds_of, FieldAt, FieldsAt}
-use Rattle.drd_plain.specs.drd_fields.Reading.{StopsReading}
-use Rattle.drd_plain.specs.drd_fields.Writing.{fields_octets}
+use Rattle.drd_address.specs.dnw_codes.declared.error.DecodeError.{DecodeError}
+use Rattle.drd_address.specs.dnw_decoder.Octets.{octets_16, octets_32, Stands}
+use Rattle.drd_address.specs.dnw_decoder.Reading.{IsCut, IsWantOfMemory}
+use Rattle.drd_address.proofs.dnw_decoder_lemmas.Standing.{stands_joined, stands_split}
+use Rattle.drd_address.specs.drd_fields.Fields.{Field, octet, short, long, name, string, strings, rest, Kind, an_octet, a_short, a_long, a_name, a_string, all_strings, the_rest, kind_of, kinds_of, FieldAt, FieldsAt}
+use Rattle.drd_address.specs.drd_fields.Reading.{StopsReading}
+use Rattle.drd_address.specs.drd_fields.Writing.{fields_octets}
 use Rattle.drd_params.specs.EntryLaws.{length-octets_32}
 use Rattle.drd_params.specs.Refusals.{IsShortOf}
 

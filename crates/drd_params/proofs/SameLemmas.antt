@@ -4,10 +4,10 @@ use Rattle.std.specs.Cmp.Lexicographic.{pointwise}
 use Rattle.std.specs.List.{flat_map}
 use Rattle.std.proofs.lemmas.Bool.Decides.{nat_tests}
 use Rattle.std.proofs.lemmas.List.Concat.{flat_map-cons}
-use Rattle.drd_plain.specs.drd_fields.Equality.{Tells, TellsApart, fields_eq}
-use Rattle.drd_plain.proofs.drd_fields_lemmas.EqualityLaws.{front_tells, rest_tells}
-pub use Rattle.drd_plain.proofs.drd_fields_lemmas.EqualityLaws.{short_apart, string_apart}
-use Rattle.drd_plain.specs.drd_fields.Fields.{short, rest}
+use Rattle.drd_address.specs.drd_fields.Equality.{Tells, TellsApart, fields_eq}
+use Rattle.drd_address.proofs.drd_fields_lemmas.EqualityLaws.{front_tells, rest_tells}
+pub use Rattle.drd_address.proofs.drd_fields_lemmas.EqualityLaws.{short_apart, string_apart}
+use Rattle.drd_address.specs.drd_fields.Fields.{short, rest}
 use Rattle.drd_params.specs.Equality.{told_length, value_kind, value_code, params_code}
 use Rattle.drd_params.specs.Keys.{key_number}
 use Rattle.drd_params.specs.Params.{Param}

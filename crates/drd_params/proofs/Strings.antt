@@ -6,8 +6,8 @@ use Rattle.std.specs.declared.alloc.Global.{Global}
 use Rattle.std.specs.Str.{IsUtf8}
 use Rattle.std.specs.String.{string_bytes}
 use Rattle.std.proofs.lemmas.Str.{IsUtf8-string_bytes}
-use Rattle.drd_plain.specs.dnw_codes.declared.error.DecodeError.TheVariants.{InsufficientBytes, Utf8}
-use Rattle.drd_plain.specs.drd_fields.Writing.{string_octets}
+use Rattle.drd_address.specs.dnw_codes.declared.error.DecodeError.TheVariants.{InsufficientBytes, Utf8}
+use Rattle.drd_address.specs.drd_fields.Writing.{string_octets}
 use Rattle.drd_params.specs.EntryLaws.{strings_same}
 use Rattle.drd_params.specs.Refusals.{IsShortOf, RefusesText}
 use Rattle.drd_params.specs.Values.{text_octets}

@@ -8,13 +8,13 @@ use Rattle.std.specs.Ordering.{ordering_then}
 use Rattle.std.specs.declared.cmp.Ordering.{Ordering}
 use Rattle.std.proofs.lemmas.List.{append-nil}
 use Rattle.std.specs.Net.Addr.{ipv4_bits}
-use Rattle.drd_plain.specs.dnw_decoder.Octets.{octets_16, octets_32}
-use Rattle.drd_plain.specs.drd_fields.Equality.{Tells, TellsApart}
-use Rattle.drd_plain.specs.drd_fields.Writing.{string_octets}
-use Rattle.drd_plain.specs.drd_fields.Order.{Orders, OrdersFronts, octets_cmp}
+use Rattle.drd_address.specs.dnw_decoder.Octets.{octets_16, octets_32}
+use Rattle.drd_address.specs.drd_fields.Equality.{Tells, TellsApart}
+use Rattle.drd_address.specs.drd_fields.Writing.{string_octets}
+use Rattle.drd_address.specs.drd_fields.Order.{Orders, OrdersFronts, octets_cmp}
 use Rattle.drd_fields.proofs.OrderLaws.{cmp_fronts}
-use Rattle.drd_plain.specs.declared.a.A.{A}
-use Rattle.drd_plain.specs.declared.aaaa.AAAA.{AAAA}
+use Rattle.drd_address.specs.declared.a.A.{A}
+use Rattle.drd_address.specs.declared.aaaa.AAAA.{AAAA}
 use Rattle.drd_params.specs.Keys.{key_number}
 use Rattle.drd_params.specs.Texts.{IsKeyText, IsProtocolText, IsAEntry, IsAaaaEntry}
 use Rattle.drd_params.specs.Values.{a_octets, aaaa_octets}

@@ -1,7 +1,7 @@
 -- What of an entry's octets is fed to a hasher.
 use Rattle.std.specs.Prelude.{ℕ, List, [], ◌∷◌, drop}
 use Rattle.std.specs.Hash.{HashWrites}
-use Rattle.drd_plain.specs.drd_fields.Order.{string_input}
+use Rattle.drd_address.specs.drd_fields.Order.{string_input}
 
 -- Octets of an entry in one write.
 abbrev pub one_write : List ℕ → HashWrites

@@ -1,9 +1,9 @@
 -- Values that stand in a message alone, up to its end.
 use Rattle.std.specs.Prelude.{ℕ, ◌≡◌, ◌<◌, List, length}
 use Rattle.std.proofs.Common.{◌⊎◌}
-use Rattle.drd_plain.specs.dnw_codes.declared.error.DecodeError.{DecodeError}
-use Rattle.drd_plain.specs.dnw_decoder.Octets.{Stands, octets_16}
-use Rattle.drd_plain.specs.dnw_decoder.Reading.{IsWantOfMemory}
+use Rattle.drd_address.specs.dnw_codes.declared.error.DecodeError.{DecodeError}
+use Rattle.drd_address.specs.dnw_decoder.Octets.{Stands, octets_16}
+use Rattle.drd_address.specs.dnw_decoder.Reading.{IsWantOfMemory}
 use Rattle.drd_params.specs.Keys.{key_number, key_of}
 use Rattle.drd_params.specs.Refusals.{RefusesNext, RefusesValue}
 use Rattle.drd_params.specs.Values.{IsValueOf, value_octets}

@@ -3,9 +3,9 @@ use Rattle.std.specs.Prelude.{ℕ, ◌≡◌, ◌<◌, ◌+◌, List, ◌++◌, 
 use Rattle.std.proofs.Common.{◌⊎◌}
 use Rattle.std.specs.List.{flat_map}
 use Rattle.std.specs.Str.{IsUtf8}
-use Rattle.drd_plain.specs.dnw_codes.declared.error.DecodeError.{DecodeError}
-use Rattle.drd_plain.specs.dnw_codes.declared.error.DecodeError.TheVariants.{IncorrectRDataLengthRead, InsufficientBytes, SvcParamMissingValue, Utf8}
-use Rattle.drd_plain.specs.drd_fields.Writing.{string_octets}
+use Rattle.drd_address.specs.dnw_codes.declared.error.DecodeError.{DecodeError}
+use Rattle.drd_address.specs.dnw_codes.declared.error.DecodeError.TheVariants.{IncorrectRDataLengthRead, InsufficientBytes, SvcParamMissingValue, Utf8}
+use Rattle.drd_address.specs.drd_fields.Writing.{string_octets}
 use Rattle.drd_params.specs.Values.{IsValueOf, key_octets, text_octets, a_octets, aaaa_octets, value_octets}
 use Rattle.drd_params.specs.declared.key.SvcParamKey.{SvcParamKey}
 use Rattle.drd_params.specs.declared.key.SvcParamKey.TheVariants as key

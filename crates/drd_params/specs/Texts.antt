@@ -3,11 +3,11 @@ use Rattle.std.specs.Prelude.{ℕ, ◌≡◌, ◌<◌, ◌≤◌, ◌⊎◌, Lis
 use Rattle.std.specs.Net.Grammar.{IsIpv4Text, IsIpv6Text}
 use Rattle.std.specs.String.{string_bytes}
 use Rattle.std.specs.declared.alloc.Global.{Global}
-use Rattle.drd_plain.specs.dnw_codes.declared.error.ParseError.{ParseError}
-use Rattle.drd_plain.specs.dnw_codes.declared.error.ParseError.TheVariants.{UnexpectedToken}
-use Rattle.drd_plain.specs.drd_words.Refusals.{IsMessage}
-use Rattle.drd_plain.specs.declared.a.A.{A}
-use Rattle.drd_plain.specs.declared.aaaa.AAAA.{AAAA}
+use Rattle.drd_address.specs.dnw_codes.declared.error.ParseError.{ParseError}
+use Rattle.drd_address.specs.dnw_codes.declared.error.ParseError.TheVariants.{UnexpectedToken}
+use Rattle.drd_address.specs.drd_words.Refusals.{IsMessage}
+use Rattle.drd_address.specs.declared.a.A.{A}
+use Rattle.drd_address.specs.declared.aaaa.AAAA.{AAAA}
 use Rattle.drd_params.specs.Keys.{key_of_text}
 use Rattle.drd_params.specs.declared.key.SvcParamKey.{SvcParamKey}
 

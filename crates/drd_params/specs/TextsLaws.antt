@@ -2,13 +2,13 @@
 use Rattle.std.specs.Prelude.{ℕ, List, codes, String}
 use Rattle.std.proofs.Common.{inl, inr, arith}
 use Rattle.std.specs.declared.alloc.Global.{Global}
-use Rattle.drd_plain.specs.dnw_codes.declared.error.ParseError.{ParseError}
-use Rattle.drd_plain.specs.dnw_codes.declared.error.ParseError.TheVariants.{UnexpectedToken}
-use Rattle.drd_plain.specs.drd_words.Refusals.{AreCauses, RefusesIpv4, RefusesIpv6}
-use Rattle.drd_plain.specs.drd_words.RefusalsLaws.{by_part, ipv4_causes, ipv6_causes, message_memory, one_error}
-use Rattle.drd_plain.specs.drd_words.Word.{IsOutOfMemory}
-use Rattle.drd_plain.specs.declared.a.A.{A}
-use Rattle.drd_plain.specs.declared.aaaa.AAAA.{AAAA}
+use Rattle.drd_address.specs.dnw_codes.declared.error.ParseError.{ParseError}
+use Rattle.drd_address.specs.dnw_codes.declared.error.ParseError.TheVariants.{UnexpectedToken}
+use Rattle.drd_address.specs.drd_words.Refusals.{AreCauses, RefusesIpv4, RefusesIpv6}
+use Rattle.drd_address.specs.drd_words.RefusalsLaws.{by_part, ipv4_causes, ipv6_causes, message_memory, one_error}
+use Rattle.drd_address.specs.drd_words.Word.{IsOutOfMemory}
+use Rattle.drd_address.specs.declared.a.A.{A}
+use Rattle.drd_address.specs.declared.aaaa.AAAA.{AAAA}
 use Rattle.drd_params.specs.Texts.{IsKeyText, RefusesKeyText, IsProtocolText, RefusesProtocolText, IsAEntry, IsAaaaEntry}
 
 pub key_causes : (text : List ℕ) → AreCauses (λ k. IsKeyText k text) (RefusesKeyText text)

@@ -3,11 +3,11 @@ use Rattle.std.specs.Prelude.{ℕ, ◌<◌, ◌≤◌, List, [], length, All, St
 use Rattle.std.specs.declared.alloc.Global.{Global}
 use Rattle.std.specs.List.{flat_map}
 use Rattle.std.specs.String.{string_bytes}
-use Rattle.drd_plain.specs.dnw_decoder.Octets.{octets_16}
-use Rattle.drd_plain.specs.drd_fields.Writing.{string_octets, fields_octets}
-use Rattle.drd_plain.specs.Fields.{a_fields, aaaa_fields}
-use Rattle.drd_plain.specs.declared.a.A.{A}
-use Rattle.drd_plain.specs.declared.aaaa.AAAA.{AAAA}
+use Rattle.drd_address.specs.dnw_decoder.Octets.{octets_16}
+use Rattle.drd_address.specs.drd_fields.Writing.{string_octets, fields_octets}
+use Rattle.drd_address.specs.Fields.{a_fields, aaaa_fields}
+use Rattle.drd_address.specs.declared.a.A.{A}
+use Rattle.drd_address.specs.declared.aaaa.AAAA.{AAAA}
 use Rattle.drd_params.specs.Keys.{key_number, IsKey}
 use Rattle.drd_params.specs.declared.key.SvcParamKey.{SvcParamKey}
 use Rattle.drd_params.specs.declared.key.SvcParamKey.TheVariants as key

@@ -1,7 +1,7 @@
 //! Addresses in lists.
 ghost use Rattle.std.specs.Prelude.{◌≡◌, ◌++◌, ◌⊎◌, List, length, IfOk, IfErr};
-ghost use Rattle.drd_plain.specs.Print.{a_print, aaaa_print};
-ghost use Rattle.drd_plain.specs.drd_words.Refusals.{RefusesIpv4, RefusesIpv6};
+ghost use Rattle.drd_address.specs.Print.{a_print, aaaa_print};
+ghost use Rattle.drd_address.specs.drd_words.Refusals.{RefusesIpv4, RefusesIpv6};
 ghost use Rattle.drd_params.specs.Hashing.{one_write};
 ghost use Rattle.drd_params.specs.Refusals.{IsShortOf};
 ghost use Rattle.drd_params.specs.Texts.{IsAEntry, IsAaaaEntry};
@@ -9,7 +9,7 @@ ghost use Rattle.drd_params.specs.Values.{a_octets, aaaa_octets};
 
 use crate::entry::Entry;
 use crate::write::append;
-use drd_plain::{
+use drd_address::{
     A, AAAA, BinDecodable, BinDecoder, BinEncoder, DecodeError, FieldRef, ParseError, ProtoError,
 };
 use std::alloc::Global;

@@ -1,9 +1,9 @@
 //! Values and keys that are written, each alone.
 ghost use Rattle.std.specs.Prelude.{◌≡◌, ◌++◌, ◌⊎◌, length, IfErr, OnOk, List};
 ghost use Rattle.std.specs.List.{Contains, flat_map};
-ghost use Rattle.drd_plain.specs.dnw_decoder.Octets.{octets_16};
-ghost use Rattle.drd_plain.specs.dnw_encoder.Encoders.{state};
-ghost use Rattle.drd_plain.specs.dnw_encoder.Effects.{IsRefusal, WritesOctets, Writes};
+ghost use Rattle.drd_address.specs.dnw_decoder.Octets.{octets_16};
+ghost use Rattle.drd_address.specs.dnw_encoder.Encoders.{state};
+ghost use Rattle.drd_address.specs.dnw_encoder.Effects.{IsRefusal, WritesOctets, Writes};
 ghost use Rattle.drd_params.specs.Keys.{key_number};
 ghost use Rattle.drd_params.specs.Writing.{RefusesEmitParams, RefusesValueWriting};
 ghost use Rattle.drd_params.specs.declared.value.SvcParamValue.TheVariants as value;
@@ -12,7 +12,7 @@ ghost use Rattle.drd_params.specs.Values.{value_octets};
 use crate::entry::Entry;
 use crate::key::SvcParamKey;
 use crate::value::{Alpn, EchConfigList, IpHint, Mandatory, SvcParamValue, Unknown};
-use drd_plain::{BinEncodable, BinEncoder, ProtoError};
+use drd_address::{BinEncodable, BinEncoder, ProtoError};
 
 // Writes entries, one behind the other.
 fn emit_entries<T: Entry>(encoder: &mut BinEncoder<'_>, entries: &[T]) -> Result<(), ProtoError>

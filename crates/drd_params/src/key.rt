@@ -6,10 +6,10 @@ ghost use Rattle.std.specs.Option.{ok_or};
 ghost use Rattle.std.specs.Ordering.{as_partial_cmp};
 ghost use Rattle.std.specs.Str.{bytes_eq};
 ghost use Rattle.std.proofs.Common.{rules};
-ghost use Rattle.drd_plain.specs.dnw_codes.declared.error.ParseError.TheVariants.{UnexpectedToken};
+ghost use Rattle.drd_address.specs.dnw_codes.declared.error.ParseError.TheVariants.{UnexpectedToken};
 ghost use Rattle.drd_params.specs.Keys.{key_name, named_keys};
 
-use drd_plain::{ParseError, number_behind};
+use drd_address::{ParseError, number_behind};
 use std::cmp::Ordering;
 use std::fmt;
 use std::str::FromStr;

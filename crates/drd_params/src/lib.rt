@@ -1,10 +1,10 @@
 //! The parameters of SVCB data (RFC 9460 2.1): their keys and values.
 #![tactic(auto)]
 
-pub use drd_plain::{
-    A, AAAA, BinDecoder, BinEncodable, BinEncoder, DecodeError, FieldRef, HINFO, NAPTR, Name,
-    ParseError, ProtoError, RDataEncoding, RecordDataDecodable, Rest, RestField, Restrict, TXT,
-    TextData, Word, Words, emit_three, key_of, octet_at, read_window, verify_flags, words_of_text,
+pub use drd_address::{
+    A, AAAA, BinDecoder, BinEncodable, BinEncoder, DecodeError, FieldRef, Name, ParseError,
+    ProtoError, RDataEncoding, RecordDataDecodable, Rest, RestField, Restrict, TextData, Word,
+    Words, emit_three, key_of, octet_at, read_window, words_of_text,
 };
 
 mod addresses;

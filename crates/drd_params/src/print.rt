@@ -4,14 +4,14 @@ ghost use Rattle.std.specs.Fmt.{WritesOnOk};
 ghost use Rattle.std.specs.String.{string_bytes};
 ghost use Rattle.base64.specs.Engines.{standard};
 ghost use Rattle.base64.specs.GeneralPurpose.{encode_of};
-ghost use Rattle.drd_plain.specs.drd_words.Print.{escaped_print};
+ghost use Rattle.drd_address.specs.drd_words.Print.{escaped_print};
 ghost use Rattle.drd_params.specs.Keys.{key_text};
 ghost use Rattle.drd_params.specs.Print.{later_listed, listed, param_print, value_behind, value_print};
 
 use crate::entry::Entry;
 use crate::key::SvcParamKey;
 use crate::value::{Alpn, EchConfigList, IpHint, Mandatory, SvcParamValue, Unknown};
-use drd_plain::{fmt_base64, fmt_escaped};
+use drd_address::{fmt_base64, fmt_escaped};
 use std::fmt;
 
 // Writes entries, each behind a comma.

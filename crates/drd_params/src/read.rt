@@ -1,8 +1,8 @@
 //! Keys and values that are read, each alone.
 ghost use Rattle.std.specs.Prelude.{◌≡◌, ◌⊎◌, ◌≤◌, length, OnErr};
 ghost use Rattle.std.specs.List.{flat_map};
-ghost use Rattle.drd_plain.specs.dnw_decoder.Octets.{Stands};
-ghost use Rattle.drd_plain.specs.dnw_decoder.Reading.{IsCut, IsWantOfMemory};
+ghost use Rattle.drd_address.specs.dnw_decoder.Octets.{Stands};
+ghost use Rattle.drd_address.specs.dnw_decoder.Reading.{IsCut, IsWantOfMemory};
 ghost use Rattle.drd_params.specs.declared.key.SvcParamKey.TheVariants as of;
 ghost use Rattle.drd_params.specs.declared.value.SvcParamValue.TheVariants as value;
 ghost use Rattle.drd_params.specs.Reading.{FillsMessage, KeyAt, RefusesAt, RefusesListAt, ValueAt};
@@ -10,7 +10,7 @@ ghost use Rattle.drd_params.specs.Reading.{FillsMessage, KeyAt, RefusesAt, Refus
 use crate::entry::{Entry, read_all};
 use crate::key::SvcParamKey;
 use crate::value::{Alpn, EchConfigList, IpHint, Mandatory, Unknown, read_alpn, read_mandatory};
-use drd_plain::{BinDecodable, BinDecoder, DecodeError};
+use drd_address::{BinDecodable, BinDecoder, DecodeError};
 use std::alloc::Global;
 
 // Takes the octets that are left.

@@ -1,6 +1,6 @@
 //! Values of parameters (RFC 9460 7, 8).
 ghost use Rattle.std.specs.Prelude.{◌≡◌, ◌⊎◌, IfOk, IfErr};
-ghost use Rattle.drd_plain.specs.dnw_decoder.Reading.{IsWantOfMemory};
+ghost use Rattle.drd_address.specs.dnw_decoder.Reading.{IsWantOfMemory};
 ghost use Rattle.drd_params.specs.declared.key.SvcParamKey.TheVariants as of;
 ghost use Rattle.drd_params.specs.declared.value.SvcParamValue.TheVariants as value;
 ghost use Rattle.drd_params.specs.Values.{IsUnknown, IsValueOf, value_octets};
@@ -8,7 +8,7 @@ ghost use Rattle.drd_params.specs.Refusals.{NoValue};
 
 use crate::entry::read_all;
 use crate::key::SvcParamKey;
-use drd_plain::{A, AAAA, DecodeError};
+use drd_address::{A, AAAA, DecodeError};
 use std::alloc::Global;
 
 /// The keys that a client must know to use the record (RFC 9460 8): at least one.

@@ -1,8 +1,8 @@
 //! Parameters that are written.
 ghost use Rattle.std.specs.Prelude.{◌≡◌, ◌<◌, ◌++◌, ◌⊎◌, length, IfOk, IfErr, OnOk};
 ghost use Rattle.std.specs.List.{Contains, flat_map};
-ghost use Rattle.drd_plain.specs.dnw_codes.ProtoError.{IsMemory};
-ghost use Rattle.drd_plain.specs.dnw_decoder.Octets.{octets_16};
+ghost use Rattle.drd_address.specs.dnw_codes.ProtoError.{IsMemory};
+ghost use Rattle.drd_address.specs.dnw_decoder.Octets.{octets_16};
 ghost use Rattle.drd_params.specs.Params.{AreParams, param_octets, params_octets};
 ghost use Rattle.drd_params.specs.Values.{value_octets};
 ghost use Rattle.drd_params.specs.Writing.{IsOversized, HasLongText, RefusesWriting};
@@ -10,7 +10,7 @@ ghost use Rattle.drd_params.specs.Writing.{IsOversized, HasLongText, RefusesWrit
 use crate::entry::Entry;
 use crate::key::SvcParamKey;
 use crate::value::SvcParamValue;
-use drd_plain::ProtoError;
+use drd_address::ProtoError;
 use std::alloc::{AllocError, Global};
 
 /// Puts octets behind others.

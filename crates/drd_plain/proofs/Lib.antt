@@ -1,5 +1,3 @@
-pub mod Addresses
-pub mod Reading
 pub use Rattle.drd_words.proofs.dnw_name_lemmas
 pub mod drd_words_lemmas
 pub use Rattle.drd_fields.proofs.dnw_decoder_lemmas

@@ -1,34 +1,12 @@
--- The fields of record data that are addresses and strings.
-use Rattle.std.specs.Prelude.{ℕ, Bool, List, [], ◌∷◌, get_or, map}
+-- The fields of record data that are strings, flags or octets alone.
+use Rattle.std.specs.Prelude.{ℕ, Bool, List, [], ◌∷◌, map}
 use Rattle.std.specs.Char.{is_ascii_alphanumeric}
 use Rattle.std.specs.List.{list_all}
-use Rattle.std.specs.Net.Addr.{ipv4_bits, ipv6_segments}
-use Rattle.drd_fields.specs.Fields.{Field, short, long, name, string, strings, Kind, a_short, a_long, a_name, a_string, all_strings}
-use Rattle.drd_plain.specs.declared.a.A.{A}
-use Rattle.drd_plain.specs.declared.aaaa.AAAA.{AAAA}
+use Rattle.drd_fields.specs.Fields.{Field, short, name, string, strings, rest, Kind, a_short, a_name, a_string, all_strings, the_rest}
 use Rattle.drd_plain.specs.declared.hinfo.HINFO.{HINFO}
 use Rattle.drd_plain.specs.declared.naptr.NAPTR.{NAPTR}
+use Rattle.drd_plain.specs.declared.null.NULL.{NULL}
 use Rattle.drd_plain.specs.declared.txt.TXT.{TXT}
-
--- RFC 1035 3.4.1: an address of 32 bits, its greatest octet first.
-abbrev pub a_fields : A → List Field
-a_fields a = long (ipv4_bits a.0) ∷ []
-
-abbrev pub a_kinds : List Kind
-a_kinds = a_long ∷ []
-
--- One of the eight groups of 16 bits of an address, the greatest first.
-abbrev pub group : AAAA → ℕ → Field
-group aaaa i = short (get_or (ipv6_segments aaaa.0) i 0)
-
--- RFC 3596 2.2: an address of 128 bits, its greatest octet first.
-abbrev pub aaaa_fields : AAAA → List Field
-aaaa_fields x =
-    group x 0 ∷ group x 1 ∷ group x 2 ∷ group x 3 ∷ group x 4 ∷ group x 5 ∷ group x 6 ∷ group x 7
-    ∷ []
-
-abbrev pub aaaa_kinds : List Kind
-aaaa_kinds = a_short ∷ a_short ∷ a_short ∷ a_short ∷ a_short ∷ a_short ∷ a_short ∷ a_short ∷ []
 
 -- RFC 1035 3.3.2: the processor, then the operating system.
 abbrev pub hinfo_fields : HINFO → List Field
@@ -47,6 +25,13 @@ txt_fields txt = strings (txt_strings txt) ∷ []
 
 abbrev pub txt_kinds : List Kind
 txt_kinds = all_strings ∷ []
+
+-- RFC 1035 3.3.10: anything at all.
+abbrev pub null_fields : NULL → List Field
+null_fields null = rest null.anything.items ∷ []
+
+abbrev pub null_kinds : List Kind
+null_kinds = the_rest ∷ []
 
 -- ASCII letters and digits alone.
 abbrev pub are_alphanumeric : List ℕ → Bool

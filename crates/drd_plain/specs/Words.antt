@@ -1,32 +1,15 @@
 -- The words that record data are read from (RFC 1035 5.1).
 use Rattle.std.specs.Prelude.{ℕ, ◌≡◌, true, List, Option}
-use Rattle.std.specs.Net.Grammar.{IsIpv4Text, IsIpv6Text}
 use lib.Chars.{codes}
 use Rattle.drd_words.specs.dnw_codes.declared.error.ParseError.{ParseError}
 use Rattle.drd_words.specs.dnw_name.DomainName.{DomainName}
-use Rattle.drd_words.specs.Refusals.{RefusesEach, RefusesIpv4, RefusesIpv6, RefusesMore, RefusesNameWord, RefusesNumber, RefusesOneThen, RefusesString, RefusesUnless}
+use Rattle.drd_words.specs.Refusals.{RefusesEach, RefusesMore, RefusesNameWord, RefusesNumber, RefusesOneThen, RefusesString, RefusesUnless}
 use Rattle.drd_words.specs.Word.{IsNumberWord, IsNameWord, IsStringWord}
 use Rattle.drd_words.specs.Words.{NoWords, OneThen, EachWord}
-use Rattle.drd_plain.specs.declared.a.A.{A}
-use Rattle.drd_plain.specs.declared.aaaa.AAAA.{AAAA}
 use Rattle.drd_plain.specs.declared.hinfo.HINFO.{HINFO}
 use Rattle.drd_plain.specs.declared.naptr.NAPTR.{NAPTR}
 use Rattle.drd_plain.specs.declared.txt.TXT.{TXT}
 use Rattle.drd_plain.specs.Fields.{txt_strings, are_alphanumeric}
-
--- RFC 1035 3.4.1: the address as four decimal numbers.
-abbrev pub IsAText : List (List ℕ) → A → Type 0
-IsAText words a = OneThen (λ word. IsIpv4Text word a.0) NoWords words
-
-abbrev pub RefusesAText : List (List ℕ) → ParseError → Type 0
-RefusesAText = RefusesOneThen (λ address word. IsIpv4Text word address) RefusesIpv4 RefusesMore
-
--- RFC 3596 2.4: the address as RFC 4291 2.2 writes it.
-abbrev pub IsAaaaText : List (List ℕ) → AAAA → Type 0
-IsAaaaText words aaaa = OneThen (λ word. IsIpv6Text word aaaa.0) NoWords words
-
-abbrev pub RefusesAaaaText : List (List ℕ) → ParseError → Type 0
-RefusesAaaaText = RefusesOneThen (λ address word. IsIpv6Text word address) RefusesIpv6 RefusesMore
 
 -- RFC 1035 3.3.2: the processor and the operating system.
 abbrev pub IsHinfoText : List (List ℕ) → HINFO → Type 0

@@ -1,28 +1,22 @@
-//! Record data of addresses and strings.
+//! Record data of strings and flags, and data that are octets alone.
 #![tactic(auto)]
 
 pub use drd_fields::{
-    BinDecodable, BinDecoder, BinEncodable, BinEncoder, CharacterString, DataField, DataFields,
-    FieldData, FieldRef, Fields, RDataEncoding, ReadFields, RecordDataDecodable, Rest, RestField,
-    StringField, cmp_list, emit_three, hash_list, is_same_data, read_data, read_value, read_window,
+    BinEncodable, BinEncoder, CharacterString, FieldData, FieldRef, Fields, RDataEncoding, Rest,
+    RestField, StringField, emit_three, hash_list, is_same_data,
 };
-pub use drd_words::{
-    DecodeError, Name, ParseError, ProtoError, Restrict, TextData, Word, Words, fmt_base64,
-    fmt_escaped, key_of, number_behind, octet_at, read_tokens, words_of_text,
-};
+pub use drd_words::{DecodeError, Name, ParseError, ProtoError, TextData, Word, fmt_escaped};
 
-mod a;
-mod aaaa;
 mod flags;
 mod hinfo;
 mod naptr;
+mod null;
 mod print;
 mod txt;
 
-pub use a::A;
-pub use aaaa::AAAA;
 pub use flags::verify_flags;
 pub use hinfo::HINFO;
 pub use naptr::NAPTR;
+pub use null::NULL;
 pub use print::fmt_quoted;
 pub use txt::TXT;

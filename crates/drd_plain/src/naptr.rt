@@ -2,6 +2,7 @@
 ghost use Rattle.std.specs.Prelude.{◌≡◌, ◌∷◌, [], ℕ, ◌⊎◌, true, Some, IfErr, OnOk};
 ghost use Rattle.std.specs.Fmt.{WritesOnOk};
 ghost use Rattle.std.specs.Cmp.{partial_equiv_from_equiv};
+ghost use Rattle.drd_words.specs.dnw_codes.Ascii.{space};
 ghost use Rattle.drd_fields.specs.dnw_encoder.Effects.{Writes};
 ghost use Rattle.drd_fields.specs.dnw_encoder.Encoders.{state};
 ghost use Rattle.drd_fields.specs.dnw_encoder.declared.modes.RDataEncoding.TheVariants.{Canonical};
@@ -271,7 +272,7 @@ fn fmt_strings<W: fmt::Write>(
 
 // Writes a space and a string between quotes.
 fn fmt_behind_space<W: fmt::Write>(f: &mut fmt::Formatter<W>, octets: &[u8]) -> fmt::Result
-    ensures { WritesOnOk W.write_str_gives f.old result (32 ∷ quotation octets.now) f.new }
+    ensures { WritesOnOk W.write_str_gives f.old result (space ∷ quotation octets.now) f.new }
 {
     f.write_char(' ')?;
     fmt_quoted(f, octets)

@@ -36,18 +36,11 @@ use Rattle.drd_rdata.specs.Fields.{encoding_of, rdata_fields}
 use Rattle.drd_rdata.specs.Reading.{RDataAt, HoldsAs, ReadsAs}
 use Rattle.drd_rdata.specs.Types.{Is, type_of}
 use Rattle.drd_rdata.specs.Order.{HasCanonical, canonical_data, type_number, data_form}
+use Rattle.drd_rdata.specs.ReadingBack.{Alike}
 use Rattle.drd_rdata.specs.Writing.{EmitsRData, StandsWritten}
 use Rattle.drd_rdata.specs.RowsLaws.{is_plain, kinds_ordered, plain_there, row_forms, same_kinds, to_row}
 use Rattle.drd_rdata.specs.declared.rdata.RData.{RData}
 use Rattle.drd_rdata.specs.declared.rdata.RData.TheVariants as rdata
-
--- Both have these canonical octets.
-pub record Alike (v w : RData) : Type 0 where
-  pub octets : List ℕ
-  pub first : HasCanonical v octets
-  pub second : HasCanonical w octets
-  pub number : type_number v ≡ type_number w
-  pub own : data_form v ≡ data_form w
 
 told : (same : Bool) (octets : List ℕ) → Tells same octets octets → same ≡ true
 told true octets tells = refl

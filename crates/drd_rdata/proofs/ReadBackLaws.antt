@@ -1,6 +1,8 @@
 -- What was read for a type and written stands for it where it is written, by an encoder in any mode: names in the form in which it writes
 -- them, and all else as it is.
-use Rattle.std.proofs.Common.{◌≡◌, ℕ, List, [], ◌∷◌, refl, sym, subst, ◌∙◌}
+use Rattle.std.proofs.Common.{◌≡◌, ℕ, ◌+◌, List, [], ◌∷◌, refl, sym, subst, ◌∙◌}
+use Rattle.std.specs.Prelude.{Result, Ok, Err, IfOk}
+use Rattle.dnw_codes.specs.declared.error.DecodeError.{DecodeError}
 use Rattle.dnw_codes.specs.declared.record_type.RecordType.{RecordType}
 use Rattle.drd_types.specs.dnw_decoder.Octets.{Stands}
 use Rattle.drd_types.specs.dnw_encoder.Effects.{Sound, StaysTrue}
@@ -16,37 +18,10 @@ use Rattle.drd_rdata.specs.Fields.{rdata_fields}
 use Rattle.drd_rdata.specs.Reading.{HoldsAs, IsValid}
 use Rattle.drd_rdata.specs.Types.{type_of}
 use Rattle.drd_rdata.specs.Writing.{EmitsRData, StandsWritten}
-use Rattle.drd_types.specs.dnw_encoder.Names.{encoded_name}
-use Rattle.drd_svcb.specs.declared.svcb.SVCB.{SVCB}
 use Rattle.drd_rdata.specs.declared.rdata.RData.{RData}
 use Rattle.drd_rdata.specs.declared.rdata.RData.TheVariants as rdata
-use Rattle.drd_rdata.proofs.BackLaws.{Alike, alike, emitted_stands}
-
--- A service as it is written (RFC 9460 2.2): its target in the form in which the encoder writes names.
-abbrev encoded_service : NameEncoding → SVCB → SVCB
-encoded_service encoding svcb = record svcb { target_name = encoded_name encoding svcb.target_name }
-
--- The data as they are written: names fully qualified, and in lower case where the encoder writes them so (RFC 4034 6.2).
-abbrev pub encoded_data : NameEncoding → RData → RData
-encoded_data encoding (rdata.ANAME aname) =
-    rdata.ANAME (record aname { 0 = encoded_name encoding aname.0 })
-encoded_data encoding (rdata.CNAME cname) =
-    rdata.CNAME (record cname { 0 = encoded_name encoding cname.0 })
-encoded_data encoding (rdata.HTTPS https) =
-    rdata.HTTPS (record https { 0 = encoded_service encoding https.0 })
-encoded_data encoding (rdata.MX mx) =
-    rdata.MX (record mx { exchange = encoded_name encoding mx.exchange })
-encoded_data encoding (rdata.NAPTR naptr) =
-    rdata.NAPTR (record naptr { replacement = encoded_name encoding naptr.replacement })
-encoded_data encoding (rdata.NS ns) = rdata.NS (record ns { 0 = encoded_name encoding ns.0 })
-encoded_data encoding (rdata.PTR ptr) = rdata.PTR (record ptr { 0 = encoded_name encoding ptr.0 })
-encoded_data encoding (rdata.SOA soa) =
-    rdata.SOA
-    (record soa { mname = encoded_name encoding soa.mname; rname = encoded_name encoding soa.rname })
-encoded_data encoding (rdata.SRV srv) =
-    rdata.SRV (record srv { target = encoded_name encoding srv.target })
-encoded_data encoding (rdata.SVCB svcb) = rdata.SVCB (encoded_service encoding svcb)
-encoded_data encoding other = other
+use Rattle.drd_rdata.specs.ReadingBack.{IsReadBack, ReadsBack, encoded_data}
+use Rattle.drd_rdata.proofs.BackLaws.{alike, emitted_stands}
 
 options_there : (source message : List ℕ) (place : ℕ) (ws : List Entry) (end : ℕ) → HoldsEntries source ws → FieldsAt message place (rest (entries_octets ws) ∷ []) end → EntriesAt message place ws end
 options_there source message place ws end held written = record {
@@ -85,21 +60,11 @@ encoded_there t source start stop v encoding message place end held written = (
   ),
 )
 
--- Data of a type read back where they were written: as written they stand there, and all that is read there for the type is equal to them,
--- by the same canonical octets.
-pub record ReadsBack (t : RecordType) (encoding : NameEncoding) (v : RData) (message : List ℕ)
-    (place end : ℕ) : Type 0 where
-  pub there : HoldsAs t message place (encoded_data encoding v) end
-  pub equal : (w : RData) → HoldsAs t message place w end → Alike v w
-
 -- What was read for a type and is written reads back where it is written, in the finished message too: all types, OPT among them, and all
 -- modes of an encoder, canonical form among them.
 pub written_back : (t : RecordType) (source : List ℕ) (start stop : ℕ) (v : RData)
-    → HoldsAs t source start v stop → (old new : State) → Sound old → EmitsRData v old new
-    → (encoding : NameEncoding)
-    × StaysTrue new new.offset
-    (λ message. ReadsBack t encoding v message old.offset new.offset)
-written_back t source start stop v held old new sound e =
+    → HoldsAs t source start v stop → IsReadBack t v
+written_back t source start stop v held = λ old new sound e.
     let stands = emitted_stands v old new sound e in (
       stands.0,
       holds_map new.offset new
@@ -111,3 +76,9 @@ written_back t source start stop v held old new sound e =
           })
           stands.1,
     )
+
+pub ok_back : (t : RecordType) (message : List ℕ) (place len : ℕ) (r : Result RData DecodeError)
+    → IfOk r (λ value. HoldsAs t message place value (place + len))
+    → IfOk r (λ value. IsReadBack t value)
+ok_back t message place len (Ok value) held = written_back t message place (place + len) value held
+ok_back t message place len (Err e) held = held

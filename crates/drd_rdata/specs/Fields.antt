@@ -8,11 +8,12 @@ use Rattle.drd_types.specs.dnw_wire.MapOrder.{tight_maps}
 use Rattle.drd_types.specs.drd_caa.Fields.{caa_fields, caa_kinds}
 use Rattle.drd_types.specs.drd_csync.Data.{csync_fields}
 use Rattle.drd_types.specs.drd_fields.Fields.{Field, rest, Kind, a_long, a_short, the_rest}
-use Rattle.drd_types.specs.drd_keys.Fields.{cert_fields, cert_kinds, null_fields, null_kinds, openpgpkey_fields, openpgpkey_kinds, smimea_fields, smimea_kinds, sshfp_fields, sshfp_kinds, tlsa_fields, tlsa_kinds}
+use Rattle.drd_types.specs.drd_keys.Fields.{cert_fields, cert_kinds, openpgpkey_fields, openpgpkey_kinds, smimea_fields, smimea_kinds, sshfp_fields, sshfp_kinds, tlsa_fields, tlsa_kinds}
 use Rattle.drd_types.specs.drd_names.Fields.{aname_fields, cname_fields, mx_fields, mx_kinds, ns_fields, one_name, ptr_fields, soa_fields, soa_kinds, srv_fields, srv_kinds}
 use Rattle.drd_types.specs.drd_opt.Entries.{entries_octets}
+use Rattle.drd_types.specs.drd_plain.Fields.{hinfo_fields, hinfo_kinds, naptr_fields, naptr_kinds, null_fields, null_kinds, txt_fields, txt_kinds}
 use Rattle.drd_svcb.specs.Fields.{svcb_fields, svcb_kinds}
-use Rattle.drd_svcb.specs.drd_plain.Fields.{a_fields, a_kinds, aaaa_fields, aaaa_kinds, hinfo_fields, hinfo_kinds, naptr_fields, naptr_kinds, txt_fields, txt_kinds}
+use Rattle.drd_svcb.specs.drd_address.Fields.{a_fields, a_kinds, aaaa_fields, aaaa_kinds}
 use Rattle.drd_rdata.specs.declared.rdata.RData.{RData}
 use Rattle.drd_rdata.specs.declared.rdata.RData.TheVariants as rdata
 

@@ -2,6 +2,7 @@ pub mod Types
 pub mod Fields
 pub mod Reading
 pub mod Writing
+pub mod ReadingBack
 pub mod Texts
 pub mod Order
 pub mod OrderLaws

@@ -17,7 +17,7 @@ use Rattle.drd_types.specs.drd_fields.Fields.{AreOrdered, Field, Kind, kinds_of}
 use Rattle.drd_types.specs.drd_fields.Order.{Orders, fields_cmp, fields_input}
 use Rattle.drd_types.specs.drd_fields.Equality.{AreFull, Tells}
 use Rattle.drd_types.specs.drd_fields.Writing.{canonical_octets}
-use Rattle.drd_types.specs.drd_keys.Fields.{null_kinds}
+use Rattle.drd_types.specs.drd_plain.Fields.{null_kinds}
 use Rattle.drd_rdata.specs.Fields.{kinds_for, rdata_fields}
 use Rattle.drd_rdata.specs.RowsLaws.{in_order, is_ordered, ordered_by}
 use Rattle.drd_types.proofs.drd_fields_lemmas.EqualityLaws.{same_octets, found_same, true_or_false}

@@ -9,8 +9,8 @@ use Rattle.dnw_codes.specs.declared.record_type.RecordType.TheVariants as kind
 use Rattle.drd_types.specs.dnw_decoder.Reading.{IsWantOfMemory}
 use Rattle.drd_types.specs.drd_fields.Fields.{Field, FieldsAt}
 use Rattle.drd_types.specs.drd_fields.Reading.{RefusesValue, no_misfits}
-use Rattle.drd_svcb.specs.drd_plain.Fields.{are_alphanumeric}
-use Rattle.drd_svcb.specs.drd_plain.Reading.{NaptrMisfits}
+use Rattle.drd_types.specs.drd_plain.Fields.{are_alphanumeric}
+use Rattle.drd_types.specs.drd_plain.Reading.{NaptrMisfits}
 use Rattle.drd_types.specs.drd_keys.Cert.{IsNamedCert}
 use Rattle.drd_types.specs.drd_keys.Sshfp.{IsNamedSshfp}
 use Rattle.drd_types.specs.drd_keys.Tlsa.{IsNamedTlsa}

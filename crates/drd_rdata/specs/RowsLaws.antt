@@ -7,7 +7,7 @@ use Rattle.dnw_codes.specs.declared.record_type.RecordType.TheVariants as kind
 use Rattle.drd_types.specs.dnw_decoder.Reading.{IsWantOfMemory}
 use Rattle.drd_types.specs.drd_fields.Fields.{Kind, AreOrdered, FieldsAt, is_open, kinds_of}
 use Rattle.drd_types.specs.drd_fields.Reading.{RefusesValue, no_misfits}
-use Rattle.drd_types.specs.drd_keys.Fields.{null_kinds}
+use Rattle.drd_types.specs.drd_plain.Fields.{null_kinds}
 use Rattle.drd_rdata.specs.Fields.{kinds_for, rdata_fields}
 use Rattle.drd_rdata.specs.Order.{data_form}
 use Rattle.drd_rdata.specs.Reading.{RDataAt, HoldsAs, IsOther, IsValid, StopsAs}

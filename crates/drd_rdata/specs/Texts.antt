@@ -8,12 +8,14 @@ use Rattle.drd_svcb.specs.dnw_name.NamePrint.{name_print}
 use Rattle.drd_types.specs.drd_caa.Print.{caa_print}
 use Rattle.drd_types.specs.drd_caa.Words.{IsCaaText, RefusesCaaText}
 use Rattle.drd_types.specs.drd_csync.Texts.{IsCsyncText, RefusesCsyncText, csync_print}
-use Rattle.drd_types.specs.drd_keys.Print.{cert_print, null_print, openpgpkey_print, smimea_print, sshfp_print, tlsa_print}
+use Rattle.drd_types.specs.drd_keys.Print.{cert_print, openpgpkey_print, smimea_print, sshfp_print, tlsa_print}
 use Rattle.drd_types.specs.drd_keys.Texts.{IsCertText, IsOpenpgpkeyText, IsSmimeaText, IsSshfpText, IsTlsaText, RefusesCertText, RefusesOpenpgpkeyText, RefusesSmimeaText, RefusesSshfpText, RefusesTlsaText}
 use Rattle.drd_types.specs.drd_names.Texts.{IsAnameText, IsCnameText, IsMxText, IsNsText, IsPtrText, IsSoaText, IsSrvText, RefusesMxText, RefusesOneName, RefusesSoaText, RefusesSrvText, mx_print, soa_print, srv_print}
 use Rattle.drd_types.specs.drd_opt.Entries.{entries_print}
-use Rattle.drd_svcb.specs.drd_plain.Print.{a_print, aaaa_print, hinfo_print, naptr_print, txt_print}
-use Rattle.drd_svcb.specs.drd_plain.Words.{IsAText, IsAaaaText, IsHinfoText, IsNaptrText, IsTxtText, RefusesAText, RefusesAaaaText, RefusesHinfoText, RefusesNaptrText, RefusesTxtText}
+use Rattle.drd_svcb.specs.drd_address.Print.{a_print, aaaa_print}
+use Rattle.drd_types.specs.drd_plain.Print.{hinfo_print, naptr_print, null_print, txt_print}
+use Rattle.drd_svcb.specs.drd_address.Words.{IsAText, IsAaaaText, RefusesAText, RefusesAaaaText}
+use Rattle.drd_types.specs.drd_plain.Words.{IsHinfoText, IsNaptrText, IsTxtText, RefusesHinfoText, RefusesNaptrText, RefusesTxtText}
 use Rattle.drd_svcb.specs.Print.{svcb_print}
 use Rattle.drd_svcb.specs.ParamRefusals.{RefusesSvcbText}
 use Rattle.drd_svcb.specs.Texts.{IsSvcbText}

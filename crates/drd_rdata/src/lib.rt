@@ -5,8 +5,9 @@
 pub use dnw_codes::{DNSClass, DecodeError, ProtoError, RecordType};
 pub use drd_svcb::{HTTPS, SVCB};
 pub use drd_types::{
-    ANAME, CAA, CERT, CNAME, CSYNC, KeyValue, MX, NS, NULL, OPENPGPKEY, OPT, PTR, SMIMEA, SOA, SRV,
-    SSHFP, TLSA, cert, is_tag, read_iodef, read_issuer, sshfp, tlsa,
+    ANAME, CAA, CERT, CNAME, CSYNC, HINFO, KeyValue, MX, NAPTR, NS, NULL, OPENPGPKEY, OPT, PTR,
+    SMIMEA, SOA, SRV, SSHFP, TLSA, TXT, cert, is_tag, read_iodef, read_issuer, sshfp, tlsa,
+    verify_flags,
 };
 
 mod back;

@@ -3,10 +3,10 @@ ghost use Rattle.std.specs.Prelude.{◌≡◌};
 ghost use Rattle.drd_rdata.specs.Types.{type_of, address_of};
 
 use dnw_codes::RecordType;
-use drd_svcb::{A, AAAA, HINFO, HTTPS, NAPTR, SVCB, TXT};
+use drd_svcb::{A, AAAA, HTTPS, SVCB};
 use drd_types::{
-    ANAME, CAA, CERT, CNAME, CSYNC, MX, NS, NULL, OPENPGPKEY, OPT, PTR, SMIMEA, SOA, SRV, SSHFP,
-    TLSA,
+    ANAME, CAA, CERT, CNAME, CSYNC, HINFO, MX, NAPTR, NS, NULL, OPENPGPKEY, OPT, PTR, SMIMEA, SOA,
+    SRV, SSHFP, TLSA, TXT,
 };
 use std::net::{IpAddr, Ipv4Addr, Ipv6Addr};
 

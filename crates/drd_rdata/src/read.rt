@@ -9,16 +9,17 @@ ghost use Rattle.drd_types.specs.dnw_encoder.State.{State};
 ghost use Rattle.drd_rdata.specs.declared.rdata.RData.{RData as Rdata};
 ghost use Rattle.drd_rdata.specs.Order.{HasCanonical, canonical_data};
 ghost use Rattle.drd_rdata.specs.Reading.{IsEmptyOf, IsOther, HoldsAs, ReadsAs, RefusesAs, Shows, WantsMemoryAs};
+ghost use Rattle.drd_rdata.specs.ReadingBack.{IsReadBack};
 ghost use Rattle.drd_rdata.specs.Types.{Is, type_of};
 ghost use Rattle.drd_rdata.specs.Writing.{RefusesRData, WantsRoom};
 
 use crate::rdata::RData;
 use crate::record_data::RecordData;
 use dnw_codes::{DecodeError, RecordType, Restrict};
-use drd_svcb::{A, AAAA, HINFO, HTTPS, NAPTR, SVCB, TXT};
+use drd_svcb::{A, AAAA, HTTPS, SVCB};
 use drd_types::{
-    ANAME, BinDecoder, CAA, CERT, CNAME, CSYNC, MX, NS, NULL, OPENPGPKEY, OPT, PTR,
-    RecordDataDecodable, SMIMEA, SOA, SRV, SSHFP, TLSA,
+    ANAME, BinDecoder, CAA, CERT, CNAME, CSYNC, HINFO, MX, NAPTR, NS, NULL, OPENPGPKEY, OPT, PTR,
+    RecordDataDecodable, SMIMEA, SOA, SRV, SSHFP, TLSA, TXT,
 };
 use std::alloc::Global;
 
@@ -41,6 +42,9 @@ impl RData {
 
         // It is written wherever there are memory and room.
         ensures written { IfOk result (λ value. (old : State) (e : WritingError) → RefusesRData value old e → WantsRoom old e) }
+
+        // Where it is written, in any mode, data of the type stand that are equal to it, and no others.
+        ensures back { 0 < length → IfOk result (λ value. IsReadBack record_type value) }
         ensures end { OnOk result (decoder.new.index ≡ decoder.old.index + length) }
         ensures same { decoder.new.octets ≡ decoder.old.octets }
         ensures forward { decoder.old.index ≤ decoder.new.index }

@@ -12,9 +12,10 @@ ghost use Rattle.drd_rdata.specs.Texts.{IsTextOf, RefusesTextOf, has_text};
 use crate::rdata::RData;
 use crate::text_type::TextType;
 use dnw_codes::{ParseError, RecordType};
-use drd_svcb::{A, AAAA, HINFO, HTTPS, NAPTR, Name, SVCB, TXT, words_of_text};
+use drd_svcb::{A, AAAA, HTTPS, Name, SVCB, words_of_text};
 use drd_types::{
-    ANAME, CAA, CERT, CNAME, CSYNC, MX, NS, OPENPGPKEY, PTR, SMIMEA, SOA, SRV, SSHFP, TLSA,
+    ANAME, CAA, CERT, CNAME, CSYNC, HINFO, MX, NAPTR, NS, OPENPGPKEY, PTR, SMIMEA, SOA, SRV, SSHFP,
+    TLSA, TXT,
 };
 use std::alloc::Global;
 use std::convert::AsStr;

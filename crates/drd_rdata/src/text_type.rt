@@ -3,9 +3,10 @@ ghost use Rattle.dnw_codes.specs.declared.record_type.RecordType.TheVariants as 
 ghost use Rattle.std.proofs.Common.{refl};
 
 use crate::record_data::RecordData;
-use drd_svcb::{A, AAAA, HINFO, HTTPS, NAPTR, SVCB, TXT, TextData};
+use drd_svcb::{A, AAAA, HTTPS, SVCB, TextData};
 use drd_types::{
-    ANAME, CAA, CERT, CNAME, CSYNC, MX, NS, OPENPGPKEY, PTR, SMIMEA, SOA, SRV, SSHFP, TLSA,
+    ANAME, CAA, CERT, CNAME, CSYNC, HINFO, MX, NAPTR, NS, OPENPGPKEY, PTR, SMIMEA, SOA, SRV, SSHFP,
+    TLSA, TXT,
 };
 
 /// A type whose data words write.

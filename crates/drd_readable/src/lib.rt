@@ -7,17 +7,17 @@
 
 pub use drd_option::{
     BinDecodable, BinDecoder, BinEncodable, BinEncoder, ClientSubnet, EdnsCode, EdnsOption,
-    EncodedSize, FieldData, FieldRef, Fields, HEX, Label, LowerName, NSIDPayload, Name,
+    EncodedSize, FieldData, FieldRef, Fields, HEX, IpNet, Label, LowerName, NSIDPayload, Name,
     NameEncoding, RecordDataDecodable, RrKey, TextData,
 };
 pub use drd_params::{
-    A, AAAA, Alpn, EchConfigList, HINFO, IpHint, Mandatory, NAPTR, SvcParamKey, SvcParamValue, TXT,
-    Unknown, key_of, read_params, verify_flags, write_params,
+    A, AAAA, Alpn, EchConfigList, IpHint, Mandatory, SvcParamKey, SvcParamValue, Unknown, key_of,
+    read_params, write_params,
 };
 pub use drd_rdata::{
-    ANAME, CAA, CERT, CNAME, CSYNC, DNSClass, DecodeError, HTTPS, KeyValue, MX, NS, NULL,
-    OPENPGPKEY, OPT, PTR, ProtoError, RData, RecordData, RecordType, SMIMEA, SOA, SRV, SSHFP, SVCB,
-    TLSA, cert, read_iodef, read_issuer, sshfp, tlsa,
+    ANAME, CAA, CERT, CNAME, CSYNC, DNSClass, DecodeError, HINFO, HTTPS, KeyValue, MX, NAPTR, NS,
+    NULL, OPENPGPKEY, OPT, PTR, ProtoError, RData, RecordData, RecordType, SMIMEA, SOA, SRV, SSHFP,
+    SVCB, TLSA, TXT, cert, read_iodef, read_issuer, sshfp, tlsa, verify_flags,
 };
 
 mod keys;

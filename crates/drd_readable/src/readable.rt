@@ -9,8 +9,7 @@ use crate::kinds::{can_read_csync, is_other};
 use crate::options::can_read_opt;
 use crate::services::{are_params, can_read_service};
 use drd_option::are_readable;
-use drd_params::verify_flags;
-use drd_rdata::{CAA, RData, is_tag};
+use drd_rdata::{CAA, RData, is_tag, verify_flags};
 
 /// Whether record data can be read: in some message they stand as data of their type, and take octets (RFC 1035 3.2.1).
 /// They do where all names end at the root, strings have at most 255 octets, and there is at least one in TXT; where flags

@@ -1,7 +1,7 @@
 //! Record data of services: SVCB and HTTPS (RFC 9460).
 #![tactic(auto)]
 
-pub use drd_params::{A, AAAA, HINFO, NAPTR, Name, TXT, TextData, words_of_text};
+pub use drd_params::{A, AAAA, Name, TextData, words_of_text};
 
 mod escape;
 mod https;

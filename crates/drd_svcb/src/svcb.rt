@@ -156,7 +156,7 @@ fn fmt_behind<W: fmt::Write>(
     f: &mut fmt::Formatter<W>,
     param: &(SvcParamKey, SvcParamValue),
 ) -> fmt::Result
-    ensures { WritesOnOk W.write_str_gives f.old result (32 ∷ param_print param.now) f.new }
+    ensures { WritesOnOk W.write_str_gives f.old result (space ∷ param_print param.now) f.new }
 {
     f.write_char(' ')?;
     fmt_param(f, param.0, &param.1)

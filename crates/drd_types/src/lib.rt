@@ -3,9 +3,11 @@
 //! It holds nothing of its own.
 #![tactic(auto)]
 
-pub use drd_caa::{CAA, KeyValue, is_tag, read_iodef, read_issuer};
+pub use drd_caa::{
+    CAA, HINFO, KeyValue, NAPTR, NULL, TXT, is_tag, read_iodef, read_issuer, verify_flags,
+};
 pub use drd_names_keys::{
-    ANAME, BinDecoder, BinEncodable, BinEncoder, CERT, CNAME, CSYNC, MX, NS, NULL, OPENPGPKEY, PTR,
+    ANAME, BinDecoder, BinEncodable, BinEncoder, CERT, CNAME, CSYNC, MX, NS, OPENPGPKEY, PTR,
     SMIMEA, SOA, SRV, SSHFP, TLSA, cert, sshfp, tlsa,
 };
 pub use drd_opt::{FieldData, Fields, OPT, RecordDataDecodable, cmp_list, hash_list};

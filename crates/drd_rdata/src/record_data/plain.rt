@@ -4,7 +4,8 @@ ghost use Rattle.drd_rdata.specs.declared.rdata.RData.TheVariants as rdata;
 use crate::rdata::RData;
 use crate::record_data::RecordData;
 use dnw_codes::RecordType;
-use drd_svcb::{A, AAAA, HINFO, NAPTR, TXT};
+use drd_svcb::{A, AAAA};
+use drd_types::{HINFO, NAPTR, TXT};
 
 impl RecordData for A {
     ghost rdata = { rdata.A };

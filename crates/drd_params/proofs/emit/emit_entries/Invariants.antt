@@ -1,5 +1,5 @@
 use Rattle.std.proofs.Common.{◌≡◌}
-use Rattle.drd_plain.specs.dnw_encoder.Encoders.{state}
+use Rattle.drd_address.specs.dnw_encoder.Encoders.{state}
 use Rattle.drd_params.proofs.Emitting.{Put}
 use Rattle.drd_params.proofs.emit.emit_entries.Given as goal
 

@@ -3,8 +3,8 @@ use Rattle.std.specs.List.{Contains}
 use Rattle.std.specs.Prelude.{String}
 use Rattle.std.specs.declared.alloc.Global.{Global}
 use Rattle.std.specs.String.{string_bytes}
-use Rattle.drd_plain.specs.dnw_codes.ProtoError.{IsMemory}
-use Rattle.drd_plain.specs.drd_fields.Writing.{IsTooLong}
+use Rattle.drd_address.specs.dnw_codes.ProtoError.{IsMemory}
+use Rattle.drd_address.specs.drd_fields.Writing.{IsTooLong}
 use Rattle.drd_params.specs.Writing.{HasLongText}
 use Rattle.drd_params.specs.declared.value.SvcParamValue.{SvcParamValue}
 use Rattle.drd_params.proofs.write.append_value.Goals as goal

@@ -1,4 +1,4 @@
-use Rattle.drd_plain.specs.dnw_codes.ProtoError.{IsMemory}
+use Rattle.drd_address.specs.dnw_codes.ProtoError.{IsMemory}
 use Rattle.drd_params.proofs.WritingLaws.{only-others}
 use Rattle.drd_params.proofs.write.write_params.Goals as goal
 

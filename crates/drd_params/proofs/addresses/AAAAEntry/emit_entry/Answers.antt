@@ -1,6 +1,6 @@
 use Rattle.std.proofs.Common.{ℕ, List, subst}
-use Rattle.drd_plain.specs.dnw_encoder.Encoders.{state}
-use Rattle.drd_plain.specs.dnw_encoder.Effects.{WritesOctets}
+use Rattle.drd_address.specs.dnw_encoder.Encoders.{state}
+use Rattle.drd_address.specs.dnw_encoder.Effects.{WritesOctets}
 use Rattle.drd_params.proofs.addresses.AAAAEntry.emit_entry.Goals as goal
 
 pub returns-in-Ok-clause-ok : goal.returns-in-Ok-clause-ok

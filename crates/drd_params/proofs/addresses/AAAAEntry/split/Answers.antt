@@ -1,6 +1,6 @@
 use Rattle.std.proofs.Common.{ap}
-use Rattle.drd_plain.specs.dnw_decoder.Reading.{Reading}
-use Rattle.drd_plain.specs.Fields.{aaaa_fields, aaaa_kinds}
+use Rattle.drd_address.specs.dnw_decoder.Reading.{Reading}
+use Rattle.drd_address.specs.Fields.{aaaa_fields, aaaa_kinds}
 use Rattle.drd_params.proofs.Numbers.{numbers-refused}
 use Rattle.drd_params.proofs.addresses.AAAAEntry.split.Goals as goal
 

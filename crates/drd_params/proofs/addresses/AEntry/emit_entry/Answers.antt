@@ -1,6 +1,6 @@
 use Rattle.std.proofs.Common.{ℕ, inl, sym, subst}
-use Rattle.drd_plain.specs.dnw_encoder.Encoders.{state}
-use Rattle.drd_plain.specs.dnw_encoder.Effects.{IsRefusal}
+use Rattle.drd_address.specs.dnw_encoder.Encoders.{state}
+use Rattle.drd_address.specs.dnw_encoder.Effects.{IsRefusal}
 use Rattle.drd_params.specs.EntryLaws.{length_a}
 use Rattle.drd_params.proofs.addresses.AEntry.emit_entry.Goals as goal
 

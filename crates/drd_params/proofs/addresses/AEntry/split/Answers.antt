@@ -1,6 +1,6 @@
 use Rattle.std.proofs.Common.{ap}
-use Rattle.drd_plain.specs.dnw_decoder.Reading.{Reading}
-use Rattle.drd_plain.specs.Fields.{a_fields, a_kinds}
+use Rattle.drd_address.specs.dnw_decoder.Reading.{Reading}
+use Rattle.drd_address.specs.Fields.{a_fields, a_kinds}
 use Rattle.drd_params.proofs.Numbers.{numbers-refused}
 use Rattle.drd_params.proofs.addresses.AEntry.split.Goals as goal
 

@@ -1,4 +1,4 @@
-use Rattle.drd_plain.specs.dnw_encoder.Encoders.{state}
+use Rattle.drd_address.specs.dnw_encoder.Encoders.{state}
 use Rattle.drd_params.proofs.Emitting.{alpn-refused}
 use Rattle.drd_params.proofs.emit.AlpnBinEncodable.emit.Goals as goal
 

@@ -1,6 +1,6 @@
 use Rattle.std.proofs.Common.{inr}
 use Rattle.drd_params.specs.Keys.{key_of_text}
-use Rattle.drd_plain.specs.dnw_codes.declared.error.ParseError.TheVariants.{UnexpectedToken}
+use Rattle.drd_address.specs.dnw_codes.declared.error.ParseError.TheVariants.{UnexpectedToken}
 use Rattle.drd_params.proofs.KeyTexts.{key-found, key-none}
 use Rattle.drd_params.proofs.entry.SvcParamKeyEntry.from_text.Goals as goal
 

@@ -1,6 +1,6 @@
 use Rattle.std.proofs.Common.{ℕ, inr, refl, arith}
-use Rattle.drd_plain.specs.dnw_decoder.Octets.{octets_16}
-use Rattle.drd_plain.proofs.dnw_decoder_lemmas.Standing.{cut_none}
+use Rattle.drd_address.specs.dnw_decoder.Octets.{octets_16}
+use Rattle.drd_address.proofs.dnw_decoder_lemmas.Standing.{cut_none}
 use Rattle.drd_params.specs.Keys.{key_number}
 use Rattle.drd_params.specs.declared.key.SvcParamKey.{SvcParamKey}
 use Rattle.drd_params.proofs.read.SvcParamKeyBinDecodable.read.Goals as goal

@@ -1,5 +1,5 @@
 use Rattle.drd_plain.specs.Fields.{hinfo_fields}
-use Rattle.drd_plain.proofs.Reading.{none_there}
+use Rattle.drd_fields.proofs.NoneLaws.{none_there}
 use Rattle.drd_plain.proofs.hinfo.HINFOBinDecodable.read.Goals as goal
 
 pub returns-clause-none : goal.returns-clause-none

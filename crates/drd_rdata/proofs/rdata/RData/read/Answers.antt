@@ -1,4 +1,5 @@
 use Rattle.drd_rdata.proofs.BackLaws.{ok_canonical}
+use Rattle.drd_rdata.proofs.ReadBackLaws.{ok_back}
 use Rattle.drd_rdata.proofs.WritingLaws.{ok_room}
 use Rattle.drd_rdata.proofs.rdata.RData.read.Goals as goal
 
@@ -10,4 +11,9 @@ returns-clause-canonical c =
 pub returns-clause-written : goal.returns-clause-written
 returns-clause-written c =
     ok_room c.args.record_type c.args.decoder.now.octets c.args.decoder.now.index c.args.length
+    c.read_some.result c.read_some.ensures.ok
+
+pub returns-clause-back : goal.returns-clause-back
+returns-clause-back c =
+    λ some. ok_back c.args.record_type c.args.decoder.now.octets c.args.decoder.now.index c.args.length
     c.read_some.result c.read_some.ensures.ok

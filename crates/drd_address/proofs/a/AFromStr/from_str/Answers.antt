@@ -1,4 +1,4 @@
-use Rattle.drd_plain.proofs.a.AFromStr.from_str.Goals as goal
+use Rattle.drd_address.proofs.a.AFromStr.from_str.Goals as goal
 
 pub returns-in-Err : goal.returns-in-Err
 returns-in-Err c = λ a written. c.in-Err.ensures a.0 written

@@ -11,9 +11,9 @@ ghost use Rattle.drd_fields.specs.Order.{fields_input};
 ghost use Rattle.drd_fields.proofs.EqualityLaws.{data_equiv};
 ghost use Rattle.drd_fields.proofs.OrderLaws.{fields-alike};
 ghost use Rattle.drd_fields.specs.Writing.{EmitsData, RefusesFields, canonical_octets};
-ghost use Rattle.drd_plain.specs.Fields.{aaaa_fields, aaaa_kinds};
-ghost use Rattle.drd_plain.specs.Words.{IsAaaaText, RefusesAaaaText};
-ghost use Rattle.drd_plain.specs.Print.{aaaa_print};
+ghost use Rattle.drd_address.specs.Fields.{aaaa_fields, aaaa_kinds};
+ghost use Rattle.drd_address.specs.Words.{IsAaaaText, RefusesAaaaText};
+ghost use Rattle.drd_address.specs.Print.{aaaa_print};
 
 use drd_fields::{
     BinDecodable, BinDecoder, BinEncodable, BinEncoder, FieldData, FieldRef, Fields, RDataEncoding,

@@ -1,8 +1,8 @@
 -- Where no fields of a value stand.
 use Rattle.std.proofs.Common.{ℕ, List, ◌⊎◌, inl, inr, Result, IfErr}
 use Rattle.std.proofs.lemmas.Result.{IfErr-weaker}
-use Rattle.drd_words.specs.dnw_codes.declared.error.DecodeError.{DecodeError}
-use Rattle.drd_fields.specs.dnw_decoder.Reading.{IsWantOfMemory}
+use Rattle.dnw_encoder.specs.dnw_codes.declared.error.DecodeError.{DecodeError}
+use Rattle.dnw_encoder.specs.dnw_decoder.Reading.{IsWantOfMemory}
 use Rattle.drd_fields.specs.Fields.{Field, FieldsAt}
 
 -- Nothing holds of a value but that its fields stand.

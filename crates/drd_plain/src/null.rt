@@ -8,8 +8,8 @@ ghost use Rattle.drd_fields.proofs.EqualityLaws.{data_equiv};
 ghost use Rattle.drd_fields.specs.Order.{fields_input};
 ghost use Rattle.drd_fields.proofs.OrderLaws.{fields-alike};
 ghost use Rattle.drd_fields.specs.Writing.{EmitsData, RefusesFields, canonical_octets};
-ghost use Rattle.drd_keys.specs.Fields.{null_fields};
-ghost use Rattle.drd_keys.specs.Print.{null_print};
+ghost use Rattle.drd_plain.specs.Fields.{null_fields};
+ghost use Rattle.drd_plain.specs.Print.{null_print};
 
 use drd_fields::{
     BinEncodable, BinEncoder, FieldData, FieldRef, Fields, RDataEncoding, Rest, RestField,

@@ -1,0 +1,2 @@
+pub use Rattle.drd_fields.proofs.EqualityLaws
+pub use Rattle.drd_fields.proofs.WritingLaws

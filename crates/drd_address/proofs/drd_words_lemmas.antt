@@ -1,0 +1,2 @@
+pub use Rattle.drd_words.proofs.EachWord
+pub use Rattle.drd_words.proofs.Numbers

@@ -1,0 +1,10 @@
+pub mod Fields
+pub mod Print
+pub mod Words
+pub use Rattle.drd_words.specs.dnw_codes
+pub use Rattle.drd_fields.specs.dnw_decoder
+pub use Rattle.drd_fields.specs.dnw_encoder
+pub use Rattle.drd_words.specs.dnw_label
+pub use Rattle.drd_words.specs.dnw_name
+pub mod drd_fields
+pub mod drd_words

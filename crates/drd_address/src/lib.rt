@@ -1,0 +1,17 @@
+//! Record data that are addresses: A and AAAA.
+#![tactic(auto)]
+
+pub use drd_fields::{
+    BinDecodable, BinDecoder, BinEncodable, BinEncoder, FieldRef, RDataEncoding,
+    RecordDataDecodable, Rest, RestField, emit_three, read_window,
+};
+pub use drd_words::{
+    DecodeError, Name, ParseError, ProtoError, Restrict, TextData, Word, Words, fmt_base64,
+    fmt_escaped, key_of, number_behind, octet_at, words_of_text,
+};
+
+mod a;
+mod aaaa;
+
+pub use a::A;
+pub use aaaa::AAAA;

@@ -1,0 +1,4 @@
+pub use Rattle.drd_address.specs.Fields
+pub use Rattle.drd_address.specs.Print
+pub use Rattle.drd_address.specs.Words
+pub use Rattle.drd_address.specs.declared
