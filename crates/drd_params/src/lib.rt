@@ -4,7 +4,7 @@
 pub use drd_address::{
     A, AAAA, BinDecoder, BinEncodable, BinEncoder, DecodeError, FieldRef, Name, ParseError,
     ProtoError, RDataEncoding, RecordDataDecodable, Rest, RestField, Restrict, TextData, Word,
-    Words, emit_three, key_of, octet_at, read_window, words_of_text,
+    Words, emit_three, key_of, read_window, unescaped, words_of_text,
 };
 
 mod addresses;

@@ -1,4 +1,5 @@
 pub use Rattle.drd_words.specs.Data
+pub use Rattle.drd_words.specs.Escapes
 pub use Rattle.drd_words.specs.Print
 pub use Rattle.drd_words.specs.Refusals
 pub use Rattle.drd_words.specs.RefusalsLaws

@@ -11,12 +11,10 @@ mod flags;
 mod hinfo;
 mod naptr;
 mod null;
-mod print;
 mod txt;
 
 pub use flags::verify_flags;
 pub use hinfo::HINFO;
 pub use naptr::NAPTR;
 pub use null::NULL;
-pub use print::fmt_quoted;
 pub use txt::TXT;

@@ -14,17 +14,17 @@ ghost use Rattle.drd_fields.proofs.EqualityLaws.{data_equiv};
 ghost use Rattle.drd_fields.proofs.OrderLaws.{fields-alike};
 ghost use Rattle.drd_fields.specs.Writing.{EmitsData, RefusesFields, canonical_octets};
 ghost use Rattle.drd_plain.specs.Fields.{naptr_fields, naptr_kinds, are_alphanumeric};
-ghost use Rattle.drd_plain.specs.Print.{naptr_print, naptr_strings, quotation};
+ghost use Rattle.drd_plain.specs.Print.{naptr_print, naptr_strings};
+ghost use Rattle.drd_words.specs.Print.{quotation};
 ghost use Rattle.drd_plain.specs.Reading.{NaptrMisfits};
 ghost use Rattle.drd_plain.specs.Words.{IsNaptrText, RefusesNaptrText};
 
 use crate::flags::{Flags, verify_flags};
-use crate::print::fmt_quoted;
 use drd_fields::{
     BinDecodable, BinDecoder, BinEncodable, BinEncoder, CharacterString, DataField, FieldData,
     FieldRef, Fields, RDataEncoding, StringField, emit_data, hash_list, is_same_data, read_value,
 };
-use drd_words::{CharacterString as Word, DecodeError, Name, ProtoError, TextData};
+use drd_words::{CharacterString as Word, DecodeError, Name, ProtoError, TextData, fmt_quoted};
 use std::alloc::Global;
 use std::fmt;
 use std::hash::{Hash, Hasher};

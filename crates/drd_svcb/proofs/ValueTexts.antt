@@ -24,7 +24,7 @@ use Rattle.drd_params.specs.declared.value.SvcParamValue.{SvcParamValue}
 use Rattle.drd_params.specs.declared.value.SvcParamValue.TheVariants as value
 use Rattle.std.specs.String.{string_bytes}
 use Rattle.drd_svcb.specs.Texts.{is_comma, IsListText, IsValueText}
-use Rattle.drd_svcb.proofs.Escaped.{escaped-once}
+use Rattle.drd_params.proofs.drd_words_lemmas.Escaped.{escaped-once}
 
 module _ {T : Type 0} (Written : T → List ℕ → Type 0) where
   each-length : (spelled : T → List ℕ) → ((a b : T) (text : List ℕ) → Written a text → Written b text → length (spelled a) ≡ length (spelled b)) → (xs ys : List T) (words : List (List ℕ)) → EachWord Written xs words → EachWord Written ys words → length (flat_map spelled xs) ≡ length (flat_map spelled ys)

@@ -1,7 +1,6 @@
 pub mod HashingLaws
 pub mod Fields
 pub mod Reading
-pub mod Escapes
 pub mod Hashing
 pub mod ParamsHashing
 pub mod ParamsHashingLaws

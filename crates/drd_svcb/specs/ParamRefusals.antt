@@ -6,6 +6,7 @@ use lib.Chars.{codes}
 use Rattle.drd_params.specs.dnw_codes.declared.error.ParseError.{ParseError}
 use Rattle.drd_params.specs.dnw_codes.declared.error.ParseError.TheVariants.{UnexpectedToken}
 use Rattle.drd_params.specs.dnw_name.DomainName.{DomainName}
+use Rattle.drd_params.specs.drd_words.Escapes.{RefusesEscapes}
 use Rattle.drd_params.specs.drd_words.Refusals.{IsMessage, IsMissing, RefusesBase64, RefusesEach, RefusesIpv4, RefusesIpv6, RefusesNameWord, RefusesNumber, RefusesOneThen}
 use Rattle.drd_params.specs.drd_words.Word.{IsNameWord, IsNumberWord}
 use Rattle.drd_params.specs.Keys.{key_number}
@@ -14,7 +15,6 @@ use Rattle.drd_params.specs.Texts.{IsKeyText, RefusesKeyText, IsProtocolText, Re
 use Rattle.drd_params.specs.Values.{value_octets}
 use Rattle.drd_params.specs.declared.key.SvcParamKey.{SvcParamKey}
 use Rattle.drd_params.specs.declared.key.SvcParamKey.TheVariants as key
-use Rattle.drd_svcb.specs.Escapes.{EscapedText}
 use Rattle.drd_svcb.specs.Texts.{is_comma, is_equals, IsUnquoted, IsParamText}
 
 -- The first entry between commas that stands for none is refused.
@@ -26,12 +26,6 @@ RefusesList Written Unwritten text e = RefusesEach Written Unwritten (slice_spli
 abbrev pub RefusesEch : List ℕ → ParseError → Type 0
 RefusesEch [] e = IsMissing (codes "base64") e
 RefusesEch text e = RefusesBase64 text e
-
--- A text that ends inside an escape, or has digits behind a backslash that are those of no octet.
-abbrev pub RefusesEscapes : List ℕ → ParseError → Type 0
-RefusesEscapes text e =
-    IsMessage (codes "a backslash that begins no octet") e
-    × ((octets : List ℕ) → EscapedText text octets → ⊥)
 
 -- Why a text is no value of a key: by its first entry that is none, or as a whole.
 abbrev pub RefusesValueText : SvcParamKey → List ℕ → ParseError → Type 0

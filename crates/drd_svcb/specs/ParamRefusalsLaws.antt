@@ -18,7 +18,8 @@ use Rattle.drd_params.specs.declared.key.SvcParamKey.TheVariants as key
 use Rattle.drd_params.specs.declared.value.SvcParamValue.{SvcParamValue}
 use Rattle.drd_params.specs.declared.value.SvcParamValue.TheVariants as value
 use Rattle.drd_params.proofs.KeyTexts.{key-once}
-use Rattle.drd_svcb.specs.ParamRefusals.{RefusesList, RefusesEch, RefusesEscapes, RefusesValueText, HasNoValue, HasLongValue, RefusesParamTexts}
+use Rattle.drd_params.specs.drd_words.Escapes.{RefusesEscapes}
+use Rattle.drd_svcb.specs.ParamRefusals.{RefusesList, RefusesEch, RefusesValueText, HasNoValue, HasLongValue, RefusesParamTexts}
 use Rattle.drd_svcb.specs.Texts.{is_comma, is_equals, IsListText, IsValueText, IsParamText, AreParamTexts}
 
 pub list_causes : {T : Type 0} {Written : T → List ℕ → Type 0}

@@ -5,6 +5,7 @@ use Rattle.std.specs.List.{before_first, after_first, slice_split}
 use Rattle.drd_params.specs.dnw_codes.Ascii.{comma, double_quote, equals_sign}
 use Rattle.drd_params.specs.dnw_name.DomainName.{DomainName}
 use Rattle.drd_params.specs.drd_words.Data.{IsBase64Text}
+use Rattle.drd_params.specs.drd_words.Escapes.{EscapedText}
 use Rattle.drd_params.specs.drd_words.Word.{IsNumberWord, IsNameWord}
 use Rattle.drd_params.specs.drd_words.Words.{OneThen, EachWord}
 use Rattle.drd_params.specs.Params.{Param, AreParams}
@@ -13,7 +14,6 @@ use Rattle.drd_params.specs.declared.key.SvcParamKey.{SvcParamKey}
 use Rattle.drd_params.specs.declared.key.SvcParamKey.TheVariants as key
 use Rattle.drd_params.specs.declared.value.SvcParamValue.{SvcParamValue}
 use Rattle.drd_params.specs.declared.value.SvcParamValue.TheVariants as value
-use Rattle.drd_svcb.specs.Escapes.{EscapedText}
 use Rattle.drd_svcb.specs.declared.svcb.SVCB.{SVCB}
 
 abbrev pub is_comma : ℕ → Bool

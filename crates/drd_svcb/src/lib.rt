@@ -3,7 +3,6 @@
 
 pub use drd_params::{A, AAAA, Name, TextData, words_of_text};
 
-mod escape;
 mod https;
 mod order;
 mod params_hash;

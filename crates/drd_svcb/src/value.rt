@@ -7,12 +7,11 @@ ghost use Rattle.drd_params.specs.declared.key.SvcParamKey.TheVariants as of;
 ghost use Rattle.drd_svcb.specs.ParamRefusals.{RefusesEch, RefusesList, RefusesValueText};
 ghost use Rattle.drd_svcb.specs.Texts.{is_comma, IsListText, IsValueText};
 
-use crate::escape::unescaped;
 use base64::DecodeAllocError;
 use base64::engine::general_purpose::STANDARD;
 use drd_params::{
     Alpn, EchConfigList, Entry, IpHint, Mandatory, ParseError, SvcParamKey, SvcParamValue, Unknown,
-    Word,
+    Word, unescaped,
 };
 use std::alloc::{AllocError, Global};
 

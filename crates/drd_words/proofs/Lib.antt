@@ -1,4 +1,5 @@
 pub mod EachWord
+pub mod Escaped
 pub mod Hex
 pub mod JoinedLemmas
 pub mod Numbers

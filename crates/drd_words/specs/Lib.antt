@@ -1,4 +1,5 @@
 pub mod Data
+pub mod Escapes
 pub mod Print
 pub mod Refusals
 pub mod RefusalsLaws

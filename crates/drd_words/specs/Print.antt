@@ -1,5 +1,5 @@
 -- Printed character strings (RFC 1035 5.1, with octal digits in escapes), and octets in hex.
-use Rattle.std.specs.Prelude.{ℕ, ◌/◌, ◌%◌, ◌==◌, ◌&&◌, ◌||◌, nat_le, List, [], ◌∷◌, if◌then◌else◌, slice_index}
+use Rattle.std.specs.Prelude.{ℕ, ◌/◌, ◌%◌, ◌==◌, ◌&&◌, ◌||◌, nat_le, List, [], ◌∷◌, ◌++◌, if◌then◌else◌, slice_index}
 use Rattle.std.specs.List.{flat_map}
 use Rattle.dnw_lexer.specs.dnw_codes.Ascii.{backslash, double_quote}
 use Rattle.dnw_name.specs.dnw_label.LabelPrint.{octal_print}
@@ -14,6 +14,10 @@ escaped_octet c =
 
 abbrev pub escaped_print : List ℕ → List ℕ
 escaped_print octets = flat_map escaped_octet octets
+
+-- A string between quotes.
+abbrev pub quotation : List ℕ → List ℕ
+quotation octets = double_quote ∷ (escaped_print octets ++ double_quote ∷ [])
 
 -- The two hex digits of an octet, the high four bits first (RFC 4648 8).
 abbrev pub hex_pair : ℕ → List ℕ

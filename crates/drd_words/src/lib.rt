@@ -7,9 +7,10 @@
 #![tactic(auto)]
 
 pub use dnw_lexer::{DecodeError, ParseError, ProtoError, Restrict, number_behind};
-pub use dnw_name::{IpNet, Label, LowerName, Name, PrefixLenError, RrKey, key_of, octet_at};
+pub use dnw_name::{IpNet, Label, LowerName, Name, PrefixLenError, RrKey, key_of};
 
 mod data;
+mod escape;
 mod print;
 mod text;
 mod text_data;
@@ -18,7 +19,8 @@ mod word;
 mod words;
 
 pub use data::{Base64Data, HEX, HexData};
-pub use print::{fmt_base64, fmt_escaped, fmt_hex};
+pub use escape::unescaped;
+pub use print::{fmt_base64, fmt_escaped, fmt_hex, fmt_quoted};
 pub use text::{read_text, words_of_text};
 pub use text_data::TextData;
 pub use tokens::read_tokens;

@@ -5,7 +5,7 @@ ghost use Rattle.base64.specs.Engines.{standard};
 ghost use Rattle.base64.specs.GeneralPurpose.{encode_of};
 ghost use Rattle.hex.specs.Hex.{encode_lower, lower_digits};
 ghost use Rattle.dnw_name.specs.dnw_label.LabelPrint.{octal_print};
-ghost use Rattle.drd_words.specs.Print.{escaped_octet, escaped_print, hex_pair};
+ghost use Rattle.drd_words.specs.Print.{escaped_octet, escaped_print, hex_pair, quotation};
 
 use crate::word::CharacterString;
 use base64::display::Base64Display;
@@ -29,6 +29,15 @@ pub fn fmt_escaped<W: fmt::Write>(f: &mut fmt::Formatter<W>, octets: &[u8]) -> f
         fmt_octet(f, *octet)?;
     }
     Ok(())
+}
+
+/// Writes a string between quotes.
+pub fn fmt_quoted<W: fmt::Write>(f: &mut fmt::Formatter<W>, octets: &[u8]) -> fmt::Result
+    ensures { WritesOnOk W.write_str_gives f.old result (quotation octets.now) f.new }
+{
+    f.write_char('"')?;
+    fmt_escaped(f, octets)?;
+    f.write_char('"')
 }
 
 fn fmt_octet<W: fmt::Write>(f: &mut fmt::Formatter<W>, octet: u8) -> fmt::Result

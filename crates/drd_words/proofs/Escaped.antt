@@ -1,9 +1,9 @@
 -- What texts with escapes begin with.
 use Rattle.std.proofs.Common.{◌≡◌, ◌<◌, ◌++◌, ℕ, List, [], ◌∷◌, refl, ap, sym, ◌∙◌, subst, arith, length}
 use Rattle.std.proofs.lemmas.List.{append_assoc, append-nil}
-use Rattle.drd_params.proofs.dnw_label_lemmas.EscapeLaws.{octet-same, no_octet_in_nothing}
-use Rattle.drd_params.specs.dnw_label.LabelText.{OctetText}
-use Rattle.drd_svcb.specs.Escapes.{EscapedText, ends, more}
+use Rattle.dnw_name.proofs.dnw_label_lemmas.EscapeLaws.{octet-same, no_octet_in_nothing}
+use Rattle.dnw_name.specs.dnw_label.LabelText.{OctetText}
+use Rattle.drd_words.specs.Escapes.{EscapedText, ends, more}
 
 -- Behind its first octet, a text is one too.
 escaped-step : (text : List ℕ) (o : ℕ) (rest octets : List ℕ) → OctetText text o rest → EscapedText text octets → (later : List ℕ) × (octets ≡ o ∷ later) × EscapedText rest later

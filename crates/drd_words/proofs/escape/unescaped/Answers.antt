@@ -1,8 +1,8 @@
 use Rattle.std.proofs.Common.{◌≡◌, List, ℕ, length, sym, subst, arith}
 use Rattle.std.proofs.lemmas.Bool.Decides.{nat_tests}
-use Rattle.drd_params.proofs.dnw_label_lemmas.EscapeLaws.{octet-shorter}
-use Rattle.drd_svcb.proofs.Escaped.{SoFar, so_far-more, so_far-ends}
-use Rattle.drd_svcb.proofs.escape.unescaped.Goals as goal
+use Rattle.dnw_name.proofs.dnw_label_lemmas.EscapeLaws.{octet-shorter}
+use Rattle.drd_words.proofs.Escaped.{SoFar, so_far-more, so_far-ends}
+use Rattle.drd_words.proofs.escape.unescaped.Goals as goal
 
 pub octets-preserved : goal.octets-preserved
 octets-preserved c =

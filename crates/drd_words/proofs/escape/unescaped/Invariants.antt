@@ -1,6 +1,6 @@
 use Rattle.std.proofs.Common.{length}
-use Rattle.drd_svcb.proofs.Escaped.{SoFar}
-use Rattle.drd_svcb.proofs.escape.unescaped.Given as goal
+use Rattle.drd_words.proofs.Escaped.{SoFar}
+use Rattle.drd_words.proofs.escape.unescaped.Given as goal
 
 abbrev pub invariant-octets : goal.invariant-octets
 invariant-octets l = SoFar l.text l.octets.items l.rest

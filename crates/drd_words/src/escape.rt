@@ -1,15 +1,15 @@
 //! Octets as texts with escapes (RFC 1035 5.1, with octal digits).
 ghost use Rattle.std.specs.Prelude.{◌⊎◌, IfOk, IfErr};
-ghost use Rattle.drd_params.specs.drd_words.Word.{IsOutOfMemory};
-ghost use Rattle.drd_svcb.specs.Escapes.{EscapedText};
-ghost use Rattle.drd_svcb.specs.ParamRefusals.{RefusesEscapes};
+ghost use Rattle.drd_words.specs.Word.{IsOutOfMemory};
+ghost use Rattle.drd_words.specs.Escapes.{EscapedText, RefusesEscapes};
 
-use drd_params::{ParseError, octet_at};
+use dnw_lexer::ParseError;
+use dnw_name::octet_at;
 use std::alloc::{AllocError, Global};
 
 /// The octets that a text with escapes stands for. Refused is a `\` at its end, or before digits that aren't three octal
 /// ones of an octet.
-pub(crate) fn unescaped(alloc: Global, text: &[u8]) -> Result<Vec<u8>, ParseError>
+pub fn unescaped(alloc: Global, text: &[u8]) -> Result<Vec<u8>, ParseError>
     ensures ok { IfOk result (λ octets. EscapedText text.now octets.items) }
     ensures refused { IfErr result (λ e. IsOutOfMemory e ⊎ RefusesEscapes text.now e) }
 {
