@@ -16,7 +16,7 @@ use Rattle.zst_zone.specs.drd_rdata.declared.rdata.RData.{RData}
 use Rattle.zst_zone.specs.drd_rdata.declared.rdata.RData.TheVariants as rdata
 use Rattle.zst_zone.specs.drd_rdata.Reading.{IsReadable}
 use Rattle.zst_zone.specs.drd_rdata.Texts.{IsTextOf}
-use Rattle.zst_zone.proofs.drd_readable_lemmas.DataLaws.{a_read, ns_ends, ns_read, soa_ends, soa_read}
+use Rattle.zst_zone.proofs.drd_rdata_lemmas.ReadableLaws.{a_read, ns_ends, ns_read, soa_ends, soa_read}
 use Rattle.authority_load.specs.ZoneText.{has_full_names, type_of_text}
 use Rattle.zst_zone.specs.zst_record.Records.{IsOwnType}
 

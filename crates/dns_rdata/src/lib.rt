@@ -4,7 +4,7 @@
 //! own have a module each, as `svcb`.
 #![tactic(auto)]
 
-pub use drd_readable::{
+pub use drd_rdata::{
     A, AAAA, ANAME, CAA, CERT, CNAME, CSYNC, FieldData, FieldRef, Fields, HEX, HINFO, HTTPS, IpNet,
     MX, NAPTR, NS, NULL, OPENPGPKEY, OPT, PTR, RData, RecordData, RecordDataDecodable, SMIMEA, SOA,
     SRV, SSHFP, SVCB, TLSA, TXT, TextData, cert, is_readable, sshfp, tlsa,

@@ -3,3 +3,4 @@ pub use Rattle.drd_option.proofs.drd_fields_lemmas.EqualityLaws
 pub use Rattle.drd_option.proofs.drd_fields_lemmas.OnceLaws
 pub use Rattle.drd_option.proofs.drd_fields_lemmas.WritingLaws
 pub use Rattle.drd_option.proofs.drd_fields_lemmas.OrderLaws
+pub use Rattle.drd_option.proofs.drd_fields_lemmas.ReadableLaws

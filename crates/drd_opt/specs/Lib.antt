@@ -4,6 +4,7 @@ pub mod EqualityLaws
 pub mod Lending
 pub mod Order
 pub mod OrderLaws
+pub mod Readable
 pub mod Reading
 pub mod SortedLaws
 pub use Rattle.drd_option.specs.drd_fields

@@ -5,7 +5,11 @@
 //! 6.3).
 #![tactic(auto)]
 
-pub use drd_option::{FieldData, Fields, RecordDataDecodable, cmp_list, hash_list};
+pub use drd_option::{
+    BinDecodable, ClientSubnet, EdnsCode, EdnsOption, EncodedSize, FieldData, FieldRef, Fields,
+    HEX, IpNet, Label, LowerName, NSIDPayload, Name, NameEncoding, RecordDataDecodable, RrKey,
+    TextData, are_readable, cmp_list, hash_list,
+};
 
 mod back;
 mod entry;
@@ -13,6 +17,8 @@ mod equality;
 mod opt;
 mod order;
 mod read;
+mod readable;
 
 pub use back::is_read_back;
 pub use opt::OPT;
+pub use readable::can_read_opt;

@@ -5,7 +5,9 @@ pub use drd_fields::{
     BinEncodable, BinEncoder, CharacterString, FieldData, FieldRef, Fields, RDataEncoding, Rest,
     RestField, StringField, emit_three, hash_list, is_same_data,
 };
-pub use drd_words::{DecodeError, Name, ParseError, ProtoError, TextData, Word, fmt_escaped};
+pub use drd_words::{
+    DecodeError, Name, ParseError, ProtoError, TextData, Word, fmt_escaped, fmt_quoted,
+};
 
 mod flags;
 mod hinfo;

@@ -5,4 +5,10 @@ pub mod WritingLaws
 pub mod WrittenLaws
 pub mod Others
 pub mod Words
+pub mod ReadableLaws
+pub use Rattle.drd_types.proofs.dnw_name_lemmas
+pub use Rattle.drd_types.proofs.drd_words_lemmas
+pub use Rattle.drd_types.proofs.dnw_decoder_lemmas
+pub use Rattle.drd_types.proofs.dnw_encoder_lemmas
+pub use Rattle.drd_types.proofs.drd_fields_lemmas
 pub use Rattle.drd_types.proofs.drd_opt_lemmas

@@ -1,6 +1,7 @@
 pub mod Types
 pub mod Fields
 pub mod Reading
+pub mod Readable
 pub mod Writing
 pub mod ReadingBack
 pub mod Texts
@@ -8,6 +9,11 @@ pub mod Order
 pub mod OrderLaws
 pub mod RowsLaws
 pub mod dnw_codes
+pub use Rattle.drd_types.specs.dnw_decoder
+pub use Rattle.drd_types.specs.dnw_encoder
+pub use Rattle.drd_svcb.specs.dnw_name
+pub use Rattle.drd_types.specs.drd_fields
+pub use Rattle.drd_svcb.specs.drd_words
 pub use Rattle.drd_types.specs.dnw_wire
 pub use Rattle.drd_types.specs.drd_caa
 pub use Rattle.drd_types.specs.drd_csync

@@ -3,23 +3,31 @@
 #![tactic(auto)]
 
 pub use dnw_codes::{DNSClass, DecodeError, ProtoError, RecordType};
-pub use drd_svcb::{HTTPS, SVCB};
+pub use drd_svcb::{
+    A, AAAA, Alpn, EchConfigList, HTTPS, IpHint, Mandatory, SVCB, SvcParamKey, SvcParamValue,
+    Unknown, key_of, read_params, write_params,
+};
 pub use drd_types::{
-    ANAME, CAA, CERT, CNAME, CSYNC, HINFO, KeyValue, MX, NAPTR, NS, NULL, OPENPGPKEY, OPT, PTR,
-    SMIMEA, SOA, SRV, SSHFP, TLSA, TXT, cert, is_tag, read_iodef, read_issuer, sshfp, tlsa,
-    verify_flags,
+    ANAME, BinDecodable, BinDecoder, BinEncodable, BinEncoder, CAA, CERT, CNAME, CSYNC,
+    ClientSubnet, EdnsCode, EdnsOption, EncodedSize, FieldData, FieldRef, Fields, HEX, HINFO,
+    IpNet, KeyValue, Label, LowerName, MX, NAPTR, NS, NSIDPayload, NULL, Name, NameEncoding,
+    OPENPGPKEY, OPT, PTR, RecordDataDecodable, RrKey, SMIMEA, SOA, SRV, SSHFP, TLSA, TXT, TextData,
+    cert, is_tag, read_iodef, read_issuer, sshfp, tlsa, verify_flags,
 };
 
 mod back;
 mod emit;
+mod kinds;
 mod order;
 mod print;
 mod rdata;
 mod read;
+mod readable;
 mod record_data;
 mod text;
 mod text_type;
 
 pub use back::is_read_back;
 pub use rdata::RData;
+pub use readable::is_readable;
 pub use record_data::RecordData;

@@ -1,5 +1,6 @@
 pub mod HashingLaws
 pub mod Fields
+pub mod Readable
 pub mod Reading
 pub mod Hashing
 pub mod ParamsHashing

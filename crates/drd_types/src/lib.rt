@@ -8,6 +8,10 @@ pub use drd_caa::{
 };
 pub use drd_names_keys::{
     ANAME, BinDecoder, BinEncodable, BinEncoder, CERT, CNAME, CSYNC, MX, NS, OPENPGPKEY, PTR,
-    SMIMEA, SOA, SRV, SSHFP, TLSA, cert, sshfp, tlsa,
+    SMIMEA, SOA, SRV, SSHFP, TLSA, cert, is_named_cert, is_named_sshfp, is_named_tlsa, sshfp, tlsa,
 };
-pub use drd_opt::{FieldData, Fields, OPT, RecordDataDecodable, cmp_list, hash_list};
+pub use drd_opt::{
+    BinDecodable, ClientSubnet, EdnsCode, EdnsOption, EncodedSize, FieldData, FieldRef, Fields,
+    HEX, IpNet, Label, LowerName, NSIDPayload, Name, NameEncoding, OPT, RecordDataDecodable, RrKey,
+    TextData, are_readable, can_read_opt, cmp_list, hash_list,
+};

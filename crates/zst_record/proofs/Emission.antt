@@ -1,26 +1,26 @@
 -- A record that is written piece by piece.
 use Rattle.std.proofs.Common.{◌≡◌, ℕ, ◌+◌, ◌≤◌, inr, List, ◌++◌, length, refl, sym, ap, subst, ◌∙◌, arith}
 use Rattle.std.specs.Prelude.{Result, Ok, Err, OnOk, OnErr}
-use Rattle.drd_readable.specs.dnw_codes.DNSClass.{class_number}
-use Rattle.drd_readable.specs.dnw_codes.RecordType.{record_type_number}
-use Rattle.drd_readable.specs.dnw_codes.declared.error.ProtoError.{ProtoError}
-use Rattle.drd_readable.specs.dnw_codes.declared.record_type.RecordType.TheVariants.{OPT}
-use Rattle.drd_readable.specs.dnw_decoder.Octets.{octets_16, octets_32, Stands}
-use Rattle.drd_readable.specs.dnw_decoder.Spelling.{NameAt}
-use Rattle.drd_readable.proofs.dnw_decoder_lemmas.Standing.{stands_joined, length-octets_32}
-use Rattle.drd_readable.specs.dnw_encoder.Effects.{StaysTrue, Keeps, Writes, WritesOctets, Opens, Fills, IsRefusal, place_of}
-use Rattle.drd_readable.proofs.dnw_encoder_lemmas.Laws.{holds_more, holds_same, holds_written, keeps_then, modes_then, puts_stands, writes_then}
-use Rattle.drd_readable.specs.dnw_encoder.Members.{In}
-use Rattle.drd_readable.specs.dnw_encoder.Names.{EmitsName}
-use Rattle.drd_readable.proofs.dnw_encoder_lemmas.PlaceLaws.{opens_open}
-use Rattle.drd_readable.specs.dnw_encoder.State.{State, is_lower}
-use Rattle.drd_readable.specs.dnw_name.DomainName.{DomainName, name_octets}
-use Rattle.drd_readable.proofs.drd_fields_lemmas.WritingLaws.{refused_front, refused_later, within_then}
-use Rattle.drd_readable.specs.drd_rdata.Reading.{HoldsAs, IsReadable}
-use Rattle.drd_readable.specs.drd_rdata.Types.{type_of}
-use Rattle.drd_readable.specs.drd_rdata.Writing.{EmitsRData, RefusesRData, WritesInFull, written_octets}
-use Rattle.drd_readable.proofs.drd_rdata_lemmas.WrittenLaws.{HoldsSome, data_within, encoded_full, written_holds, written_size, written_refused}
-use Rattle.drd_readable.specs.drd_rdata.declared.rdata.RData.{RData}
+use Rattle.drd_rdata.specs.dnw_codes.DNSClass.{class_number}
+use Rattle.drd_rdata.specs.dnw_codes.RecordType.{record_type_number}
+use Rattle.drd_rdata.specs.dnw_codes.declared.error.ProtoError.{ProtoError}
+use Rattle.drd_rdata.specs.dnw_codes.declared.record_type.RecordType.TheVariants.{OPT}
+use Rattle.drd_rdata.specs.dnw_decoder.Octets.{octets_16, octets_32, Stands}
+use Rattle.drd_rdata.specs.dnw_decoder.Spelling.{NameAt}
+use Rattle.drd_rdata.proofs.dnw_decoder_lemmas.Standing.{stands_joined, length-octets_32}
+use Rattle.drd_rdata.specs.dnw_encoder.Effects.{StaysTrue, Keeps, Writes, WritesOctets, Opens, Fills, IsRefusal, place_of}
+use Rattle.drd_rdata.proofs.dnw_encoder_lemmas.Laws.{holds_more, holds_same, holds_written, keeps_then, modes_then, puts_stands, writes_then}
+use Rattle.drd_rdata.specs.dnw_encoder.Members.{In}
+use Rattle.drd_rdata.specs.dnw_encoder.Names.{EmitsName}
+use Rattle.drd_rdata.proofs.dnw_encoder_lemmas.PlaceLaws.{opens_open}
+use Rattle.drd_rdata.specs.dnw_encoder.State.{State, is_lower}
+use Rattle.drd_rdata.specs.dnw_name.DomainName.{DomainName, name_octets}
+use Rattle.drd_rdata.proofs.drd_fields_lemmas.WritingLaws.{refused_front, refused_later, within_then}
+use Rattle.drd_rdata.specs.Reading.{HoldsAs, IsReadable}
+use Rattle.drd_rdata.specs.Types.{type_of}
+use Rattle.drd_rdata.specs.Writing.{EmitsRData, RefusesRData, WritesInFull, written_octets}
+use Rattle.drd_rdata.proofs.WrittenLaws.{HoldsSome, data_within, encoded_full, written_holds, written_size, written_refused}
+use Rattle.drd_rdata.specs.declared.rdata.RData.{RData}
 use Rattle.zst_record.specs.Records.{head_octets}
 use Rattle.zst_record.specs.Writing.{HeadAt, EmitsHead, DataAt, EmitsBehindLength, EmitsRecord, RefusesBehindLength, RefusesRecord}
 use Rattle.zst_record.specs.declared.records.Record.{Record}

@@ -5,14 +5,14 @@ use Rattle.std.specs.List.{AllByRecursion, position_or_len}
 use Rattle.std.specs.Prelude.{Result, Ok, Err, OnOk, OnErr}
 use Rattle.std.specs.declared.alloc.AllocError.{AllocError}
 use Rattle.std.proofs.lemmas.Bool.{ltb-true, ltb-false, eq-eqb}
-use Rattle.drd_readable.specs.dnw_codes.declared.record_type.RecordType.{RecordType}
+use Rattle.drd_rdata.specs.dnw_codes.declared.record_type.RecordType.{RecordType}
 use Rattle.zst_record.specs.declared.records.Record.{Record}
-use Rattle.drd_readable.specs.drd_rdata.declared.rdata.RData.{RData}
-use Rattle.drd_readable.specs.dnw_name.DomainName.{DomainName}
+use Rattle.drd_rdata.specs.declared.rdata.RData.{RData}
+use Rattle.drd_rdata.specs.dnw_name.DomainName.{DomainName}
 use Rattle.zst_record.proofs.NameLaws.{name_eq_equiv}
-use Rattle.drd_readable.specs.dnw_codes.RecordType.{record_type_number}
-use Rattle.drd_readable.specs.drd_rdata.Order.{rdata_eq}
-use Rattle.drd_readable.specs.drd_rdata.Types.{type_of}
+use Rattle.drd_rdata.specs.dnw_codes.RecordType.{record_type_number}
+use Rattle.drd_rdata.specs.Order.{rdata_eq}
+use Rattle.drd_rdata.specs.Types.{type_of}
 use Rattle.zst_record.specs.Records.{RRset, IsRecordOf, IsRRset, ReadsBackAlone}
 use Rattle.zst_record.specs.Records.{put_record}
 

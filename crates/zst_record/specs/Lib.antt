@@ -1,9 +1,9 @@
 pub mod Records
 pub mod Writing
-pub use Rattle.drd_readable.specs.dnw_codes
-pub use Rattle.drd_readable.specs.dnw_decoder
-pub use Rattle.drd_readable.specs.dnw_encoder
-pub use Rattle.drd_readable.specs.dnw_name
-pub use Rattle.drd_readable.specs.drd_names
-pub use Rattle.drd_readable.specs.drd_rdata
-pub use Rattle.drd_readable.specs.drd_words
+pub use Rattle.drd_rdata.specs.dnw_codes
+pub use Rattle.drd_rdata.specs.dnw_decoder
+pub use Rattle.drd_rdata.specs.dnw_encoder
+pub use Rattle.drd_rdata.specs.dnw_name
+pub use Rattle.drd_rdata.specs.drd_names
+pub mod drd_rdata
+pub use Rattle.drd_rdata.specs.drd_words

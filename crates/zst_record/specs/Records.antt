@@ -1,20 +1,20 @@
 -- Resource records and their sets: RFC 1035, section 4.1.3; RFC 2181, section 5.
 use Rattle.std.specs.Prelude.{◌≡◌, ℕ, ◌+◌, ◌<◌, true, List, [], ◌∷◌, ◌++◌, length, Option, Some, None, if◌then◌else◌}
 use Rattle.std.specs.List.{AllByRecursion}
-use Rattle.drd_readable.specs.dnw_codes.declared.record_type.RecordType.{RecordType}
-use Rattle.drd_readable.specs.dnw_codes.declared.record_type.RecordType.TheVariants as kind
-use Rattle.drd_readable.specs.dnw_codes.declared.record_type.RecordType.TheVariants.{OPT}
-use Rattle.drd_readable.specs.dnw_codes.declared.dns_class.DNSClass.{DNSClass}
-use Rattle.drd_readable.specs.dnw_codes.declared.dns_class.DNSClass.TheVariants as class
-use Rattle.drd_readable.specs.dnw_codes.DNSClass.{class_number, class_of}
-use Rattle.drd_readable.specs.dnw_codes.RecordType.{record_type_number, record_type_of, same_record_type}
-use Rattle.drd_readable.specs.dnw_name.DomainName.{DomainName, name_octets, name_eq}
-use Rattle.drd_readable.specs.dnw_decoder.Octets.{octets_16, octets_32, Stands}
-use Rattle.drd_readable.specs.dnw_decoder.Spelling.{NameAt}
-use Rattle.drd_readable.specs.drd_rdata.Order.{rdata_eq}
-use Rattle.drd_readable.specs.drd_rdata.Reading.{ReadsAs, IsReadable}
-use Rattle.drd_readable.specs.drd_rdata.Types.{type_of}
-use Rattle.drd_readable.specs.drd_rdata.Writing.{written_octets}
+use Rattle.drd_rdata.specs.dnw_codes.declared.record_type.RecordType.{RecordType}
+use Rattle.drd_rdata.specs.dnw_codes.declared.record_type.RecordType.TheVariants as kind
+use Rattle.drd_rdata.specs.dnw_codes.declared.record_type.RecordType.TheVariants.{OPT}
+use Rattle.drd_rdata.specs.dnw_codes.declared.dns_class.DNSClass.{DNSClass}
+use Rattle.drd_rdata.specs.dnw_codes.declared.dns_class.DNSClass.TheVariants as class
+use Rattle.drd_rdata.specs.dnw_codes.DNSClass.{class_number, class_of}
+use Rattle.drd_rdata.specs.dnw_codes.RecordType.{record_type_number, record_type_of, same_record_type}
+use Rattle.drd_rdata.specs.dnw_name.DomainName.{DomainName, name_octets, name_eq}
+use Rattle.drd_rdata.specs.dnw_decoder.Octets.{octets_16, octets_32, Stands}
+use Rattle.drd_rdata.specs.dnw_decoder.Spelling.{NameAt}
+use Rattle.drd_rdata.specs.Order.{rdata_eq}
+use Rattle.drd_rdata.specs.Reading.{ReadsAs, IsReadable}
+use Rattle.drd_rdata.specs.Types.{type_of}
+use Rattle.drd_rdata.specs.Writing.{written_octets}
 use Rattle.zst_record.specs.declared.records.Record.{Record}
 
 -- Behind the owner: type, class and time to live.

@@ -1,16 +1,16 @@
 -- Records as an encoder writes them: RFC 1035, section 4.1.3.
 use Rattle.std.specs.Prelude.{◌≡◌, ◌+◌, ◌<◌, ◌≤◌, ◌^◌, ℕ, true, List, length}
-use Rattle.drd_readable.specs.dnw_codes.declared.error.ProtoError.{ProtoError}
-use Rattle.drd_readable.specs.dnw_codes.declared.record_type.RecordType.TheVariants.{OPT}
-use Rattle.drd_readable.specs.dnw_decoder.Octets.{octets_16, Stands}
-use Rattle.drd_readable.specs.dnw_decoder.Spelling.{NameAt}
-use Rattle.drd_readable.specs.dnw_encoder.Effects.{StaysTrue, IsRefusal}
-use Rattle.drd_readable.specs.dnw_encoder.State.{State}
-use Rattle.drd_readable.specs.dnw_name.DomainName.{name_octets}
-use Rattle.drd_readable.specs.drd_rdata.Reading.{ReadsAs, IsReadable}
-use Rattle.drd_readable.specs.drd_rdata.Types.{type_of}
-use Rattle.drd_readable.specs.drd_rdata.Writing.{WritesInFull, written_octets}
-use Rattle.drd_readable.specs.drd_rdata.declared.rdata.RData.{RData}
+use Rattle.drd_rdata.specs.dnw_codes.declared.error.ProtoError.{ProtoError}
+use Rattle.drd_rdata.specs.dnw_codes.declared.record_type.RecordType.TheVariants.{OPT}
+use Rattle.drd_rdata.specs.dnw_decoder.Octets.{octets_16, Stands}
+use Rattle.drd_rdata.specs.dnw_decoder.Spelling.{NameAt}
+use Rattle.drd_rdata.specs.dnw_encoder.Effects.{StaysTrue, IsRefusal}
+use Rattle.drd_rdata.specs.dnw_encoder.State.{State}
+use Rattle.drd_rdata.specs.dnw_name.DomainName.{name_octets}
+use Rattle.drd_rdata.specs.Reading.{ReadsAs, IsReadable}
+use Rattle.drd_rdata.specs.Types.{type_of}
+use Rattle.drd_rdata.specs.Writing.{WritesInFull, written_octets}
+use Rattle.drd_rdata.specs.declared.rdata.RData.{RData}
 use Rattle.zst_record.specs.Records.{RecordAt, ReadsBackAlone, head_octets, plain}
 use Rattle.zst_record.specs.declared.records.Record.{Record}
 

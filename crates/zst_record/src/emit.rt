@@ -1,13 +1,13 @@
 //! Records that are written (RFC 1035 section 4.1.3).
 
 ghost use Rattle.std.specs.Prelude.{◌≡◌, ◌+◌, IfErr, OnOk, length};
-ghost use Rattle.drd_readable.specs.dnw_encoder.Effects.{Writes, IsRefusal};
-ghost use Rattle.drd_readable.specs.dnw_encoder.Encoders.{state};
-ghost use Rattle.drd_readable.specs.dnw_name.DomainName.{name_octets};
+ghost use Rattle.drd_rdata.specs.dnw_encoder.Effects.{Writes, IsRefusal};
+ghost use Rattle.drd_rdata.specs.dnw_encoder.Encoders.{state};
+ghost use Rattle.drd_rdata.specs.dnw_name.DomainName.{name_octets};
 ghost use Rattle.zst_record.specs.Writing.{EmitsHead, EmitsBehindLength, EmitsRecord, RefusesBehindLength, RefusesRecord};
 
 use crate::records::Record;
-use drd_readable::{BinEncodable, BinEncoder, ProtoError, RData};
+use drd_rdata::{BinEncodable, BinEncoder, ProtoError, RData};
 
 impl Record {
     // Writes owner, type, class and time to live.

@@ -4,7 +4,7 @@
 //! back (`EmitsRecord`).
 #![tactic(auto)]
 
-pub use drd_readable::{
+pub use drd_rdata::{
     A, BinDecodable, BinDecoder, BinEncodable, BinEncoder, DNSClass, DecodeError, EncodedSize,
     Label, LowerName, NS, Name, NameEncoding, ProtoError, RData, RecordType, RrKey, SOA, key_of,
 };

@@ -1,13 +1,13 @@
 //! Resource records and their sets (RFC 1035 section 4.1.3, RFC 2181 section 5).
 
 ghost use Rattle.std.specs.Prelude.{◌≡◌, ◌↔◌, None, Some, true, IsTrue, IfOk, OnOk, OnErr, position};
-ghost use Rattle.drd_readable.specs.dnw_codes.declared.record_type.RecordType.TheVariants.{OPT};
-ghost use Rattle.drd_readable.specs.drd_rdata.Order.{rdata_eq};
-ghost use Rattle.drd_readable.specs.drd_rdata.Types.{type_of};
+ghost use Rattle.drd_rdata.specs.dnw_codes.declared.record_type.RecordType.TheVariants.{OPT};
+ghost use Rattle.drd_rdata.specs.Order.{rdata_eq};
+ghost use Rattle.drd_rdata.specs.Types.{type_of};
 ghost use Rattle.zst_record.specs.Records.{RRset, IsRRset, IsRecordOf, IsOwnClass, IsOwnType, ReadsBackAlone};
 ghost use Rattle.zst_record.specs.Records.{put_record as with_record, set_with};
 
-use drd_readable::{DNSClass, Name, RData, RecordType, is_readable};
+use drd_rdata::{DNSClass, Name, RData, RecordType, is_readable};
 use std::alloc::{AllocError, Global};
 use std::marker::Model;
 

@@ -5,4 +5,4 @@ pub mod ZoneNodes
 pub mod ZoneSets
 pub use Rattle.zst_record.proofs.dnw_name_lemmas
 pub use Rattle.zst_record.proofs.drd_words_lemmas
-pub use Rattle.zst_record.proofs.drd_readable_lemmas
+pub use Rattle.zst_record.proofs.drd_rdata_lemmas

@@ -1,9 +1,9 @@
 use Rattle.std.proofs.Common.{ℕ, ◌+◌, ap, ◌∙◌}
 use Rattle.std.proofs.lemmas.Result.{err_from_is_err_and}
-use Rattle.drd_readable.specs.dnw_decoder.Octets.{octets_16}
-use Rattle.drd_readable.specs.dnw_encoder.Encoders.{state}
-use Rattle.drd_readable.proofs.dnw_encoder_lemmas.Laws.{writes_then}
-use Rattle.drd_readable.proofs.drd_fields_lemmas.WritingLaws.{on_ok}
+use Rattle.drd_rdata.specs.dnw_decoder.Octets.{octets_16}
+use Rattle.drd_rdata.specs.dnw_encoder.Encoders.{state}
+use Rattle.drd_rdata.proofs.dnw_encoder_lemmas.Laws.{writes_then}
+use Rattle.drd_rdata.proofs.drd_fields_lemmas.WritingLaws.{on_ok}
 use Rattle.zst_record.proofs.Emission.{still_open, replaced_writes, behind_emitted, data_refused}
 use Rattle.zst_record.proofs.emit.emit_behind_length.Goals as goal
 

@@ -1,7 +1,7 @@
 use Rattle.std.proofs.Common.{◌∙◌, ap}
 use Rattle.std.specs.Prelude.{position}
 use Rattle.zst_record.specs.declared.records.Record.{Record}
-use Rattle.drd_readable.specs.drd_rdata.Order.{rdata_eq}
+use Rattle.drd_rdata.specs.Order.{rdata_eq}
 use Rattle.zst_record.proofs.PutRecords.{put_record_found, put_record_missed}
 use Rattle.zst_record.proofs.records.put_record.Goals as goal
 

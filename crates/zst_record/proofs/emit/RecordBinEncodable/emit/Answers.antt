@@ -1,6 +1,6 @@
-use Rattle.drd_readable.specs.dnw_encoder.Encoders.{state}
-use Rattle.drd_readable.proofs.dnw_encoder_lemmas.Laws.{writes_then}
-use Rattle.drd_readable.proofs.drd_fields_lemmas.WritingLaws.{on_ok}
+use Rattle.drd_rdata.specs.dnw_encoder.Encoders.{state}
+use Rattle.drd_rdata.proofs.dnw_encoder_lemmas.Laws.{writes_then}
+use Rattle.drd_rdata.proofs.drd_fields_lemmas.WritingLaws.{on_ok}
 use Rattle.zst_record.proofs.Emission.{record_emitted}
 use Rattle.zst_record.proofs.emit.RecordBinEncodable.emit.Goals as goal
 

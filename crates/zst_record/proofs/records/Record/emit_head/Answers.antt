@@ -1,11 +1,11 @@
 use Rattle.std.proofs.Common.{subst}
-use Rattle.drd_readable.specs.dnw_codes.RecordType.{record_type_number}
-use Rattle.drd_readable.specs.dnw_codes.declared.record_type.RecordType.{RecordType}
-use Rattle.drd_readable.specs.dnw_decoder.Octets.{octets_16}
-use Rattle.drd_readable.specs.dnw_encoder.Effects.{WritesOctets}
-use Rattle.drd_readable.specs.dnw_encoder.Encoders.{state}
-use Rattle.drd_readable.proofs.dnw_encoder_lemmas.Laws.{writes_then}
-use Rattle.drd_readable.proofs.drd_fields_lemmas.WritingLaws.{on_ok}
+use Rattle.drd_rdata.specs.dnw_codes.RecordType.{record_type_number}
+use Rattle.drd_rdata.specs.dnw_codes.declared.record_type.RecordType.{RecordType}
+use Rattle.drd_rdata.specs.dnw_decoder.Octets.{octets_16}
+use Rattle.drd_rdata.specs.dnw_encoder.Effects.{WritesOctets}
+use Rattle.drd_rdata.specs.dnw_encoder.Encoders.{state}
+use Rattle.drd_rdata.proofs.dnw_encoder_lemmas.Laws.{writes_then}
+use Rattle.drd_rdata.proofs.drd_fields_lemmas.WritingLaws.{on_ok}
 use Rattle.zst_record.proofs.Emission.{head_emitted}
 use Rattle.zst_record.proofs.records.Record.emit_head.Goals as goal
 

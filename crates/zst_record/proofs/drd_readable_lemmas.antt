@@ -1,1 +1,0 @@
-pub use Rattle.drd_readable.proofs.DataLaws
