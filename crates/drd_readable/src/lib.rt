@@ -11,8 +11,8 @@ pub use drd_option::{
     NameEncoding, RecordDataDecodable, RrKey, TextData,
 };
 pub use drd_params::{
-    A, AAAA, Alpn, EchConfigList, IpHint, Mandatory, SvcParamKey, SvcParamValue, Unknown, key_of,
-    read_params, write_params,
+    A, AAAA, Alpn, EchConfigList, IpHint, Mandatory, SvcParamKey, SvcParamValue, Unknown,
+    emit_params, key_of, read_params,
 };
 pub use drd_rdata::{
     ANAME, CAA, CERT, CNAME, CSYNC, DNSClass, DecodeError, HINFO, HTTPS, KeyValue, MX, NAPTR, NS,
