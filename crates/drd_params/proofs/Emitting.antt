@@ -15,10 +15,11 @@ use Rattle.std.specs.Prelude.{String, Result, Ok, Err, IfErr, OnOk}
 use Rattle.std.specs.String.{string_bytes}
 use Rattle.std.specs.declared.alloc.Global.{Global}
 use Rattle.drd_address.specs.dnw_decoder.Octets.{octets_16}
-use Rattle.drd_address.specs.drd_fields.Writing.{IsTooLong}
-use Rattle.drd_address.proofs.drd_fields_lemmas.WritingLaws.{puts_then, puts_none}
-use Rattle.drd_params.specs.Values.{text_octets}
-use Rattle.drd_params.specs.Writing.{RefusesValueWriting}
+use Rattle.drd_address.specs.drd_fields.Writing.{IsTooLong, EndsWithin}
+use Rattle.drd_address.proofs.drd_fields_lemmas.WritingLaws.{puts_then, puts_none, within_then}
+use Rattle.drd_params.specs.Params.{Param, param_octets}
+use Rattle.drd_params.specs.Values.{text_octets, value_octets}
+use Rattle.drd_params.specs.Writing.{HasLongText, IsOversized, RefusesEmitParams, RefusesValueWriting}
 use Rattle.drd_params.specs.declared.value.Alpn.{Alpn}
 use Rattle.drd_params.specs.declared.value.SvcParamValue.TheVariants as value
 
@@ -33,14 +34,16 @@ module _ {T : Type 0} (spelled : T → List ℕ) where
   pub record Put (entries : List T) (i : ℕ) (old new : State) : Type 0 where
     pub writes : Writes old new
     pub puts : WritesOctets (flat_map spelled (take i entries)) old new
+    pub within : EndsWithin old new
 
   pub put-none : (entries : List T) (s : State) → s.offset ≤ length s.octets → Put entries 0 s s
-  put-none entries s le = record { writes = writes_same s; puts = puts_none s le }
+  put-none entries s le = record { writes = writes_same s; puts = puts_none s le; within = λ moved. omega (arith, moved) }
 
-  pub put-more : (entries : List T) (i : ℕ) (d : T) (x : T) (old mid new : State) → i < length entries → old.offset ≤ length old.octets → x ≡ get_or entries i d → Put entries i old mid → WritesOctets (spelled x) mid new → Writes mid new → Put entries (i + 1) old new
-  put-more entries i d x old mid new small le is put one writes = record {
+  pub put-more : (entries : List T) (i : ℕ) (d : T) (x : T) (old mid new : State) → i < length entries → old.offset ≤ length old.octets → x ≡ get_or entries i d → Put entries i old mid → WritesOctets (spelled x) mid new → Writes mid new → EndsWithin mid new → Put entries (i + 1) old new
+  put-more entries i d x old mid new small le is put one writes ends = record {
     writes = writes_then old mid new put.writes writes;
     puts = subst (λ (o : List ℕ). WritesOctets o old new) (sym whole) (puts_then (flat_map spelled (take i entries)) (spelled x) old mid new le put.puts one);
+    within = within_then old mid new put.writes.modes.maximum writes.forward put.within ends;
   }
     where
       whole : flat_map spelled (take (i + 1) entries) ≡ flat_map spelled (take i entries) ++ spelled x
@@ -56,11 +59,22 @@ module _ {T : Type 0} (spelled : T → List ℕ) where
   put-refused long entries i x old mid e small is put (inr why) =
       inr (x, subst (λ (y : T). Contains entries y) (sym is) (Contains-get_or entries i x small), why)
 
+-- Why no encoder writes a parameter.
+abbrev pub IsUnwritable : Param → ProtoError → Type 0
+IsUnwritable param e = HasLongText param.1 e ⊎ IsOversized param.1 e
+
 pub alpn-refused : {V : Type 0} (r : Result V ProtoError) (alpn : Alpn) (texts : List (String Global)) (old : State) → texts ≡ alpn.0.items → IfErr r (λ e. IsRefusal old (length (flat_map text_octets texts)) e ⊎ ((text : String Global) × Contains texts text × IsTooLong (string_bytes text) e)) → IfErr r (RefusesValueWriting (value.Alpn alpn) old)
 alpn-refused r alpn texts old same why =
     subst (λ (ts : List (String Global)). IfErr r (λ e. IsRefusal old (length (flat_map text_octets ts)) e ⊎ ((text : String Global) × Contains ts text × IsTooLong (string_bytes text) e))) same why
 
--- A value was put behind its length.
-pub value-put : {V E : Type 0} (r : Result V E) (n : ℕ) (octets : List ℕ) (old mid new : State) → n ≡ length octets → old.offset ≤ length old.octets → WritesOctets (octets_16 n) old mid → OnOk r (WritesOctets octets mid new) → OnOk r (WritesOctets (octets_16 (length octets) ++ octets) old new)
-value-put (Ok v) n octets old mid new same le first put = puts_then (octets_16 (length octets)) octets old mid new le (subst (λ (k : ℕ). WritesOctets (octets_16 k) old mid) same first) put
-value-put (Err e) n octets old mid new same le first put = tt
+-- Octets were put behind a number.
+pub number-put : {V E : Type 0} (r : Result V E) (n m : ℕ) (octets : List ℕ) (old mid new : State) → n ≡ m → old.offset ≤ length old.octets → WritesOctets (octets_16 n) old mid → OnOk r (WritesOctets octets mid new) → OnOk r (WritesOctets (octets_16 m ++ octets) old new)
+number-put (Ok v) n m octets old mid new same le first put = puts_then (octets_16 m) octets old mid new le (subst (λ (k : ℕ). WritesOctets (octets_16 k) old mid) same first) put
+number-put (Err e) n m octets old mid new same le first put = tt
+
+-- A parameter is refused behind its key.
+pub param-refused : {V : Type 0} (r : Result V ProtoError) (param : Param) (old mid : State) → mid.offset ≡ old.offset + 2 → mid.maximum ≡ old.maximum → IfErr r (RefusesEmitParams param.1 mid) → IfErr r (λ e. IsRefusal old (length (param_octets param)) e ⊎ IsUnwritable param e)
+param-refused (Ok v) param old mid at same why = tt
+param-refused (Err e) param old mid at same (inl refused) =
+    inl (refused-behind old mid 2 (2 + length (value_octets param.1)) (length (param_octets param)) e at same (omega arith) refused)
+param-refused (Err e) param old mid at same (inr why) = inr why

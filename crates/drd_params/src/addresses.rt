@@ -8,7 +8,6 @@ ghost use Rattle.drd_params.specs.Texts.{IsAEntry, IsAaaaEntry};
 ghost use Rattle.drd_params.specs.Values.{a_octets, aaaa_octets};
 
 use crate::entry::Entry;
-use crate::write::append;
 use drd_address::{
     A, AAAA, BinDecodable, BinDecoder, BinEncoder, DecodeError, FieldRef, ParseError, ProtoError,
 };
@@ -52,11 +51,6 @@ impl Entry for A {
             }
             Err(refused) => Err(refused),
         }
-    }
-
-    #[tactic(auto, using(crate::proofs::NumberOctets::octets_of_32))]
-    fn append(&self, octets: &mut Vec<u8>) -> Result<(), ProtoError> {
-        append(octets, &self.0.to_bits().to_be_bytes())
     }
 
     fn emit_entry(&self, encoder: &mut BinEncoder<'_>) -> Result<(), ProtoError> {
@@ -133,10 +127,6 @@ impl Entry for AAAA {
             }
             Err(refused) => Err(refused),
         }
-    }
-
-    fn append(&self, octets: &mut Vec<u8>) -> Result<(), ProtoError> {
-        append(octets, &octets_of(self))
     }
 
     fn emit_entry(&self, encoder: &mut BinEncoder<'_>) -> Result<(), ProtoError> {

@@ -1,11 +1,13 @@
-//! Values and keys that are written, each alone.
+//! Keys, values and parameters that are written.
 ghost use Rattle.std.specs.Prelude.{◌≡◌, ◌++◌, ◌⊎◌, length, IfErr, OnOk, List};
 ghost use Rattle.std.specs.List.{Contains, flat_map};
 ghost use Rattle.drd_address.specs.dnw_decoder.Octets.{octets_16};
 ghost use Rattle.drd_address.specs.dnw_encoder.Encoders.{state};
 ghost use Rattle.drd_address.specs.dnw_encoder.Effects.{IsRefusal, WritesOctets, Writes};
+ghost use Rattle.drd_address.specs.drd_fields.Writing.{EndsWithin};
 ghost use Rattle.drd_params.specs.Keys.{key_number};
-ghost use Rattle.drd_params.specs.Writing.{RefusesEmitParams, RefusesValueWriting};
+ghost use Rattle.drd_params.specs.Params.{AreParams, param_octets, params_octets};
+ghost use Rattle.drd_params.specs.Writing.{HasLongText, IsOversized, RefusesEmitParams, RefusesValueWriting, RefusesWriting};
 ghost use Rattle.drd_params.specs.declared.value.SvcParamValue.TheVariants as value;
 ghost use Rattle.drd_params.specs.Values.{value_octets};
 
@@ -18,6 +20,7 @@ use drd_address::{BinEncodable, BinEncoder, ProtoError};
 fn emit_entries<T: Entry>(encoder: &mut BinEncoder<'_>, entries: &[T]) -> Result<(), ProtoError>
     ensures same_reference { encoder.new.buffer.ghost_name ≡ encoder.old.buffer.ghost_name }
     ensures writes { Writes (state encoder.old) (state encoder.new) }
+    ensures within { EndsWithin (state encoder.old) (state encoder.new) }
     ensures ok { OnOk result (WritesOctets (flat_map T.spelled entries.now) (state encoder.old) (state encoder.new)) }
     ensures refused { IfErr result (λ e. IsRefusal (state encoder.old) (length (flat_map T.spelled entries.now)) e
         ⊎ ((entry : T) × Contains entries.now entry × T.too_long entry e)) }
@@ -116,6 +119,7 @@ impl BinEncodable for Unknown {
 fn emit_octets(encoder: &mut BinEncoder<'_>, value: &SvcParamValue) -> Result<(), ProtoError>
     ensures same_reference { encoder.new.buffer.ghost_name ≡ encoder.old.buffer.ghost_name }
     ensures writes { Writes (state encoder.old) (state encoder.new) }
+    ensures within { EndsWithin (state encoder.old) (state encoder.new) }
     ensures ok { OnOk result (WritesOctets (value_octets value.now) (state encoder.old) (state encoder.new)) }
     ensures refused { IfErr result (RefusesValueWriting value.now (state encoder.old)) }
 {
@@ -143,6 +147,26 @@ fn emit_octets(encoder: &mut BinEncoder<'_>, value: &SvcParamValue) -> Result<()
     }
 }
 
+// Writes a value behind its length.
+fn emit_value(encoder: &mut BinEncoder<'_>, value: &SvcParamValue) -> Result<(), ProtoError>
+    ensures same_reference { encoder.new.buffer.ghost_name ≡ encoder.old.buffer.ghost_name }
+    ensures writes { Writes (state encoder.old) (state encoder.new) }
+    ensures within { EndsWithin (state encoder.old) (state encoder.new) }
+    ensures ok { OnOk result (WritesOctets (octets_16 (length (value_octets value.now)) ++ value_octets value.now)
+        (state encoder.old) (state encoder.new)) }
+    ensures refused { IfErr result (RefusesEmitParams value.now (state encoder.old)) }
+{
+    let _start = encoder.offset();
+    let Some(len) = value.octet_len() else {
+        return Err(ProtoError::MaxBufferSizeExceeded(65_535));
+    };
+    match encoder.emit_u16(len) {
+        Ok(()) => {}
+        Err(refused) => return Err(refused),
+    }
+    emit_octets(encoder, value)
+}
+
 impl BinEncodable for SvcParamValue {
     ghost emits = { λ value. WritesOctets (octets_16 (length (value_octets value)) ++ value_octets value) };
 
@@ -151,14 +175,52 @@ impl BinEncodable for SvcParamValue {
     /// Writes the value behind its length (RFC 9460 2.2). Refused are more than 65,535 octets, and a protocol of more than
     /// 255.
     fn emit(&self, encoder: &mut BinEncoder<'_>) -> Result<(), ProtoError> {
-        let _start = encoder.offset();
-        let Some(len) = self.octet_len() else {
-            return Err(ProtoError::MaxBufferSizeExceeded(65_535));
-        };
-        match encoder.emit_u16(len) {
+        emit_value(encoder, self)
+    }
+}
+
+// Writes a parameter: the key's number, then the value behind its length.
+fn emit_param(
+    encoder: &mut BinEncoder<'_>,
+    param: &(SvcParamKey, SvcParamValue),
+) -> Result<(), ProtoError>
+    ensures same_reference { encoder.new.buffer.ghost_name ≡ encoder.old.buffer.ghost_name }
+    ensures writes { Writes (state encoder.old) (state encoder.new) }
+    ensures within { EndsWithin (state encoder.old) (state encoder.new) }
+    ensures ok { OnOk result (WritesOctets (param_octets param.now) (state encoder.old) (state encoder.new)) }
+    ensures refused { IfErr result (λ e. IsRefusal (state encoder.old) (length (param_octets param.now)) e
+        ⊎ (HasLongText param.now.1 e ⊎ IsOversized param.now.1 e)) }
+{
+    let _start = encoder.offset();
+    match encoder.emit_u16(u16::from(param.0)) {
+        Ok(()) => {}
+        Err(refused) => return Err(refused),
+    }
+    emit_value(encoder, &param.1)
+}
+
+/// Writes parameters, one behind the other (RFC 9460 2.2). Refused are a value of more than 65,535 octets, and a protocol
+/// of more than 255, neither of which the parameters of a record have: those are refused only for want of memory or of
+/// space.
+pub fn emit_params(
+    encoder: &mut BinEncoder<'_>,
+    params: &[(SvcParamKey, SvcParamValue)],
+) -> Result<(), ProtoError>
+    ensures same_reference { encoder.new.buffer.ghost_name ≡ encoder.old.buffer.ghost_name }
+    ensures writes { Writes (state encoder.old) (state encoder.new) }
+    ensures within { EndsWithin (state encoder.old) (state encoder.new) }
+    ensures ok { OnOk result (WritesOctets (params_octets params.now) (state encoder.old) (state encoder.new)) }
+    ensures refused { IfErr result (λ e. IsRefusal (state encoder.old) (length (params_octets params.now)) e
+        ⊎ RefusesWriting params.now e) }
+    ensures written { AreParams params.now
+        → IfErr result (λ e. IsRefusal (state encoder.old) (length (params_octets params.now)) e) }
+{
+    let _start = encoder.offset();
+    'params: for param in params {
+        match emit_param(encoder, param) {
             Ok(()) => {}
             Err(refused) => return Err(refused),
         }
-        emit_octets(encoder, self)
     }
+    Ok(())
 }

@@ -12,7 +12,6 @@ ghost use Rattle.drd_params.specs.Texts.{IsKeyText, IsProtocolText, RefusesKeyTe
 ghost use Rattle.drd_params.specs.Values.{IsShortText};
 
 use crate::key::SvcParamKey;
-use crate::write::{append, append_short};
 use drd_address::{BinEncoder, DecodeError, FieldRef, ParseError, ProtoError};
 use std::alloc::Global;
 use std::cmp::Ordering;
@@ -23,7 +22,6 @@ use std::hash::Hasher;
 pub trait Entry: Sized + Drop {
     ghost use Rattle.std.specs.Prelude.{◌≡◌, ◌++◌, ◌<◌, ◌⊎◌, ℕ, List, length, IfOk, IfErr, OnOk};
     ghost use Rattle.std.specs.Fmt.{WritesOnOk};
-    ghost use Rattle.drd_address.specs.dnw_codes.ProtoError.{IsMemory};
     ghost use Rattle.drd_address.specs.dnw_codes.declared.error.DecodeError.{DecodeError as Error};
     ghost use Rattle.drd_address.specs.dnw_codes.declared.error.ParseError.{ParseError as TextError};
     ghost use Rattle.drd_address.specs.dnw_codes.declared.error.ProtoError.{ProtoError as WriteError};
@@ -34,6 +32,7 @@ pub trait Entry: Sized + Drop {
     ghost use Rattle.drd_address.specs.drd_words.Refusals.{AreCauses};
     ghost use Rattle.drd_address.specs.drd_words.Word.{IsOutOfMemory};
     ghost use Rattle.drd_address.specs.drd_fields.Order.{OrdersFronts};
+    ghost use Rattle.drd_address.specs.drd_fields.Writing.{EndsWithin};
     ghost use Rattle.std.specs.Hash.{HashWrites};
     ghost use Rattle.std.specs.List.{fold};
 
@@ -78,15 +77,11 @@ pub trait Entry: Sized + Drop {
         ensures refused { IfErr result (λ e. IsWantOfMemory e
             ⊎ (refuses octets.now e × ((entry : Self) (behind : List ℕ) → octets.now ≡ spelled entry ++ behind → ⊥))) };
 
-    /// Puts the entry behind octets.
-    fn append(&self, octets: &mut Vec<u8>) -> Result<(), ProtoError>
-        ensures ok { OnOk result (octets.new.items ≡ octets.old.items ++ spelled self.now) }
-        ensures refused { IfErr result (λ e. IsMemory e ⊎ too_long self.now e) };
-
     /// Writes the entry.
     fn emit_entry(&self, encoder: &mut BinEncoder<'_>) -> Result<(), ProtoError>
         ensures same_reference { encoder.new.buffer.ghost_name ≡ encoder.old.buffer.ghost_name }
         ensures writes { Writes (state encoder.old) (state encoder.new) }
+        ensures within { EndsWithin (state encoder.old) (state encoder.new) }
         ensures ok { OnOk result (WritesOctets (spelled self.now) (state encoder.old) (state encoder.new)) }
         ensures refused { IfErr result (λ e. IsRefusal (state encoder.old) (length (spelled self.now)) e ⊎ too_long self.now e) };
 
@@ -151,10 +146,6 @@ impl Entry for SvcParamKey {
             return Err(DecodeError::InsufficientBytes);
         };
         Ok((SvcParamKey::from(u16::from_be_bytes([*high, *low])), behind))
-    }
-
-    fn append(&self, octets: &mut Vec<u8>) -> Result<(), ProtoError> {
-        append_short(octets, u16::from(*self))
     }
 
     fn emit_entry(&self, encoder: &mut BinEncoder<'_>) -> Result<(), ProtoError> {
@@ -233,20 +224,6 @@ impl Entry for String {
             Ok(text) => Ok((text, behind)),
             Err(_) => Err(DecodeError::Memory),
         }
-    }
-
-    fn append(&self, octets: &mut Vec<u8>) -> Result<(), ProtoError> {
-        if self.len() > 255 {
-            return Err(ProtoError::CharacterDataTooLong {
-                max: 255,
-                len: self.len(),
-            });
-        }
-        match append(octets, &[self.len() as u8]) {
-            Ok(()) => {}
-            Err(refused) => return Err(refused),
-        }
-        append(octets, self.as_bytes())
     }
 
     fn emit_entry(&self, encoder: &mut BinEncoder<'_>) -> Result<(), ProtoError> {

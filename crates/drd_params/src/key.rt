@@ -1,7 +1,8 @@
 //! Keys of parameters (RFC 9460 14.3.2).
 ghost use Rattle.std.specs.Prelude.{◌≡◌, Some, find};
 ghost use Rattle.std.specs.Cmp.{partial_order_from_own_ties};
-ghost use Rattle.std.specs.Cmp.Rules.{comparing};
+ghost use Rattle.std.specs.Cmp.Rules.{comparing, hashing};
+ghost use Rattle.std.specs.Hash as fed;
 ghost use Rattle.std.specs.Option.{ok_or};
 ghost use Rattle.std.specs.Ordering.{as_partial_cmp};
 ghost use Rattle.std.specs.Str.{bytes_eq};
@@ -12,6 +13,7 @@ ghost use Rattle.drd_params.specs.Keys.{key_name, named_keys};
 use drd_address::{ParseError, number_behind};
 use std::cmp::Ordering;
 use std::fmt;
+use std::hash::{Hash, Hasher};
 use std::str::FromStr;
 
 /// The key of a parameter. Two are equal where their numbers are.
@@ -123,6 +125,18 @@ impl PartialOrd for SvcParamKey {
 
     fn partial_cmp(&self, other: &SvcParamKey) -> Option<Ordering> {
         Some(self.cmp(other))
+    }
+}
+
+impl Hash for SvcParamKey {
+    ghost use Rattle.drd_params.specs.Keys.{key_number};
+
+    ghost hash_input = { λ key. fed.u16 (key_number key) };
+
+    ghost respects_eq = { Prim.search (hashing, rules) };
+
+    fn hash<H: Hasher>(&self, state: &mut H) {
+        u16::from(*self).hash(state);
     }
 }
 

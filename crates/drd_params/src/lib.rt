@@ -3,8 +3,8 @@
 
 pub use drd_address::{
     A, AAAA, BinDecoder, BinEncodable, BinEncoder, DecodeError, FieldRef, Name, ParseError,
-    ProtoError, RDataEncoding, RecordDataDecodable, Rest, RestField, Restrict, TextData, Word,
-    Words, emit_three, key_of, read_window, unescaped, words_of_text,
+    ProtoError, RDataEncoding, RecordDataDecodable, Rest, Restrict, TextData, Word, Words,
+    emit_three, key_of, read_window, unescaped, words_of_text,
 };
 
 mod addresses;
@@ -17,12 +17,11 @@ mod print;
 mod read;
 mod same;
 mod value;
-mod write;
 
+pub use emit::emit_params;
 pub use entry::Entry;
 pub use key::SvcParamKey;
 pub use params::{Stopped, read_params, read_params_until};
 pub use print::fmt_param;
 pub use same::are_same_params;
 pub use value::{Alpn, EchConfigList, IpHint, Mandatory, SvcParamValue, Unknown};
-pub use write::write_params;

@@ -1,11 +1,6 @@
 -- One place holds one rest behind a number and a name.
 use Rattle.std.proofs.Common.{◌≡◌, ℕ, ◌+◌, ◌≤◌, length, Bool, true, List, [], ◌++◌, ◌⊎◌, inl, inr, append-nil, sym, ap, subst, ◌∙◌, arith}
 use Rattle.drd_params.specs.dnw_codes.declared.error.DecodeError.{DecodeError}
-use Rattle.drd_params.specs.dnw_codes.declared.error.ProtoError.{ProtoError}
-use Rattle.drd_params.specs.dnw_codes.ProtoError.{IsMemory}
-use Rattle.drd_params.specs.dnw_encoder.State.{State}
-use Rattle.drd_params.specs.Writing.{RefusesWriting}
-use Rattle.drd_svcb.specs.Writing.{RefusesEmitSvcb}
 use Rattle.drd_params.specs.dnw_decoder.Octets.{Stands, octets_16}
 use Rattle.drd_params.specs.dnw_decoder.Reading.{IsWantOfMemory}
 use Rattle.drd_params.specs.dnw_decoder.Spelling.{NameAt}
@@ -62,11 +57,3 @@ pub svcb-tells : (t : Bool) (a b : ℕ) (n m : DomainName) (ps qs : List Param) 
 svcb-tells t a b n m ps qs one two three =
     front_tells true t (octets_16 a) (octets_16 b) (canonical_field (name n) ++ (params_octets ps ++ [])) (canonical_field (name m) ++ (params_octets qs ++ [])) one
     (front_tells true t (canonical_field (name n)) (canonical_field (name m)) (params_octets ps ++ []) (params_octets qs ++ []) two three)
-
--- Parameters that are not written.
-pub params-refused : (svcb : SVCB) (old : State) (params : List Param) (e : ProtoError) → params ≡ svcb.svc_params.items → IsMemory e ⊎ RefusesWriting params e → (AreParams params → IsMemory e) → RefusesEmitSvcb svcb old e
-params-refused svcb old params e same (inl m) read = record { cause = inl (inl (inl m)); read = λ are. inl m }
-params-refused svcb old params e same (inr why) read = record {
-  cause = inr (subst (λ (ps : List Param). RefusesWriting ps e) same why);
-  read = λ are. inl (read (subst (λ (ps : List Param). AreParams ps) (sym same) are));
-}

@@ -19,8 +19,8 @@ ghost use Rattle.drd_svcb.specs.Writing.{RefusesEmitSvcb};
 use crate::words::ParamWords;
 use drd_params::{
     BinDecoder, BinEncodable, BinEncoder, DecodeError, FieldRef, Name, ProtoError, RDataEncoding,
-    RecordDataDecodable, Rest, RestField, Restrict, SvcParamKey, SvcParamValue, TextData,
-    are_same_params, emit_three, fmt_param, read_params_until, read_window, write_params,
+    RecordDataDecodable, Rest, Restrict, SvcParamKey, SvcParamValue, TextData, are_same_params,
+    emit_params, emit_three, fmt_param, read_params_until, read_window,
 };
 use std::alloc::Global;
 use std::fmt;
@@ -139,15 +139,9 @@ impl BinEncodable for SVCB {
     /// or of space.
     fn emit(&self, encoder: &mut BinEncoder<'_>) -> Result<(), ProtoError> {
         let _start = encoder.offset();
-        let octets = match write_params(*self.svc_params.allocator(), &self.svc_params) {
-            Ok(octets) => octets,
-            Err(refused) => return Err(refused),
-        };
-        emit_three(
-            encoder,
-            RDataEncoding::Other,
-            &(self.svc_priority, (&self.target_name, RestField(&octets))),
-        )
+        let front = (self.svc_priority, (&self.target_name, ()));
+        emit_three(encoder, RDataEncoding::Other, &front)?;
+        emit_params(encoder, &self.svc_params)
     }
 }
 

@@ -1,12 +1,17 @@
 use Rattle.std.proofs.Common.{◌≤◌, length, ◌∙◌, arith}
 use Rattle.drd_address.specs.dnw_encoder.Encoders.{state}
 use Rattle.drd_address.proofs.dnw_encoder_lemmas.Laws.{writes_then}
+use Rattle.drd_address.proofs.drd_fields_lemmas.WritingLaws.{within_then}
 use Rattle.drd_params.proofs.Emitting.{put-more, put-refused}
 use Rattle.drd_params.proofs.emit.emit_entries.Goals as goal
 
 pub returns-in-Err-clause-writes : goal.returns-in-Err-clause-writes
 returns-in-Err-clause-writes g c =
     writes_then (state c.args.encoder.now) (state c.entries.encoder) (state c.emit_entry.new.encoder) c.entries.invariant.put.writes c.emit_entry.ensures.writes
+
+pub returns-in-Err-clause-within : goal.returns-in-Err-clause-within
+returns-in-Err-clause-within g c =
+    within_then (state c.args.encoder.now) (state c.entries.encoder) (state c.emit_entry.new.encoder) c.entries.invariant.put.writes.modes.maximum c.emit_entry.ensures.writes.forward c.entries.invariant.put.within c.emit_entry.ensures.within
 
 pub returns-in-Err-clause-refused : goal.returns-in-Err-clause-refused
 returns-in-Err-clause-refused g c =
@@ -20,5 +25,5 @@ entries-preserved g c =
     record {
       same = c.emit_entry.ensures.same_reference ∙ c.entries.invariant.same;
       put = put-more g.T.Entry.spelled c.args.entries.now c.entries.entry-index c.entry-item.result c.entry-item.result old (state c.entries.encoder) (state c.emit_entry.new.encoder)
-          (omega arith) within c.entry-item.is c.entries.invariant.put c.in-Ok.ensures.ok c.emit_entry.ensures.writes;
+          (omega arith) within c.entry-item.is c.entries.invariant.put c.in-Ok.ensures.ok c.emit_entry.ensures.writes c.emit_entry.ensures.within;
     }
