@@ -12,7 +12,7 @@ use Rattle.drd_params.specs.dnw_name.DomainName.{DomainName, name_octets}
 use Rattle.drd_params.specs.drd_fields.Fields.{Field, FieldsAt, name, short}
 use Rattle.drd_params.specs.drd_fields.Writing.{EmitsData, EndsWithin, RefusesFields, fields_octets}
 use Rattle.drd_params.proofs.dnw_encoder_lemmas.Laws.{holds_more, holds_written, puts_stands}
-use Rattle.drd_params.proofs.drd_fields_lemmas.WritingLaws.{puts_then, refused_front, refused_later, within_then}
+use Rattle.drd_params.proofs.drd_fields_lemmas.WritingLaws.{puts_then, refused_later, within_then}
 use Rattle.drd_params.specs.Params.{AreParams, Param, params_octets}
 use Rattle.drd_params.specs.Writing.{RefusesWriting}
 use Rattle.drd_svcb.specs.Fields.{svcb_fields, svcb_parts}
@@ -51,19 +51,7 @@ parts-written a n octets old mid new le front v puts w ends =
       within = within_then old mid new v.modes.maximum w.forward front.within ends;
     }
 
--- A refusal of the priority or the target is one of the whole.
-pub front-refused : (svcb : SVCB) (old : State) (e : ProtoError) → RefusesFields (front_parts svcb.svc_priority svcb.target_name) old e → RefusesEmitSvcb svcb old e
-front-refused svcb old e (inl refused) =
-    let octets = params_octets svcb.svc_params.items in
-    let whole : IsRefusal old (length (fields_octets (svcb_fields svcb))) e =
-    subst (λ (k : ℕ). IsRefusal old k e) (whole_length svcb.svc_priority svcb.target_name octets)
-    (refused_front (length (fields_octets (front_parts svcb.svc_priority svcb.target_name))) (length octets) old e refused) in
-    record { cause = inl (inl whole); read = λ are. whole }
-front-refused svcb old e (inr (inl none)) = absurd none
-front-refused svcb old e (inr (inr (inl none))) = absurd none
-front-refused svcb old e (inr (inr (inr none))) = absurd none
-
--- And so is one of the parameters behind them.
+-- A refusal of the parameters is one of the whole.
 pub params-refused : {V : Type 0} (r : Result V ProtoError) (svcb : SVCB) (params : List Param) (old mid : State) → params ≡ svcb.svc_params.items → SameModes old mid → mid.offset ≤ old.offset + length (fields_octets (front_parts svcb.svc_priority svcb.target_name)) → IfErr r (λ e. IsRefusal mid (length (params_octets params)) e ⊎ RefusesWriting params e) → (AreParams params → IfErr r (λ e. IsRefusal mid (length (params_octets params)) e)) → IfErr r (RefusesEmitSvcb svcb old)
 params-refused (Ok v) svcb params old mid same modes far why read = tt
 params-refused (Err e) svcb params old mid same modes far why read = record {

@@ -2,6 +2,7 @@
 ghost use Rattle.std.specs.Prelude.{◌≡◌, ◌∷◌, Some};
 ghost use Rattle.std.specs.Cmp.{partial_equiv_from_equiv};
 ghost use Rattle.std.specs.Fmt.{WritesOnOk};
+ghost use Rattle.drd_params.specs.dnw_codes.Ascii.{space};
 ghost use Rattle.drd_params.specs.dnw_encoder.declared.modes.RDataEncoding.TheVariants.{Other};
 ghost use Rattle.drd_params.specs.drd_fields.Fields.{FieldsAt};
 ghost use Rattle.drd_params.specs.drd_fields.Equality.{AreFull, Tells, fields_eq};

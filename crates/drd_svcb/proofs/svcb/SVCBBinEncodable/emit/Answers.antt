@@ -1,10 +1,10 @@
-use Rattle.std.proofs.Common.{◌≡◌, ◌≤◌, List, length, ap, subst, arith}
+use Rattle.std.proofs.Common.{◌≤◌, List, length, subst, arith}
 use Rattle.drd_params.specs.dnw_encoder.Effects.{WritesOctets}
 use Rattle.drd_params.specs.dnw_encoder.Encoders.{state}
 use Rattle.drd_params.proofs.dnw_encoder_lemmas.Laws.{writes_then}
 use Rattle.drd_params.proofs.drd_fields_lemmas.WritingLaws.{on_ok}
 use Rattle.drd_params.specs.Params.{Param, params_octets}
-use Rattle.drd_svcb.proofs.Writing.{front-refused, params-refused, parts-written}
+use Rattle.drd_svcb.proofs.Writing.{params-refused, parts-written}
 use Rattle.drd_svcb.proofs.svcb.SVCBBinEncodable.emit.Goals as goal
 
 pub returns-clause-writes : goal.returns-clause-writes
