@@ -9,6 +9,6 @@ pub mod ReadableLaws
 pub use Rattle.drd_types.proofs.dnw_name_lemmas
 pub use Rattle.drd_types.proofs.drd_words_lemmas
 pub use Rattle.drd_types.proofs.dnw_decoder_lemmas
-pub use Rattle.drd_types.proofs.dnw_encoder_lemmas
+pub use Rattle.drd_svcb.proofs.dnw_encoder_lemmas
 pub use Rattle.drd_types.proofs.drd_fields_lemmas
 pub use Rattle.drd_types.proofs.drd_opt_lemmas

@@ -25,7 +25,8 @@ use Rattle.drd_rdata.specs.Types.{type_of}
 use Rattle.drd_rdata.specs.Writing.{StandsWritten}
 use Rattle.drd_rdata.specs.declared.rdata.RData.{RData}
 use Rattle.drd_rdata.specs.declared.rdata.RData.TheVariants as rdata
-use Rattle.drd_rdata.proofs.BackLaws.{Alike, alike, has_canonical, read_canonical}
+use Rattle.drd_rdata.specs.ReadingBack.{Alike}
+use Rattle.drd_rdata.proofs.BackLaws.{alike, has_canonical, read_canonical}
 use Rattle.drd_rdata.proofs.WrittenLaws.{encoded_same}
 
 -- Each number is one that its octets can hold.

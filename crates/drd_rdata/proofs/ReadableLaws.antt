@@ -8,7 +8,7 @@ use Rattle.drd_types.specs.drd_fields.Readable.{EndsAtRoot, StandAlone}
 use Rattle.drd_types.specs.drd_fields.Writing.{fields_octets}
 use Rattle.drd_types.proofs.drd_fields_lemmas.ReadableLaws.{fields_alone, in_own_octets, whole}
 use Rattle.std.specs.Net.Addr.{ipv4_bits}
-use Rattle.drd_types.proofs.dnw_encoder_lemmas.NameLaws.{length-name_octets}
+use Rattle.drd_svcb.proofs.dnw_encoder_lemmas.NameLaws.{length-name_octets}
 use Rattle.drd_svcb.specs.dnw_name.DomainName.{DomainName, name_octets}
 use Rattle.drd_svcb.specs.drd_address.Fields.{a_fields}
 use Rattle.drd_svcb.specs.drd_address.declared.a.A.{A}
