@@ -10,7 +10,7 @@ use Rattle.drd_rdata.specs.dnw_decoder.Spelling.{NameAt}
 use Rattle.drd_rdata.proofs.dnw_decoder_lemmas.Standing.{stands_joined, length-octets_32}
 use Rattle.drd_rdata.specs.dnw_encoder.Effects.{StaysTrue, Keeps, Writes, WritesOctets, Opens, Fills, IsRefusal, place_of}
 use Rattle.drd_rdata.proofs.dnw_encoder_lemmas.Laws.{holds_more, holds_same, holds_written, keeps_then, modes_then, puts_stands, writes_then}
-use Rattle.drd_rdata.specs.dnw_encoder.Members.{In}
+use Rattle.drd_fields.specs.dnw_encoder.Members.{In}
 use Rattle.drd_rdata.specs.dnw_encoder.Names.{EmitsName}
 use Rattle.drd_rdata.proofs.dnw_encoder_lemmas.PlaceLaws.{opens_open}
 use Rattle.drd_rdata.specs.dnw_encoder.State.{State, is_lower}

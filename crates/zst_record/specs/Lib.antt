@@ -2,7 +2,7 @@ pub mod Records
 pub mod Writing
 pub use Rattle.drd_rdata.specs.dnw_codes
 pub use Rattle.drd_rdata.specs.dnw_decoder
-pub use Rattle.drd_rdata.specs.dnw_encoder
+pub use Rattle.drd_fields.specs.dnw_encoder
 pub use Rattle.drd_rdata.specs.dnw_name
 pub use Rattle.drd_rdata.specs.drd_names
 pub mod drd_rdata
