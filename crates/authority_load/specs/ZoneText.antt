@@ -194,9 +194,9 @@ pub record IsTaken (zone : View) (line : List ℕ) (r : Record) : Type 0 where
   pub no_cause : NoneBefore zone line 12
 
 -- What a line gives: its record, or the first cause that stands there.
-abbrev pub LineGives : View → List ℕ → Result Record LoadCause → Type 0
-LineGives zone line (Ok r) = IsTaken zone line r
-LineGives zone line (Err cause) =
+abbrev pub LineGives : {R : Type 0} → View → List ℕ → (R → Record) → Result R LoadCause → Type 0
+LineGives zone line record_in (Ok r) = IsTaken zone line (record_in r)
+LineGives zone line record_in (Err cause) =
     StandsAt zone line cause × NoneBefore zone line (cause_order cause)
 
 -- The zone after a line: as it was where the line is passed over, else with the record of the line.

@@ -1,6 +1,6 @@
 //! The record of a line.
 
-ghost use Rattle.std.specs.Prelude.{◌≡◌, ◌<◌, ◌∷◌, length, MatchOption, true, is_some};
+ghost use Rattle.std.specs.Prelude.{◌≡◌, ◌<◌, ◌∷◌, length, IfOk, MatchOption, true, is_some};
 ghost use Rattle.zst_zone.specs.dnw_codes.declared.record_type.RecordType.TheVariants as types;
 ghost use Rattle.zst_zone.specs.dnw_name.DomainName.{DomainName};
 ghost use Rattle.zst_zone.specs.dnw_name.NameKey.{name_key};
@@ -33,13 +33,21 @@ struct Header<'a> {
     rdata: &'a str,
 }
 
-/// The record of a line that may be added to the zone, or the first cause why it may not.
+/// A record, and the key of its owner.
+#[derive(Drop)]
+pub struct KeyedRecord {
+    pub key: Vec<u8>,
+    pub next: Record,
+}
+
+/// The record of a line that may be added to the zone, with its owner's key, or the first cause why it may not.
 pub fn record_of<K>(
     alloc: Global,
     zone: &InMemoryZoneHandler<K>,
     line: &str,
-) -> Result<Record, LoadCause>
-    ensures { LineGives zone.now line.now result }
+) -> Result<KeyedRecord, LoadCause>
+    ensures gives { LineGives zone.now line.now (λ taken. taken.next) result }
+    ensures keyed { IfOk result (λ taken. taken.key.items ≡ name_key taken.next.name) }
 {
     let header = header_of(alloc, line)?;
     let key = match key_of(alloc, &header.name) {
@@ -59,11 +67,14 @@ pub fn record_of<K>(
     if is_soa(header.record_type) && has_soa(zone, &key) {
         return Err(LoadCause::SecondSoa);
     }
-    Ok(Record {
-        name: header.name,
-        dns_class: DNSClass::IN,
-        ttl: header.ttl,
-        rdata,
+    Ok(KeyedRecord {
+        key,
+        next: Record {
+            name: header.name,
+            dns_class: DNSClass::IN,
+            ttl: header.ttl,
+            rdata,
+        },
     })
 }
 

@@ -4,7 +4,7 @@ ghost use Rattle.std.specs.Prelude.{◌≡◌, true, IfOk};
 ghost use Rattle.zst_zone.specs.Zones.{empty_zone};
 ghost use Rattle.authority_load.specs.ZoneText.{LoadAnswers, LineLoads};
 
-use crate::line::record_of;
+use crate::line::{KeyedRecord, record_of};
 use crate::words::is_skipped;
 use std::alloc::Global;
 use thiserror::Error;
@@ -96,6 +96,7 @@ fn load_line<K>(
     if is_skipped(line.as_bytes()) {
         return Ok(());
     }
-    let next = record_of(alloc, zone, line)?;
-    zone.insert(alloc, next).map_err(|_| LoadCause::OutOfMemory)
+    let KeyedRecord { key, next } = record_of(alloc, zone, line)?;
+    zone.insert_at(alloc, key, next)
+        .map_err(|_| LoadCause::OutOfMemory)
 }

@@ -49,7 +49,8 @@ abbrev pub are_open : List Kind → Bool
 are_open [] = false
 are_open (k ∷ ks) = is_open k || are_open ks
 
--- A field of such a kind takes memory where it is read: names, strings and octets do, numbers don't.
+-- A field of such a kind takes memory where it is read: names, strings and octets do, numbers
+-- don't.
 abbrev pub takes_memory : Kind → Bool
 takes_memory an_octet = false
 takes_memory a_short = false

@@ -12,7 +12,7 @@ use Rattle.drd_rdata.specs.Writing.{EmitsRData}
 use Rattle.drd_rdata.specs.declared.rdata.RData.{RData}
 use Rattle.drd_rdata.specs.declared.rdata.RData.TheVariants as rdata
 
--- Both have these canonical octets.
+-- Both have these canonical octets (RFC 4034 6.2), and are of one type and form.
 pub record Alike (v w : RData) : Type 0 where
   pub octets : List ℕ
   pub first : HasCanonical v octets
@@ -20,7 +20,8 @@ pub record Alike (v w : RData) : Type 0 where
   pub number : type_number v ≡ type_number w
   pub own : data_form v ≡ data_form w
 
--- A service as it is written (RFC 9460 2.2): its target in the form in which the encoder writes names.
+-- A service as it is written (RFC 9460 2.2): its target in the form in which the encoder writes
+-- names.
 abbrev encoded_service : NameEncoding → SVCB → SVCB
 encoded_service encoding svcb = record svcb { target_name = encoded_name encoding svcb.target_name }
 
@@ -41,7 +42,10 @@ encoded_data encoding (rdata.NS ns) = rdata.NS (record ns { 0 = encoded_name enc
 encoded_data encoding (rdata.PTR ptr) = rdata.PTR (record ptr { 0 = encoded_name encoding ptr.0 })
 encoded_data encoding (rdata.SOA soa) =
     rdata.SOA
-    (record soa { mname = encoded_name encoding soa.mname; rname = encoded_name encoding soa.rname })
+    (record soa {
+      mname = encoded_name encoding soa.mname;
+      rname = encoded_name encoding soa.rname;
+    })
 encoded_data encoding (rdata.SRV srv) =
     rdata.SRV (record srv { target = encoded_name encoding srv.target })
 encoded_data encoding (rdata.SVCB svcb) = rdata.SVCB (encoded_service encoding svcb)

@@ -174,8 +174,10 @@ is_ordered (k ∷ l ∷ ks) = not (is_open k) && is_ordered (l ∷ ks)
 pub ordered_by : (ks : List Kind) → is_ordered ks ≡ true → AreOrdered ks
 ordered_by [] e = tt
 ordered_by (k ∷ []) e = (λ o. refl, tt)
-ordered_by (k ∷ l ∷ ks) e =
-    (λ o. absurd (closed (is_open k) (is_ordered (l ∷ ks)) o e), ordered_by (l ∷ ks) (later (is_open k) (is_ordered (l ∷ ks)) e))
+ordered_by (k ∷ l ∷ ks) e = (
+  λ o. absurd (closed (is_open k) (is_ordered (l ∷ ks)) o e),
+  ordered_by (l ∷ ks) (later (is_open k) (is_ordered (l ∷ ks)) e),
+)
   where
     closed : (b c : Bool) → b ≡ true → (not b && c) ≡ true → ⊥
     closed true c o e = cc e

@@ -1,9 +1,9 @@
 -- A zone's entries with one record more.
-use Rattle.std.proofs.Common.{◌≡◌, ℕ, refl, ap, sym, ◌∙◌, subst}
+use Rattle.std.proofs.Common.{◌≡◌, ℕ, refl, ap, sym, ◌∙◌, subst, length, arith}
 use Rattle.std.specs.Prelude.{Bool, true, false, ◌&&◌, List, [], ◌∷◌, ◌++◌, Option, Some, None, cond, find}
 use Rattle.std.specs.List.{AllByRecursion}
 use Rattle.std.specs.List.Sorted.{IsStrictlySortedBy}
-use Rattle.std.specs.Map.{keys_of, lookup, set_value}
+use Rattle.std.specs.Map.{keys_of, lookup}
 use Rattle.std.specs.BTreeMap.{is_at, insert_entry}
 use Rattle.std.specs.Ordering.{nat_cmp, is_eq, match_ordering}
 use Rattle.std.specs.declared.cmp.Ordering.{Ordering}
@@ -48,40 +48,6 @@ module _ {K V : Type 0} (octets : K → List ℕ) (sets : V → List RRset) wher
   not_at : (q k : List ℕ) (e : K) → at_key k e ≡ false → bytes_eq q k ≡ true → at_key q e ≡ false
   not_at q k e h same = ap (λ (t : List ℕ). at_key t e) (same_octets q k same) ∙ h
 
-  -- ---- with another value under a key
-  replaced_parts : (a : Bool) (p : K → Bool) (e : K × V) (es rest : List (K × V)) (w : V)
-      → lookup p (cond a ((e.0, w) ∷ es) (e ∷ rest)) ≡ cond a (cond (p e.0) (Some w) (lookup p es)) (cond (p e.0) (Some e.1) (lookup p rest))
-  replaced_parts true p e es rest w = refl
-  replaced_parts false p e es rest w = refl
-
-  replaced_pick : (a b c : Bool) (w v : V) (old new : Option V) → (a ≡ true → c ≡ b) → (a ≡ false → b ≡ true → c ≡ false) → (a ≡ false → new ≡ cond b (Some w) old)
-      → cond a (cond c (Some w) old) (cond c (Some v) new) ≡ cond b (Some w) (cond c (Some v) old)
-  replaced_pick true true c w v old new h g ih = rw (h refl) refl
-  replaced_pick true false c w v old new h g ih = rw (h refl) refl
-  replaced_pick false true c w v old new h g ih = rw (g refl refl, ih refl) refl
-  replaced_pick false false c w v old new h g ih = rw (ih refl) refl
-
-  pub lookup_replaced : (q k : List ℕ) (es : List (K × V)) (v w : V) → lookup (at_key k) es ≡ Some v
-      → lookup (at_key q) (set_value (at_key k) es w) ≡ cond (bytes_eq q k) (Some w) (lookup (at_key q) es)
-  lookup_replaced q k [] v w found = let h : ⊥ = cc in absurd h
-  lookup_replaced q k (e ∷ es) v w found =
-      replaced_parts (at_key k e.0) (at_key q) e es (set_value (at_key k) es w) w
-      ∙ replaced_pick (at_key k e.0) (bytes_eq q k) (at_key q e.0) w e.1 (lookup (at_key q) es) (lookup (at_key q) (set_value (at_key k) es w))
-      (at_same q k e.0) (not_at q k e.0)
-      (λ h. lookup_replaced q k es v w (sym (ap (λ (t : Bool). cond t (Some e.1) (lookup (at_key k) es)) h) ∙ found))
-
-  nodes_step : (a : Bool) (k : List ℕ) (e : K × V) (es rest : List (K × V)) (w : V) → (a ≡ true → IsNode (octets e.0) (sets w)) → AreNodes (e ∷ es) → AreNodes rest
-      → AreNodes (cond a ((e.0, w) ∷ es) (e ∷ rest))
-  nodes_step true k e es rest w h nodes more = (h refl, nodes.1)
-  nodes_step false k e es rest w h nodes more = (nodes.0, more)
-
-  pub nodes_replaced : (k : List ℕ) (es : List (K × V)) (w : V) → IsNode k (sets w) → AreNodes es → AreNodes (set_value (at_key k) es w)
-  nodes_replaced k [] w h nodes = tt
-  nodes_replaced k (e ∷ es) w h nodes =
-      nodes_step (at_key k e.0) k e es (set_value (at_key k) es w) w
-      (λ a. subst (λ (t : List ℕ). IsNode t (sets w)) (same_octets k (octets e.0) (sym (test k e.0) ∙ a)) h)
-      nodes (nodes_replaced k es w h nodes.1)
-
   node_step : (a : Bool) (k : List ℕ) (e : K × V) (o : Option V) (v : V) → cond a (Some e.1) o ≡ Some v
       → (a ≡ true → IsNode k (sets e.1)) → (o ≡ Some v → IsNode k (sets v)) → IsNode k (sets v)
   node_step true k e o v found h more = let g : e.1 ≡ v = cc in subst (λ (t : V). IsNode k (sets t)) g (h refl)
@@ -95,29 +61,32 @@ module _ {K V : Type 0} (octets : K → List ℕ) (sets : V → List RRset) wher
       (λ a. subst (λ (t : List ℕ). IsNode t (sets e.1)) (sym (same_octets k (octets e.0) (sym (test k e.0) ∙ a))) nodes.0)
       (node_found k es v nodes.1)
 
-  -- ---- with another key
+  -- ---- with a value under a key
   inserted_pick : (o : Ordering) (q : List ℕ) (k : K) (v : V) (e : K × V) (es rest : List (K × V)) → slice_cmp nat_cmp (octets k) (octets e.0) ≡ o
-      → cond (is_eq o) (Some e.1) (lookup (at_key (octets k)) es) ≡ None
-      → (lookup (at_key (octets k)) es ≡ None → lookup (at_key q) rest ≡ cond (bytes_eq q (octets k)) (Some v) (lookup (at_key q) es))
+      → lookup (at_key q) rest ≡ cond (bytes_eq q (octets k)) (Some v) (lookup (at_key q) es)
       → lookup (at_key q) (match_ordering o ((k, v) ∷ e ∷ es) ((e.0, v) ∷ es) (e ∷ rest)) ≡ cond (bytes_eq q (octets k)) (Some v) (lookup (at_key q) (e ∷ es))
-  inserted_pick Less q k v e es rest is absent more = ap (λ (t : Bool). cond t (Some v) (lookup (at_key q) (e ∷ es))) (test q k)
-  inserted_pick Equal q k v e es rest is absent more = let h : ⊥ = cc in absurd h
-  inserted_pick Greater q k v e es rest is absent more = by (bytes_eq q (octets k)) refl
+  inserted_pick Less q k v e es rest is more = ap (λ (t : Bool). cond t (Some v) (lookup (at_key q) (e ∷ es))) (test q k)
+  inserted_pick Equal q k v e es rest is more = rw (at_same q (octets k) e.0 (ap is_eq is)) (by (bytes_eq q (octets k)))
+    where
+      by : (b : Bool) → cond b (Some v) (lookup (at_key q) es) ≡ cond b (Some v) (cond b (Some e.1) (lookup (at_key q) es))
+      by true = refl
+      by false = refl
+  inserted_pick Greater q k v e es rest is more = by (bytes_eq q (octets k)) refl
     where
       by : (b : Bool) → bytes_eq q (octets k) ≡ b → cond (at_key q e.0) (Some e.1) (lookup (at_key q) rest) ≡ cond b (Some v) (lookup (at_key q) (e ∷ es))
       by true t =
           let off : at_key q e.0 ≡ false = not_at q (octets k) e.0 (ap is_eq is) t in
-          let r : lookup (at_key q) rest ≡ Some v = more absent ∙ ap (λ (u : Bool). cond u (Some v) (lookup (at_key q) es)) t in
+          let r : lookup (at_key q) rest ≡ Some v = more ∙ ap (λ (u : Bool). cond u (Some v) (lookup (at_key q) es)) t in
           rw (off, r) refl
       by false t =
-          let r : lookup (at_key q) rest ≡ lookup (at_key q) es = more absent ∙ ap (λ (u : Bool). cond u (Some v) (lookup (at_key q) es)) t in
+          let r : lookup (at_key q) rest ≡ lookup (at_key q) es = more ∙ ap (λ (u : Bool). cond u (Some v) (lookup (at_key q) es)) t in
           rw r refl
 
-  pub lookup_inserted : (q : List ℕ) (k : K) (v : V) (es : List (K × V)) → lookup (at_key (octets k)) es ≡ None
+  pub lookup_inserted : (q : List ℕ) (k : K) (v : V) (es : List (K × V))
       → lookup (at_key q) (insert_entry key_cmp es k v) ≡ cond (bytes_eq q (octets k)) (Some v) (lookup (at_key q) es)
-  lookup_inserted q k v [] absent = ap (λ (t : Bool). cond t (Some v) None) (test q k)
-  lookup_inserted q k v (e ∷ es) absent =
-      inserted_pick (slice_cmp nat_cmp (octets k) (octets e.0)) q k v e es (insert_entry key_cmp es k v) refl absent (lookup_inserted q k v es)
+  lookup_inserted q k v [] = ap (λ (t : Bool). cond t (Some v) None) (test q k)
+  lookup_inserted q k v (e ∷ es) =
+      inserted_pick (slice_cmp nat_cmp (octets k) (octets e.0)) q k v e es (insert_entry key_cmp es k v) refl (lookup_inserted q k v es)
 
   inserted_step : (o : Ordering) (k : K) (v : V) (e : K × V) (es rest : List (K × V)) → slice_cmp nat_cmp (octets k) (octets e.0) ≡ o
       → IsNode (octets k) (sets v) → AreNodes (e ∷ es) → AreNodes rest → AreNodes (match_ordering o ((k, v) ∷ e ∷ es) ((e.0, v) ∷ es) (e ∷ rest))
@@ -174,12 +143,7 @@ module _ {K V : Type 0} (octets : K → List ℕ) (sets : V → List RRset) wher
           let named : name_eq name r.name ≡ false = sym (same_key name r.name) ∙ e in
           rw named (sym (stored_in octets sets name t old was.nodes was.ordered))
 
-  -- ---- after `get_mut`
-  replaced_view : (a : Bool) (e : K × V) (es rest : List (K × V)) (w : V) → (a ≡ true → sets w ≡ sets e.1) → (a ≡ false → sets_of octets sets rest ≡ sets_of octets sets es)
-      → sets_of octets sets (cond a ((e.0, w) ∷ es) (e ∷ rest)) ≡ sets_of octets sets (e ∷ es)
-  replaced_view true e es rest w same more = ap (λ (t : List RRset). t ++ sets_of octets sets es) (same refl)
-  replaced_view false e es rest w same more = ap (λ (t : List RRset). sets e.1 ++ t) (more refl)
-
+  -- ---- after a value is written under a key
   found_first : (a : Bool) (x v : V) (o : Option V) → cond a (Some x) o ≡ Some v → a ≡ true → x ≡ v
   found_first true x v o e h = cc
   found_first false x v o e h = let g : ⊥ = cc in absurd g
@@ -188,38 +152,33 @@ module _ {K V : Type 0} (octets : K → List ℕ) (sets : V → List RRset) wher
   found_later true x v o e h = let g : ⊥ = cc in absurd g
   found_later false x v o e h = e
 
+  same_step : (o : Ordering) (k : K) (e : K × V) (es rest : List (K × V)) (v w : V) → cond (is_eq o) (Some e.1) (lookup (at_key (octets k)) es) ≡ Some v → sets w ≡ sets v
+      → keys_of (match_ordering o ((k, w) ∷ e ∷ es) ((e.0, w) ∷ es) (e ∷ rest)) ≡ keys_of (e ∷ es)
+      → (lookup (at_key (octets k)) es ≡ Some v → keys_of rest ≡ keys_of es → sets_of octets sets rest ≡ sets_of octets sets es)
+      → sets_of octets sets (match_ordering o ((k, w) ∷ e ∷ es) ((e.0, w) ∷ es) (e ∷ rest)) ≡ sets_of octets sets (e ∷ es)
+  same_step Less k e es rest v w found same keys more = absurd (omega (arith, ap length keys))
+  same_step Equal k e es rest v w found same keys more =
+      ap (λ (t : List RRset). t ++ sets_of octets sets es) (same ∙ ap sets (sym (found_first true e.1 v (lookup (at_key (octets k)) es) found refl)))
+  same_step Greater k e es rest v w found same keys more =
+      let later : keys_of rest ≡ keys_of es = cc in
+      ap (λ (t : List RRset). sets e.1 ++ t) (more (found_later false e.1 v (lookup (at_key (octets k)) es) found refl) later)
+
   -- the same sets in another vector
-  pub same_sets : (k : List ℕ) (es : List (K × V)) (v w : V) → lookup (at_key k) es ≡ Some v → sets w ≡ sets v
-      → sets_of octets sets (set_value (at_key k) es w) ≡ sets_of octets sets es
-  same_sets k [] v w found same = refl
-  same_sets k (e ∷ es) v w found same =
-      replaced_view (at_key k e.0) e es (set_value (at_key k) es w) w
-      (λ a. same ∙ ap sets (sym (found_first (at_key k e.0) e.1 v (lookup (at_key k) es) found a)))
-      (λ a. same_sets k es v w (found_later (at_key k e.0) e.1 v (lookup (at_key k) es) found a) same)
+  pub same_sets : (k : K) (es : List (K × V)) (v w : V) → lookup (at_key (octets k)) es ≡ Some v → sets w ≡ sets v → keys_of (insert_entry key_cmp es k w) ≡ keys_of es
+      → sets_of octets sets (insert_entry key_cmp es k w) ≡ sets_of octets sets es
+  same_sets k [] v w found same keys = let h : ⊥ = cc in absurd h
+  same_sets k (e ∷ es) v w found same keys =
+      same_step (slice_cmp nat_cmp (octets k) (octets e.0)) k e es (insert_entry key_cmp es k w) v w found same keys (λ f later. same_sets k es v w f same later)
 
-  pub zone_replaced : (k : List ℕ) (old new : List (K × V)) (w : V) → IsZone octets sets old → new ≡ set_value (at_key k) old w
-      → IsStrictlySortedBy key_cmp (keys_of new) → IsNode k (sets w) → IsZone octets sets new
-  zone_replaced k old new w was is sorted node =
-      record { nodes = subst AreNodes (sym is) (nodes_replaced k old w node was.nodes); ordered = sorted }
-
-  pub adds_replaced : (k : List ℕ) (old new : List (K × V)) (v w : V) (r : Record) → IsZone octets sets old → IsZone octets sets new
-      → k ≡ name_key r.name → Some v ≡ lookup (at_key k) old → new ≡ set_value (at_key k) old w → sets w ≡ with_record (sets v) r
-      → Adds (sets_of octets sets old) r (sets_of octets sets new)
-  adds_replaced k old new v w r was now same found is holds =
-      adds old new r w was now
-      (λ q. ap (lookup (at_key q)) is ∙ lookup_replaced q k old v w (sym found) ∙ ap (λ (t : List ℕ). cond (bytes_eq q t) (Some w) (lookup (at_key q) old)) same)
-      (holds ∙ ap (λ (o : Option V). with_record (node_sets o) r) (found ∙ ap (λ (t : List ℕ). lookup (at_key t) old) same))
-
-  -- ---- after `insert`
   pub zone_inserted : (k : K) (old new : List (K × V)) (w : V) → IsZone octets sets old → new ≡ insert_entry key_cmp old k w
       → IsStrictlySortedBy key_cmp (keys_of new) → IsNode (octets k) (sets w) → IsZone octets sets new
   zone_inserted k old new w was is sorted node =
       record { nodes = subst AreNodes (sym is) (nodes_inserted k w old node was.nodes); ordered = sorted }
 
-  pub adds_inserted : (k : K) (old new : List (K × V)) (w : V) (r : Record) → IsZone octets sets old → IsZone octets sets new
-      → octets k ≡ name_key r.name → None ≡ lookup (at_key (octets k)) old → new ≡ insert_entry key_cmp old k w → sets w ≡ with_record [] r
+  pub adds_inserted : (k : K) (old new : List (K × V)) (w : V) (there : Option V) (r : Record) → IsZone octets sets old → IsZone octets sets new
+      → octets k ≡ name_key r.name → there ≡ lookup (at_key (octets k)) old → new ≡ insert_entry key_cmp old k w → sets w ≡ with_record (node_sets there) r
       → Adds (sets_of octets sets old) r (sets_of octets sets new)
-  adds_inserted k old new w r was now same absent is holds =
+  adds_inserted k old new w there r was now same found is holds =
       adds old new r w was now
-      (λ q. ap (lookup (at_key q)) is ∙ lookup_inserted q k w old (sym absent) ∙ ap (λ (t : List ℕ). cond (bytes_eq q t) (Some w) (lookup (at_key q) old)) same)
-      (holds ∙ ap (λ (o : Option V). with_record (node_sets o) r) (absent ∙ ap (λ (t : List ℕ). lookup (at_key t) old) same))
+      (λ q. ap (lookup (at_key q)) is ∙ lookup_inserted q k w old ∙ ap (λ (t : List ℕ). cond (bytes_eq q t) (Some w) (lookup (at_key q) old)) same)
+      (holds ∙ ap (λ (o : Option V). with_record (node_sets o) r) (found ∙ ap (λ (t : List ℕ). lookup (at_key t) old) same))

@@ -150,12 +150,28 @@ impl<K> InMemoryZoneHandler<K> {
     }
 
     /// Adds a record to the set of its owner and type, in place of the one with equal data; where there is no such set,
-    /// one is made. Names of the record end at the root.
+    /// one is made. Names of the record end at the root. It makes one key.
     pub fn insert(&mut self, alloc: Global, next: Record) -> Result<(), AllocError>
         requires { ReadsBackAlone next }
         ensures ok { OnOk result (AddsTo self.old next self.new) }
         ensures err { OnErr result (self.new ≡ self.old) }
     {
-        self.sets.add(alloc, next)
+        let key = key_of(alloc, &next.name)?;
+        self.insert_at(alloc, key, next)
+    }
+
+    /// Adds a record as `insert` does, under the key of its owner.
+    pub fn insert_at(
+        &mut self,
+        alloc: Global,
+        key: Vec<u8>,
+        next: Record,
+    ) -> Result<(), AllocError>
+        requires keyed { key.items ≡ name_key next.name }
+        requires alone { ReadsBackAlone next }
+        ensures ok { OnOk result (AddsTo self.old next self.new) }
+        ensures err { OnErr result (self.new ≡ self.old) }
+    {
+        self.sets.add(alloc, key, next)
     }
 }

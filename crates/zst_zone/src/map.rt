@@ -13,8 +13,10 @@ ghost use Rattle.zst_zone.specs.Lookups.{set_found, name_found};
 
 use std::alloc::{AllocError, Global};
 use std::collections::BTreeMap;
+use std::collections::btree_map::Entry;
 use std::marker::Model;
-use zst_record::{Record, RecordSet, RecordType, key_of};
+use std::mem;
+use zst_record::{Record, RecordSet, RecordType};
 
 /// What a map holds for a name and a type.
 #[derive(Clone, Copy)]
@@ -88,20 +90,23 @@ impl ZoneMap {
         }
     }
 
-    /// Adds a record to the set of its owner and type, in place of the one with equal data; where there is no such set,
-    /// one is made.
-    pub fn add(&mut self, alloc: Global, next: Record) -> Result<(), AllocError>
-        requires { ReadsBackAlone next }
+    /// Adds a record, whose owner has this key, to the set of its owner and type, in place of the one with equal data;
+    /// where there is no such set, one is made. The map is searched once.
+    pub fn add(&mut self, alloc: Global, key: Vec<u8>, next: Record) -> Result<(), AllocError>
+        requires keyed { key.items ≡ name_key next.name }
+        requires alone { ReadsBackAlone next }
         ensures ok { OnOk result (Adds self.old next self.new) }
         ensures err { OnErr result (self.new ≡ self.old) }
     {
-        let key = key_of(alloc, &next.name)?;
-        match self.nodes.get_mut(&key) {
-            Some(sets) => add_to_node(alloc, sets, next),
-            None => {
-                let node = node_of(alloc, next)?;
-                self.nodes.insert(key, node)?;
+        match self.nodes.entry(key) {
+            Ok(Entry::Occupied(entry)) => add_to_node(alloc, entry.into_mut(), next),
+            Ok(Entry::Vacant(entry)) => {
+                Entry::Vacant(entry).or_try_insert_with(|| node_of(alloc, next))?;
                 Ok(())
+            }
+            Err(_) => {
+                mem::drop(next);
+                Err(AllocError)
             }
         }
     }

@@ -12,13 +12,13 @@ use Rattle.authority_load.proofs.Readable.{loaded, no_options, own_type, unreada
 use Rattle.authority_load.proofs.line.record_of.Goals as goal
 use Rattle.authority_load.proofs.line.record_of.Goals.{else-is_soa-via-then-is_soa+else-has_soa, else-is_soa-via-else-is_soa}
 
-pub returns-in_err-header : goal.returns-in_err-header
-returns-in_err-header g c =
+pub returns-in_err-header-clause-gives : goal.returns-in_err-header-clause-gives
+returns-in_err-header-clause-gives g c =
     let p = err_from_is_err_and c.from_residual.result c.from_residual.ensures.1 in
     rw (p.1, p.2) (c.in_err-header.ensures c.args.zone.now)
 
-pub returns-in_err-rdata : goal.returns-in_err-rdata
-returns-in_err-rdata g c =
+pub returns-in_err-rdata-clause-gives : goal.returns-in_err-rdata-clause-gives
+returns-in_err-rdata-clause-gives g c =
     let p = err_from_is_err_and c.from_residual-in_err-rdata.result c.from_residual-in_err-rdata.ensures.1 in
     let known = c.in_ok-header.ensures in
     let inside : is_at_or_below c.in_ok-header.header.name c.args.zone.now.origin ≡ true =
@@ -26,8 +26,8 @@ returns-in_err-rdata g c =
     rw (p.1, p.2) (field_refused (IsDataText c.in_ok-header.header.record_type c.in_ok-header.header.rdata.now) c.args.zone.now c.args.line.now causes.Data c.parse_rdata.result _ c.parse_rdata.ensures.value (sym c.in_err-rdata.ensures)
     (data_none c.args.line.now _ known) (none_8 c.args.zone.now c.args.line.now _ known inside))
 
-pub returns-then-not-ends_at_root : goal.returns-then-not-ends_at_root
-returns-then-not-ends_at_root g c =
+pub returns-then-not-ends_at_root-clause-gives : goal.returns-then-not-ends_at_root-clause-gives
+returns-then-not-ends_at_root-clause-gives g c =
     let known = c.in_ok-header.ensures in
     let inside : is_at_or_below c.in_ok-header.header.name c.args.zone.now.origin ≡ true =
     sym (c.is_in_zone.ensures c.in_ok-header.header.name known.owner.full (c.deref.ensures.value ∙ c.in-Ok.ensures.key)) ∙ c.if-not-is_in_zone.false in
@@ -39,8 +39,8 @@ returns-then-not-ends_at_root g c =
       none_9 c.args.zone.now c.args.line.now c.in_ok-rdata.rdata n8 value,
     )
 
-pub returns-then-has_soa : goal.returns-then-has_soa
-returns-then-has_soa g c =
+pub returns-then-has_soa-clause-gives : goal.returns-then-has_soa-clause-gives
+returns-then-has_soa-clause-gives g c =
     let known = c.in_ok-header.ensures in
     let inside : is_at_or_below c.in_ok-header.header.name c.args.zone.now.origin ≡ true =
     sym (c.is_in_zone.ensures c.in_ok-header.header.name known.owner.full (c.deref.ensures.value ∙ c.in-Ok.ensures.key)) ∙ c.if-not-is_in_zone.false in
@@ -54,8 +54,8 @@ returns-then-has_soa g c =
       none_11 c.args.zone.now c.args.line.now c.in_ok-rdata.rdata n8 value full,
     )
 
-pub returns : goal.returns
-returns g c =
+pub returns-clause-gives : goal.returns-clause-gives
+returns-clause-gives g c =
     let known = c.in_ok-header.ensures in
     let inside : is_at_or_below c.in_ok-header.header.name c.args.zone.now.origin ≡ true =
     sym (c.is_in_zone.ensures c.in_ok-header.header.name known.owner.full (c.deref.ensures.value ∙ c.in-Ok.ensures.key)) ∙ c.if-not-is_in_zone.false in

@@ -1,35 +1,41 @@
-use Rattle.std.proofs.Common.{◌∙◌, sym, ap, subst}
-use Rattle.std.specs.Prelude.{List, Result, Ok, Err, OnOk, OnErr}
-use Rattle.std.specs.BTreeMap.{BTreeMap, insert_entry}
+use Rattle.std.proofs.Common.{◌≡◌, ◌∙◌, refl, sym, ap, subst, rules}
+use Rattle.std.specs.Prelude.{List, Result, Ok, Err, OnOk, OnErr, Some, None}
+use Rattle.std.specs.BTreeMap.{BTreeMap}
+use Rattle.std.specs.Map.{keys_of}
 use Rattle.zst_record.specs.Records.{RRset}
 use Rattle.zst_zone.specs.Zones.{Adds}
 use Rattle.zst_zone.specs.ZoneMaps.{sets_of}
 use Rattle.zst_zone.proofs.ZoneMapsBy.{Key, Node, octets, sets}
 use Rattle.zst_zone.proofs.ZoneSets.{same_owner, node_tried, node_alone}
-use Rattle.zst_zone.proofs.ZoneEntries.{key_cmp, node_found, zone_replaced, adds_replaced, same_sets, zone_inserted, adds_inserted}
+use Rattle.zst_zone.proofs.ZoneEntries.{node_found, same_sets, zone_inserted, adds_inserted}
 use Rattle.zst_zone.proofs.map.ZoneMap.add.Goals as goal
 
 pub add_to_node-requires-clause-owned : goal.add_to_node-requires-clause-owned
 add_to_node-requires-clause-owned c =
-    same_owner c.in_ok-key.key.items c.in-Some.sets.now.items c.args.next c.in_ok-key.ensures.key
-    (node_found octets sets c.in_ok-key.key.items c.self.inside.nodes.entries c.in-Some.sets.now c.self.invariant.nodes (sym c.in-Some.ensures.value)).owned
+    same_owner c.args.key.items c.into_mut.result.now.items c.args.next c.requires.keyed
+    (node_found octets sets c.args.key.items c.self.inside.nodes.entries c.into_mut.result.now c.self.invariant.nodes (sym (rw c.in-Ok-Occupied.field-0-is at c.in-Ok-Occupied.ensures.value) ∙ c.into_mut.ensures.value)).owned
 
 pub invariant_of-self : goal.invariant_of-self
 invariant_of-self c =
     let w = c.add_to_node.new.sets in
-    zone_replaced octets sets c.in_ok-key.key.items c.self.inside.nodes.entries (c.get_mut.follows.lender w).entries w c.self.invariant
-    (c.get_mut.follows.holds w).0 (c.get_mut.follows.holds w).4
-    (node_tried c.in_ok-key.key.items c.in-Some.sets.now.items w.items c.args.next c.add_to_node.result
-    (node_found octets sets c.in_ok-key.key.items c.self.inside.nodes.entries c.in-Some.sets.now c.self.invariant.nodes (sym c.in-Some.ensures.value))
-    c.in_ok-key.ensures.key c.requires c.add_to_node.ensures.ok c.add_to_node.ensures.err)
+    let end = c.self-in-Ok-Occupied-1.given.1 (sym (rw c.in-Ok-Occupied.field-0-is at c.in-Ok-Occupied.ensures.same_map)) in
+    zone_inserted octets sets c.args.key c.self.inside.nodes.entries _ w c.self.invariant
+    (ap (λ (m : BTreeMap Key Node). m.entries) end ∙ (rw c.in-Ok-Occupied.field-0-is at c.in-Ok-Occupied.ensures.update).1 w)
+    (rw end ((rw c.in-Ok-Occupied.field-0-is at c.in-Ok-Occupied.ensures.update).2 w))
+    (node_tried c.args.key.items c.into_mut.result.now.items w.items c.args.next c.add_to_node.result
+    (node_found octets sets c.args.key.items c.self.inside.nodes.entries c.into_mut.result.now c.self.invariant.nodes (sym (rw c.in-Ok-Occupied.field-0-is at c.in-Ok-Occupied.ensures.value) ∙ c.into_mut.ensures.value))
+    c.requires.keyed c.requires.alone c.add_to_node.ensures.ok c.add_to_node.ensures.err)
 
-pub invariant_of-self-in-None : goal.invariant_of-self-in-None
-invariant_of-self-in-None c =
-    zone_inserted octets sets c.in_ok-key.key c.self.inside.nodes.entries c.insert.new.self.entries c.in_ok-node-in-None.node c.self.invariant
-    (c.in_ok-insert-in-None.ensures.entries
-    ∙ ap (λ (m : BTreeMap Key Node). insert_entry (key_cmp octets sets) m.entries c.in_ok-key.key c.in_ok-node-in-None.node) c.get_mut.follows.holds-at-none)
-    c.insert.ensures.ordered
-    (node_alone c.in_ok-key.key.items c.in_ok-node-in-None.node.items c.args.next c.in_ok-key.ensures.key c.requires c.in_ok-node-in-None.ensures)
+pub invariant_of-self-in-Ok-Vacant : goal.invariant_of-self-in-Ok-Vacant
+invariant_of-self-in-Ok-Vacant c =
+    let w = c.in_ok-or_try_insert_with-in-Ok-Vacant.field-0.now in
+    let end = c.self-in_ok-or_try_insert_with-in-Ok-Vacant-2-1.given.1 (sym (rw c.in-Ok-Vacant.field-0-is at c.in-Ok-Vacant.ensures.same_map)) in
+    let none = (rw c.in-Ok-Vacant.field-0-is at c.in-Ok-Vacant.ensures.value) ∙ (rw c.in-Ok-Vacant.field-0-is at c.in-Ok-Vacant.ensures.found) in
+    let made = rw none at c.in_ok-or_try_insert_with-in-Ok-Vacant.ensures.value in
+    zone_inserted octets sets c.args.key c.self.inside.nodes.entries _ w c.self.invariant
+    (ap (λ (m : BTreeMap Key Node). m.entries) end ∙ (rw c.in-Ok-Vacant.field-0-is at c.in-Ok-Vacant.ensures.update).1 w)
+    (rw end ((rw c.in-Ok-Vacant.field-0-is at c.in-Ok-Vacant.ensures.update).2 w))
+    (node_alone c.args.key.items w.items c.args.next c.requires.keyed c.requires.alone (search (made, rules)))
 
 on_ok : {T E : Type 0} {P Q : Type 0} (r : Result T E) → (P → Q) → OnOk r P → OnOk r Q
 on_ok (Ok x) f h = f h
@@ -39,29 +45,37 @@ on_err : {T E : Type 0} {P Q : Type 0} (r : Result T E) → (P → Q) → OnErr 
 on_err (Ok x) f h = h
 on_err (Err e) f h = f h
 
-pub returns-in-Some-clause-ok : goal.returns-in-Some-clause-ok
-returns-in-Some-clause-ok c =
+pub returns-in-Ok-Occupied-clause-ok : goal.returns-in-Ok-Occupied-clause-ok
+returns-in-Ok-Occupied-clause-ok c =
     let w = c.add_to_node.new.sets in
+    let end = c.self-in-Ok-Occupied-1.given.1 (sym (rw c.in-Ok-Occupied.field-0-is at c.in-Ok-Occupied.ensures.same_map)) in
     on_ok c.add_to_node.result
-    (λ e. subst (λ (z : List RRset). Adds z c.args.next (sets_of octets sets (c.get_mut.follows.lender w).entries)) c.self.view_is
-    (adds_replaced octets sets c.in_ok-key.key.items c.self.inside.nodes.entries (c.get_mut.follows.lender w).entries c.in-Some.sets.now w c.args.next
-    c.self.invariant (invariant_of-self c) c.in_ok-key.ensures.key c.in-Some.ensures.value (c.get_mut.follows.holds w).0 e))
+    (λ e. subst (λ (z : List RRset). Adds z c.args.next (sets_of octets sets c.self-in-Ok-Occupied-1.given.0.entries)) c.self.view_is
+    (adds_inserted octets sets c.args.key c.self.inside.nodes.entries _ w (Some c.into_mut.result.now) c.args.next
+    c.self.invariant (invariant_of-self c) c.requires.keyed (sym c.into_mut.ensures.value ∙ (rw c.in-Ok-Occupied.field-0-is at c.in-Ok-Occupied.ensures.value))
+    (ap (λ (m : BTreeMap Key Node). m.entries) end ∙ (rw c.in-Ok-Occupied.field-0-is at c.in-Ok-Occupied.ensures.update).1 w) e))
     c.add_to_node.ensures.ok
 
-pub returns-in-Some-clause-err : goal.returns-in-Some-clause-err
-returns-in-Some-clause-err c =
+pub returns-in-Ok-Occupied-clause-err : goal.returns-in-Ok-Occupied-clause-err
+returns-in-Ok-Occupied-clause-err c =
     let w = c.add_to_node.new.sets in
+    let end = c.self-in-Ok-Occupied-1.given.1 (sym (rw c.in-Ok-Occupied.field-0-is at c.in-Ok-Occupied.ensures.same_map)) in
     on_err c.add_to_node.result
-    (λ e. ap (sets_of octets sets) (c.get_mut.follows.holds w).0
-    ∙ same_sets octets sets c.in_ok-key.key.items c.self.inside.nodes.entries c.in-Some.sets.now w (sym c.in-Some.ensures.value) e
+    (λ e. ap (λ (m : BTreeMap Key Node). sets_of octets sets m.entries) end
+    ∙ ap (sets_of octets sets) ((rw c.in-Ok-Occupied.field-0-is at c.in-Ok-Occupied.ensures.update).1 w)
+    ∙ same_sets octets sets c.args.key c.self.inside.nodes.entries c.into_mut.result.now w (sym (rw c.in-Ok-Occupied.field-0-is at c.in-Ok-Occupied.ensures.value) ∙ c.into_mut.ensures.value) e
+    (sym (ap keys_of ((rw c.in-Ok-Occupied.field-0-is at c.in-Ok-Occupied.ensures.update).1 w)) ∙ (rw c.in-Ok-Occupied.field-0-is at c.in-Ok-Occupied.ensures.keys_stay) (rw c.into_mut.ensures.value refl) w)
     ∙ c.self.view_is)
     c.add_to_node.ensures.err
 
-pub returns-in_ok-insert-in-None-clause-ok : goal.returns-in_ok-insert-in-None-clause-ok
-returns-in_ok-insert-in-None-clause-ok c =
-    subst (λ (z : List RRset). Adds z c.args.next (sets_of octets sets c.insert.new.self.entries)) c.self.view_is
-    (adds_inserted octets sets c.in_ok-key.key c.self.inside.nodes.entries c.insert.new.self.entries c.in_ok-node-in-None.node c.args.next c.self.invariant
-    (invariant_of-self-in-None c) c.in_ok-key.ensures.key c.in-None.ensures.value
-    (c.in_ok-insert-in-None.ensures.entries
-    ∙ ap (λ (m : BTreeMap Key Node). insert_entry (key_cmp octets sets) m.entries c.in_ok-key.key c.in_ok-node-in-None.node) c.get_mut.follows.holds-at-none)
-    c.in_ok-node-in-None.ensures)
+pub returns-in-Ok-Vacant-clause-ok : goal.returns-in-Ok-Vacant-clause-ok
+returns-in-Ok-Vacant-clause-ok c =
+    let w = c.in_ok-or_try_insert_with-in-Ok-Vacant.field-0.now in
+    let end = c.self-in_ok-or_try_insert_with-in-Ok-Vacant-2-1.given.1 (sym (rw c.in-Ok-Vacant.field-0-is at c.in-Ok-Vacant.ensures.same_map)) in
+    let none = (rw c.in-Ok-Vacant.field-0-is at c.in-Ok-Vacant.ensures.value) ∙ (rw c.in-Ok-Vacant.field-0-is at c.in-Ok-Vacant.ensures.found) in
+    let made = rw none at c.in_ok-or_try_insert_with-in-Ok-Vacant.ensures.value in
+    subst (λ (z : List RRset). Adds z c.args.next (sets_of octets sets c.self-in_ok-or_try_insert_with-in-Ok-Vacant-2-1.given.0.entries)) c.self.view_is
+    (adds_inserted octets sets c.args.key c.self.inside.nodes.entries _ w None c.args.next
+    c.self.invariant (invariant_of-self-in-Ok-Vacant c) c.requires.keyed (sym (rw c.in-Ok-Vacant.field-0-is at c.in-Ok-Vacant.ensures.found))
+    (ap (λ (m : BTreeMap Key Node). m.entries) end ∙ (rw c.in-Ok-Vacant.field-0-is at c.in-Ok-Vacant.ensures.update).1 w)
+    (search (made, rules)))
