@@ -161,12 +161,7 @@ impl<K> InMemoryZoneHandler<K> {
     }
 
     /// Adds a record as `insert` does, under the key of its owner.
-    pub fn insert_at(
-        &mut self,
-        alloc: Global,
-        key: Vec<u8>,
-        next: Record,
-    ) -> Result<(), AllocError>
+    pub fn insert_at(&mut self, alloc: Global, key: Vec<u8>, next: Record) -> Result<(), AllocError>
         requires keyed { key.items ≡ name_key next.name }
         requires alone { ReadsBackAlone next }
         ensures ok { OnOk result (AddsTo self.old next self.new) }
