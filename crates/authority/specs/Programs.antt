@@ -1,6 +1,10 @@
 -- What the program does with its words, its zone's file and its input.
 use Rattle.std.specs.Prelude.{◌≡◌, ℕ, ◌⊎◌, false, List, [], ◌∷◌, Option, Some, None, Result, Ok, Err}
 use Rattle.std.specs.Io.KnownBytes.{IsAtEnd}
+use Rattle.std.specs.Net.Addr.{ipv4_octets}
+use Rattle.std.specs.Net.Socket.{socket_ip, socket_port}
+use Rattle.std.specs.declared.net.Ipv4Addr.{Ipv4Addr}
+use Rattle.std.specs.declared.net.IpAddr.TheVariants as addresses
 use Rattle.std.specs.declared.net.SocketAddr.{SocketAddr}
 use Rattle.authority_load.specs.declared.text.TextError.{TextError}
 use Rattle.authority_load.specs.declared.text.TextError.TheVariants as texts
@@ -46,12 +50,20 @@ pub record Starts (words : List (List ℕ)) (file : Option (List ℕ)) : Type 0 
   pub readable : file ≡ Some text
   pub loaded : IsZoneText (first_zone origin) text zone
 
+-- Each message counts as sent from 127.0.0.1, port 53.
+pub record IsLoopback (source : SocketAddr) : Type 0 where
+  pub address : Ipv4Addr
+  pub ip : socket_ip source ≡ addresses.V4 address
+  pub octets : ipv4_octets address ≡ 127 ∷ 0 ∷ 0 ∷ 1 ∷ []
+  pub port : socket_port source ≡ 53
+
 -- It started, and served the frames of its input over that zone, up to the input's end; the zone is
 -- as before.
 pub record Finishes (words : List (List ℕ))
     (file left rest before after : Option (List ℕ)) : Type 0 where
   pub starts : Starts words file
   pub source : SocketAddr
+  pub from_here : IsLoopback source
   pub frames : ServesFrames (record { zone = starts.zone }) source starts.now left rest before after
       (record { zone = starts.zone })
   pub ended : IsAtEnd rest
@@ -62,6 +74,7 @@ pub record LeavesStream (words : List (List ℕ)) (file left rest before after :
     (fault : StreamError) : Type 0 where
   pub starts : Starts words file
   pub source : SocketAddr
+  pub from_here : IsLoopback source
   pub frames : ServesUntil (record { zone = starts.zone }) source starts.now left rest before after
       (record { zone = starts.zone }) fault
 

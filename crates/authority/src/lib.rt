@@ -6,8 +6,8 @@ pub use authority_load::{
     ProtoError, RrKey, Salt, ZoneSettings, ZoneType, load_zone,
 };
 pub use authority_server::{
-    A, Arrival, Authority, DNSClass, Label, NS, Name, NoSuite, Protocol, RData, Record, RecordSet,
-    RecordType, SOA, ServeError, StreamError,
+    A, Arrival, Authority, DNSClass, Faults, Label, NS, Name, NoSuite, Protocol, RData, Record,
+    RecordSet, RecordType, SOA, ServeError, StreamError,
 };
 
 pub mod program;

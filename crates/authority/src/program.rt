@@ -2,7 +2,7 @@
 
 ghost use Rattle.std.specs.Prelude.{◌≡◌, true, map, option_copied};
 ghost use Rattle.std.specs.String.{string_bytes};
-ghost use Rattle.authority.specs.Programs.{Answers, StatusIs, TextGives, WordsGive, read_or_usage, status_of};
+ghost use Rattle.authority.specs.Programs.{Answers, IsLoopback, StatusIs, TextGives, WordsGive, read_or_usage, status_of};
 
 use authority_load::{
     AxfrPolicy, InMemoryZoneHandler, LoadError, TextError, ZoneSettings, ZoneType, load_zone,
@@ -97,12 +97,19 @@ fn serve<R: Read, W: Write>(
         return Err(Fault::ZoneFile);
     };
     let zone = load(alloc, command.origin, text)?;
-    let source = SocketAddr::V4(SocketAddrV4::new(Ipv4Addr::new(127, 0, 0, 1), 53));
+    let source = loopback();
     let mut server = Authority::with_zone(alloc, NoSuite, zone);
     match server.serve_stream(reader, writer, source, command.now) {
         Ok(()) => Ok(()),
         Err(fault) => Err(Fault::Stream(fault)),
     }
+}
+
+/// Where each message counts as sent from: 127.0.0.1, port 53.
+fn loopback() -> SocketAddr
+    ensures { IsLoopback result }
+{
+    SocketAddr::V4(SocketAddrV4::new(Ipv4Addr::new(127, 0, 0, 1), 53))
 }
 
 /// The zone of the text: kept here, to be transferred by everybody, without proofs of absence.

@@ -1,5 +1,5 @@
 -- Which data of the types that are loaded can be read: those whose names end at the root.
-use Rattle.std.proofs.Common.{◌≡◌, sym, ap, ◌∙◌, subst, ℕ, Bool, true, false, ◌&&◌, if◌then◌else◌, List, [], ◌∷◌, Some, None}
+use Rattle.std.proofs.Common.{◌≡◌, refl, sym, ap, ◌∙◌, subst, ℕ, Bool, true, false, ◌&&◌, if◌then◌else◌, List, [], ◌∷◌, Some, None}
 use Rattle.std.proofs.lemmas.Bool.{and_parts, both_ways}
 use Rattle.std.specs.Cmp.Derive.{both_true}
 use Rattle.std.specs.Str.{str_eq_ignore_ascii_case}
@@ -18,7 +18,7 @@ use Rattle.zst_zone.specs.drd_rdata.Reading.{IsReadable}
 use Rattle.zst_zone.specs.drd_rdata.Texts.{IsTextOf}
 use Rattle.zst_zone.proofs.drd_rdata_lemmas.ReadableLaws.{a_read, ns_ends, ns_read, soa_ends, soa_read}
 use Rattle.authority_load.specs.ZoneText.{has_full_names, type_of_text}
-use Rattle.zst_zone.specs.zst_record.Records.{IsOwnType}
+use Rattle.zst_zone.specs.zst_record.Records.{IsOwnType, belongs_to_message}
 
 -- ---- the types that are loaded
 abbrev pub IsLoaded : RecordType → Type 0
@@ -43,8 +43,11 @@ own_type types.NS is = tt
 own_type types.SOA is = tt
 own_type other is = absurd is
 
-pub no_options : (t : RecordType) → IsLoaded t → t ≡ types.OPT → ⊥
-no_options t is e = let wrong : IsLoaded types.OPT = subst IsLoaded e is in wrong
+pub of_zones : (t : RecordType) → IsLoaded t → belongs_to_message t ≡ false
+of_zones types.A is = refl
+of_zones types.NS is = refl
+of_zones types.SOA is = refl
+of_zones other is = absurd is
 
 -- ---- data whose names end at the root can be read
 name_is : (n : DomainName) (Rest : List (List ℕ) → Type 0) (words : List (List ℕ)) → OneThen (IsNameWord None n) Rest words → IsDomainName n

@@ -7,7 +7,16 @@ use Rattle.std.proofs.Math.Seq.{take-append-add, take-length}
 use Rattle.std.proofs.lemmas.List.{take-append-le}
 use Rattle.authority_server.specs.declared.stream.StreamError.{StreamError}
 use Rattle.authority_server.specs.declared.stream.StreamError.TheVariants as errors
+use Rattle.authority_server.specs.declared.faults.Faults.{Faults}
+use Rattle.authority_server.specs.Faults.{IsFaultOf, NoneFailed, WriterFailed, no_faults, reader_failed}
 use Rattle.authority_server.specs.Frames.{in_length, in_message, ReadsLess, IsMessageFault, IsReadFault, WritesFront}
+
+-- What a part records is what the whole tells.
+pub read_cause : (faults : Faults) (fault : StreamError) → (fault ≡ errors.Read) × (faults ≡ reader_failed) → IsFaultOf faults fault
+read_cause faults fault (is, failed) = subst (IsFaultOf faults) (sym is) failed
+
+pub write_cause : (faults : Faults) (fault : StreamError) → fault ≡ errors.Write → WriterFailed faults → IsFaultOf faults fault
+write_cause faults fault is failed = subst (IsFaultOf faults) (sym is) failed
 
 -- A fault inside the length of a frame.
 pub length_fault : (left rest : Option (List ℕ)) (fault : StreamError) → (fault ≡ errors.Read) × ReadsLess left rest 2 → IsReadFault left rest fault

@@ -19,10 +19,10 @@ use Rattle.std.specs.Ordering.{nat_cmp}
 use Rattle.std.specs.declared.cmp.Ordering.TheVariants.{Less}
 use Rattle.zsv_message.specs.dnw_name.NameKey.{rank, name_key}
 use Rattle.std.specs.Net.Addr.{ipv4_bits}
-use Rattle.zsv_message.specs.dnw_decoder.Octets.{octets_32}
+use Rattle.zsv_message.specs.dnw_decoder.Octets.{octets_16, octets_32}
 use Rattle.zsv_message.specs.Headers.{header_of}
 use Rattle.zsv_message.specs.drd_rdata.Writing.{written_octets}
-use Rattle.zsv_message.specs.zst_record.Records.{fixed_octets, plain}
+use Rattle.zsv_message.specs.zst_record.Records.{plain}
 use Rattle.zsv_message.specs.dnw_decoder.Spelling.{NameAt, at_end, at_label}
 use Rattle.zsv_message.specs.Requests.{Request, QuestionAt}
 use Rattle.zst_zone.specs.Zones.{View, lookup_result, answered, name_exists, name_error, out_of_zone}
@@ -121,7 +121,7 @@ outside : lookup_result zone elsewhere types.A ≡ out_of_zone
 outside = refl
 
 -- The address record takes 31 octets, four of them data.
-address_octets : name_octets address.name ++ fixed_octets address 4 ++ written_octets address.rdata ≡ name_octets (below (codes "www")) ++ (0 ∷ 1 ∷ 0 ∷ 1 ∷ 0 ∷ 0 ∷ 14 ∷ 16 ∷ 0 ∷ 4 ∷ 192 ∷ 0 ∷ 2 ∷ 1 ∷ [])
+address_octets : name_octets address.name ++ (octets_16 1 ++ octets_16 1 ++ octets_32 address.ttl ++ octets_16 4) ++ written_octets address.rdata ≡ name_octets (below (codes "www")) ++ (0 ∷ 1 ∷ 0 ∷ 1 ∷ 0 ∷ 0 ∷ 14 ∷ 16 ∷ 0 ∷ 4 ∷ 192 ∷ 0 ∷ 2 ∷ 1 ∷ [])
 unfolding octets_32 ipv4_bits
 address_octets = refl
 

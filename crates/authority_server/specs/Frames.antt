@@ -1,6 +1,6 @@
 -- Messages on a stream: RFC 1035, section 4.2.2.
 use Rattle.std.specs.Prelude.{◌≡◌, ℕ, ◌-◌, ◌^◌, ◌<◌, false, List, [], ◌++◌, length, take, map, Option, Some, None}
-use Rattle.std.specs.List.{flat_map}
+use Rattle.std.specs.List.{AllByRecursion, flat_map}
 use Rattle.std.specs.declared.net.SocketAddr.{SocketAddr}
 use Rattle.authority_server.specs.declared.server.Protocol.TheVariants as protocols
 use Rattle.std.specs.Int.{w16, to_be_bytes}
@@ -85,6 +85,10 @@ stream_message source moment message = record {
   now = moment;
 }
 
+-- Two octets tell the length of a message on a stream.
+abbrev pub IsFramed : List ℕ → Type 0
+IsFramed message = length message < 2 ^ 16
+
 -- The frames of these messages were read, and the messages served in order, each answer's frame
 -- written behind those before. Of a reader or a writer that doesn't tell its octets nothing is
 -- said.
@@ -92,6 +96,7 @@ pub record ServesFrames (old : World) (source : SocketAddr) (moment : ℕ)
     (left rest before after : Option (List ℕ)) (new : World) : Type 0 where
   pub messages : List (List ℕ)
   pub answers : List (Option (List ℕ))
+  pub framed : AllByRecursion IsFramed messages
   pub read : Consumes left rest (flat_map frame_of messages)
   pub run : ServesAll old (map (stream_message source moment) messages) answers new
   pub written : Appends before after (flat_map frame_of_answer answers)
@@ -102,7 +107,7 @@ pub data Leaves (source : SocketAddr) (moment : ℕ) (old : World)
     (left rest before after : Option (List ℕ)) (new : World) (fault : StreamError) : Type 0 where
   reading : IsReadFault left rest fault → after ≡ before → new ≡ old
       → Leaves source moment old left rest before after new fault
-  serving : (message : List ℕ) → Consumes left rest (frame_of message)
+  serving : (message : List ℕ) → IsFramed message → Consumes left rest (frame_of message)
       → IsServeFault old (stream_message source moment message) before after new fault
       → Leaves source moment old left rest before after new fault
   counting : fault ≡ errors.TooLong → rest ≡ left → after ≡ before → new ≡ old

@@ -6,8 +6,10 @@
 
 pub use zsv_message::{A, DNSClass, Label, NS, Name, RData, Record, RecordSet, RecordType, SOA};
 
+mod faults;
 mod server;
 mod stream;
 
+pub use faults::Faults;
 pub use server::{Arrival, Authority, NoSuite, Protocol, ServeError};
 pub use stream::StreamError;

@@ -3,8 +3,10 @@
 ghost use Rattle.std.specs.Prelude.{◌≡◌, ◌<◌, ◌≤◌, ◌^◌, ℕ, true, false, length, take, [], Ok, Err, IfOk, IfErr, IfSome, OnOk, None};
 ghost use Rattle.std.specs.Int.{w16, to_be_bytes};
 ghost use Rattle.std.specs.Io.KnownBytes.{Consumes, Appends, IsAtEnd};
+ghost use Rattle.authority_server.specs.Faults.{IsFaultOf, NoneFailed, WriterFailed, no_faults, reader_failed};
 ghost use Rattle.authority_server.specs.Frames.{frame_of, stream_message, ReadsLess, IsMessageFault, IsReadFault, WritesFront, IsServeFault, ServesFrame, ServesFrames, ServesUntil};
 
+use crate::faults::Faults;
 use crate::server::{Authority, Protocol, ServeError};
 use std::io::{Read, Write};
 use std::net::SocketAddr;
@@ -35,18 +37,25 @@ pub enum StreamError {
 }
 
 // Reads until the buffer is full or the input ends; how many octets came.
-fn fill<R: Read>(reader: &mut R, buffer: &mut [u8]) -> Result<usize, StreamError>
+fn fill<R: Read>(
+    reader: &mut R,
+    faults: &mut Faults,
+    buffer: &mut [u8],
+) -> Result<usize, StreamError>
+    requires { faults.old ≡ no_faults }
     ensures within { IfOk result (λ count. count ≤ length buffer.new) }
     ensures consumed { IfOk result (λ count. Consumes (R.remaining reader.old) (R.remaining reader.new) (take count buffer.new)) }
     ensures at_end { IfOk result (λ count. count < length buffer.new → IsAtEnd (R.remaining reader.new)) }
-    ensures fault { IfErr result (λ e. (e ≡ StreamError.Read) × ReadsLess (R.remaining reader.old) (R.remaining reader.new) (length buffer.new)) }
+    ensures well { OnOk result (faults.new ≡ no_faults) }
+    ensures cause { IfErr result (λ e. (e ≡ StreamError.Read) × (faults.new ≡ reader_failed)) }
+    ensures fault { IfErr result (λ e. ReadsLess (R.remaining reader.old) (R.remaining reader.new) (length buffer.new)) }
 {
     let mut at = 0;
     'filling: while at < buffer.len() {
-        match reader.read(&mut buffer[at..]) {
-            Ok(0) => return Ok(at),
-            Ok(count) => at += count,
-            Err(_) => return Err(StreamError::Read),
+        match faults.read(reader, &mut buffer[at..]) {
+            Some(0) => return Ok(at),
+            Some(count) => at += count,
+            None => return Err(StreamError::Read),
         }
     }
     Ok(at)
@@ -61,13 +70,16 @@ fn length_in(octets: &[u8]) -> u16
 }
 
 // Reads the length of the next message, or None where the input ended before it.
-fn read_length<R: Read>(reader: &mut R) -> Result<Option<u16>, StreamError>
+fn read_length<R: Read>(reader: &mut R, faults: &mut Faults) -> Result<Option<u16>, StreamError>
+    requires { faults.old ≡ no_faults }
     ensures whole { IfOk result (λ found. IfSome found (λ size. Consumes (R.remaining reader.old) (R.remaining reader.new) (to_be_bytes w16 size))) }
     ensures end { result ≡ Ok None → Consumes (R.remaining reader.old) (R.remaining reader.new) [] × IsAtEnd (R.remaining reader.new) }
+    ensures well { OnOk result (faults.new ≡ no_faults) }
+    ensures cause { IfErr result (IsFaultOf faults.new) }
     ensures fault { IfErr result (IsReadFault (R.remaining reader.old) (R.remaining reader.new)) }
 {
     let mut octets = [0u8; 2];
-    let count = fill(reader, &mut octets)?;
+    let count = fill(reader, faults, &mut octets)?;
     if count == 0 {
         return Ok(None);
     }
@@ -78,16 +90,24 @@ fn read_length<R: Read>(reader: &mut R) -> Result<Option<u16>, StreamError>
 }
 
 // Reads a message of this length into a frame.
-fn read_message<R: Read>(reader: &mut R, frame: &mut Vec<u8>, size: u16) -> Result<(), StreamError>
+fn read_message<R: Read>(
+    reader: &mut R,
+    faults: &mut Faults,
+    frame: &mut Vec<u8>,
+    size: u16,
+) -> Result<(), StreamError>
+    requires { faults.old ≡ no_faults }
     ensures whole { OnOk result (Consumes (R.remaining reader.old) (R.remaining reader.new) frame.new.items) }
     ensures long { OnOk result (length frame.new.items ≡ size) }
+    ensures well { OnOk result (faults.new ≡ no_faults) }
+    ensures cause { IfErr result (IsFaultOf faults.new) }
     ensures fault { IfErr result (IsMessageFault (R.remaining reader.old) (R.remaining reader.new) size) }
 {
     frame.clear();
     if frame.resize(size as usize, 0).is_err() {
         return Err(StreamError::OutOfMemory { applied: false });
     }
-    let count = fill(reader, frame.as_mut_slice())?;
+    let count = fill(reader, faults, frame.as_mut_slice())?;
     if count < frame.len() {
         return Err(StreamError::CutFrame);
     }
@@ -95,49 +115,67 @@ fn read_message<R: Read>(reader: &mut R, frame: &mut Vec<u8>, size: u16) -> Resu
 }
 
 // Reads one frame: whether one came before the input ended.
-fn read_frame<R: Read>(reader: &mut R, frame: &mut Vec<u8>) -> Result<bool, StreamError>
+fn read_frame<R: Read>(
+    reader: &mut R,
+    faults: &mut Faults,
+    frame: &mut Vec<u8>,
+) -> Result<bool, StreamError>
+    requires { faults.old ≡ no_faults }
     ensures whole { result ≡ Ok true → Consumes (R.remaining reader.old) (R.remaining reader.new) (frame_of frame.new.items) }
+    ensures short { result ≡ Ok true → length frame.new.items < 2 ^ 16 }
     ensures end { result ≡ Ok false → Consumes (R.remaining reader.old) (R.remaining reader.new) [] × IsAtEnd (R.remaining reader.new) }
+    ensures well { OnOk result (faults.new ≡ no_faults) }
+    ensures cause { IfErr result (IsFaultOf faults.new) }
     ensures fault { IfErr result (IsReadFault (R.remaining reader.old) (R.remaining reader.new)) }
 {
-    match read_length(reader)? {
+    match read_length(reader, faults)? {
         None => Ok(false),
         Some(size) => {
-            read_message(reader, frame, size)?;
+            read_message(reader, faults, frame, size)?;
             Ok(true)
         }
     }
 }
 
 // Writes octets.
-fn put<W: Write>(writer: &mut W, octets: &[u8]) -> Result<(), StreamError>
+fn put<W: Write>(writer: &mut W, faults: &mut Faults, octets: &[u8]) -> Result<(), StreamError>
+    requires { NoneFailed faults.old }
     ensures written { OnOk result (Appends (W.contents writer.old) (W.contents writer.new) octets.now) }
+    ensures well { OnOk result (NoneFailed faults.new) }
+    ensures cause { IfErr result (λ e. WriterFailed faults.new) }
     ensures fault { IfErr result
         (λ e. (e ≡ StreamError.Write) × (count : ℕ) × (count ≤ length octets.now)
         × Appends (W.contents writer.old) (W.contents writer.new) (take count octets.now)) }
 {
     let mut at = 0;
     'writing: while at < octets.len() {
-        match writer.write(&octets[at..]) {
-            Ok(0) => return Err(StreamError::Write),
-            Ok(count) => at += count,
-            Err(_) => return Err(StreamError::Write),
+        match faults.write(writer, &octets[at..]) {
+            Some(count) => at += count,
+            None => return Err(StreamError::Write),
         }
     }
     Ok(())
 }
 
-// Writes one frame.
-fn write_frame<W: Write>(writer: &mut W, message: &[u8]) -> Result<(), StreamError>
-    requires { length message.now < 2 ^ 16 }
+// Writes one frame, and flushes it.
+fn write_frame<W: Write>(
+    writer: &mut W,
+    faults: &mut Faults,
+    message: &[u8],
+) -> Result<(), StreamError>
+    requires short { length message.now < 2 ^ 16 }
+    requires none { faults.old ≡ no_faults }
     ensures written { OnOk result (Appends (W.contents writer.old) (W.contents writer.new) (frame_of message.now)) }
+    ensures flushed { OnOk result (faults.new ≡ no_faults) }
+    ensures cause { IfErr result (λ e. WriterFailed faults.new) }
     ensures fault { IfErr result (λ e. (e ≡ StreamError.Write) × WritesFront (W.contents writer.old) (W.contents writer.new) (frame_of message.now)) }
 {
-    put(writer, &(message.len() as u16).to_be_bytes())?;
-    put(writer, message)?;
-    match writer.flush() {
-        Ok(()) => Ok(()),
-        Err(_) => Err(StreamError::Write),
+    put(writer, faults, &(message.len() as u16).to_be_bytes())?;
+    put(writer, faults, message)?;
+    if faults.flush(writer) {
+        Ok(())
+    } else {
+        Err(StreamError::Write)
     }
 }
 
@@ -147,14 +185,18 @@ impl<S, K> Authority<S, K> {
         &mut self,
         message: &[u8],
         writer: &mut W,
+        faults: &mut Faults,
         src: SocketAddr,
         now: u64,
     ) -> Result<(), StreamError>
+        requires { faults.old ≡ no_faults }
+        ensures flushed { OnOk result (faults.new ≡ no_faults) }
+        ensures cause { IfErr result (IsFaultOf faults.new) }
         ensures served { OnOk result (ServesFrame self.old (stream_message src now message.now) (W.contents writer.old) (W.contents writer.new) self.new) }
         ensures fault { IfErr result (IsServeFault self.old (stream_message src now message.now) (W.contents writer.old) (W.contents writer.new) self.new) }
     {
         match self.serve(message, src, Protocol::Tcp, now) {
-            Ok(Some(reply)) => write_frame(writer, &reply),
+            Ok(Some(reply)) => write_frame(writer, faults, &reply),
             Ok(None) => Ok(()),
             Err(ServeError::OutOfMemory { applied }) => Err(StreamError::OutOfMemory { applied }),
         }
@@ -179,12 +221,39 @@ impl<S, K> Authority<S, K> {
             (W.contents writer.new) self.new) }
         ensures cut { result ≡ Err StreamError.CutFrame → IsAtEnd (R.remaining reader.new) }
     {
+        self.serve_stream_with(reader, writer, &mut Faults::none(), src, now)
+    }
+
+    /// Serves as `serve_stream` does, and records beside the stream which side failed: `Read` comes only where the reader
+    /// answered a fault, `Write` only where the writer did, took no octets or failed to flush, and any other answer only
+    /// where all that was written is flushed.
+    pub fn serve_stream_with<R: Read, W: Write>(
+        &mut self,
+        reader: &mut R,
+        writer: &mut W,
+        faults: &mut Faults,
+        src: SocketAddr,
+        now: u64,
+    ) -> Result<(), StreamError>
+        requires { faults.old ≡ no_faults }
+        ensures flushed { OnOk result (faults.new ≡ no_faults) }
+        ensures cause { IfErr result (IsFaultOf faults.new) }
+        ensures unchanged { self.new ≡ self.old }
+        ensures served { OnOk result
+            (ServesFrames self.old src now (R.remaining reader.old) (R.remaining reader.new) (W.contents writer.old)
+            (W.contents writer.new) self.new) }
+        ensures ended { OnOk result (IsAtEnd (R.remaining reader.new)) }
+        ensures left { IfErr result
+            (ServesUntil self.old src now (R.remaining reader.old) (R.remaining reader.new) (W.contents writer.old)
+            (W.contents writer.new) self.new) }
+        ensures cut { result ≡ Err StreamError.CutFrame → IsAtEnd (R.remaining reader.new) }
+    {
         let mut frame = Vec::new(self.alloc());
         'frames: for _ in 0..u64::MAX {
-            if !read_frame(reader, &mut frame)? {
+            if !read_frame(reader, faults, &mut frame)? {
                 return Ok(());
             }
-            self.serve_frame(&frame, writer, src, now)?;
+            self.serve_frame(&frame, writer, faults, src, now)?;
         }
         Err(StreamError::TooLong)
     }

@@ -1,5 +1,5 @@
 -- A record that is written piece by piece.
-use Rattle.std.proofs.Common.{◌≡◌, ℕ, ◌+◌, ◌≤◌, inr, List, ◌++◌, length, refl, sym, ap, subst, ◌∙◌, arith}
+use Rattle.std.proofs.Common.{◌≡◌, ℕ, ◌+◌, ◌^◌, ◌<◌, ◌≤◌, inr, List, length, refl, sym, ap, subst, ◌∙◌, arith}
 use Rattle.std.specs.Prelude.{Result, Ok, Err, OnOk, OnErr}
 use Rattle.drd_rdata.specs.dnw_codes.DNSClass.{class_number}
 use Rattle.drd_rdata.specs.dnw_codes.RecordType.{record_type_number}
@@ -7,7 +7,7 @@ use Rattle.drd_rdata.specs.dnw_codes.declared.error.ProtoError.{ProtoError}
 use Rattle.drd_rdata.specs.dnw_codes.declared.record_type.RecordType.TheVariants.{OPT}
 use Rattle.drd_rdata.specs.dnw_decoder.Octets.{octets_16, octets_32, Stands}
 use Rattle.drd_rdata.specs.dnw_decoder.Spelling.{NameAt}
-use Rattle.drd_rdata.proofs.dnw_decoder_lemmas.Standing.{stands_joined, length-octets_32}
+use Rattle.drd_rdata.proofs.dnw_decoder_lemmas.Standing.{length-octets_32}
 use Rattle.drd_rdata.specs.dnw_encoder.Effects.{StaysTrue, Keeps, Writes, WritesOctets, Opens, Fills, IsRefusal, place_of}
 use Rattle.drd_rdata.proofs.dnw_encoder_lemmas.Laws.{holds_more, holds_same, holds_written, keeps_then, modes_then, puts_stands, writes_then}
 use Rattle.drd_fields.specs.dnw_encoder.Members.{In}
@@ -21,7 +21,7 @@ use Rattle.drd_rdata.specs.Types.{type_of}
 use Rattle.drd_rdata.specs.Writing.{EmitsRData, RefusesRData, WritesInFull, written_octets}
 use Rattle.drd_rdata.proofs.WrittenLaws.{HoldsSome, data_within, encoded_full, written_holds, written_size, written_refused}
 use Rattle.drd_rdata.specs.declared.rdata.RData.{RData}
-use Rattle.zst_record.specs.Records.{head_octets}
+use Rattle.zst_record.proofs.OwnCodes.{class_read, class_small, no_options, type_read, type_small}
 use Rattle.zst_record.specs.Writing.{HeadAt, EmitsHead, DataAt, EmitsBehindLength, EmitsRecord, RefusesBehindLength, RefusesRecord}
 use Rattle.zst_record.specs.declared.records.Record.{Record}
 
@@ -38,9 +38,9 @@ full_after a b w full = record {
 }
 
 -- ---- owner, type, class and time to live
-pub head_emitted : (r : Record) (a b c d e : State) → EmitsName r.name a b → Writes a b → WritesOctets (octets_16 (record_type_number (type_of r.rdata))) b c → Writes b c → WritesOctets (octets_16 (class_number r.dns_class)) c d → Writes c d → WritesOctets (octets_32 r.ttl) d e → Writes d e → EmitsHead r a e
-head_emitted r a b c d e name ab kind bc class cd ttl de = record {
-  stays = λ full_name full.
+pub head_emitted : (r : Record) (a b c d e : State) → EmitsName r.name a b → Writes a b → WritesOctets (octets_16 (record_type_number (type_of r.rdata))) b c → Writes b c → WritesOctets (octets_16 (class_number r.dns_class)) c d → Writes c d → WritesOctets (octets_32 r.ttl) d e → Writes d e → r.ttl < 2 ^ 32 → EmitsHead r a e
+head_emitted r a b c d e name ab kind bc class cd ttl de small = record {
+  stays = λ full_name own_type own_class full.
       let be = writes_then b c e bc (writes_then c d e cd de) in
       let named : StaysTrue b b.offset (λ m. NameAt m a.offset r.name b.offset) = subst (λ (n : DomainName). StaysTrue b b.offset (λ m. NameAt m a.offset n b.offset)) (encoded_full a.encoding r.name full.same_case full_name) (name.stays full.sound) in
       let sound_b = ab.sound full.sound in
@@ -52,11 +52,24 @@ head_emitted r a b c d e name ab kind bc class cd ttl de = record {
       let third = puts_stands (octets_32 r.ttl) d e sound_d ttl in
       record {
         of = λ later agrees. record {
-          middle = b.offset;
+          owner_end = b.offset;
+          type_end = c.offset;
+          class_end = d.offset;
           owner = owner.of later agrees;
-          head =
-              stands_joined later b.offset (octets_16 (record_type_number (type_of r.rdata))) c.offset (octets_16 (class_number r.dns_class) ++ octets_32 r.ttl) e.offset (first.of later agrees)
-              (stands_joined later c.offset (octets_16 (class_number r.dns_class)) d.offset (octets_32 r.ttl) e.offset (second.of later agrees) (third.of later agrees));
+          record_type = record {
+            number = record_type_number (type_of r.rdata);
+            small = type_small (type_of r.rdata) own_type;
+            there = first.of later agrees;
+            means = type_read (type_of r.rdata) own_type;
+          };
+          dns_class = record {
+            number = class_number r.dns_class;
+            small = class_small r.dns_class own_class;
+            there = second.of later agrees;
+            means = class_read r.dns_class own_class;
+          };
+          ttl = third.of later agrees;
+          small_ttl = small;
         };
       };
   size = omega (arith, name.size, kind.offset, class.offset, ttl.offset, length-octets_32 r.ttl);
@@ -79,8 +92,8 @@ pub replaced_writes : (p : ℕ) (more : List ℕ) (a b c : State) (r : Result (U
 replaced_writes p more a b c (Ok done) at w fills same = filled_writes p more a b c at w fills
 replaced_writes p more a b c (Err e) at w fills same = subst (λ (s : State). Writes a s) (sym same) w
 
-data_filled : (v : RData) (n : ℕ) (a b c d : State) → Opens a.offset 2 a b → Writes a b → EmitsRData v b c → Writes b c → Fills a.offset (octets_16 n) c d → a.offset + 2 + n ≡ c.offset → IsReadable v → (type_of v ≡ OPT → ⊥) → WritesInFull a → StaysTrue d d.offset (λ message. DataAt message a.offset v d.offset)
-data_filled v n a b c d opens ab emits bc fills long readable none full =
+data_filled : (v : RData) (n : ℕ) (a b c d : State) → Opens a.offset 2 a b → Writes a b → EmitsRData v b c → Writes b c → Fills a.offset (octets_16 n) c d → a.offset + 2 + n ≡ c.offset → n < 2 ^ 16 → IsReadable v → (type_of v ≡ OPT → ⊥) → WritesInFull a → StaysTrue d d.offset (λ message. DataAt message a.offset v d.offset)
+data_filled v n a b c d opens ab emits bc fills long small readable none full =
     let written = written_holds (type_of v) readable.message readable.place v readable.end (refl, readable.there) readable.some none b c (full_after a b ab full) emits in
     let stays = holds_more c.offset d.offset d (λ m. HoldsSome (type_of v) m b.offset v c.offset) (omega (arith, fills.offset)) (holds_same c.offset c.offset c d (λ m. HoldsSome (type_of v) m b.offset v c.offset) (fills.same c.offset) (omega arith) written) in
     let counted = holds_more (a.offset + 2) d.offset d (λ m. Stands m a.offset (octets_16 n) (a.offset + 2)) (omega (arith, fills.offset, long)) (fills.stays (bc.sound (ab.sound full.sound))) in
@@ -92,17 +105,18 @@ data_filled v n a b c d opens ab emits bc fills long readable none full =
           record {
             len = n;
             number = counted.of later agrees;
+            small = small;
             data_there = inr (omega (arith, found.1, from, to), subst (λ (q : ℕ). HoldsAs (type_of v) later (a.offset + 2) v q) to (subst (λ (p : ℕ). HoldsAs (type_of v) later p v c.offset) from found.0));
             filled = omega (arith, fills.offset, to);
           };
     }
 
-pub behind_emitted : (v : RData) (p n : ℕ) (a b c d : State) → Opens p 2 a b → Writes a b → a.offset + 2 ≤ a.maximum → EmitsRData v b c → Writes b c → Fills p (octets_16 n) c d → p + 2 + n ≡ c.offset → EmitsBehindLength v a d
-behind_emitted v p n a b c d opens ab room emits bc fills long =
+pub behind_emitted : (v : RData) (p n : ℕ) (a b c d : State) → Opens p 2 a b → Writes a b → a.offset + 2 ≤ a.maximum → EmitsRData v b c → Writes b c → Fills p (octets_16 n) c d → p + 2 + n ≡ c.offset → n < 2 ^ 16 → EmitsBehindLength v a d
+behind_emitted v p n a b c d opens ab room emits bc fills long short =
     let within = within_then a b c ab.modes.maximum bc.forward (λ more. omega (arith, opens.offset, room)) (data_within v b c emits) (omega (arith, opens.offset, bc.forward)) in
     record {
       stays = λ readable none full small.
-          data_filled v n a b c d (subst (λ (q : ℕ). Opens q 2 a b) opens.at opens) ab emits bc (subst (λ (q : ℕ). Fills q (octets_16 n) c d) opens.at fills) (omega (arith, long, opens.at)) readable none full;
+          data_filled v n a b c d (subst (λ (q : ℕ). Opens q 2 a b) opens.at opens) ab emits bc (subst (λ (q : ℕ). Fills q (octets_16 n) c d) opens.at fills) (omega (arith, long, opens.at)) short readable none full;
       size = λ readable. omega (arith, fills.offset, opens.offset, written_size (type_of v) readable.message readable.place v readable.end (refl, readable.there) b c emits);
       fits = omega (arith, fills.offset, within);
     }
@@ -119,18 +133,26 @@ data_refused v p a b e opens refused = λ readable none small.
 pub record_emitted : (r : Record) (a b c : State) → EmitsHead r a b → Writes a b → EmitsBehindLength r.rdata b c → Writes b c → EmitsRecord r a c
 record_emitted r a b c head ab behind bc = record {
   stays = λ alone full small.
-      let first = later_holds b.offset b c (λ m. HeadAt m a.offset r b.offset) bc (omega arith) (head.stays alone.owner full) in
-      let second = behind.stays alone.rdata alone.no_options (full_after a b ab full) (omega (arith, small, ab.modes.maximum)) in
+      let first = later_holds b.offset b c (λ m. HeadAt m a.offset r b.offset) bc (omega arith) (head.stays alone.owner alone.own_type alone.own_class full) in
+      let second = behind.stays alone.rdata (no_options (type_of r.rdata) alone.of_zones) (full_after a b ab full) (omega (arith, small, ab.modes.maximum)) in
       record {
         of = λ later agrees.
             let h = first.of later agrees in
             let d = second.of later agrees in
             record {
-              middle = h.middle;
+              owner_end = h.owner_end;
+              type_end = h.type_end;
+              class_end = h.class_end;
+              ttl_end = b.offset;
               first = b.offset + 2;
               len = d.len;
               owner = h.owner;
-              fixed = stands_joined later h.middle (head_octets r) b.offset (octets_16 d.len) (b.offset + 2) h.head d.number;
+              record_type = h.record_type;
+              dns_class = h.dns_class;
+              ttl = h.ttl;
+              small_ttl = h.small_ttl;
+              count = d.number;
+              small_len = d.small;
               rdata = d.data_there;
               filled = d.filled;
             };
@@ -146,4 +168,4 @@ head_refused r a e refused = λ alone small.
 pub rest_refused : (r : Record) (a b : State) (e : ProtoError) → EmitsHead r a b → Writes a b → RefusesBehindLength r.rdata b e → RefusesRecord r a e
 rest_refused r a b e head ab refused = λ alone small.
     subst (λ (n : ℕ). IsRefusal a n e) (omega arith)
-    (refused_later (2 + length (written_octets r.rdata)) (length (name_octets r.name) + 8) a b e ab.modes (omega (arith, head.size)) (refused alone.rdata alone.no_options (omega (arith, small, ab.modes.maximum))))
+    (refused_later (2 + length (written_octets r.rdata)) (length (name_octets r.name) + 8) a b e ab.modes (omega (arith, head.size)) (refused alone.rdata (no_options (type_of r.rdata) alone.of_zones) (omega (arith, small, ab.modes.maximum))))

@@ -1,5 +1,6 @@
 pub mod NameLaws
 pub mod PutRecords
+pub mod OwnCodes
 pub mod Emission
 pub use Rattle.drd_rdata.proofs.dnw_name_lemmas
 pub use Rattle.drd_rdata.proofs.drd_words_lemmas

@@ -1,14 +1,14 @@
 -- Resource records and their sets: RFC 1035, section 4.1.3; RFC 2181, section 5.
-use Rattle.std.specs.Prelude.{◌≡◌, ℕ, ◌+◌, ◌<◌, true, List, [], ◌∷◌, ◌++◌, length, Option, Some, None, if◌then◌else◌}
+use Rattle.std.specs.Prelude.{◌≡◌, ℕ, ◌+◌, ◌^◌, ◌<◌, Bool, true, false, List, [], ◌∷◌, length, Option, Some, None, if◌then◌else◌}
 use Rattle.std.specs.List.{AllByRecursion}
 use Rattle.drd_rdata.specs.dnw_codes.declared.record_type.RecordType.{RecordType}
 use Rattle.drd_rdata.specs.dnw_codes.declared.record_type.RecordType.TheVariants as kind
-use Rattle.drd_rdata.specs.dnw_codes.declared.record_type.RecordType.TheVariants.{OPT}
 use Rattle.drd_rdata.specs.dnw_codes.declared.dns_class.DNSClass.{DNSClass}
 use Rattle.drd_rdata.specs.dnw_codes.declared.dns_class.DNSClass.TheVariants as class
-use Rattle.drd_rdata.specs.dnw_codes.DNSClass.{class_number, class_of}
-use Rattle.drd_rdata.specs.dnw_codes.RecordType.{record_type_number, record_type_of, same_record_type}
+use Rattle.drd_rdata.specs.dnw_codes.DNSClass.{class_of}
+use Rattle.drd_rdata.specs.dnw_codes.RecordType.{record_type_of, same_record_type}
 use Rattle.drd_rdata.specs.dnw_name.DomainName.{DomainName, name_octets, name_eq}
+use Rattle.drd_rdata.specs.dnw_decoder.Codes.{RecordTypeAt, ClassAt}
 use Rattle.drd_rdata.specs.dnw_decoder.Octets.{octets_16, octets_32, Stands}
 use Rattle.drd_rdata.specs.dnw_decoder.Spelling.{NameAt}
 use Rattle.drd_rdata.specs.Order.{rdata_eq}
@@ -17,24 +17,22 @@ use Rattle.drd_rdata.specs.Types.{type_of}
 use Rattle.drd_rdata.specs.Writing.{written_octets}
 use Rattle.zst_record.specs.declared.records.Record.{Record}
 
--- Behind the owner: type, class and time to live.
-abbrev pub head_octets : Record → List ℕ
-head_octets r =
-    octets_16 (record_type_number (type_of r.rdata)) ++ octets_16 (class_number r.dns_class)
-    ++ octets_32 r.ttl
-
--- Between owner and data: these, and the number of the data's octets.
-abbrev pub fixed_octets : Record → ℕ → List ℕ
-fixed_octets r len = head_octets r ++ octets_16 len
-
--- A record at a place: its owner; its type, class and time to live; its data, which fill the length
--- before them.
+-- A record at a place, as it is read: its owner; the numbers of its type and its class; its time to
+-- live; the number of its data's octets, and behind it as many octets that are data of its type.
 pub record RecordAt (message : List ℕ) (place : ℕ) (r : Record) (end : ℕ) : Type 0 where
-  pub middle : ℕ
+  pub owner_end : ℕ
+  pub type_end : ℕ
+  pub class_end : ℕ
+  pub ttl_end : ℕ
   pub first : ℕ
   pub len : ℕ
-  pub owner : NameAt message place r.name middle
-  pub fixed : Stands message middle (fixed_octets r len) first
+  pub owner : NameAt message place r.name owner_end
+  pub record_type : RecordTypeAt message owner_end (type_of r.rdata) type_end
+  pub dns_class : ClassAt message type_end r.dns_class class_end
+  pub ttl : Stands message class_end (octets_32 r.ttl) ttl_end
+  pub small_ttl : r.ttl < 2 ^ 32
+  pub count : Stands message ttl_end (octets_16 len) first
+  pub small_len : len < 2 ^ 16
   pub rdata : ReadsAs (type_of r.rdata) message first len r.rdata
   pub filled : end ≡ first + len
 
@@ -42,25 +40,33 @@ pub record RecordAt (message : List ℕ) (place : ℕ) (r : Record) (end : ℕ) 
 abbrev pub plain : Record → ℕ
 plain r = length (name_octets r.name) + (10 + length (written_octets r.rdata))
 
--- A number that has a name is read as that name. A class of options is none of a record.
+-- A number of 16 bits that has a name is read as that name. A class of options is none of a record.
 abbrev pub IsOwnType : RecordType → Type 0
-IsOwnType (kind.Unknown number) = record_type_of number ≡ kind.Unknown number
+IsOwnType (kind.Unknown number) =
+    (number < 2 ^ 16) × (record_type_of number ≡ kind.Unknown number)
 IsOwnType named = Unit {0}
 
 abbrev pub IsOwnClass : DNSClass → Type 0
 IsOwnClass (class.OPT payload) = ⊥
-IsOwnClass (class.Unknown number) = class_of number ≡ class.Unknown number
+IsOwnClass (class.Unknown number) = (number < 2 ^ 16) × (class_of number ≡ class.Unknown number)
 IsOwnClass named = Unit {0}
 
+-- Records of these types belong to one message, and to no zone: its options (RFC 6891, section
+-- 6.1.1) and its signatures (RFC 2931, section 3; RFC 8945, section 4.2).
+abbrev pub belongs_to_message : RecordType → Bool
+belongs_to_message kind.OPT = true
+belongs_to_message kind.SIG = true
+belongs_to_message kind.TSIG = true
+belongs_to_message other = false
+
 -- Record and data can be read alone: the owner is fully qualified, type and class are those of
--- their numbers, and the data stand in some message. Options of a message are no record of a zone
--- (RFC 6891 6.1.1).
+-- their numbers, the data stand in some message, and a zone may hold records of the type.
 pub record ReadsBackAlone (r : Record) : Type 0 where
   pub owner : r.name.fqdn ≡ true
   pub own_type : IsOwnType (type_of r.rdata)
   pub own_class : IsOwnClass r.dns_class
   pub rdata : IsReadable r.rdata
-  pub no_options : type_of r.rdata ≡ OPT → ⊥
+  pub of_zones : belongs_to_message (type_of r.rdata) ≡ false
 
 -- A set: the records of one owner and type, in order.
 pub record RRset : Type 0 where

@@ -2,7 +2,8 @@
 use Rattle.std.specs.Prelude.{◌≡◌, ◌+◌, ◌<◌, ◌≤◌, ◌^◌, ℕ, true, List, length}
 use Rattle.drd_rdata.specs.dnw_codes.declared.error.ProtoError.{ProtoError}
 use Rattle.drd_rdata.specs.dnw_codes.declared.record_type.RecordType.TheVariants.{OPT}
-use Rattle.drd_rdata.specs.dnw_decoder.Octets.{octets_16, Stands}
+use Rattle.drd_rdata.specs.dnw_decoder.Codes.{RecordTypeAt, ClassAt}
+use Rattle.drd_rdata.specs.dnw_decoder.Octets.{octets_16, octets_32, Stands}
 use Rattle.drd_rdata.specs.dnw_decoder.Spelling.{NameAt}
 use Rattle.drd_rdata.specs.dnw_encoder.Effects.{StaysTrue, IsRefusal}
 use Rattle.drd_rdata.specs.dnw_encoder.State.{State}
@@ -11,7 +12,7 @@ use Rattle.drd_rdata.specs.Reading.{ReadsAs, IsReadable}
 use Rattle.drd_rdata.specs.Types.{type_of}
 use Rattle.drd_rdata.specs.Writing.{WritesInFull, written_octets}
 use Rattle.drd_rdata.specs.declared.rdata.RData.{RData}
-use Rattle.zst_record.specs.Records.{RecordAt, ReadsBackAlone, head_octets, plain}
+use Rattle.zst_record.specs.Records.{IsOwnClass, IsOwnType, RecordAt, ReadsBackAlone, plain}
 use Rattle.zst_record.specs.declared.records.Record.{Record}
 
 -- A record was written, within the maximum. One that reads back alone stands there, in the finished
@@ -29,13 +30,19 @@ RefusesRecord r old e = ReadsBackAlone r → old.maximum < 2 ^ 16 → IsRefusal 
 
 -- Owner, type, class and time to live at a place.
 pub record HeadAt (message : List ℕ) (place : ℕ) (r : Record) (end : ℕ) : Type 0 where
-  pub middle : ℕ
-  pub owner : NameAt message place r.name middle
-  pub head : Stands message middle (head_octets r) end
+  pub owner_end : ℕ
+  pub type_end : ℕ
+  pub class_end : ℕ
+  pub owner : NameAt message place r.name owner_end
+  pub record_type : RecordTypeAt message owner_end (type_of r.rdata) type_end
+  pub dns_class : ClassAt message type_end r.dns_class class_end
+  pub ttl : Stands message class_end (octets_32 r.ttl) end
+  pub small_ttl : r.ttl < 2 ^ 32
 
 -- They were written.
 pub record EmitsHead (r : Record) (old new : State) : Type 0 where
-  pub stays : r.name.fqdn ≡ true → WritesInFull old
+  pub stays : r.name.fqdn ≡ true → IsOwnType (type_of r.rdata) → IsOwnClass r.dns_class
+      → WritesInFull old
       → StaysTrue new new.offset (λ message. HeadAt message old.offset r new.offset)
   pub size : new.offset ≤ old.offset + (length (name_octets r.name) + 8)
 
@@ -43,6 +50,7 @@ pub record EmitsHead (r : Record) (old new : State) : Type 0 where
 pub record DataAt (message : List ℕ) (place : ℕ) (value : RData) (end : ℕ) : Type 0 where
   pub len : ℕ
   pub number : Stands message place (octets_16 len) (place + 2)
+  pub small : len < 2 ^ 16
   pub data_there : ReadsAs (type_of value) message (place + 2) len value
   pub filled : end ≡ place + 2 + len
 

@@ -1,10 +1,9 @@
 //! Resource records and their sets (RFC 1035 section 4.1.3, RFC 2181 section 5).
 
 ghost use Rattle.std.specs.Prelude.{◌≡◌, ◌↔◌, None, Some, true, IsTrue, IfOk, OnOk, OnErr, position};
-ghost use Rattle.drd_rdata.specs.dnw_codes.declared.record_type.RecordType.TheVariants.{OPT};
 ghost use Rattle.drd_rdata.specs.Order.{rdata_eq};
 ghost use Rattle.drd_rdata.specs.Types.{type_of};
-ghost use Rattle.zst_record.specs.Records.{RRset, IsRRset, IsRecordOf, IsOwnClass, IsOwnType, ReadsBackAlone};
+ghost use Rattle.zst_record.specs.Records.{RRset, IsRRset, IsRecordOf, IsOwnClass, IsOwnType, ReadsBackAlone, belongs_to_message};
 ghost use Rattle.zst_record.specs.Records.{put_record as with_record, set_with};
 
 use drd_rdata::{DNSClass, Name, RData, RecordType, is_readable};
@@ -33,24 +32,27 @@ impl Record {
     }
 
     /// Whether the record can be read alone, as each record of a zone is: its owner ends at the root (RFC 1035 3.1), type and
-    /// class are those of their numbers, some message holds its data (`is_readable`), and these are no options of a message
-    /// (RFC 6891 6.1.1). It takes no memory.
+    /// class are those of their numbers, some message holds its data (`is_readable`), and its type is none of those whose
+    /// records belong to one message: OPT (RFC 6891 6.1.1), SIG (RFC 2931 3) and TSIG (RFC 8945 4.2). It takes no memory.
     pub fn reads_back_alone(&self) -> bool
         ensures { IsTrue result ↔ ReadsBackAlone self.now }
     {
         self.name.is_fqdn()
             && is_own_type(self.record_type())
             && is_own_class(self.dns_class)
-            && !self.holds_options()
+            && !is_of_messages(self.record_type())
             && is_readable(&self.rdata)
     }
+}
 
-    // Whether the data are options of a message.
-    fn holds_options(&self) -> bool
-        ensures { IsTrue result ↔ (type_of self.now.rdata ≡ OPT) }
-    {
-        matches!(self.record_type(), RecordType::OPT)
-    }
+// Whether records of a type belong to one message, and to no zone.
+fn is_of_messages(record_type: RecordType) -> bool
+    ensures { result ≡ belongs_to_message record_type }
+{
+    matches!(
+        record_type,
+        RecordType::OPT | RecordType::SIG | RecordType::TSIG
+    )
 }
 
 // Whether a type is the one that its number is read as.

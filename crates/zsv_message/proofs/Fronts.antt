@@ -6,7 +6,6 @@ use Rattle.std.specs.Iterator.{Yields}
 use Rattle.std.specs.List.{AllByRecursion}
 use Rattle.std.specs.Slice.Iter.{iter_rest, iter_steps}
 use Rattle.std.specs.declared.slice.Iter.{Iter}
-use Rattle.std.proofs.lemmas.List.{length-append}
 use Rattle.zst_record.specs.dnw_codes.ProtoError.{IsMemory}
 use Rattle.zst_record.specs.dnw_codes.declared.error.ProtoError.{ProtoError}
 use Rattle.zst_record.specs.dnw_codes.declared.error.ProtoError.TheVariants.{MaxBufferSizeExceeded, NotAllRecordsWritten}
@@ -16,7 +15,7 @@ use Rattle.zst_record.specs.dnw_encoder.Effects.{StaysTrue, Writes, Emitted, Wro
 use Rattle.zst_record.proofs.dnw_encoder_lemmas.Laws.{holds_now, holds_more, holds_written, writes_same, writes_then}
 use Rattle.zst_record.specs.dnw_encoder.State.{State, is_lower}
 use Rattle.zst_record.specs.drd_rdata.Writing.{WritesInFull}
-use Rattle.zst_record.specs.Records.{RecordAt, ReadsBackAlone, fixed_octets, plain}
+use Rattle.zst_record.specs.Records.{RecordAt, ReadsBackAlone, plain}
 use Rattle.zst_record.specs.Writing.{EmitsRecord, RefusesRecord}
 use Rattle.zst_record.specs.declared.records.Record.{Record}
 use Rattle.zsv_message.specs.Replies.{Front}
@@ -56,9 +55,8 @@ emitted_writes (x ∷ xs) old new (mid, one, w, more) = writes_then old mid new 
 -- A record takes at least eleven octets.
 record_long : (message : List ℕ) (place : ℕ) (r : Record) (end : ℕ) → RecordAt message place r end → place + 11 ≤ end
 record_long message place r end at =
-    let name = spelled_within message place (length message) place r.name.labels at.middle at.owner.spelled in
-    let ten : length (fixed_octets r at.len) ≡ 10 = simp (length-append, length-octets_32) refl in
-    omega (arith, name.0, at.fixed.behind, ten, at.filled)
+    let name = spelled_within message place (length message) place r.name.labels at.owner_end at.owner.spelled in
+    omega (arith, name.0, at.record_type.there.behind, at.dns_class.there.behind, at.ttl.behind, length-octets_32 r.ttl, at.count.behind, at.filled)
 
 -- A front ends at its place or behind it.
 pub front_forward : (message : List ℕ) (limit place : ℕ) (records kept : List Record) (end : ℕ) → Front message limit place records kept end → place ≤ end

@@ -23,6 +23,7 @@ returns-in-Ok g c = record {
     loaded = c.in_ok-zone.ensures.0;
   };
   source = _;
+  from_here = c.loopback-source.ensures;
   frames = over_same c.with_zone-server.ensures c.in-Ok.ensures.unchanged c.in-Ok.ensures.served;
   ended = c.in-Ok.ensures.ended;
 }
@@ -47,6 +48,7 @@ returns g c = inr (
       loaded = c.in_ok-zone.ensures.0;
     };
     source = _;
+    from_here = c.loopback-source.ensures;
     frames = until_same c.with_zone-server.ensures c.in-Err.ensures.unchanged (rw c.in-Err.is at c.serve_stream.ensures.left);
   },
 )

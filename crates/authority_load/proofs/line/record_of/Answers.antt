@@ -8,7 +8,7 @@ use Rattle.authority_load.specs.declared.loader.LoadCause.TheVariants as causes
 use Rattle.zst_zone.specs.dnw_name.DomainName.{is_at_or_below}
 use Rattle.authority_load.specs.ZoneText.{field, IsDataText, is_start}
 use Rattle.authority_load.proofs.Causes.{field_kept, field_read, field_refused, data_readable, none_8, data_none, data_some, none_9, none_11, second_stands, none_12}
-use Rattle.authority_load.proofs.Readable.{loaded, no_options, own_type, unreadable}
+use Rattle.authority_load.proofs.Readable.{loaded, of_zones, own_type, unreadable}
 use Rattle.authority_load.proofs.line.record_of.Goals as goal
 use Rattle.authority_load.proofs.line.record_of.Goals.{else-is_soa-via-then-is_soa+else-has_soa, else-is_soa-via-else-is_soa}
 
@@ -78,7 +78,7 @@ returns-clause-gives g c =
         rdata = data_readable c.args.line.now c.in_ok-rdata.rdata value full;
         own_type = own_type (type_of c.in_ok-rdata.rdata) (loaded (field c.args.line.now 3) (type_of c.in_ok-rdata.rdata) value.0);
         own_class = tt;
-        no_options = no_options (type_of c.in_ok-rdata.rdata) (loaded (field c.args.line.now 3) (type_of c.in_ok-rdata.rdata) value.0);
+        of_zones = of_zones (type_of c.in_ok-rdata.rdata) (loaded (field c.args.line.now 3) (type_of c.in_ok-rdata.rdata) value.0);
       };
       no_cause = none_12 c.args.zone.now c.args.line.now _ known n11 free;
     }

@@ -1,4 +1,4 @@
-use Rattle.std.proofs.Common.{◌≡◌, refl, ℕ, ◌+◌, ◌-◌, ◌≤◌, List, ◌++◌, rules, arith, length, take, slice_range, sym, ap, ◌∙◌, subst, le_refl, drop_at, length-take-le}
+use Rattle.std.proofs.Common.{◌≡◌, ℕ, ◌+◌, ◌-◌, ◌≤◌, List, ◌++◌, rules, arith, length, take, slice_range, sym, ap, ◌∙◌, subst, le_refl, drop_at, length-take-le}
 use Rattle.std.proofs.lemmas.Slice.{take-put_mid_below}
 use Rattle.std.specs.Io.KnownBytes.{Consumes}
 use Rattle.std.proofs.KnownBytes.{Consumes-kept, Consumes-trans}
@@ -22,15 +22,16 @@ filling-preserved g c =
     let from = c.filling.at in
     let room = length c.filling.buffer - from in
     let within = c.filling.invariant.within in
-    let part = slice_range-put_mid from room c.in-Ok.count c.filling.buffer c.read.new.buf within c.in-Ok.ensures.bound.0 in
-    let joined = take_split from (from + c.in-Ok.count) c.filling.buffer (put_mid from room c.filling.buffer c.read.new.buf) (omega arith) (take-put_mid_below _ _ _ _ _ (le_refl _) within) in
+    let part = slice_range-put_mid from room c.in-Some.count c.filling.buffer c.read.new.buffer within c.in-Some.ensures.bytes.0 in
+    let joined = take_split from (from + c.in-Some.count) c.filling.buffer (put_mid from room c.filling.buffer c.read.new.buffer) (omega arith) (take-put_mid_below _ _ _ _ _ (le_refl _) within) in
     record {
       long = search rules;
       within = search rules;
-      consumed = subst (Consumes _ _) (ap (λ (l : List ℕ). take from c.filling.buffer ++ l) (sym part) ∙ joined) (Consumes-trans _ _ _ _ _ c.filling.invariant.consumed c.in-Ok.ensures.bytes.0);
+      well = search rules;
+      consumed = subst (Consumes _ _) (ap (λ (l : List ℕ). take from c.filling.buffer ++ l) (sym part) ∙ joined) (Consumes-trans _ _ _ _ _ c.filling.invariant.consumed c.in-Some.ensures.bytes.1);
     }
 
-pub returns-in-Err-clause-fault : goal.returns-in-Err-clause-fault
-returns-in-Err-clause-fault g c =
+pub returns-in-None-clause-fault : goal.returns-in-None-clause-fault
+returns-in-None-clause-fault g c =
     let octets = take c.filling.at c.filling.buffer in
-    (refl, (octets, search rules, Consumes-kept _ _ _ _ c.filling.invariant.consumed c.in-Err.ensures.bytes))
+    (octets, search rules, Consumes-kept _ _ _ _ c.filling.invariant.consumed c.in-None.ensures.bytes)

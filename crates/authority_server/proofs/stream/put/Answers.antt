@@ -9,8 +9,9 @@ pub writing-preserved : goal.writing-preserved
 writing-preserved g c =
     let rest = drop c.writing.at c.args.octets.now in
     let all : take (length c.args.octets.now - c.writing.at) rest ≡ rest = take_all (length c.args.octets.now - c.writing.at) rest (omega (arith, length-drop c.writing.at c.args.octets.now)) in
-    let wrote = rw all at c.in-Ok.ensures.bytes in
+    let wrote = rw all at c.in-Some.ensures.bytes.2 in
     record {
       within = search rules;
-      written = subst (Appends _ _) (sym (take-add c.writing.at c.in-Ok.count c.args.octets.now)) (Appends-trans _ _ _ _ _ c.writing.invariant.written wrote);
+      well = search rules;
+      written = subst (Appends _ _) (sym (take-add c.writing.at c.in-Some.count c.args.octets.now)) (Appends-trans _ _ _ _ _ c.writing.invariant.written wrote);
     }

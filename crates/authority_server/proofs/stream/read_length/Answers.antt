@@ -5,7 +5,7 @@ use Rattle.std.specs.Io.KnownBytes.{Consumes}
 use Rattle.std.proofs.Common.{length-take-le}
 use Rattle.authority_server.specs.Frames.{in_length}
 use Rattle.std.proofs.lemmas.Result.{err_from_is_err_and}
-use Rattle.authority_server.proofs.StreamFaults.{length_fault}
+use Rattle.authority_server.proofs.StreamFaults.{length_fault, read_cause}
 use Rattle.authority_server.proofs.stream.read_length.Goals as goal
 
 same_octets : (a b : Option (List ℕ)) (xs ys : List ℕ) → xs ≡ ys → Consumes a b xs → Consumes a b ys
@@ -21,9 +21,14 @@ returns-clause-whole g c =
 pub returns-in_err-count-clause-fault : goal.returns-in_err-count-clause-fault
 returns-in_err-count-clause-fault g c =
     let long : length c.fill.new.buffer ≡ 2 = search rules in
-    let short = c.in_err-count.ensures.fault.1 in
+    let short = c.in_err-count.ensures.fault in
     let p = err_from_is_err_and c.from_residual.result c.from_residual.ensures.1 in
-    rw (p.1, p.2) (length_fault _ _ _ (c.in_err-count.ensures.fault.0, (short.0, rw long at short.1, short.2)))
+    rw (p.1, p.2) (length_fault _ _ _ (c.in_err-count.ensures.cause.0, (short.0, rw long at short.1, short.2)))
+
+pub returns-in_err-count-clause-cause : goal.returns-in_err-count-clause-cause
+returns-in_err-count-clause-cause g c =
+    let p = err_from_is_err_and c.from_residual.result c.from_residual.ensures.1 in
+    rw (p.1, p.2) (read_cause _ _ c.in_err-count.ensures.cause)
 
 pub returns-then-count-lt2-clause-fault : goal.returns-then-count-lt2-clause-fault
 returns-then-count-lt2-clause-fault g c =

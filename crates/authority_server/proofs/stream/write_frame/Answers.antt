@@ -20,8 +20,8 @@ returns-in_err-put-2-clause-fault g c =
     let long = rw octets at c.in_ok-put.ensures.written in
     rw (p.1, p.2) ((fault.0, front_second _ _ _ (to_be_bytes w16 (length c.args.message.now)) c.args.message.now fault.1 long fault.3))
 
-pub returns-in-Err-clause-fault : goal.returns-in-Err-clause-fault
-returns-in-Err-clause-fault g c =
+pub returns-else-flush-clause-fault : goal.returns-else-flush-clause-fault
+returns-else-flush-clause-fault g c =
     let octets : c.to_be_bytes.result ≡ to_be_bytes w16 (length c.args.message.now) = search rules in
     let long = rw octets at c.in_ok-put.ensures.written in
-    (refl, front_whole _ _ _ _ (to_be_bytes w16 (length c.args.message.now)) c.args.message.now long c.in_ok-put-2.ensures.written c.in-Err.ensures.bytes)
+    (refl, front_whole _ _ _ _ (to_be_bytes w16 (length c.args.message.now)) c.args.message.now long c.in_ok-put-2.ensures.written c.flush.ensures.kept)

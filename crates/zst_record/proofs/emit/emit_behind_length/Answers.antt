@@ -1,4 +1,4 @@
-use Rattle.std.proofs.Common.{ℕ, ◌+◌, ap, ◌∙◌}
+use Rattle.std.proofs.Common.{ℕ, ◌+◌, ap, ◌∙◌, rules}
 use Rattle.std.proofs.lemmas.Result.{err_from_is_err_and}
 use Rattle.drd_rdata.specs.dnw_decoder.Octets.{octets_16}
 use Rattle.drd_rdata.specs.dnw_encoder.Encoders.{state}
@@ -30,7 +30,7 @@ returns-in-Ok-clause-writes c =
 pub returns-in-Ok-clause-ok : goal.returns-in-Ok-clause-ok
 returns-in-Ok-clause-ok c =
     on_ok c.replace.result
-    (λ fills. behind_emitted c.args.rdata.now c.in_ok-length.length.start c.in-Ok.octets (state c.args.encoder.now) (state c.place.new.self) (state c.emit.new.encoder) (state c.replace.new.encoder) c.in_ok-length.ensures.ok c.place.ensures.writes c.in_ok-length.ensures.fits c.in_ok-emit.ensures.ok c.emit.ensures.writes fills (ap (λ (n : ℕ). c.in_ok-length.length.start + 2 + n) c.in-Ok.ensures.1 ∙ c.len_since_place.ensures))
+    (λ fills. behind_emitted c.args.rdata.now c.in_ok-length.length.start c.in-Ok.octets (state c.args.encoder.now) (state c.place.new.self) (state c.emit.new.encoder) (state c.replace.new.encoder) c.in_ok-length.ensures.ok c.place.ensures.writes c.in_ok-length.ensures.fits c.in_ok-emit.ensures.ok c.emit.ensures.writes fills (ap (λ (n : ℕ). c.in_ok-length.length.start + 2 + n) c.in-Ok.ensures.1 ∙ c.len_since_place.ensures) (search rules))
     c.replace.ensures.ok
 
 pub returns-in-Err-clause-writes : goal.returns-in-Err-clause-writes

@@ -1,4 +1,4 @@
-use Rattle.std.proofs.Common.{subst}
+use Rattle.std.proofs.Common.{subst, rules}
 use Rattle.drd_rdata.specs.dnw_codes.RecordType.{record_type_number}
 use Rattle.drd_rdata.specs.dnw_codes.declared.record_type.RecordType.{RecordType}
 use Rattle.drd_rdata.specs.dnw_decoder.Octets.{octets_16}
@@ -23,5 +23,5 @@ returns-clause-writes c =
 pub returns-clause-ok : goal.returns-clause-ok
 returns-clause-ok c =
     on_ok c.emit_u32.result
-    (λ ttl. head_emitted c.args.self.now (state c.args.encoder.now) (state c.emit.new.encoder) (state c.emit-2.new.encoder) (state c.emit-3.new.encoder) (state c.emit_u32.new.self) c.in_ok-emit.ensures.ok c.emit.ensures.writes (subst (λ (t : RecordType). WritesOctets (octets_16 (record_type_number t)) (state c.emit.new.encoder) (state c.emit-2.new.encoder)) c.record_type.ensures c.in_ok-emit-2.ensures.ok) c.emit-2.ensures.writes c.in_ok-emit-3.ensures.ok c.emit-3.ensures.writes ttl c.emit_u32.ensures.writes)
+    (λ ttl. head_emitted c.args.self.now (state c.args.encoder.now) (state c.emit.new.encoder) (state c.emit-2.new.encoder) (state c.emit-3.new.encoder) (state c.emit_u32.new.self) c.in_ok-emit.ensures.ok c.emit.ensures.writes (subst (λ (t : RecordType). WritesOctets (octets_16 (record_type_number t)) (state c.emit.new.encoder) (state c.emit-2.new.encoder)) c.record_type.ensures c.in_ok-emit-2.ensures.ok) c.emit-2.ensures.writes c.in_ok-emit-3.ensures.ok c.emit-3.ensures.writes ttl c.emit_u32.ensures.writes (search rules))
     c.emit_u32.ensures.ok
