@@ -60,7 +60,7 @@ begins message segment bound place rest end (at_pointer {target = target} {behin
 -- No name goes on where a cause stands, but want of memory.
 cause_none : (message : List ℕ) (found : List (List ℕ)) (segment bound place : ℕ) (e : DecodeError) → IsCause message found segment bound place e → IsWantOfMemory e ⊎ ((rest : List (List ℕ)) → Begins message segment bound place rest → labels_len (found ++ rest) + 1 ≤ 255 → ⊥)
 cause_none message found segment bound place (LabelOverlapsWithOther label other) h = inr (λ rest b size. omega (arith, h, b.inside))
-cause_none message found segment bound place InsufficientBytes h = inr (λ rest b size. omega (arith, h.1, b.whole))
+cause_none message found segment bound place InsufficientBytes h = inr (λ rest b size. omega (arith, h.2, b.whole))
 cause_none message found segment bound place (UnrecognizedLabelCode first) h =
     inr (λ rest b size. elim b.kind [ inl few ↦ omega (arith, h, few) | inr many ↦ omega (arith, h, many) ])
 cause_none message found segment bound place (PointerNotPriorToLabel index target) h =

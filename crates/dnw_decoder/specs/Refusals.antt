@@ -1,5 +1,5 @@
 -- Why no name is read at a place.
-use Rattle.std.specs.Prelude.{◌≡◌, ℕ, ◌+◌, ◌*◌, ◌-◌, ◌<◌, ◌≤◌, List, [], ◌∷◌, ◌++◌, length, get_or, Option, Some, None, unwrap_or, cond, nat_lt}
+use Rattle.std.specs.Prelude.{◌≡◌, ℕ, ◌+◌, ◌*◌, ◌-◌, ◌<◌, ◌≤◌, List, [], ◌∷◌, ◌++◌, ◌⊎◌, length, get_or, Option, Some, None, unwrap_or, cond, nat_lt}
 use Rattle.dnw_name.specs.dnw_codes.declared.error.DecodeError.{DecodeError}
 use Rattle.dnw_name.specs.dnw_codes.declared.error.DecodeError.TheVariants.{InsufficientBytes, LabelOverlapsWithOther, UnrecognizedLabelCode, PointerNotPriorToLabel, DomainNameTooLong, Memory}
 use Rattle.dnw_name.specs.DomainName.{labels_len}
@@ -31,12 +31,13 @@ pointer_target message place = 256 * (get_or message place 0 - 192) + get_or mes
 
 -- Why none of the elements of a name can be read at a place, behind these labels. A place behind
 -- the segment's bound is tested first, then the kind of the element, then whether it is there
--- whole.
+-- whole: only a label or a pointer can be cut. The place behind the message reads 0.
 abbrev pub IsCause : List ℕ → List (List ℕ) → ℕ → ℕ → ℕ → DecodeError → Type 0
 IsCause message found segment bound place (LabelOverlapsWithOther label other) =
     (bound ≤ place) × (bound < length message) × (label ≡ segment) × (other ≡ bound)
 IsCause message found segment bound place InsufficientBytes =
     (bound < length message → place < bound)
+    × ((get_or message place 0 < 64) ⊎ (192 ≤ get_or message place 0))
     × (length message < place + element_len (get_or message place 0))
 IsCause message found segment bound place (UnrecognizedLabelCode first) =
     (place < bound) × (first ≡ get_or message place 0) × (64 ≤ first) × (first < 192)
