@@ -15,7 +15,8 @@ pub struct ModalEncoder<'a, 'e> {
 
 impl Drop for ModalEncoder<'_, '_> {
     fn drop(self)
-        ensures { state self.exit.1.0.now ≡ with_encoding (state self.entry.encoder.now) self.entry.former }
+        ensures same_reference { self.exit.1.0.now.buffer.ghost_name ≡ self.entry.encoder.now.buffer.ghost_name }
+        ensures state { state self.exit.1.0.now ≡ with_encoding (state self.entry.encoder.now) self.entry.former }
     {
         let ModalEncoder { former, encoder } = self;
         encoder.set_name_encoding(former);
@@ -43,6 +44,7 @@ impl<'a> DerefMut for ModalEncoder<'a, '_> {
 impl<'a> BinEncoder<'a> {
     /// The encoder in another mode, until the guard is dropped.
     pub fn with_name_encoding<'e>(&'e mut self, name_encoding: NameEncoding) -> ModalEncoder<'a, 'e>
+        ensures same_encoder { result.encoder.ghost_name ≡ self.entry.ghost_name }
         ensures same_reference { result.encoder.now.buffer.ghost_name ≡ self.old.buffer.ghost_name }
         ensures former { result.former ≡ (state self.old).encoding }
         ensures state { state result.encoder.now ≡ with_encoding (state self.old) name_encoding }
@@ -57,6 +59,7 @@ impl<'a> BinEncoder<'a> {
 
     /// The encoder in the mode of record data of a kind (RFC 3597 4, RFC 4034 6.2), until the guard is dropped.
     pub fn with_rdata_behavior<'e>(&'e mut self, encoding: RDataEncoding) -> ModalEncoder<'a, 'e>
+        ensures same_encoder { result.encoder.ghost_name ≡ self.entry.ghost_name }
         ensures same_reference { result.encoder.now.buffer.ghost_name ≡ self.old.buffer.ghost_name }
         ensures former { result.former ≡ (state self.old).encoding }
         ensures state { state result.encoder.now
