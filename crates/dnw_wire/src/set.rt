@@ -1,5 +1,5 @@
 //! Sets of types.
-ghost use Rattle.std.specs.Prelude.{◌≡◌, ◌==◌, ◌⊎◌, ◌<◌, ℕ, List, map, length, nat_eq, IfOk, IfErr, OnErr};
+ghost use Rattle.std.specs.Prelude.{◌≡◌, ◌==◌, ◌⊎◌, ◌+◌, ◌<◌, ◌≤◌, ℕ, List, map, length, nat_eq, IfOk, IfErr, OnErr};
 ghost use Rattle.std.specs.Cmp.{partial_order_from_own_ties, partial_order_from_total};
 ghost use Rattle.std.specs.Cmp.Lexicographic.{pointwise, slice_cmp};
 ghost use Rattle.std.specs.Cmp.Rules.{comparing, hashing};
@@ -109,6 +109,8 @@ impl RecordTypeSet {
         ensures err { OnErr result (decoder.new ≡ decoder.old) }
         ensures cause { IfErr result (λ e. IsWantOfMemory e
             ⊎ (LacksOctets decoder.old len decoder.new e ⊎ (e ≡ NsecBitmapOutOfBounds))) }
+        ensures there { IfErr result (λ e. LacksOctets decoder.old len decoder.new e
+            ⊎ (decoder.old.index + len ≤ length decoder.old.octets)) }
         ensures none { IfErr result (λ e. IsWantOfMemory e
             ⊎ ((types : List ℕ) (end : ℕ) → TypesAt decoder.old.octets decoder.old.index len types end → ⊥)) }
     {
