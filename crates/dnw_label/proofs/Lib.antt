@@ -1,5 +1,6 @@
 pub mod EscapeLaws
 pub mod EscapeLemmas
+pub mod LabelRefusalLemmas
 pub mod LabelRoundTrip
 pub mod LabelTextLemmas
 pub mod Orders

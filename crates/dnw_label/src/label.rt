@@ -1,5 +1,5 @@
 //! One label of a name.
-ghost use Rattle.std.specs.Prelude.{◌≡◌, false, ◌==◌, ◌<◌, length, IfOk, IfErr, IsErrOf, IsErrAnd, OnOk};
+ghost use Rattle.std.specs.Prelude.{◌≡◌, false, ◌==◌, ◌<◌, length, IfOk, IfErr, IsErrOf, IsErrAnd, OnOk, ◌⊎◌};
 ghost use Rattle.std.specs.Cmp.{partial_order_from_own_ties};
 ghost use Rattle.std.specs.Cmp.Lexicographic.{slice_cmp};
 ghost use Rattle.std.specs.Cmp.Rules.{comparing};
@@ -9,6 +9,8 @@ ghost use Rattle.std.proofs.Common.{rules};
 ghost use Rattle.dnw_codes.specs.ProtoError.{IsMemory, IsMessage};
 ghost use Rattle.dnw_codes.specs.declared.error.DecodeError.TheVariants.{LabelBytesTooLong};
 ghost use Rattle.dnw_label.specs.Label.{IsLabel, label_eq, label_cmp, wildcard_label, is_wildcard_label};
+ghost use Rattle.dnw_label.specs.LabelRefusals.{RefusesLabel};
+ghost use Rattle.dnw_label.specs.LabelRefusalsLaws.{label_causes, no_causes};
 
 use dnw_codes::{DecodeError, ProtoError};
 use smallvec::SmallVec;
@@ -89,6 +91,7 @@ impl Label {
         ensures empty { length bytes.now ≡ 0 → IsErrAnd result IsMessage }
         ensures too_long { 63 < length bytes.now → IsErrOf result (ProtoError.Decode (LabelBytesTooLong (length bytes.now))) }
         ensures refused { IsLabel bytes.now → IfErr result IsMemory }
+        ensures cause { IfErr result (λ e. IsMemory e ⊎ RefusesLabel bytes.now e) }
     {
         if bytes.is_empty() {
             return Err(ProtoError::Message("a label has at least one octet"));
@@ -261,23 +264,35 @@ impl Hash for Label {
 
 /// What can be made a label: octets, a text, a label.
 pub trait IntoLabel: Sized {
-    ghost use Rattle.std.specs.Prelude.{ℕ, List, ◌≡◌, IfOk, IfErr, OnOk};
+    ghost use Rattle.std.specs.Prelude.{ℕ, List, ◌≡◌, ◌⊎◌, IfOk, IfErr, OnOk};
+    ghost use Rattle.dnw_codes.specs.declared.error.ProtoError.{ProtoError as WireError};
+    ghost use Rattle.dnw_label.specs.LabelRefusals.{AreCauses};
 
     ghost octets: { Self → List ℕ };
 
     ghost accepts: { Self → Type 0 };
 
+    ghost refuses: { Self → WireError → Type 0 };
+
+    // An error has its cause only where nothing is accepted.
+    ghost laws: { (own : Self) → AreCauses (accepts own) (refuses own) };
+
     /// The label of these octets. Where it isn't accepted as one, the error says why.
     fn into_label(self, alloc: Global) -> Result<Label, ProtoError>
         ensures ok { IfOk result (λ label. label ≡ octets self) }
         ensures accepted { OnOk result (accepts self) }
-        ensures refused { accepts self → IfErr result IsMemory };
+        ensures refused { accepts self → IfErr result IsMemory }
+        ensures cause { IfErr result (λ e. IsMemory e ⊎ refuses self e) };
 }
 
 impl IntoLabel for Label {
     ghost octets = { λ label. label };
 
     ghost accepts = { λ _. Unit {0} };
+
+    ghost refuses = { λ _ _. ⊥ };
+
+    ghost laws = { λ _. no_causes (Unit {0}) };
 
     fn into_label(self, _alloc: Global) -> Result<Label, ProtoError> {
         Ok(self)
@@ -288,6 +303,10 @@ impl IntoLabel for &Label {
     ghost octets = { λ label. label.now };
 
     ghost accepts = { λ _. Unit {0} };
+
+    ghost refuses = { λ _ _. ⊥ };
+
+    ghost laws = { λ _. no_causes (Unit {0}) };
 
     fn into_label(self, alloc: Global) -> Result<Label, ProtoError> {
         match SmallVec::from_slice(alloc, self.as_bytes()) {
@@ -302,6 +321,10 @@ impl IntoLabel for &[u8] {
 
     ghost accepts = { λ bytes. IsLabel bytes.now };
 
+    ghost refuses = { λ bytes. RefusesLabel bytes.now };
+
+    ghost laws = { λ bytes. label_causes bytes.now };
+
     fn into_label(self, alloc: Global) -> Result<Label, ProtoError> {
         Label::from_raw_bytes(alloc, self)
     }
@@ -311,6 +334,10 @@ impl IntoLabel for Vec<u8> {
     ghost octets = { λ bytes. bytes.items };
 
     ghost accepts = { λ bytes. IsLabel bytes.items };
+
+    ghost refuses = { λ bytes. RefusesLabel bytes.items };
+
+    ghost laws = { λ bytes. label_causes bytes.items };
 
     fn into_label(self, alloc: Global) -> Result<Label, ProtoError> {
         Label::from_raw_bytes(alloc, &self)

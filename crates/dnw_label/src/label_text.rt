@@ -2,7 +2,9 @@
 ghost use Rattle.std.specs.Prelude.{◌≡◌, ◌≢◌, ◌||◌, ◌&&◌, ◌==◌, ◌<◌, ◌∷◌, [], ◌⊎◌, ℕ, List, IfOk, IfErr, MatchBool, true, false};
 ghost use Rattle.std.specs.List.{list_all};
 ghost use Rattle.dnw_codes.specs.Ascii.{full_stop};
-ghost use Rattle.dnw_codes.specs.ProtoError.{IsMemory};
+ghost use Rattle.dnw_codes.specs.ProtoError.{IsMemory, IsMessage};
+ghost use Rattle.dnw_label.specs.LabelRefusals.{RefusesTextLabel, RefusesLabelText};
+ghost use Rattle.dnw_label.specs.LabelRefusalsLaws.{text_label_causes};
 ghost use Rattle.dnw_label.specs.LabelText.{LabelText, IsTextLabel, is_label_text, starts_label, continues_label};
 
 use crate::escape::octet_at;
@@ -17,6 +19,7 @@ impl Label {
     pub fn from_ascii(alloc: Global, text: &str) -> Result<Label, ProtoError>
         ensures ok { IfOk result (λ label. (label ≡ text.now) × IsTextLabel text.now) }
         ensures refused { IfErr result (λ e. IsMemory e ⊎ (IsTextLabel text.now → ⊥)) }
+        ensures cause { IfErr result (λ e. IsMemory e ⊎ RefusesTextLabel text.now e) }
     {
         text_label(alloc, text.as_bytes())
     }
@@ -25,6 +28,7 @@ impl Label {
     pub fn from_utf8(alloc: Global, text: &str) -> Result<Label, ProtoError>
         ensures ok { IfOk result (λ label. (label ≡ text.now) × IsTextLabel text.now) }
         ensures refused { IfErr result (λ e. IsMemory e ⊎ (IsTextLabel text.now → ⊥)) }
+        ensures cause { IfErr result (λ e. IsMemory e ⊎ RefusesTextLabel text.now e) }
     {
         Label::from_ascii(alloc, text)
     }
@@ -34,6 +38,10 @@ impl IntoLabel for &str {
     ghost octets = { λ text. text.now };
 
     ghost accepts = { λ text. IsTextLabel text.now };
+
+    ghost refuses = { λ text. RefusesTextLabel text.now };
+
+    ghost laws = { λ text. text_label_causes text.now };
 
     fn into_label(self, alloc: Global) -> Result<Label, ProtoError> {
         Label::from_ascii(alloc, self)
@@ -47,6 +55,10 @@ impl IntoLabel for String {
 
     ghost accepts = { λ text. IsTextLabel (string_bytes text) };
 
+    ghost refuses = { λ text. RefusesTextLabel (string_bytes text) };
+
+    ghost laws = { λ text. text_label_causes (string_bytes text) };
+
     fn into_label(self, alloc: Global) -> Result<Label, ProtoError> {
         Label::from_ascii(alloc, self.as_str())
     }
@@ -59,6 +71,7 @@ pub fn label_at(alloc: Global, text: &[u8]) -> Result<(Label, &[u8]), ProtoError
     ensures ok { IfOk result (λ found. LabelText text.now found.0 found.1.now × IsTextLabel found.0) }
     ensures refused { IfErr result (λ e. IsMemory e
         ⊎ ((label behind : List ℕ) → LabelText text.now label behind → IsTextLabel label → ⊥)) }
+    ensures cause { IfErr result (λ e. IsMemory e ⊎ RefusesLabelText text.now e) }
 {
     let (octets, behind) = label_octets(alloc, text)?;
     match text_label(alloc, octets.as_slice()) {
@@ -71,6 +84,7 @@ pub fn label_at(alloc: Global, text: &[u8]) -> Result<(Label, &[u8]), ProtoError
 fn text_label(alloc: Global, octets: &[u8]) -> Result<Label, ProtoError>
     ensures ok { IfOk result (λ label. (label ≡ octets.now) × IsTextLabel octets.now) }
     ensures refused { IfErr result (λ e. IsMemory e ⊎ (IsTextLabel octets.now → ⊥)) }
+    ensures cause { IfErr result (λ e. IsMemory e ⊎ RefusesTextLabel octets.now e) }
 {
     let label = Label::from_raw_bytes(alloc, octets)?;
     if !is_label_text(octets) {
@@ -84,6 +98,7 @@ fn label_octets(alloc: Global, text: &[u8]) -> Result<(SmallVec<u8, 24>, &[u8]),
     ensures ok { IfOk result (λ found. LabelText text.now found.0.items found.1.now) }
     ensures refused { IfErr result (λ e. IsMemory e
         ⊎ ((label behind : List ℕ) → LabelText text.now label behind → ⊥)) }
+    ensures cause { IfErr result (λ e. IsMemory e ⊎ IsMessage e) }
 {
     let mut octets = SmallVec::new(alloc);
     let mut rest = text;

@@ -3,3 +3,5 @@ pub use Rattle.dnw_label.specs.LabelHash
 pub use Rattle.dnw_label.specs.LabelPrint
 pub use Rattle.dnw_label.specs.LabelText
 pub use Rattle.dnw_label.specs.LabelHashLaws
+pub use Rattle.dnw_label.specs.LabelRefusals
+pub use Rattle.dnw_label.specs.LabelRefusalsLaws
