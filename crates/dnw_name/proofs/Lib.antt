@@ -3,6 +3,8 @@ pub mod Fronts
 pub mod KeyOrder
 pub mod Lengths
 pub mod Orders
+pub mod RefusalLaws
+pub mod RefusalLemmas
 pub mod RoundTrip
 pub mod SuffixLemmas
 pub mod TextLemmas

@@ -9,6 +9,7 @@ use Rattle.dnw_net.specs.dnw_codes.declared.error.ProtoError.TheVariants.{Charac
 use Rattle.dnw_net.specs.dnw_codes.ProtoError.{IsMemory}
 use Rattle.dnw_net.specs.dnw_label.Label.{IsLabel}
 use Rattle.dnw_name.specs.DomainName.{DomainName, IsDomainName, domain_name, labels_len}
+use Rattle.dnw_name.specs.NameRefusals.{RefusesOctets}
 use Rattle.dnw_name.proofs.Lengths.{labels_len-cons}
 
 pub record Taken {S A : Type 0} (steps : S → Option A → S → Type 0) (can : S → Type 0) (octets : A → List ℕ) (accepts : A → Type 0) (from left : S) (name : DomainName) (count : ℕ) : Type 0 where
@@ -18,6 +19,7 @@ pub record Taken {S A : Type 0} (steps : S → Option A → S → Type 0) (can :
   pub accepted : All accepts items
   pub many : length items ≡ count
   pub ready : can left
+  pub short : labels_len name.labels + 1 ≤ 255
 
 twice-length : (labels : List (List ℕ)) → All IsLabel labels → 2 * length labels ≤ labels_len labels
 twice-length [] all = omega arith
@@ -50,10 +52,10 @@ module _ {S A : Type 0} (steps : S → Option A → S → Type 0) (can : S → T
 
   pub taken-start : (from : S) (name : DomainName) → can from → name ≡ domain_name true [] → Taken steps can octets accepts from from name 0
   taken-start from name ready e =
-      record { items = []; yields = refl; is = e; accepted = All-nil accepts; many = refl; ready = ready }
+      record { items = []; yields = refl; is = e; accepted = All-nil accepts; many = refl; ready = ready; short = subst (λ (m : DomainName). labels_len m.labels + 1 ≤ 255) (sym e) (omega arith) }
 
-  pub taken-more : (from left next : S) (name longer : DomainName) (n : ℕ) (x : A) → Taken steps can octets accepts from left name n → steps left (Some x) next → can next → longer ≡ domain_name name.fqdn (name.labels ++ octets x ∷ []) → accepts x → Taken steps can octets accepts from next longer (n + 1)
-  taken-more from left next name longer n x h step ready e good =
+  pub taken-more : (from left next : S) (name longer : DomainName) (n : ℕ) (x : A) → Taken steps can octets accepts from left name n → steps left (Some x) next → can next → longer ≡ domain_name name.fqdn (name.labels ++ octets x ∷ []) → accepts x → IsDomainName longer → Taken steps can octets accepts from next longer (n + 1)
+  taken-more from left next name longer n x h step ready e good fits =
       record {
         items = h.items ++ x ∷ [];
         yields = yields-more h.items from left next x h.yields step;
@@ -61,6 +63,7 @@ module _ {S A : Type 0} (steps : S → Option A → S → Type 0) (can : S → T
         accepted = All-push accepts h.items x h.accepted good;
         many = length-append h.items (x ∷ []) ∙ ap (λ k. k + 1) h.many;
         ready = ready;
+        short = fits.short;
       }
 
   pub taken-done : (from left next : S) (name : DomainName) (n : ℕ) → Taken steps can octets accepts from left name n → steps left None next → (items : List A) × Drains steps from items × (name ≡ domain_name true (map octets items)) × All accepts items
@@ -83,6 +86,25 @@ module _ {S A : Type 0} (steps : S → Option A → S → Type 0) (can : S → T
             λ all name-is. other (bad (last h.items x all)
                 (subst IsDomainName (ap (domain_name true) (map-append octets h.items (x ∷ [])) ∙ ap (λ (m : DomainName). domain_name m.fqdn (m.labels ++ octets x ∷ [])) (sym h.is)) name-is)),
           )
+
+  few : {from left : S} {name : DomainName} {n : ℕ} (h : Taken steps can octets accepts from left name n) → labels_len (map octets h.items) + 1 ≤ 255
+  few h = subst (λ (m : DomainName). labels_len m.labels + 1 ≤ 255) h.is h.short
+
+  -- Behind the labels that were taken the next one is refused.
+  pub taken-cause : (refuses : A → ProtoError → Type 0) (from left next : S) (name : DomainName) (n : ℕ) (x : A) (e : ProtoError) → Taken steps can octets accepts from left name n → steps left (Some x) next → IsMemory e ⊎ (refuses x e ⊎ (accepts x × RefusesOctets (labels_len name.labels + length (octets x) + 2) e)) → IsMemory e ⊎ ((items : List A) × (y : A) × (rest : S) × Yields steps from (items ++ y ∷ []) rest × All accepts items × (labels_len (map octets items) + 1 ≤ 255) × (refuses y e ⊎ (accepts y × RefusesOctets (labels_len (map octets items) + length (octets y) + 2) e)))
+  taken-cause refuses from left next name n x e h step (inl m) = inl m
+  taken-cause refuses from left next name n x e h step (inr (inl r)) =
+      inr (h.items, x, next, yields-more h.items from left next x h.yields step, h.accepted, few h, inl r)
+  taken-cause refuses from left next name n x e h step (inr (inr (good, long))) =
+      inr (
+        h.items,
+        x,
+        next,
+        yields-more h.items from left next x h.yields step,
+        h.accepted,
+        few h,
+        inr (good, subst (λ (m : DomainName). RefusesOctets (labels_len m.labels + length (octets x) + 2) e) h.is long),
+      )
 
   -- So many labels are none of a name.
   pub taken-too_many : (from left : S) (name : DomainName) (n : ℕ) → Taken steps can octets accepts from left name n → IsDomainName name → 128 ≤ n → ⊥

@@ -2,6 +2,7 @@
 use Rattle.std.proofs.Common.{◌≡◌, ◌<◌, ◌++◌, ℕ, Bool, true, false, List, [], ◌∷◌, refl, ap, sym, ◌∙◌, subst, arith, length, ◌⊎◌, inl, inr, All, ◌+◌, ◌==◌}
 use Rattle.std.proofs.lemmas.List.Elements.{All-nil, All-cons, All-head, All-tail}
 use Rattle.std.proofs.lemmas.List.Sums.{sum_by-append, sum_by_push}
+use Rattle.dnw_net.specs.dnw_codes.declared.error.ProtoError.{ProtoError}
 use Rattle.dnw_net.specs.dnw_label.Label.{IsLabel}
 use Rattle.dnw_name.specs.DomainName.{DomainName, IsDomainName, domain_name, labels_len}
 use Rattle.std.specs.Prelude.{Result, Ok, Err, IfOk, IfErr, Some, cond, ◌||◌, nat_eq}
@@ -11,6 +12,7 @@ use Rattle.std.proofs.lemmas.List.{append_assoc}
 use Rattle.dnw_net.specs.dnw_label.LabelText.{OctetText, LabelText, ends, dot, octet, IsTextLabel}
 use Rattle.dnw_net.proofs.dnw_label_lemmas.EscapeLaws.{no_octet_in_nothing}
 use Rattle.dnw_net.proofs.dnw_label_lemmas.LabelTextLemmas.{no_dot, label-same}
+use Rattle.dnw_name.specs.NameRefusals.{RefusesOctets}
 use Rattle.dnw_name.specs.NameText.{LabelsText, last, closed, more, NameText, empty, root, labels as labels_text, complete_name}
 
 -- What was read of a name's labels, and what is left of its text.
@@ -22,7 +24,7 @@ pub labels-start : (text : List ℕ) → LabelsSoFar text [] text
 labels-start text = record { sound = λ f ls h. h; only = λ f ls h. (ls, refl, h) }
 
 -- The labels behind the first one.
-labels-step : (text label : List ℕ) (c d : ℕ) (rest : List ℕ) (fqdn : Bool) (labels : List (List ℕ)) → LabelText text label (c ∷ d ∷ rest) → LabelsText text fqdn labels → (later : List (List ℕ)) × (labels ≡ label ∷ later) × LabelsText (d ∷ rest) fqdn later
+pub labels-step : (text label : List ℕ) (c d : ℕ) (rest : List ℕ) (fqdn : Bool) (labels : List (List ℕ)) → LabelText text label (c ∷ d ∷ rest) → LabelsText text fqdn labels → (later : List (List ℕ)) × (labels ≡ label ∷ later) × LabelsText (d ∷ rest) fqdn later
 labels-step text label c d rest fqdn labels h (last _ l t is) = let same = (label-same text l label [] (c ∷ d ∷ rest) t h).1 in absurd (cc)
 labels-step text label c d rest fqdn labels h (closed _ l e t is) = let same = (label-same text l label (e ∷ []) (c ∷ d ∷ rest) t h).1 in absurd (cc)
 labels-step text label c d rest fqdn labels h (more _ l e r _ ls t is later) =
@@ -80,13 +82,13 @@ labels-too_long f g front labels later e none name =
     All-front (x ∷ xs) ys all = All-cons IsLabel x xs (All-head IsLabel x (xs ++ ys) all) (All-front xs ys (All-tail IsLabel x (xs ++ ys) all))
 
 -- The next label makes a name that is too long, or memory was refused.
-pub labels-refused : {E : Type 0} (M : E → Type 0) (e : E) (text : List ℕ) (read : List (List ℕ)) (rest label behind : List ℕ) → LabelsSoFar text read rest → LabelText rest label behind → M e ⊎ (255 < labels_len read + length label + 2) → M e ⊎ ((fqdn : Bool) (labels : List (List ℕ)) → LabelsText text fqdn labels → IsDomainName (domain_name fqdn labels) → ⊥)
+pub labels-refused : (M : ProtoError → Type 0) (e : ProtoError) (text : List ℕ) (read : List (List ℕ)) (rest label behind : List ℕ) → LabelsSoFar text read rest → LabelText rest label behind → M e ⊎ RefusesOctets (labels_len read + length label + 2) e → M e ⊎ ((fqdn : Bool) (labels : List (List ℕ)) → LabelsText text fqdn labels → IsDomainName (domain_name fqdn labels) → ⊥)
 labels-refused M e text read rest label behind h t (inl m) = inl m
 labels-refused M e text read rest label behind h t (inr long) =
     inr (λ fqdn labels all name.
     let begun = labels-begin text read rest label behind h t fqdn labels all in
     labels-too_long fqdn true (read ++ label ∷ []) labels begun.0 begun.1
-    (λ front. omega (arith, front.short, sum_by_push (λ l. length l + 1) read label, long)) name)
+    (λ front. omega (arith, front.short, sum_by_push (λ l. length l + 1) read label, long.0)) name)
 
 -- No label stands next, or memory was refused.
 pub labels-no_next : {E : Type 0} (M : E → Type 0) (e : E) (text : List ℕ) (read : List (List ℕ)) (rest : List ℕ) → LabelsSoFar text read rest → M e ⊎ ((label behind : List ℕ) → LabelText rest label behind → IsTextLabel label → ⊥) → M e ⊎ ((fqdn : Bool) (labels : List (List ℕ)) → LabelsText text fqdn labels → IsDomainName (domain_name fqdn labels) → ⊥)
@@ -191,13 +193,15 @@ name-same text n n' (labels_text _ f ls t is) (labels_text _ f' ls' t' is') =
 some_length : (n : ℕ) → 0 < n → (n == 0) ≡ false
 some_length n h = grind (arith, nat_tests)
 
+pub completed-is : (name origin : DomainName) → name.fqdn ≡ false → 0 < length name.labels → complete_name name (Some origin) ≡ domain_name true (name.labels ++ origin.labels)
+completed-is name origin flag more_labels =
+    let tested = some_length (length name.labels) more_labels in
+    ap (λ f. cond (f || (length name.labels == 0)) name (domain_name true (name.labels ++ origin.labels))) flag
+    ∙ ap (λ b. cond b name (domain_name true (name.labels ++ origin.labels))) tested
+
 completed-long : (name origin : DomainName) → name.fqdn ≡ false → 0 < length name.labels → 255 < labels_len name.labels + labels_len origin.labels + 1 → IsDomainName (complete_name name (Some origin)) → ⊥
 completed-long name origin flag more_labels long is =
-    let tested = some_length (length name.labels) more_labels in
-    let chosen : complete_name name (Some origin) ≡ domain_name true (name.labels ++ origin.labels) =
-    ap (λ f. cond (f || (length name.labels == 0)) name (domain_name true (name.labels ++ origin.labels))) flag
-    ∙ ap (λ b. cond b name (domain_name true (name.labels ++ origin.labels))) tested in
-    let whole : IsDomainName (domain_name true (name.labels ++ origin.labels)) = subst IsDomainName chosen is in
+    let whole : IsDomainName (domain_name true (name.labels ++ origin.labels)) = subst IsDomainName (completed-is name origin flag more_labels) is in
     omega (arith, whole.short, sum_by-append (λ l. length l + 1) name.labels origin.labels, long)
 
 -- Where the completed name is too long, the text is none of a name.

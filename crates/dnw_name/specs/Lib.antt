@@ -5,6 +5,7 @@ pub mod NameHash
 pub mod NameKey
 pub mod NameOrderLaws
 pub mod NamePrint
+pub mod NameRefusals
 pub mod NameText
 pub use Rattle.dnw_net.specs.dnw_codes
 pub use Rattle.dnw_net.specs.dnw_label

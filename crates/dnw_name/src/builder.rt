@@ -2,6 +2,7 @@
 ghost use Rattle.std.specs.Prelude.{◌≡◌, ◌+◌, ◌<◌, ◌∷◌, ◌++◌, ◌⊎◌, [], length, IfOk, IfErr, IsErrOf, OnOk};
 ghost use Rattle.dnw_net.specs.dnw_codes.ProtoError.{IsMemory};
 ghost use Rattle.dnw_name.specs.DomainName.{IsDomainName, domain_name, labels_len, too_long};
+ghost use Rattle.dnw_name.specs.NameRefusals.{RefusesOctets};
 
 use crate::name::Name;
 use dnw_net::{DecodeError, IntoLabel, Label, ProtoError};
@@ -60,6 +61,8 @@ impl NameBuilder {
             → IfErr result IsMemory }
         ensures too_long { L.accepts label → 255 < labels_len self.labels + length (L.octets label) + 2
             → IfErr result (λ e. IsMemory e ⊎ (e ≡ too_long (labels_len self.labels + length (L.octets label) + 2))) }
+        ensures cause { IfErr result (λ e. IsMemory e ⊎ (L.refuses label e
+            ⊎ (L.accepts label × RefusesOctets (labels_len self.labels + length (L.octets label) + 2) e))) }
     {
         let label = label.into_label(*self.labels.allocator())?;
         self.append(label)
@@ -71,7 +74,7 @@ impl NameBuilder {
         ensures refused { IsDomainName (domain_name self.fqdn (self.labels ++ label ∷ [])) → IfErr result IsMemory }
         ensures too_long { 255 < labels_len self.labels + length label + 2
             → IsErrOf result (too_long (labels_len self.labels + length label + 2)) }
-        ensures cause { IfErr result (λ e. IsMemory e ⊎ (255 < labels_len self.labels + length label + 2)) }
+        ensures cause { IfErr result (λ e. IsMemory e ⊎ RefusesOctets (labels_len self.labels + length label + 2) e) }
     {
         let octets = self.octets + label.len() + 1;
         if octets + 1 > Name::MAX_LENGTH {

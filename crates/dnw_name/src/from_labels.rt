@@ -1,8 +1,9 @@
 //! Names of labels that come one after another.
-ghost use Rattle.std.specs.Prelude.{◌≡◌, ◌⊎◌, true, List, map, All, IfOk, IfErr, OnSome};
+ghost use Rattle.std.specs.Prelude.{◌≡◌, ◌⊎◌, ◌+◌, ◌≤◌, ◌++◌, ◌∷◌, [], length, true, List, map, All, IfOk, IfErr, OnSome};
 ghost use Rattle.std.specs.Iterator.{Drains, Yields};
 ghost use Rattle.dnw_net.specs.dnw_codes.ProtoError.{IsMemory};
-ghost use Rattle.dnw_name.specs.DomainName.{domain_name, IsDomainName};
+ghost use Rattle.dnw_name.specs.DomainName.{domain_name, IsDomainName, labels_len};
+ghost use Rattle.dnw_name.specs.NameRefusals.{RefusesOctets};
 
 use crate::builder::NameBuilder;
 use crate::name::Name;
@@ -21,6 +22,9 @@ impl Name {
             × (name ≡ domain_name true (map L.octets items)) × All L.accepts items) }
         ensures refused { IfErr result (λ e. IsMemory e ⊎ ((items : List L) × (rest : I) × Yields I.next_gives labels items rest
             × (All L.accepts items → IsDomainName (domain_name true (map L.octets items)) → ⊥))) }
+        ensures cause { IfErr result (λ e. IsMemory e ⊎ ((items : List L) × (label : L) × (rest : I)
+            × Yields I.next_gives labels (items ++ label ∷ []) rest × All L.accepts items × (labels_len (map L.octets items) + 1 ≤ 255)
+            × (L.refuses label e ⊎ (L.accepts label × RefusesOctets (labels_len (map L.octets items) + length (L.octets label) + 2) e)))) }
     {
         let mut left = labels;
         let mut name = NameBuilder::new(alloc, true);

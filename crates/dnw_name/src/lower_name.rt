@@ -1,11 +1,14 @@
 //! Names in lower case.
-ghost use Rattle.std.specs.Prelude.{◌≡◌, ◌&&◌, ◌==◌, ◌⊎◌, length, drop, IfOk, IfErr, false};
+ghost use Rattle.std.specs.Prelude.{◌≡◌, ◌&&◌, ◌==◌, ◌⊎◌, length, drop, IfOk, IfErr, MatchResult, false};
 ghost use Rattle.std.specs.Cmp.{partial_order_from_own_ties};
 ghost use Rattle.std.specs.Cmp.Rules.{comparing};
 ghost use Rattle.std.specs.Ordering.{as_partial_cmp};
 ghost use Rattle.std.proofs.Common.{rules};
 ghost use Rattle.dnw_name.specs.DomainName.{DomainName, domain_name, IsDomainName, lowercase_name, name_eq, name_cmp, name_len, num_labels, is_wildcard, is_at_or_below, wildcard_of};
 ghost use Rattle.dnw_net.specs.dnw_codes.ProtoError.{IsMemory};
+ghost use Rattle.dnw_net.specs.dnw_codes.declared.error.ProtoError.{ProtoError as WireError};
+ghost use Rattle.dnw_net.specs.dnw_label.LabelRefusals.{AreAlike};
+ghost use Rattle.dnw_name.specs.NameRefusals.{RefusesNameText};
 ghost use Rattle.dnw_name.specs.NameText.{NameText};
 ghost use Rattle.dnw_name.specs.NameOrderLaws.{name_eq-by_cmp};
 
@@ -44,6 +47,9 @@ impl LowerName {
     pub fn from_str(alloc: Global, text: &str) -> Result<LowerName, ProtoError>
         ensures ok { IfOk result (λ lower. (name : DomainName) × NameText text.now name × (lower ≡ lowercase_name name)) }
         ensures refused { IfErr result (λ e. IsMemory e ⊎ ((name : DomainName) → NameText text.now name → ⊥)) }
+        ensures cause { IfErr result (λ e. IsMemory e ⊎ RefusesNameText text.now e) }
+        ensures stands { (e : WireError) → RefusesNameText text.now e
+            → MatchResult result (λ lower. ⊥) (λ given. IsMemory given ⊎ AreAlike e given) }
     {
         match Name::from_ascii(alloc, text) {
             Ok(name) => Ok(LowerName::from(name)),

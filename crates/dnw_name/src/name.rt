@@ -2,6 +2,7 @@
 ghost use Rattle.std.specs.Prelude.{◌≡◌, ◌+◌, ◌-◌, ◌<◌, ◌&&◌, ◌==◌, ◌∷◌, [], ◌++◌, drop, true, false, length, IfOk, IfErr, IsErrOf, OnOk, ◌⊎◌};
 ghost use Rattle.dnw_net.specs.dnw_codes.ProtoError.{IsMemory};
 ghost use Rattle.dnw_name.specs.DomainName.{DomainName, domain_name, IsDomainName, labels_len, num_labels, name_len, too_long, lowercase_name, wildcard_of, is_at_or_below, is_wildcard, localhost};
+ghost use Rattle.dnw_name.specs.NameRefusals.{RefusesOctets};
 
 mod labels;
 mod order;
@@ -204,6 +205,8 @@ impl Name {
             → IfErr result IsMemory }
         ensures too_long { L.accepts label → 255 < labels_len self.labels + length (L.octets label) + 2
             → IfErr result (λ e. IsMemory e ⊎ (e ≡ too_long (labels_len self.labels + length (L.octets label) + 2))) }
+        ensures cause { IfErr result (λ e. IsMemory e ⊎ (L.refuses label e
+            ⊎ (L.accepts label × RefusesOctets (labels_len self.labels + length (L.octets label) + 2) e))) }
     {
         match self.into_builder().append_label(label) {
             Ok(longer) => Ok(longer.finish()),
@@ -219,6 +222,8 @@ impl Name {
             → IfErr result IsMemory }
         ensures too_long { L.accepts label → 255 < labels_len self.now.labels + length (L.octets label) + 2
             → IfErr result (λ e. IsMemory e ⊎ (e ≡ too_long (labels_len self.now.labels + length (L.octets label) + 2))) }
+        ensures cause { IfErr result (λ e. IsMemory e ⊎ (L.refuses label e
+            ⊎ (L.accepts label × RefusesOctets (labels_len self.now.labels + length (L.octets label) + 2) e))) }
     {
         let label = label.into_label(*self.labels.allocator())?;
         self.prepend(label)
@@ -230,6 +235,7 @@ impl Name {
         ensures refused { IsDomainName (domain_name self.now.fqdn (label ∷ self.now.labels)) → IfErr result IsMemory }
         ensures too_long { 255 < labels_len self.now.labels + length label + 2
             → IsErrOf result (too_long (labels_len self.now.labels + length label + 2)) }
+        ensures cause { IfErr result (λ e. IsMemory e ⊎ RefusesOctets (labels_len self.now.labels + length label + 2) e) }
     {
         let octets = octets_of(&self.labels) + label.len() + 2;
         if octets > Name::MAX_LENGTH {

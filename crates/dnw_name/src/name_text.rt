@@ -1,8 +1,11 @@
 //! Names in texts.
-ghost use Rattle.std.specs.Prelude.{◌≡◌, ◌⊎◌, ℕ, Bool, List, IfOk, IfErr};
+ghost use Rattle.std.specs.Prelude.{◌≡◌, ◌⊎◌, ℕ, Bool, List, IfOk, IfErr, MatchResult};
 ghost use Rattle.std.specs.Option.{option_copied};
 ghost use Rattle.dnw_net.specs.dnw_codes.ProtoError.{IsMemory};
+ghost use Rattle.dnw_net.specs.dnw_codes.declared.error.ProtoError.{ProtoError as WireError};
+ghost use Rattle.dnw_net.specs.dnw_label.LabelRefusals.{AreAlike};
 ghost use Rattle.dnw_name.specs.DomainName.{DomainName, domain_name, IsDomainName};
+ghost use Rattle.dnw_name.specs.NameRefusals.{RefusesNameText, RefusesCompleted, RefusesLabels};
 ghost use Rattle.dnw_name.specs.NameText.{complete_name, LabelsText, NameText};
 
 use crate::builder::NameBuilder;
@@ -14,10 +17,14 @@ use std::alloc::Global;
 impl Name {
     /// The name of a text (RFC 1035 5.1): labels between dots, and a dot at the end of a fully qualified name.
     /// A backslash stands before a character that is taken as it is, or before three octal digits. Labels are
-    /// those of `Label::from_ascii`. Refused is every other text, and a name above 255 octets.
+    /// those of `Label::from_ascii`. Refused is every other text, by the error of its first label that is refused, and
+    /// a name above 255 octets, by `DomainNameTooLong` and the octets up to the label that passes them.
     pub fn from_ascii(alloc: Global, text: &str) -> Result<Name, ProtoError>
         ensures ok { IfOk result (λ name. NameText text.now name) }
         ensures refused { IfErr result (λ e. IsMemory e ⊎ ((name : DomainName) → NameText text.now name → ⊥)) }
+        ensures cause { IfErr result (λ e. IsMemory e ⊎ RefusesNameText text.now e) }
+        ensures stands { (e : WireError) → RefusesNameText text.now e
+            → MatchResult result (λ name. ⊥) (λ given. IsMemory given ⊎ AreAlike e given) }
     {
         Name::from_ascii_bytes(alloc, text.as_bytes())
     }
@@ -26,6 +33,9 @@ impl Name {
     pub fn from_ascii_bytes(alloc: Global, text: &[u8]) -> Result<Name, ProtoError>
         ensures ok { IfOk result (λ name. NameText text.now name) }
         ensures refused { IfErr result (λ e. IsMemory e ⊎ ((name : DomainName) → NameText text.now name → ⊥)) }
+        ensures cause { IfErr result (λ e. IsMemory e ⊎ RefusesNameText text.now e) }
+        ensures stands { (e : WireError) → RefusesNameText text.now e
+            → MatchResult result (λ name. ⊥) (λ given. IsMemory given ⊎ AreAlike e given) }
     {
         if text.is_empty() {
             return Ok(Name::new(alloc));
@@ -43,6 +53,9 @@ impl Name {
             × (name ≡ complete_name read (option_copied origin.entry))) }
         ensures refused { IfErr result (λ e. IsMemory e
             ⊎ ((read : DomainName) → NameText local.now read → IsDomainName (complete_name read (option_copied origin.entry)) → ⊥)) }
+        ensures cause { IfErr result (λ e. IsMemory e ⊎ RefusesCompleted (option_copied origin.entry) local.now e) }
+        ensures stands { (e : WireError) → RefusesCompleted (option_copied origin.entry) local.now e
+            → MatchResult result (λ name. ⊥) (λ given. IsMemory given ⊎ AreAlike e given) }
     {
         let name = match Name::from_ascii(alloc, local) {
             Ok(name) => name,
@@ -58,6 +71,9 @@ impl Name {
     pub fn from_utf8(alloc: Global, text: &str) -> Result<Name, ProtoError>
         ensures ok { IfOk result (λ name. NameText text.now name) }
         ensures refused { IfErr result (λ e. IsMemory e ⊎ ((name : DomainName) → NameText text.now name → ⊥)) }
+        ensures cause { IfErr result (λ e. IsMemory e ⊎ RefusesNameText text.now e) }
+        ensures stands { (e : WireError) → RefusesNameText text.now e
+            → MatchResult result (λ name. ⊥) (λ given. IsMemory given ⊎ AreAlike e given) }
     {
         Name::from_str(alloc, text)
     }
@@ -66,6 +82,9 @@ impl Name {
     pub fn from_str(alloc: Global, text: &str) -> Result<Name, ProtoError>
         ensures ok { IfOk result (λ name. NameText text.now name) }
         ensures refused { IfErr result (λ e. IsMemory e ⊎ ((name : DomainName) → NameText text.now name → ⊥)) }
+        ensures cause { IfErr result (λ e. IsMemory e ⊎ RefusesNameText text.now e) }
+        ensures stands { (e : WireError) → RefusesNameText text.now e
+            → MatchResult result (λ name. ⊥) (λ given. IsMemory given ⊎ AreAlike e given) }
     {
         Name::from_ascii(alloc, text)
     }
@@ -74,6 +93,9 @@ impl Name {
     pub fn from_str_relaxed(alloc: Global, text: &str) -> Result<Name, ProtoError>
         ensures ok { IfOk result (λ name. NameText text.now name) }
         ensures refused { IfErr result (λ e. IsMemory e ⊎ ((name : DomainName) → NameText text.now name → ⊥)) }
+        ensures cause { IfErr result (λ e. IsMemory e ⊎ RefusesNameText text.now e) }
+        ensures stands { (e : WireError) → RefusesNameText text.now e
+            → MatchResult result (λ name. ⊥) (λ given. IsMemory given ⊎ AreAlike e given) }
     {
         Name::from_utf8(alloc, text)
     }
@@ -83,14 +105,23 @@ impl Name {
 pub trait IntoName: Sized {
     ghost reads: { Self → DomainName → Type 0 };
 
+    ghost refuses: { Self → WireError → Type 0 };
+
     /// The name, where this is one; else the error says why.
     fn into_name(self, alloc: Global) -> Result<Name, ProtoError>
         ensures ok { IfOk result (λ name. reads self name) }
-        ensures refused { IfErr result (λ e. IsMemory e ⊎ ((name : DomainName) → reads self name → ⊥)) };
+        ensures refused { IfErr result (λ e. IsMemory e ⊎ ((name : DomainName) → reads self name → ⊥)) }
+        ensures cause { IfErr result (λ e. IsMemory e ⊎ refuses self e) }
+
+        // Where a cause stands, the error has it, or memory was refused.
+        ensures stands { (e : WireError) → refuses self e
+            → MatchResult result (λ name. ⊥) (λ given. IsMemory given ⊎ AreAlike e given) };
 }
 
 impl IntoName for Name {
     ghost reads = { λ own name. name ≡ own };
+
+    ghost refuses = { λ _ _. ⊥ };
 
     fn into_name(self, _alloc: Global) -> Result<Name, ProtoError> {
         Ok(self)
@@ -99,6 +130,8 @@ impl IntoName for Name {
 
 impl IntoName for &Name {
     ghost reads = { λ other name. name ≡ other.now };
+
+    ghost refuses = { λ _ _. ⊥ };
 
     fn into_name(self, _alloc: Global) -> Result<Name, ProtoError> {
         match self.clone() {
@@ -111,6 +144,8 @@ impl IntoName for &Name {
 impl IntoName for LowerName {
     ghost reads = { λ lower name. name ≡ lower };
 
+    ghost refuses = { λ _ _. ⊥ };
+
     fn into_name(self, _alloc: Global) -> Result<Name, ProtoError> {
         Ok(Name::from(self))
     }
@@ -118,6 +153,8 @@ impl IntoName for LowerName {
 
 impl IntoName for &str {
     ghost reads = { λ text name. NameText text.now name };
+
+    ghost refuses = { λ text. RefusesNameText text.now };
 
     fn into_name(self, alloc: Global) -> Result<Name, ProtoError> {
         Name::from_ascii(alloc, self)
@@ -129,6 +166,8 @@ impl IntoName for String {
 
     ghost reads = { λ text name. NameText (string_bytes text) name };
 
+    ghost refuses = { λ text. RefusesNameText (string_bytes text) };
+
     fn into_name(self, alloc: Global) -> Result<Name, ProtoError> {
         Name::from_ascii(alloc, self.as_str())
     }
@@ -138,6 +177,8 @@ impl IntoName for &String {
     ghost use Rattle.std.specs.String.{string_bytes};
 
     ghost reads = { λ text name. NameText (string_bytes text.now) name };
+
+    ghost refuses = { λ text. RefusesNameText (string_bytes text.now) };
 
     fn into_name(self, alloc: Global) -> Result<Name, ProtoError> {
         self.as_str().into_name(alloc)
@@ -149,6 +190,7 @@ fn name_of_labels(alloc: Global, text: &[u8]) -> Result<Name, ProtoError>
     ensures ok { IfOk result (λ name. LabelsText text.now name.fqdn name.labels × IsDomainName name) }
     ensures refused { IfErr result (λ e. IsMemory e
         ⊎ ((fqdn : Bool) (labels : List (List ℕ)) → LabelsText text.now fqdn labels → IsDomainName (domain_name fqdn labels) → ⊥)) }
+    ensures cause { IfErr result (λ e. IsMemory e ⊎ RefusesLabels text.now e) }
 {
     let mut name = NameBuilder::new(alloc, false);
     let mut rest = text;

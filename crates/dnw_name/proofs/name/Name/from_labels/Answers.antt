@@ -1,6 +1,6 @@
 use Rattle.std.proofs.Common.{subst, ◌∙◌, arith}
 use Rattle.dnw_name.specs.DomainName.{IsDomainName}
-use Rattle.dnw_name.proofs.Taken.{taken-start, taken-more, taken-done, taken-refused, taken-too_many}
+use Rattle.dnw_name.proofs.Taken.{taken-start, taken-more, taken-done, taken-refused, taken-cause, taken-too_many}
 use Rattle.dnw_name.proofs.name.Name.from_labels.Goals as goal
 
 pub labels-init : goal.labels-init
@@ -28,9 +28,20 @@ pub labels-preserved : goal.labels-preserved
 labels-preserved g c =
     taken-more g.I.Iterator.next_gives g.I.Iterator.can_next g.L.IntoLabel.octets g.L.IntoLabel.accepts
     c.args.labels c.labels.left c.next_of.new.items c.labels.name c.in-Ok.longer c.labels._taken c.in-Some.label
-    c.labels.invariant c.in-Some.ensures.steps c.in-Some.ensures.goes (c.in-Ok.ensures.ok).0 c.in-Ok.ensures.accepted
+    c.labels.invariant c.in-Some.ensures.steps c.in-Some.ensures.goes (c.in-Ok.ensures.ok).0 c.in-Ok.ensures.accepted (c.in-Ok.ensures.ok).1
 
 pub returns-clause-refused : goal.returns-clause-refused
 returns-clause-refused g c =
+    absurd (taken-too_many g.I.Iterator.next_gives g.I.Iterator.can_next g.L.IntoLabel.octets g.L.IntoLabel.accepts
+    c.args.labels c.labels.left c.labels.name c.labels._taken c.labels.invariant (subst IsDomainName c.finish-2.ensures.value c.finish-2.ensures.name) (omega arith))
+
+pub returns-in-Err-clause-cause : goal.returns-in-Err-clause-cause
+returns-in-Err-clause-cause g c =
+    taken-cause g.I.Iterator.next_gives g.I.Iterator.can_next g.L.IntoLabel.octets g.L.IntoLabel.accepts g.L.IntoLabel.refuses
+    c.args.labels c.labels.left c.next_of.new.items c.labels.name c.labels._taken c.in-Some.label c.in-Err.refused
+    c.labels.invariant c.in-Some.ensures.steps c.in-Err.ensures.cause
+
+pub returns-clause-cause : goal.returns-clause-cause
+returns-clause-cause g c =
     absurd (taken-too_many g.I.Iterator.next_gives g.I.Iterator.can_next g.L.IntoLabel.octets g.L.IntoLabel.accepts
     c.args.labels c.labels.left c.labels.name c.labels._taken c.labels.invariant (subst IsDomainName c.finish-2.ensures.value c.finish-2.ensures.name) (omega arith))
