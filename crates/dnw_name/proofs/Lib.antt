@@ -1,3 +1,4 @@
+pub mod ArpaEnds
 pub mod ArpaLemmas
 pub mod Fronts
 pub mod KeyOrder

@@ -108,7 +108,7 @@ no-label name e addr prefix h =
     no-zero_arpa h.missing (suffix_label addr ∷ map (number_label addr) (address_numbers addr))
     (subst (λ xs. pointwise label_eq (reverse xs ++ zero_labels h.missing) (codes "arpa" ∷ suffix_label addr ∷ map (number_label addr) (address_numbers addr)) ≡ true) e (named-parts name addr prefix h).matches)
 
-reversed-two : (behind : List (List ℕ)) (top : List ℕ) → reverse (behind ++ top ∷ []) ≡ top ∷ reverse behind
+pub reversed-two : (behind : List (List ℕ)) (top : List ℕ) → reverse (behind ++ top ∷ []) ≡ top ∷ reverse behind
 reversed-two behind top = reverse-append behind (top ∷ [])
 
 top-parts : (name : DomainName) (behind : List (List ℕ)) (top : List ℕ) → name.labels ≡ behind ++ top ∷ [] → (addr : IpAddr) (prefix : ℕ) (h : IsArpaName name addr prefix) → (label_eq top (codes "arpa") ≡ true) × (pointwise label_eq (reverse behind ++ zero_labels h.missing) (suffix_label addr ∷ map (number_label addr) (address_numbers addr)) ≡ true)
@@ -130,7 +130,7 @@ pub record Below (below : List (List ℕ)) (kind : List ℕ) (addr : IpAddr) (pr
   pub suffix : label_eq kind (suffix_label addr) ≡ true
   pub network : IsBelowSuffix below addr prefix
 
-two-labels : (below : List (List ℕ)) (kind top : List ℕ) → below ++ kind ∷ top ∷ [] ≡ (below ++ kind ∷ []) ++ top ∷ []
+pub two-labels : (below : List (List ℕ)) (kind top : List ℕ) → below ++ kind ∷ top ∷ [] ≡ (below ++ kind ∷ []) ++ top ∷ []
 two-labels below kind top = sym (append_assoc below (kind ∷ []) (top ∷ []))
 
 pub below-from : (name : DomainName) (below : List (List ℕ)) (kind : List ℕ) → EndsInArpa name below kind → (addr : IpAddr) (prefix : ℕ) → IsArpaName name addr prefix → Below below kind addr prefix

@@ -1,12 +1,10 @@
 //! Networks of names (RFC 1035 3.5, RFC 3596 2.5).
-ghost use Rattle.std.specs.Prelude.{ℕ, ◌≡◌, ◌⊎◌, IfOk, IfErr, IfSome, IfNone};
+ghost use Rattle.std.specs.Prelude.{ℕ, ◌≡◌, List, IfOk, IfErr, OnOk, IfSome, IfNone};
 ghost use Rattle.std.specs.Result.{IsOkAnd};
 ghost use Rattle.std.specs.declared.net.ip_addr.IpAddr.{IpAddr as Address};
-ghost use Rattle.dnw_net.specs.dnw_codes.ProtoError.{IsMessage};
-ghost use Rattle.dnw_net.specs.dnw_codes.declared.error.ProtoError.TheVariants.{ParseInt};
 ghost use Rattle.dnw_net.specs.Networks.{address_bits};
 ghost use Rattle.dnw_net.specs.ArpaLabels.{IsAddress};
-ghost use Rattle.dnw_name.specs.Arpa.{arpa_name, IsArpaName, EndsInArpa};
+ghost use Rattle.dnw_name.specs.Arpa.{arpa_name, IsArpaName, EndsInArpa, EndsInZone, RefusesArpaName};
 
 use crate::name::Name;
 use dnw_net::{IpNet, LabelIter, ProtoError, net_of_v4, net_of_v6};
@@ -18,7 +16,8 @@ impl Name {
     /// than those of an address.
     pub fn parse_arpa_name(&self) -> Result<IpNet, ProtoError>
         ensures ok { IfOk result (λ net. IsArpaName self.now net.addr net.prefix_len) }
-        ensures cause { IfErr result (λ e. IsMessage e ⊎ (e ≡ ParseInt)) }
+        ensures zone { OnOk result (EndsInZone self.now) }
+        ensures cause { IfErr result (RefusesArpaName self.now) }
 
         // There is no other network of the name, and where there is one it is the answer.
         ensures only { (addr : Address) (prefix : ℕ) → IsArpaName self.now addr prefix
@@ -45,6 +44,7 @@ impl Name {
 fn labels_below_arpa(name: &Name) -> Option<(&[u8], LabelIter<'_>)>
     ensures some { IfSome result (λ found. EndsInArpa name.now found.1 found.0.now) }
     ensures none { IfNone result ((addr : Address) (prefix : ℕ) → IsArpaName name.now addr prefix → ⊥) }
+    ensures other { IfNone result ((below : List (List ℕ)) (kind : List ℕ) → EndsInArpa name.now below kind → ⊥) }
 {
     if !name.is_fqdn() {
         return None;

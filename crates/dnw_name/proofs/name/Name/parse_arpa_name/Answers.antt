@@ -4,7 +4,9 @@ use Rattle.std.specs.Result.{IsOkAnd}
 use Rattle.std.specs.declared.net.ip_addr.IpAddr.{IpAddr}
 use Rattle.dnw_net.specs.dnw_label.Label.{label_eq}
 use Rattle.dnw_net.specs.declared.net.IpNet.{IpNet}
-use Rattle.dnw_name.specs.Arpa.{IsArpaName}
+use Rattle.std.proofs.Common.{inl, inr}
+use Rattle.dnw_name.specs.Arpa.{IsArpaName, EndsInZone}
+use Rattle.dnw_name.proofs.ArpaEnds.{no-other_kind, number-refused, in-zone}
 use Rattle.dnw_net.proofs.SuffixLemmas.{suffix-v4, suffix-v6}
 use Rattle.dnw_name.proofs.SuffixLemmas.{result-ok, result-only, address-from, label_eq-from, no-suffix}
 use Rattle.dnw_name.proofs.name.Name.parse_arpa_name.Goals as goal
@@ -61,3 +63,34 @@ returns-clause-only c =
 
 pub returns-clause-address : goal.returns-clause-address
 returns-clause-address c = address-from c.args.self.now (λ addr prefix. ⊥) (returns-clause-only c)
+
+pub returns-in_default-clause-cause : goal.returns-in_default-clause-cause
+returns-in_default-clause-cause c = inl (tt, λ zone. c.in_default.ensures.other zone.0 zone.1 zone.2)
+
+zone-v4 : (c : After-net_of_v4) → EndsInZone c.args.self.now
+zone-v4 c = (c.in-Some.labels, c.in-Some.kind.now, c.in-Some.ensures.some, inl (is-v4 c))
+
+pub returns-then-eq_ignore_ascii_case-clause-zone : goal.returns-then-eq_ignore_ascii_case-clause-zone
+returns-then-eq_ignore_ascii_case-clause-zone c = in-zone c.net_of_v4.result (EndsInZone c.args.self.now) (zone-v4 c)
+
+pub returns-then-eq_ignore_ascii_case-clause-cause : goal.returns-then-eq_ignore_ascii_case-clause-cause
+returns-then-eq_ignore_ascii_case-clause-cause c =
+    number-refused c.args.self.now c.net_of_v4.result (λ addr prefix (net : IpNet). (net.addr ≡ addr) × (net.prefix_len ≡ prefix)) (zone-v4 c) c.net_of_v4.ensures.cause (only-v4 c)
+
+zone-v6 : (c : After-net_of_v6) → EndsInZone c.args.self.now
+zone-v6 c = (c.in-Some.labels, c.in-Some.kind.now, c.in-Some.ensures.some, inr (is-v6 c))
+
+pub returns-then-eq_ignore_ascii_case-2-clause-zone : goal.returns-then-eq_ignore_ascii_case-2-clause-zone
+returns-then-eq_ignore_ascii_case-2-clause-zone c = in-zone c.net_of_v6.result (EndsInZone c.args.self.now) (zone-v6 c)
+
+pub returns-then-eq_ignore_ascii_case-2-clause-cause : goal.returns-then-eq_ignore_ascii_case-2-clause-cause
+returns-then-eq_ignore_ascii_case-2-clause-cause c =
+    number-refused c.args.self.now c.net_of_v6.result (λ addr prefix (net : IpNet). (net.addr ≡ addr) × (net.prefix_len ≡ prefix)) (zone-v6 c) c.net_of_v6.ensures.cause (only-v6 c)
+
+pub returns-clause-cause : goal.returns-clause-cause
+returns-clause-cause c = inl (
+  tt,
+  no-other_kind c.args.self.now c.in-Some.labels c.in-Some.kind.now c.in-Some.ensures.some
+      (λ e. let f : false ≡ true = c.if-eq_ignore_ascii_case.ensures.test.1 e in absurd (cc))
+      (λ e. let f : false ≡ true = c.if-eq_ignore_ascii_case-2.ensures.test.1 e in absurd (cc)),
+)
