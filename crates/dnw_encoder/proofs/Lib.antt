@@ -1,4 +1,5 @@
 pub mod MemberLaws
+pub mod KeptLaws
 pub mod Laws
 pub mod NameLaws
 pub mod PlaceLaws

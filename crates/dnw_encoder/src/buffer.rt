@@ -9,9 +9,7 @@ fn put(octets: &mut [u8], place: usize, more: &[u8])
     requires { place + length more.now ≤ length octets.old }
     ensures { octets.new ≡ written_at octets.old place more.now }
 {
-    'octets: for i in 0..more.len() {
-        octets[place + i] = more[i];
-    }
+    octets[place..place + more.len()].copy_from_slice(more);
 }
 
 // Puts octets over others of a buffer.
@@ -20,6 +18,34 @@ fn overwrite(buffer: &mut Vec<u8>, place: usize, more: &[u8])
     ensures { buffer.new.items ≡ written_at buffer.old.items place more.now }
 {
     put(buffer, place, more);
+}
+
+// Puts octets over what is there and behind it.
+fn write_over(buffer: &mut Vec<u8>, place: usize, octets: &[u8]) -> Result<(), AllocError>
+    requires { place ≤ length buffer.old.items }
+    ensures ok { OnOk result (buffer.new.items ≡ written_at buffer.old.items place octets.now) }
+    ensures err { OnErr result (buffer.new.items ≡ buffer.old.items) }
+{
+    if octets.len() <= buffer.len() - place {
+        overwrite(buffer, place, octets);
+        return Ok(());
+    }
+    buffer.reserve(octets.len())?;
+    buffer.truncate(place);
+    buffer.extend_from_slice(octets)
+}
+
+// Puts octets at a place, which is the end but where a place is filled or a buffer is written anew.
+#[inline]
+pub(crate) fn put_at(buffer: &mut Vec<u8>, place: usize, octets: &[u8]) -> Result<(), AllocError>
+    requires { place ≤ length buffer.old.items }
+    ensures ok { OnOk result (buffer.new.items ≡ written_at buffer.old.items place octets.now) }
+    ensures err { OnErr result (buffer.new.items ≡ buffer.old.items) }
+{
+    if place == buffer.len() {
+        return buffer.extend_from_slice(octets);
+    }
+    write_over(buffer, place, octets)
 }
 
 // Puts a front and a rest at a place, over what is there and behind it.
@@ -64,8 +90,8 @@ fn clear_inside(buffer: &mut Vec<u8>, place: usize, size: usize)
     clear(buffer, place, size);
 }
 
-// Puts so many zeros at a place, over what is there and behind it.
-pub(crate) fn clear_at(buffer: &mut Vec<u8>, place: usize, size: usize) -> Result<(), AllocError>
+// Puts so many zeros over what is there and behind it.
+fn clear_over(buffer: &mut Vec<u8>, place: usize, size: usize) -> Result<(), AllocError>
     requires within { place ≤ length buffer.old.items }
     requires fits { place + size < 2 ^ 64 }
     ensures ok { OnOk result (buffer.new.items ≡ written_at buffer.old.items place (replicate size 0)) }
@@ -78,4 +104,18 @@ pub(crate) fn clear_at(buffer: &mut Vec<u8>, place: usize, size: usize) -> Resul
     buffer.reserve(size)?;
     buffer.truncate(place);
     buffer.resize(place + size, 0)
+}
+
+// Puts so many zeros at a place, which is the end but where a buffer is written anew.
+#[inline]
+pub(crate) fn clear_at(buffer: &mut Vec<u8>, place: usize, size: usize) -> Result<(), AllocError>
+    requires within { place ≤ length buffer.old.items }
+    requires fits { place + size < 2 ^ 64 }
+    ensures ok { OnOk result (buffer.new.items ≡ written_at buffer.old.items place (replicate size 0)) }
+    ensures err { OnErr result (buffer.new.items ≡ buffer.old.items) }
+{
+    if place == buffer.len() {
+        return buffer.resize(place + size, 0);
+    }
+    clear_over(buffer, place, size)
 }

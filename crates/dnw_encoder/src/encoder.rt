@@ -4,10 +4,11 @@ ghost use Rattle.std.specs.Int.{w32, cast_unsigned};
 ghost use Rattle.dnw_codes.specs.declared.error.ProtoError.TheVariants.{MaxBufferSizeExceeded};
 ghost use Rattle.dnw_decoder.specs.Octets.{octets_16, octets_32};
 
-use crate::buffer::write_at;
+use crate::buffer::{put_at, write_at};
 use crate::modes::NameEncoding;
 use crate::open_places::OpenPlace;
 use dnw_codes::ProtoError;
+use smallvec::SmallVec;
 
 /// A writer of the octets of a message. It appends to a `Vec` that it borrows.
 ///
@@ -21,7 +22,7 @@ pub struct BinEncoder<'a> {
     pub(crate) maximum: usize,
     pub(crate) name_encoding: NameEncoding,
     pub(crate) canonical_form: bool,
-    pub(crate) places: Vec<OpenPlace>,
+    pub(crate) places: SmallVec<OpenPlace, 2>,
     ghost within: { offset ≤ length buffer.now.items },
 }
 
@@ -50,7 +51,7 @@ impl<'a> BinEncoder<'a> {
         ensures state { state result ≡ new_state buffer.old.items offset name_encoding }
         ensures sound { length buffer.old.items ≡ offset → Sound (state result) }
     {
-        let places = Vec::new(*buffer.allocator());
+        let places = SmallVec::new(*buffer.allocator());
         BinEncoder {
             buffer,
             offset: offset as usize,
@@ -157,6 +158,7 @@ impl<'a> BinEncoder<'a> {
     }
 
     // Refuses a write of so many octets, which would pass the maximum.
+    #[inline]
     pub(crate) fn check_size(&self, size: usize) -> Result<(), ProtoError>
         ensures fits { OnOk result ((state self.now).offset + size ≤ (state self.now).maximum) }
         ensures cause { IfErr result (λ e. (e ≡ MaxBufferSizeExceeded (state self.now).maximum)
@@ -192,6 +194,7 @@ impl<'a> BinEncoder<'a> {
     }
 
     /// Writes octets.
+    #[inline]
     pub fn emit_vec(&mut self, octets: &[u8]) -> Result<(), ProtoError>
         ensures same_reference { self.new.buffer.ghost_name ≡ self.old.buffer.ghost_name }
         ensures writes { Writes (state self.old) (state self.new) }
@@ -200,7 +203,14 @@ impl<'a> BinEncoder<'a> {
         ensures err { OnErr result (state self.new ≡ state self.old) }
         ensures cause { IfErr result (IsRefusal (state self.old) (length octets.now)) }
     {
-        self.write(octets, &[])
+        self.check_size(octets.len())?;
+        match put_at(self.buffer, self.offset, octets) {
+            Ok(()) => {
+                self.offset += octets.len();
+                Ok(())
+            }
+            Err(refused) => Err(ProtoError::Memory(refused)),
+        }
     }
 
     /// Writes one octet.

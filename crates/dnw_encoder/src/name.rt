@@ -6,7 +6,7 @@ ghost use Rattle.dnw_encoder.specs.Encoders.{state};
 ghost use Rattle.dnw_encoder.specs.Effects.{Writes, IsRefusal, written_at};
 ghost use Rattle.dnw_encoder.specs.Names.{EmitsName, encoded_name, label_piece};
 
-use crate::buffer::write_at;
+use crate::buffer::put_at;
 use crate::encodable::BinEncodable;
 use crate::encoder::BinEncoder;
 use crate::modes::NameEncoding;
@@ -26,6 +26,7 @@ fn size_of(name: &Name) -> usize
 }
 
 // Appends octets, for which there is room.
+#[inline]
 fn append(buffer: &mut Vec<u8>, octets: &[u8])
     requires { vec_len buffer.old + length octets.now ≤ vec_capacity buffer.old }
     ensures items { buffer.new.items ≡ buffer.old.items ++ octets.now }
@@ -49,6 +50,7 @@ fn append_lower(buffer: &mut Vec<u8>, octets: &[u8])
 }
 
 // Appends a label behind its length, for which there is room.
+#[inline]
 fn append_label(buffer: &mut Vec<u8>, label: &[u8], lower: bool)
     requires few { length label.now ≤ 63 }
     requires room { vec_len buffer.old + (length label.now + 1) ≤ vec_capacity buffer.old }
@@ -99,7 +101,7 @@ fn write_name(
     }
     let mut octets = Vec::with_capacity(*buffer.allocator(), size)?;
     append_name(&mut octets, name, encoding);
-    write_at(buffer, place, &octets, &[])
+    put_at(buffer, place, &octets)
 }
 
 impl BinEncodable for Name {

@@ -35,6 +35,7 @@ impl<T: EncodedSize + Drop> Place<T> {
 
 impl BinEncoder<'_> {
     // Reserves octets.
+    #[inline]
     fn open(&mut self, size: usize) -> Result<usize, ProtoError>
         ensures same_reference { self.new.buffer.ghost_name ≡ self.old.buffer.ghost_name }
         ensures writes { Writes (state self.old) (state self.new) }
