@@ -50,3 +50,10 @@ written_beyond octets place front rest far =
     let none : drop (place + length (front ++ rest)) octets ≡ [] = drop_all (place + length (front ++ rest)) octets (omega (arith, length-append front rest)) in
     append_assoc (take place octets) front rest
     ∙ sym (ap (λ (t : List ℕ). (take place octets ++ (front ++ rest)) ++ t) none ∙ append-nil (take place octets ++ (front ++ rest)))
+
+-- At the end.
+pub written_end : (octets : List ℕ) (place : ℕ) (more : List ℕ) → place ≡ length octets → octets ++ more ≡ written_at octets place more
+written_end octets place more end =
+    let front : take place octets ≡ octets = ap (λ (n : ℕ). take n octets) end ∙ take-length octets in
+    let none : drop (place + length more) octets ≡ [] = drop_all (place + length more) octets (omega (arith, end)) in
+    sym (ap (λ (t : List ℕ). (t ++ more) ++ drop (place + length more) octets) front ∙ ap (λ (t : List ℕ). (octets ++ more) ++ t) none ∙ append-nil (octets ++ more))

@@ -1,5 +1,5 @@
 //! Names as an encoder writes them (RFC 1035 4.1.4; RFC 4034 6.2 for lower case).
-ghost use Rattle.std.specs.Prelude.{◌≡◌, ◌+◌, ◌<◌, ◌≤◌, ◌++◌, length, vec_len, vec_capacity, IfErr, OnOk, OnErr};
+ghost use Rattle.std.specs.Prelude.{◌≡◌, ◌+◌, ◌<◌, ◌≤◌, ◌++◌, true, length, vec_len, vec_capacity, IfErr, OnOk, OnErr};
 ghost use Rattle.std.specs.Str.{str_to_ascii_lowercase};
 ghost use Rattle.dnw_decoder.specs.dnw_name.DomainName.{DomainName, IsDomainName, name_octets};
 ghost use Rattle.dnw_encoder.specs.Encoders.{state};
@@ -104,6 +104,76 @@ fn write_name(
     put_at(buffer, place, &octets)
 }
 
+// No fewer octets than a name takes in full, told without walking its labels.
+#[inline]
+fn most_octets(name: &Name) -> usize
+    ensures { length (name_octets name.now) ≤ result }
+{
+    if name.iter().len() == 0 {
+        1
+    } else {
+        Name::MAX_LENGTH
+    }
+}
+
+// Whether so many octets that are written next stand at the end, in room that is there.
+#[inline]
+fn is_room(buffer: &Vec<u8>, place: usize, size: usize) -> bool
+    requires { place ≤ length buffer.now.items }
+    ensures { result ≡ true → (place ≡ length buffer.now.items) × (vec_len buffer.now + size ≤ vec_capacity buffer.now) }
+{
+    place == buffer.len() && buffer.capacity() - place >= size
+}
+
+// Writes a name at the end, in room that is there. Its labels are walked once, and it is taken back where it passes
+// the maximum.
+fn emit_in_room(name: &Name, encoder: &mut BinEncoder<'_>) -> Result<(), ProtoError>
+    requires at_end { encoder.old.offset ≡ length encoder.old.buffer.now.items }
+    requires room { vec_len encoder.old.buffer.now + length (name_octets name.now) ≤ vec_capacity encoder.old.buffer.now }
+    ensures same_reference { encoder.new.buffer.ghost_name ≡ encoder.old.buffer.ghost_name }
+    ensures writes { Writes (state encoder.old) (state encoder.new) }
+    ensures ok { OnOk result (EmitsName name.now (state encoder.old) (state encoder.new)) }
+    ensures fits { OnOk result ((state encoder.old).offset + length (name_octets name.now) ≤ (state encoder.old).maximum) }
+    ensures err { OnErr result (state encoder.new ≡ state encoder.old) }
+    ensures cause { IfErr result (IsRefusal (state encoder.old) (length (name_octets name.now))) }
+{
+    let place = encoder.offset;
+    append_name(encoder.buffer, name, encoder.name_encoding);
+    let end = encoder.buffer.len();
+    if encoder.maximum < end {
+        encoder.buffer.truncate(place);
+        return Err(ProtoError::MaxBufferSizeExceeded(encoder.maximum));
+    }
+    encoder.offset = end;
+    Ok(())
+}
+
+// Writes a name whose size is counted first.
+fn emit_counted(name: &Name, encoder: &mut BinEncoder<'_>) -> Result<(), ProtoError>
+    ensures same_reference { encoder.new.buffer.ghost_name ≡ encoder.old.buffer.ghost_name }
+    ensures writes { Writes (state encoder.old) (state encoder.new) }
+    ensures ok { OnOk result (EmitsName name.now (state encoder.old) (state encoder.new)) }
+    ensures fits { OnOk result ((state encoder.old).offset + length (name_octets name.now) ≤ (state encoder.old).maximum) }
+    ensures err { OnErr result (state encoder.new ≡ state encoder.old) }
+    ensures cause { IfErr result (IsRefusal (state encoder.old) (length (name_octets name.now))) }
+{
+    let size = size_of(name);
+    encoder.check_size(size)?;
+    match write_name(
+        encoder.buffer,
+        encoder.offset,
+        name,
+        size,
+        encoder.name_encoding,
+    ) {
+        Ok(()) => {
+            encoder.offset += size;
+            Ok(())
+        }
+        Err(refused) => Err(ProtoError::Memory(refused)),
+    }
+}
+
 impl BinEncodable for Name {
     ghost emits = { EmitsName };
 
@@ -118,21 +188,11 @@ impl BinEncodable for Name {
         ensures err { OnErr result (state encoder.new ≡ state encoder.old) }
         ensures cause { IfErr result (IsRefusal (state encoder.old) (length (name_octets self.now))) }
     {
-        let size = size_of(self);
-        encoder.check_size(size)?;
-        match write_name(
-            encoder.buffer,
-            encoder.offset,
-            self,
-            size,
-            encoder.name_encoding,
-        ) {
-            Ok(()) => {
-                encoder.offset += size;
-                Ok(())
-            }
-            Err(refused) => Err(ProtoError::Memory(refused)),
+        let most = most_octets(self);
+        if is_room(encoder.buffer, encoder.offset, most) {
+            return emit_in_room(self, encoder);
         }
+        emit_counted(self, encoder)
     }
 }
 
