@@ -1,5 +1,5 @@
 //! The key under which a map in plain order keeps names in canonical order.
-ghost use Rattle.std.specs.Prelude.{◌≡◌, ◌++◌, ◌∷◌, length, IfOk, Bool, List, ℕ, nat_eq, ◌<◌};
+ghost use Rattle.std.specs.Prelude.{◌≡◌, ◌+◌, ◌++◌, ◌∷◌, length, vec_len, vec_capacity, IfOk, Bool, List, ℕ, nat_eq, ◌<◌, ◌≤◌};
 ghost use Rattle.std.specs.List.{starts_with};
 ghost use Rattle.std.specs.Cmp.Lexicographic.{slice_cmp};
 ghost use Rattle.std.specs.Ordering.{nat_cmp};
@@ -23,10 +23,10 @@ pub fn key_of(alloc: Global, name: &Name) -> Result<Vec<u8>, AllocError>
         ≡ is_at_or_below name.now ancestor }
 {
     let mut key = Vec::with_capacity(alloc, name.len() + 1)?;
-    key.push(u8::from(name.is_fqdn()))?;
+    key.push_reserved(u8::from(name.is_fqdn()));
     let mut labels = name.iter();
     'labels: while let Some(label) = labels.next_back() {
-        push_label(&mut key, label)?;
+        push_label(&mut key, label);
     }
     Ok(key)
 }
@@ -41,21 +41,28 @@ pub fn base_key<'k>(key: &'k [u8], first: &[u8]) -> &'k [u8]
     &key[..key.len() - first.len() - 1]
 }
 
-// Writes a label's octets by their ranks, then 0.
-fn push_label(key: &mut Vec<u8>, label: &[u8]) -> Result<(), AllocError>
-    ensures { IfOk result (λ _. key.new.items ≡ key.old.items ++ label_key label.now) }
+// Appends a label's octets by their ranks, then 0, for which there is room.
+fn push_label(key: &mut Vec<u8>, label: &[u8])
+    requires { vec_len key.old + (length label.now + 1) ≤ vec_capacity key.old }
+    ensures items { key.new.items ≡ key.old.items ++ label_key label.now }
+    ensures len { vec_len key.new ≡ vec_len key.old + (length label.now + 1) }
+    ensures capacity { vec_capacity key.new ≡ vec_capacity key.old }
 {
-    'octets: for octet in label {
-        key.push(rank(*octet))?;
+    'octets: for i in 0..label.len() {
+        key.push_reserved(rank(label[i]));
     }
-    key.push(0)?;
-    Ok(())
+    key.push_reserved(0);
 }
 
 // The place of an octet among the octets without capitals, from 1 on.
 fn rank(octet: u8) -> u8
     ensures { result ≡ rank octet }
 {
-    let low = octet.to_ascii_lowercase();
-    if low < b'A' { low + 1 } else { low - 25 }
+    if octet < b'A' {
+        octet + 1
+    } else if octet <= b'Z' {
+        octet + 7
+    } else {
+        octet - 25
+    }
 }
