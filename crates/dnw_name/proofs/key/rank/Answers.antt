@@ -1,16 +1,17 @@
-use Rattle.std.proofs.Common.{arith}
-use Rattle.std.proofs.lemmas.Grind.{common_steps}
+use Rattle.std.proofs.Common.{◌≡◌, ℕ, ◌<◌, map, get_or, refl, ap, ◌∙◌, arith}
+use Rattle.std.proofs.lemmas.List.FromFn.{get_or-map-range_with_len}
+use Rattle.std.specs.List.{range_with_len}
 use Rattle.dnw_name.specs.NameKey.{rank}
+use Rattle.dnw_name.specs.declared.key.TheConstants.{RANKS}
 use Rattle.dnw_name.proofs.key.rank.Goals as goal
 
-pub returns-then-octet-lt65 : goal.returns-then-octet-lt65
+-- The table has the rank of each octet.
+table_is : RANKS ≡ map rank (range_with_len 0 256)
 unfolding rank
-returns-then-octet-lt65 c = grind (arith, common_steps)
+table_is = refl
 
-pub returns-then-octet-le90 : goal.returns-then-octet-le90
-unfolding rank
-returns-then-octet-le90 c = grind (arith, common_steps)
+rank-at : (octet : ℕ) → octet < 256 → get_or RANKS octet 0 ≡ rank octet
+rank-at octet few = ap (λ t. get_or t octet 0) table_is ∙ get_or-map-range_with_len rank 0 256 octet octet 0 few (omega arith)
 
-pub returns-else-octet-le90 : goal.returns-else-octet-le90
-unfolding rank
-returns-else-octet-le90 c = grind (arith, common_steps)
+pub returns : goal.returns
+returns c = rw c.from.ensures (rank-at c.args.octet (omega arith))
