@@ -105,6 +105,14 @@ impl Label {
         }
     }
 
+    /// The label of these octets, which are 1 to 63.
+    pub fn of_octets(alloc: Global, octets: &[u8]) -> Result<Label, AllocError>
+        requires { IsLabel octets.now }
+        ensures { IfOk result (λ label. label ≡ octets.now) }
+    {
+        Ok(Label(SmallVec::from_slice(alloc, octets)?))
+    }
+
     /// The octets of the label.
     pub fn as_bytes(&self) -> &[u8]
         ensures octets { result.now ≡ self.now }

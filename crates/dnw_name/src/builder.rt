@@ -1,6 +1,8 @@
 //! Names that are made label by label.
-ghost use Rattle.std.specs.Prelude.{◌≡◌, ◌+◌, ◌<◌, ◌∷◌, ◌++◌, ◌⊎◌, [], length, IfOk, IfErr, IsErrOf, OnOk};
+ghost use Rattle.std.specs.Prelude.{◌≡◌, ◌+◌, ◌<◌, ◌∷◌, ◌++◌, ◌⊎◌, [], length, IfOk, IfErr, IsErrOf, OnOk, OnErr};
 ghost use Rattle.dnw_net.specs.dnw_codes.ProtoError.{IsMemory};
+ghost use Rattle.dnw_net.specs.dnw_codes.declared.error.DecodeError.TheVariants.{DomainNameTooLong, Memory};
+ghost use Rattle.dnw_net.specs.dnw_label.Label.{IsLabel};
 ghost use Rattle.dnw_name.specs.DomainName.{IsDomainName, domain_name, labels_len, too_long};
 ghost use Rattle.dnw_name.specs.NameRefusals.{RefusesOctets};
 
@@ -95,6 +97,33 @@ impl NameBuilder {
         }
     }
 
+    /// Puts a label of these octets, which are 1 to 63, at the end. It is refused by `DomainNameTooLong` where the
+    /// name would take more than 255 octets; a name that refuses a label stays as it was.
+    pub fn push_label(&mut self, octets: &[u8]) -> Result<(), DecodeError>
+        requires { IsLabel octets.now }
+        ensures ok { OnOk result (self.new ≡ domain_name self.old.fqdn (self.old.labels ++ octets.now ∷ [])) }
+        ensures name { IsDomainName self.new }
+        ensures err { OnErr result (self.new ≡ self.old) }
+        ensures refused { IsDomainName (domain_name self.old.fqdn (self.old.labels ++ octets.now ∷ []))
+            → IfErr result (λ e. e ≡ Memory) }
+        ensures too_long { 255 < labels_len self.old.labels + length octets.now + 2
+            → IsErrOf result (DomainNameTooLong (labels_len self.old.labels + length octets.now + 2)) }
+        ensures cause { IfErr result (λ e. (e ≡ Memory) ⊎ ((e ≡ DomainNameTooLong (labels_len self.old.labels + length octets.now + 2))
+            × (255 < labels_len self.old.labels + length octets.now + 2))) }
+    {
+        let longer = self.octets + octets.len() + 1;
+        if longer + 1 > Name::MAX_LENGTH {
+            return Err(DecodeError::DomainNameTooLong(longer + 1));
+        }
+        match push_octets(&mut self.labels, octets) {
+            Ok(()) => {
+                self.octets = longer;
+                Ok(())
+            }
+            Err(_) => Err(DecodeError::Memory),
+        }
+    }
+
     /// The name.
     pub fn finish(self) -> Name
         ensures value { result ≡ self }
@@ -107,4 +136,15 @@ impl NameBuilder {
         } = self;
         Name::of_labels(is_fqdn, labels)
     }
+}
+
+// Puts a label at the end of others. Where memory is refused they stay as they were.
+fn push_octets(labels: &mut Vec<Label>, octets: &[u8]) -> Result<(), AllocError>
+    requires { IsLabel octets.now }
+    ensures ok { OnOk result (labels.new.items ≡ labels.old.items ++ octets.now ∷ []) }
+    ensures err { OnErr result (labels.new.items ≡ labels.old.items) }
+{
+    labels.reserve(1)?;
+    labels.push_reserved(Label::of_octets(*labels.allocator(), octets)?);
+    Ok(())
 }
