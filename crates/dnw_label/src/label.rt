@@ -110,7 +110,15 @@ impl Label {
         requires { IsLabel octets.now }
         ensures { IfOk result (λ label. label ≡ octets.now) }
     {
-        Ok(Label(SmallVec::from_slice(alloc, octets)?))
+        if octets.len() > 8 {
+            return Ok(Label(SmallVec::from_slice(alloc, octets)?));
+        }
+        // So few octets are copied for less one by one than by a call.
+        let mut own = SmallVec::new(alloc);
+        'octets: for i in 0..octets.len() {
+            own.push_reserved(octets[i]);
+        }
+        Ok(Label(own))
     }
 
     /// The octets of the label.
