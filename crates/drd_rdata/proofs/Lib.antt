@@ -1,5 +1,4 @@
 pub mod BackLaws
-pub mod OnceLaws
 pub mod ReadBackLaws
 pub mod WritingLaws
 pub mod WrittenLaws

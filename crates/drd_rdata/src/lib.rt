@@ -15,7 +15,7 @@ pub use drd_types::{
     cert, is_tag, read_iodef, read_issuer, sshfp, tlsa, verify_flags,
 };
 
-mod back;
+mod case;
 mod emit;
 mod kinds;
 mod order;
@@ -23,11 +23,8 @@ mod print;
 mod rdata;
 mod read;
 mod readable;
-mod record_data;
 mod text;
 mod text_type;
 
-pub use back::is_read_back;
 pub use rdata::RData;
 pub use readable::is_readable;
-pub use record_data::RecordData;

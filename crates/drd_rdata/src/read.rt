@@ -13,8 +13,8 @@ ghost use Rattle.drd_rdata.specs.ReadingBack.{IsReadBack};
 ghost use Rattle.drd_rdata.specs.Types.{Is, type_of};
 ghost use Rattle.drd_rdata.specs.Writing.{RefusesRData, WantsRoom};
 
+use crate::case::Case;
 use crate::rdata::RData;
-use crate::record_data::RecordData;
 use dnw_codes::{DecodeError, RecordType, Restrict};
 use drd_svcb::{A, AAAA, HTTPS, SVCB};
 use drd_types::{
@@ -123,7 +123,7 @@ impl RData {
 }
 
 // The data of one type, as data of all types.
-fn read_as<T: RecordDataDecodable + RecordData + Drop>(
+fn read_as<T: RecordDataDecodable + Case + Drop>(
     alloc: Global,
     decoder: &mut BinDecoder<'_>,
     length: Restrict<u16>,

@@ -2,7 +2,7 @@
 ghost use Rattle.dnw_codes.specs.declared.record_type.RecordType.TheVariants as of;
 ghost use Rattle.std.proofs.Common.{refl};
 
-use crate::record_data::RecordData;
+use crate::case::Case;
 use drd_svcb::{A, AAAA, HTTPS, SVCB, TextData};
 use drd_types::{
     ANAME, CAA, CERT, CNAME, CSYNC, HINFO, MX, NAPTR, NS, OPENPGPKEY, PTR, SMIMEA, SOA, SRV, SSHFP,
@@ -10,7 +10,7 @@ use drd_types::{
 };
 
 /// A type whose data words write.
-pub(crate) trait TextType: TextData + RecordData {
+pub(crate) trait TextType: TextData + Case {
     ghost use Rattle.std.specs.Prelude.{◌≡◌, ℕ, List, Option};
     ghost use Rattle.dnw_codes.specs.declared.error.ParseError.{ParseError};
     ghost use Rattle.dnw_codes.specs.declared.record_type.RecordType.{RecordType};

@@ -1,10 +1,8 @@
 //! Keys, certificates, and any octets.
 ghost use Rattle.drd_rdata.specs.declared.rdata.RData.TheVariants as rdata;
 
-use crate::rdata::RData;
 use crate::record_data::RecordData;
-use dnw_codes::RecordType;
-use drd_types::{CERT, NULL, OPENPGPKEY, SMIMEA, SSHFP, TLSA};
+use drd_rdata::{CERT, NULL, OPENPGPKEY, RData, RecordType, SMIMEA, SSHFP, TLSA};
 
 impl RecordData for CERT {
     ghost rdata = { rdata.CERT };

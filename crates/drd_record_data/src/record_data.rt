@@ -1,6 +1,5 @@
 //! What the types of record data share.
-use crate::rdata::RData;
-use dnw_codes::RecordType;
+use drd_rdata::{RData, RecordType};
 
 mod keys;
 mod names;

@@ -1,10 +1,8 @@
 //! Data that hold names.
 ghost use Rattle.drd_rdata.specs.declared.rdata.RData.TheVariants as rdata;
 
-use crate::rdata::RData;
 use crate::record_data::RecordData;
-use dnw_codes::RecordType;
-use drd_types::{ANAME, CNAME, MX, NS, PTR, SOA, SRV};
+use drd_rdata::{ANAME, CNAME, MX, NS, PTR, RData, RecordType, SOA, SRV};
 
 impl RecordData for ANAME {
     ghost rdata = { rdata.ANAME };

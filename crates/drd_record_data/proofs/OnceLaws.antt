@@ -2,21 +2,21 @@
 -- same fields, and are equal.
 use Rattle.std.proofs.Common.{◌≡◌, ℕ, ◌+◌, inl, inr, true, List, [], ◌∷◌, map, refl, sym, ap, subst, ◌∙◌, arith}
 use Rattle.std.specs.Ordering.{on}
-use Rattle.dnw_codes.specs.RecordType.{record_type_number}
-use Rattle.dnw_codes.specs.declared.record_type.RecordType.{RecordType}
-use Rattle.dnw_codes.specs.declared.record_type.RecordType.TheVariants as kind
-use Rattle.drd_types.specs.dnw_wire.BitMapLaws.{read_once}
-use Rattle.drd_types.specs.dnw_wire.MapOrder.{tight_maps}
-use Rattle.drd_types.specs.drd_csync.Data.{csync_fields, csync_flags, CsyncAt}
-use Rattle.drd_types.specs.drd_csync.declared.csync.CSYNC.{CSYNC}
-use Rattle.drd_types.specs.dnw_encoder.declared.modes.NameEncoding.TheVariants.{Uncompressed}
-use Rattle.drd_types.specs.drd_fields.Fields.{Field, FieldsAt, AllFit, long, rest, short}
-use Rattle.drd_types.proofs.drd_fields_lemmas.BackLaws.{fields_full}
-use Rattle.drd_types.proofs.drd_fields_lemmas.OnceLaws.{fields_once}
-use Rattle.drd_types.specs.drd_fields.Order.{octets_cmp}
-use Rattle.drd_types.specs.drd_opt.Entries.{Entry, RawOption, options_octets, raw_octets, raw_of}
-use Rattle.drd_types.specs.drd_opt.Order.{canonical_entries, sorted_by}
-use Rattle.drd_types.proofs.drd_opt_lemmas.OnceLaws.{entries_once}
+use Rattle.drd_rdata.specs.dnw_codes.RecordType.{record_type_number}
+use Rattle.drd_rdata.specs.dnw_codes.declared.record_type.RecordType.{RecordType}
+use Rattle.drd_rdata.specs.dnw_codes.declared.record_type.RecordType.TheVariants as kind
+use Rattle.drd_rdata.specs.dnw_wire.BitMapLaws.{read_once}
+use Rattle.drd_rdata.specs.dnw_wire.MapOrder.{tight_maps}
+use Rattle.drd_rdata.specs.drd_csync.Data.{csync_fields, csync_flags, CsyncAt}
+use Rattle.drd_rdata.specs.drd_csync.declared.csync.CSYNC.{CSYNC}
+use Rattle.drd_rdata.specs.dnw_encoder.declared.modes.NameEncoding.TheVariants.{Uncompressed}
+use Rattle.drd_rdata.specs.drd_fields.Fields.{Field, FieldsAt, AllFit, long, rest, short}
+use Rattle.drd_rdata.proofs.drd_fields_lemmas.BackLaws.{fields_full}
+use Rattle.drd_rdata.proofs.drd_fields_lemmas.OnceLaws.{fields_once}
+use Rattle.drd_rdata.specs.drd_fields.Order.{octets_cmp}
+use Rattle.drd_rdata.specs.drd_opt.Entries.{Entry, RawOption, options_octets, raw_octets, raw_of}
+use Rattle.drd_rdata.specs.drd_opt.Order.{canonical_entries, sorted_by}
+use Rattle.drd_rdata.proofs.drd_opt_lemmas.OnceLaws.{entries_once}
 use Rattle.drd_rdata.specs.Fields.{rdata_fields}
 use Rattle.drd_rdata.specs.Reading.{HoldsAs, IsEmptyOf, ReadsAs}
 use Rattle.drd_rdata.specs.Order.{HasCanonical, canonical_data, data_form, type_number}

@@ -1,11 +1,8 @@
 //! Addresses, strings and rules of names.
 ghost use Rattle.drd_rdata.specs.declared.rdata.RData.TheVariants as rdata;
 
-use crate::rdata::RData;
 use crate::record_data::RecordData;
-use dnw_codes::RecordType;
-use drd_svcb::{A, AAAA};
-use drd_types::{HINFO, NAPTR, TXT};
+use drd_rdata::{A, AAAA, HINFO, NAPTR, RData, RecordType, TXT};
 
 impl RecordData for A {
     ghost rdata = { rdata.A };

@@ -1,13 +1,13 @@
 //! What was written reads back.
 ghost use Rattle.std.specs.Prelude.{◌≡◌, ℕ, List, true};
-ghost use Rattle.dnw_codes.specs.declared.record_type.RecordType.{RecordType as Kind};
-ghost use Rattle.drd_types.specs.dnw_encoder.Effects.{Sound, StaysTrue};
-ghost use Rattle.drd_types.specs.dnw_encoder.State.{State};
+ghost use Rattle.drd_rdata.specs.dnw_codes.declared.record_type.RecordType.{RecordType as Kind};
+ghost use Rattle.drd_rdata.specs.dnw_encoder.Effects.{Sound, StaysTrue};
+ghost use Rattle.drd_rdata.specs.dnw_encoder.State.{State};
 ghost use Rattle.drd_rdata.specs.Order.{rdata_eq};
 ghost use Rattle.drd_rdata.specs.Reading.{HoldsAs};
 ghost use Rattle.drd_rdata.specs.Writing.{EmitsRData};
 
-use crate::rdata::RData;
+use drd_rdata::RData;
 
 /// Whether record data that were read are equal to data that were written. Where the others had been read for a type
 /// themselves, and were then written, what is read for that type where they stand, in the finished message too, is equal

@@ -1,9 +1,9 @@
 use Rattle.std.proofs.Common.{◌≡◌, true}
-use Rattle.drd_types.proofs.dnw_encoder_lemmas.Laws.{holds_map}
+use Rattle.drd_rdata.proofs.dnw_encoder_lemmas.Laws.{holds_map}
 use Rattle.drd_rdata.proofs.BackLaws.{alike, alike_equal, emitted_stands}
 use Rattle.drd_rdata.specs.Reading.{HoldsAs}
 use Rattle.drd_rdata.specs.Writing.{StandsWritten}
-use Rattle.drd_rdata.proofs.back.is_read_back.Goals as goal
+use Rattle.drd_record_data.proofs.back.is_read_back.Goals as goal
 
 pub returns-clause-back : goal.returns-clause-back
 returns-clause-back c = λ t source start stop old new held sound emitted.

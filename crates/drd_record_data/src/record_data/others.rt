@@ -1,11 +1,8 @@
 //! Data with a form of their own.
 ghost use Rattle.drd_rdata.specs.declared.rdata.RData.TheVariants as rdata;
 
-use crate::rdata::RData;
 use crate::record_data::RecordData;
-use dnw_codes::RecordType;
-use drd_svcb::{HTTPS, SVCB};
-use drd_types::{CAA, CSYNC, OPT};
+use drd_rdata::{CAA, CSYNC, HTTPS, OPT, RData, RecordType, SVCB};
 
 impl RecordData for CAA {
     ghost rdata = { rdata.CAA };

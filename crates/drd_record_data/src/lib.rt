@@ -1,0 +1,9 @@
+//! Record data of one type among those of all: lent, and made data of all types. And what octets say of record data: what
+//! was written reads back, and is read in one way.
+#![tactic(auto)]
+
+mod back;
+mod record_data;
+
+pub use back::is_read_back;
+pub use record_data::RecordData;
