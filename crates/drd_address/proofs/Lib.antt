@@ -1,4 +1,5 @@
 mod Addresses
+mod Numbers
 pub use Rattle.drd_words.proofs.dnw_name_lemmas
 pub mod drd_words_lemmas
 pub use Rattle.drd_fields.proofs.dnw_decoder_lemmas

@@ -1,6 +1,8 @@
 pub mod Fields
 pub mod Print
 pub mod Words
+pub mod Entries
+pub mod EntryLaws
 pub use Rattle.drd_words.specs.dnw_codes
 pub use Rattle.drd_fields.specs.dnw_decoder
 pub use Rattle.drd_fields.specs.dnw_encoder

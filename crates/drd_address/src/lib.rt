@@ -12,6 +12,8 @@ pub use drd_words::{
 
 mod a;
 mod aaaa;
+mod entry;
 
 pub use a::A;
 pub use aaaa::AAAA;
+pub use entry::octets_of;

@@ -5,11 +5,11 @@ use Rattle.std.proofs.lemmas.Cmp.{nat_list_eq_equiv}
 use Rattle.std.proofs.lemmas.Bool.Decides.{nat_tests}
 use Rattle.drd_address.specs.drd_fields.Equality.{Tells, fields_eq}
 use Rattle.drd_params.specs.Equality.{told_length, value_kind, params_code}
-use Rattle.drd_params.specs.Keys.{key_number, key_of}
+use Rattle.drd_param_keys.specs.Keys.{key_number, key_of}
 use Rattle.drd_params.specs.Params.{Param, Rise, AreParams, part_octets, param_octets, params_octets}
 use Rattle.drd_params.specs.Values.{IsValueOf, value_octets}
-use Rattle.drd_params.specs.declared.key.SvcParamKey.{SvcParamKey}
-use Rattle.drd_params.specs.declared.key.SvcParamKey.TheVariants as key
+use Rattle.drd_param_keys.specs.declared.key.SvcParamKey.{SvcParamKey}
+use Rattle.drd_param_keys.specs.declared.key.SvcParamKey.TheVariants as key
 use Rattle.drd_params.specs.declared.value.SvcParamValue.{SvcParamValue}
 use Rattle.drd_params.specs.declared.value.SvcParamValue.TheVariants as value
 use Rattle.drd_params.proofs.ReadParams.{param_same}

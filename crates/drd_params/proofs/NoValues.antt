@@ -1,39 +1,30 @@
 -- Octets that are no value of a key.
-use Rattle.std.proofs.Common.{◌≡◌, ℕ, ◌<◌, ◌⊎◌, inl, inr, List, [], ◌∷◌, length, length-append, refl, sym, ap, ◌∙◌, arith}
+use Rattle.std.proofs.Common.{◌≡◌, ℕ, ◌<◌, ◌⊎◌, inl, inr, List, [], ◌∷◌, length, refl, sym, ap, ◌∙◌, arith}
 use Rattle.std.specs.List.{flat_map}
 use Rattle.std.specs.Prelude.{String}
 use Rattle.std.specs.declared.alloc.Global.{Global}
-use Rattle.std.proofs.lemmas.List.Concat.{flat_map-cons}
 use Rattle.drd_address.specs.dnw_codes.declared.error.DecodeError.{DecodeError}
-use Rattle.drd_address.specs.dnw_codes.declared.error.DecodeError.TheVariants.{IncorrectRDataLengthRead, InsufficientBytes, SvcParamMissingValue}
+use Rattle.drd_address.specs.dnw_codes.declared.error.DecodeError.TheVariants.{IncorrectRDataLengthRead, InsufficientBytes}
 use Rattle.drd_address.specs.dnw_decoder.Reading.{IsWantOfMemory}
 use Rattle.drd_address.specs.declared.a.A.{A}
 use Rattle.drd_address.specs.declared.aaaa.AAAA.{AAAA}
-use Rattle.drd_params.specs.EntryLaws.{key_laws, string_laws}
-use Rattle.drd_params.specs.Refusals.{IsShortOf, NoValue, RefusesNext, RefusesText}
-use Rattle.drd_params.specs.Values.{IsValueOf, value_octets, key_octets, text_octets, a_octets, aaaa_octets}
-use Rattle.drd_params.specs.declared.key.SvcParamKey.{SvcParamKey}
-use Rattle.drd_params.specs.declared.key.SvcParamKey.TheVariants as key
+use Rattle.drd_param_keys.specs.Entries.{IsShortOf, RefusesNext, key_octets, text_octets}
+use Rattle.drd_param_lists.specs.Lists.{AreKeys, AreProtocols, NoKeys, NoProtocols}
+use Rattle.drd_params.specs.Refusals.{NoValue}
+use Rattle.drd_params.specs.Values.{IsValueOf, value_octets}
+use Rattle.drd_address.specs.Entries.{a_octets, aaaa_octets}
+use Rattle.drd_param_keys.specs.declared.key.SvcParamKey.{SvcParamKey}
+use Rattle.drd_param_keys.specs.declared.key.SvcParamKey.TheVariants as key
 use Rattle.drd_params.specs.declared.value.SvcParamValue.{SvcParamValue}
 use Rattle.drd_params.specs.declared.value.SvcParamValue.TheVariants as value
 
--- A list of no octets has no entries, and one of some octets has some.
-pub none-some : {T : Type 0} (spelled : T → List ℕ) → ((x : T) → 0 < length (spelled x)) → (xs : List T) → 0 < length xs → length (flat_map spelled xs) ≡ 0 → ⊥
-none-some spelled takes [] some e = omega (arith, some)
-none-some spelled takes (x ∷ xs) some e =
-    omega (arith, ap length (flat_map-cons spelled x xs), length-append (spelled x) (flat_map spelled xs), takes x, e)
-
-pub some-some : {T : Type 0} (spelled : T → List ℕ) (xs : List T) (octets : List ℕ) → flat_map spelled xs ≡ octets → 0 < length octets → 0 < length xs
-some-some spelled [] octets e some = absurd (omega (arith, ap length e, some))
-some-some spelled (x ∷ xs) octets e some = omega arith
-
 module _ (octets : List ℕ) where
-  mandatory-not : ((keys : List SvcParamKey) → flat_map key_octets keys ≡ octets → 0 < length keys → ⊥) → (v : SvcParamValue) → IsValueOf key.Mandatory v → value_octets v ≡ octets → ⊥
-  mandatory-not none (value.Mandatory m) is e = none m.0.items e is.0
+  mandatory-not : ((keys : List SvcParamKey) → AreKeys keys → flat_map key_octets keys ≡ octets → ⊥) → (v : SvcParamValue) → IsValueOf key.Mandatory v → value_octets v ≡ octets → ⊥
+  mandatory-not none (value.Mandatory m) is e = none m.0.items is e
   mandatory-not none v is e = absurd is
 
-  alpn-not : ((texts : List (String Global)) → flat_map text_octets texts ≡ octets → 0 < length texts → ⊥) → (v : SvcParamValue) → IsValueOf key.Alpn v → value_octets v ≡ octets → ⊥
-  alpn-not none (value.Alpn m) is e = none m.0.items e is.0
+  alpn-not : ((texts : List (String Global)) → AreProtocols texts → flat_map text_octets texts ≡ octets → ⊥) → (v : SvcParamValue) → IsValueOf key.Alpn v → value_octets v ≡ octets → ⊥
+  alpn-not none (value.Alpn m) is e = none m.0.items is e
   alpn-not none v is e = absurd is
 
   nothing-not : 0 < length octets → (v : SvcParamValue) → IsValueOf key.NoDefaultAlpn v → value_octets v ≡ octets → ⊥
@@ -52,19 +43,13 @@ module _ (octets : List ℕ) where
   ipv6-not none (value.Ipv6Hint h) is e = none h.0.items e
   ipv6-not none v is e = absurd is
 
-  pub no-mandatory-empty : length octets ≡ 0 → NoValue key.Mandatory octets SvcParamMissingValue
-  no-mandatory-empty empty = (inl (refl, empty), mandatory-not (λ keys e some. none-some key_octets key_laws.0 keys some (ap length e ∙ empty)))
-
-  pub no-alpn-empty : length octets ≡ 0 → NoValue key.Alpn octets SvcParamMissingValue
-  no-alpn-empty empty = (inl (refl, empty), alpn-not (λ texts e some. none-some text_octets string_laws.0 texts some (ap length e ∙ empty)))
-
-  pub no-mandatory : (e : DecodeError) → IsWantOfMemory e ⊎ (RefusesNext key_octets (IsShortOf 2) octets e × ((keys : List SvcParamKey) → flat_map key_octets keys ≡ octets → ⊥)) → IsWantOfMemory e ⊎ NoValue key.Mandatory octets e
+  pub no-mandatory : (e : DecodeError) → IsWantOfMemory e ⊎ NoKeys octets e → IsWantOfMemory e ⊎ NoValue key.Mandatory octets e
   no-mandatory e (inl m) = inl m
-  no-mandatory e (inr why) = inr (inr why.0, mandatory-not (λ keys is more. why.1 keys is))
+  no-mandatory e (inr why) = inr (why.0, mandatory-not why.1)
 
-  pub no-alpn : (e : DecodeError) → IsWantOfMemory e ⊎ (RefusesNext text_octets RefusesText octets e × ((texts : List (String Global)) → flat_map text_octets texts ≡ octets → ⊥)) → IsWantOfMemory e ⊎ NoValue key.Alpn octets e
+  pub no-alpn : (e : DecodeError) → IsWantOfMemory e ⊎ NoProtocols octets e → IsWantOfMemory e ⊎ NoValue key.Alpn octets e
   no-alpn e (inl m) = inl m
-  no-alpn e (inr why) = inr (inr why.0, alpn-not (λ texts is more. why.1 texts is))
+  no-alpn e (inr why) = inr (why.0, alpn-not why.1)
 
   pub no-nothing : 0 < length octets → NoValue key.NoDefaultAlpn octets (IncorrectRDataLengthRead 0 (length octets))
   no-nothing some = ((refl, some), nothing-not some)

@@ -4,14 +4,14 @@ use Rattle.std.proofs.lemmas.List.Concat.{flat_map-cons}
 use Rattle.drd_address.specs.dnw_codes.declared.error.DecodeError.{DecodeError}
 use Rattle.drd_address.specs.dnw_codes.declared.error.DecodeError.TheVariants.{InsufficientBytes, SvcParamsOutOfOrder}
 use Rattle.drd_address.specs.dnw_decoder.Octets.{octets_16}
-use Rattle.drd_params.specs.EntryLaws.{fronts_same}
-use Rattle.drd_params.specs.Keys.{key_number, key_of}
+use Rattle.drd_param_keys.specs.EntryLaws.{fronts_same}
+use Rattle.drd_param_keys.specs.Keys.{key_number, key_of}
 use Rattle.drd_params.specs.Params.{Param, part_octets, param_octets, params_octets, IsParam, Rise, BeginsNoPart, NoParam, NoParams}
 use Rattle.drd_params.specs.Refusals.{NoValue}
 use Rattle.drd_params.specs.Values.{IsValueOf, value_octets}
-use Rattle.drd_params.specs.declared.key.SvcParamKey.{SvcParamKey}
+use Rattle.drd_param_keys.specs.declared.key.SvcParamKey.{SvcParamKey}
 use Rattle.drd_params.specs.declared.value.SvcParamValue.{SvcParamValue}
-use Rattle.drd_params.proofs.Entries.{front-more}
+use Rattle.drd_param_keys.proofs.Entries.{front-more}
 
 -- Octets begin with one parameter at most.
 pub part_same : (n m : ℕ) (u v xs ys : List ℕ) → n < 65536 → m < 65536 → length u < 65536 → length v < 65536 → part_octets n u ++ xs ≡ part_octets m v ++ ys → (n ≡ m) × (u ≡ v) × (xs ≡ ys)

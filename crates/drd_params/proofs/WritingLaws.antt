@@ -6,12 +6,13 @@ use Rattle.std.specs.declared.alloc.Global.{Global}
 use Rattle.std.proofs.lemmas.List.Elements.{All-nil, All-cons, All-contains}
 use Rattle.drd_address.specs.dnw_codes.declared.error.ProtoError.{ProtoError}
 use Rattle.drd_address.specs.drd_fields.Writing.{IsTooLong}
-use Rattle.drd_params.specs.Keys.{key_number}
+use Rattle.drd_param_keys.specs.Keys.{key_number}
 use Rattle.drd_params.specs.Params.{Param, IsParam, Rise, AreParams}
-use Rattle.drd_params.specs.Values.{IsShortText, IsValueOf}
+use Rattle.drd_param_keys.specs.Entries.{IsShortText}
+use Rattle.drd_params.specs.Values.{IsValueOf}
 use Rattle.drd_params.specs.Writing.{HasLongText, IsOversized, RefusesWriting}
-use Rattle.drd_params.specs.declared.key.SvcParamKey.{SvcParamKey}
-use Rattle.drd_params.specs.declared.key.SvcParamKey.TheVariants as key
+use Rattle.drd_param_keys.specs.declared.key.SvcParamKey.{SvcParamKey}
+use Rattle.drd_param_keys.specs.declared.key.SvcParamKey.TheVariants as key
 use Rattle.drd_params.specs.declared.value.SvcParamValue.{SvcParamValue}
 use Rattle.drd_params.specs.declared.value.SvcParamValue.TheVariants as value
 

@@ -1,13 +1,9 @@
-pub mod Keys
 pub mod Values
 pub mod Refusals
-pub mod Reading
 pub mod EntryLaws
 pub mod Params
 pub mod Writing
 pub mod Hashing
-pub mod Texts
-pub mod TextsLaws
 pub mod Print
 pub mod Equality
 pub use Rattle.drd_address.specs.dnw_codes

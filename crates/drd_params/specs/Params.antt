@@ -5,10 +5,10 @@ use Rattle.std.specs.List.{flat_map}
 use Rattle.drd_address.specs.dnw_codes.declared.error.DecodeError.{DecodeError}
 use Rattle.drd_address.specs.dnw_codes.declared.error.DecodeError.TheVariants.{InsufficientBytes, SvcParamsOutOfOrder}
 use Rattle.drd_address.specs.dnw_decoder.Octets.{octets_16}
-use Rattle.drd_params.specs.Keys.{key_number, key_of}
+use Rattle.drd_param_keys.specs.Keys.{key_number, key_of}
 use Rattle.drd_params.specs.Values.{IsValueOf, value_octets}
 use Rattle.drd_params.specs.Refusals.{NoValue}
-use Rattle.drd_params.specs.declared.key.SvcParamKey.{SvcParamKey}
+use Rattle.drd_param_keys.specs.declared.key.SvcParamKey.{SvcParamKey}
 use Rattle.drd_params.specs.declared.value.SvcParamValue.{SvcParamValue}
 
 abbrev pub Param : Type 0

@@ -1,25 +1,17 @@
 -- Printed parameters (RFC 9460 2.1, appendix A).
 use Rattle.std.specs.Prelude.{ℕ, List, [], ◌∷◌, ◌++◌}
 use Rattle.std.specs.Fmt.{decimal}
-use Rattle.std.specs.List.{flat_map}
 use Rattle.std.specs.String.{string_bytes}
-use Rattle.drd_address.specs.dnw_codes.Ascii.{comma, equals_sign}
+use Rattle.drd_address.specs.dnw_codes.Ascii.{equals_sign}
 use Rattle.base64.specs.Engines.{standard}
 use Rattle.base64.specs.GeneralPurpose.{encode_of}
 use Rattle.drd_address.specs.Print.{a_print, aaaa_print}
 use Rattle.drd_address.specs.drd_words.Print.{escaped_print}
-use Rattle.drd_params.specs.Keys.{key_text}
+use Rattle.drd_param_keys.specs.Keys.{key_text}
 use Rattle.drd_params.specs.Params.{Param}
 use Rattle.drd_params.specs.declared.value.SvcParamValue.{SvcParamValue}
 use Rattle.drd_params.specs.declared.value.SvcParamValue.TheVariants as value
-
--- Texts with commas between them.
-abbrev pub later_listed : {T : Type 0} → (T → List ℕ) → List T → List ℕ
-later_listed shown later = flat_map (λ x. comma ∷ shown x) later
-
-abbrev pub listed : {T : Type 0} → (T → List ℕ) → List T → List ℕ
-listed shown [] = []
-listed shown (first ∷ later) = shown first ++ later_listed shown later
+use Rattle.drd_param_keys.specs.ListTexts.{listed}
 
 -- Lists by commas, configurations in base64, and other octets as in a text between quotes.
 abbrev pub value_print : SvcParamValue → List ℕ

@@ -1,32 +1,14 @@
 -- Values of parameters, and the octets of both (RFC 9460 2.2, 7, 8).
-use Rattle.std.specs.Prelude.{ℕ, ◌<◌, ◌≤◌, List, [], length, All, String}
-use Rattle.std.specs.declared.alloc.Global.{Global}
+use Rattle.std.specs.Prelude.{ℕ, ◌<◌, ◌≤◌, List, [], length, All}
 use Rattle.std.specs.List.{flat_map}
-use Rattle.std.specs.String.{string_bytes}
 use Rattle.drd_address.specs.dnw_decoder.Octets.{octets_16}
-use Rattle.drd_address.specs.drd_fields.Writing.{string_octets, fields_octets}
-use Rattle.drd_address.specs.Fields.{a_fields, aaaa_fields}
-use Rattle.drd_address.specs.declared.a.A.{A}
-use Rattle.drd_address.specs.declared.aaaa.AAAA.{AAAA}
-use Rattle.drd_params.specs.Keys.{key_number, IsKey}
-use Rattle.drd_params.specs.declared.key.SvcParamKey.{SvcParamKey}
-use Rattle.drd_params.specs.declared.key.SvcParamKey.TheVariants as key
+use Rattle.drd_param_keys.specs.Keys.{IsKey}
+use Rattle.drd_param_keys.specs.declared.key.SvcParamKey.{SvcParamKey}
+use Rattle.drd_param_keys.specs.declared.key.SvcParamKey.TheVariants as key
 use Rattle.drd_params.specs.declared.value.SvcParamValue.{SvcParamValue}
 use Rattle.drd_params.specs.declared.value.SvcParamValue.TheVariants as value
-
--- The octets of a key, of a text behind its length, and of an address, as in the data of its own
--- type.
-abbrev pub key_octets : SvcParamKey → List ℕ
-key_octets key = octets_16 (key_number key)
-
-abbrev pub text_octets : String Global → List ℕ
-text_octets text = string_octets (string_bytes text)
-
-abbrev pub a_octets : A → List ℕ
-a_octets a = fields_octets (a_fields a)
-
-abbrev pub aaaa_octets : AAAA → List ℕ
-aaaa_octets aaaa = fields_octets (aaaa_fields aaaa)
+use Rattle.drd_param_keys.specs.Entries.{IsShortText, key_octets, text_octets}
+use Rattle.drd_address.specs.Entries.{a_octets, aaaa_octets}
 
 -- The octets of a value: keys, strings behind their lengths, a port, addresses, or octets as they
 -- are.
@@ -43,10 +25,6 @@ value_octets (value.Unknown unknown) = unknown.0.items
 abbrev pub IsUnknown : SvcParamValue → Type 0
 IsUnknown (value.Unknown unknown) = Unit {0}
 IsUnknown other = ⊥
-
--- A text that the octet of its length counts.
-abbrev pub IsShortText : String Global → Type 0
-IsShortText text = length (string_bytes text) ≤ 255
 
 -- A value is one of its key. Lists of keys and of protocols are not empty, each key is the one of
 -- its number, and a protocol has at most 255 octets.

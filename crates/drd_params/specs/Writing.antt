@@ -1,8 +1,7 @@
 -- Why parameters are not written.
-use Rattle.std.specs.Prelude.{◌≡◌, ◌<◌, ◌+◌, List, length}
+use Rattle.std.specs.Prelude.{◌≡◌, ◌<◌, ◌+◌, List, length, String}
 use Rattle.std.proofs.Common.{◌⊎◌}
 use Rattle.std.specs.List.{Contains}
-use Rattle.std.specs.Prelude.{String}
 use Rattle.std.specs.declared.alloc.Global.{Global}
 use Rattle.std.specs.String.{string_bytes}
 use Rattle.drd_address.specs.dnw_codes.declared.error.ProtoError.{ProtoError}

@@ -1,119 +1,18 @@
-//! Keys, values and parameters that are written.
-ghost use Rattle.std.specs.Prelude.{◌≡◌, ◌++◌, ◌⊎◌, length, IfErr, OnOk, List};
-ghost use Rattle.std.specs.List.{Contains, flat_map};
+//! Values and parameters that are written.
+ghost use Rattle.std.specs.Prelude.{◌≡◌, ◌++◌, ◌⊎◌, length, IfErr, OnOk};
 ghost use Rattle.drd_address.specs.dnw_decoder.Octets.{octets_16};
 ghost use Rattle.drd_address.specs.dnw_encoder.Encoders.{state};
 ghost use Rattle.drd_address.specs.dnw_encoder.Effects.{IsRefusal, WritesOctets, Writes};
 ghost use Rattle.drd_address.specs.drd_fields.Writing.{EndsWithin};
-ghost use Rattle.drd_params.specs.Keys.{key_number};
+ghost use Rattle.drd_param_keys.specs.Keys.{key_number};
 ghost use Rattle.drd_params.specs.Params.{AreParams, param_octets, params_octets};
 ghost use Rattle.drd_params.specs.Writing.{HasLongText, IsOversized, RefusesEmitParams, RefusesValueWriting, RefusesWriting};
-ghost use Rattle.drd_params.specs.declared.value.SvcParamValue.TheVariants as value;
 ghost use Rattle.drd_params.specs.Values.{value_octets};
 
-use crate::entry::Entry;
-use crate::key::SvcParamKey;
-use crate::value::{Alpn, EchConfigList, IpHint, Mandatory, SvcParamValue, Unknown};
+use crate::value::SvcParamValue;
 use drd_address::{BinEncodable, BinEncoder, ProtoError};
-
-// Writes entries, one behind the other.
-fn emit_entries<T: Entry>(encoder: &mut BinEncoder<'_>, entries: &[T]) -> Result<(), ProtoError>
-    ensures same_reference { encoder.new.buffer.ghost_name ≡ encoder.old.buffer.ghost_name }
-    ensures writes { Writes (state encoder.old) (state encoder.new) }
-    ensures within { EndsWithin (state encoder.old) (state encoder.new) }
-    ensures ok { OnOk result (WritesOctets (flat_map T.spelled entries.now) (state encoder.old) (state encoder.new)) }
-    ensures refused { IfErr result (λ e. IsRefusal (state encoder.old) (length (flat_map T.spelled entries.now)) e
-        ⊎ ((entry : T) × Contains entries.now entry × T.too_long entry e)) }
-{
-    let _start = encoder.offset();
-    'entries: for entry in entries {
-        match entry.emit_entry(encoder) {
-            Ok(()) => {}
-            Err(refused) => return Err(refused),
-        }
-    }
-    Ok(())
-}
-
-impl BinEncodable for SvcParamKey {
-    ghost emits = { λ key. WritesOctets (octets_16 (key_number key)) };
-
-    ghost refuses = { λ key old e new. IsRefusal old 2 e };
-
-    /// Writes the key's number.
-    fn emit(&self, encoder: &mut BinEncoder<'_>) -> Result<(), ProtoError> {
-        match encoder.emit_u16(u16::from(*self)) {
-            Ok(()) => Ok(()),
-            Err(refused) => Err(refused),
-        }
-    }
-}
-
-impl BinEncodable for Mandatory {
-    ghost emits = { λ mandatory. WritesOctets (value_octets (value.Mandatory mandatory)) };
-
-    ghost refuses = { λ mandatory old e new. RefusesValueWriting (value.Mandatory mandatory) old e };
-
-    /// Writes the keys' numbers.
-    fn emit(&self, encoder: &mut BinEncoder<'_>) -> Result<(), ProtoError> {
-        let keys = &self.0;
-        emit_entries(encoder, keys)
-    }
-}
-
-impl BinEncodable for Alpn {
-    ghost emits = { λ alpn. WritesOctets (value_octets (value.Alpn alpn)) };
-
-    ghost refuses = { λ alpn old e new. RefusesValueWriting (value.Alpn alpn) old e };
-
-    /// Writes the protocols, each behind its length.
-    fn emit(&self, encoder: &mut BinEncoder<'_>) -> Result<(), ProtoError> {
-        let protocols = &self.0;
-        emit_entries(encoder, protocols)
-    }
-}
-
-impl<T: Entry> BinEncodable for IpHint<T> {
-    ghost emits = { λ hint. WritesOctets (flat_map T.spelled hint.0.items) };
-
-    ghost refuses = { λ hint old e new. IsRefusal old (length (flat_map T.spelled hint.0.items)) e
-        ⊎ ((entry : T) × Contains hint.0.items entry × T.too_long entry e) };
-
-    /// Writes the addresses.
-    fn emit(&self, encoder: &mut BinEncoder<'_>) -> Result<(), ProtoError> {
-        let addresses = &self.0;
-        emit_entries(encoder, addresses)
-    }
-}
-
-impl BinEncodable for EchConfigList {
-    ghost emits = { λ ech. WritesOctets ech.0.items };
-
-    ghost refuses = { λ ech old e new. IsRefusal old (length ech.0.items) e };
-
-    /// Writes the octets.
-    fn emit(&self, encoder: &mut BinEncoder<'_>) -> Result<(), ProtoError> {
-        let configurations = &self.0;
-        match encoder.emit_vec(configurations) {
-            Ok(()) => Ok(()),
-            Err(refused) => Err(refused),
-        }
-    }
-}
-
-impl BinEncodable for Unknown {
-    ghost emits = { λ unknown. WritesOctets unknown.0.items };
-
-    ghost refuses = { λ unknown old e new. IsRefusal old (length unknown.0.items) e };
-
-    /// Writes the octets.
-    fn emit(&self, encoder: &mut BinEncoder<'_>) -> Result<(), ProtoError> {
-        match encoder.emit_vec(&self.0) {
-            Ok(()) => Ok(()),
-            Err(refused) => Err(refused),
-        }
-    }
-}
+use drd_param_keys::SvcParamKey;
+use drd_param_lists::emit_entries;
 
 // Writes the octets of a value.
 fn emit_octets(encoder: &mut BinEncoder<'_>, value: &SvcParamValue) -> Result<(), ProtoError>

@@ -1,10 +1,9 @@
 //! How many octets values have.
 ghost use Rattle.std.specs.Prelude.{◌≡◌, ◌<◌, length, MatchOption};
-ghost use Rattle.std.specs.List.{flat_map};
 ghost use Rattle.drd_params.specs.Values.{value_octets};
 
-use crate::entry::Entry;
 use crate::value::SvcParamValue;
+use drd_param_keys::octets_of_all;
 
 impl SvcParamValue {
     /// How many octets the value has, if two octets can tell (RFC 9460 2.2).
@@ -22,21 +21,4 @@ impl SvcParamValue {
             SvcParamValue::Unknown(unknown) => u16::try_from(unknown.0.len()).ok(),
         }
     }
-}
-
-// How many octets entries take, one behind the other, if two octets can tell.
-fn octets_of_all<T: Entry>(entries: &[T]) -> Option<u16>
-    ensures { MatchOption result (65535 < length (flat_map T.spelled entries.now)) (λ n. n ≡ length (flat_map T.spelled entries.now)) }
-{
-    let mut total: u16 = 0;
-    'entries: for entry in entries {
-        let Ok(len) = u16::try_from(entry.octet_len()) else {
-            return None;
-        };
-        match total.checked_add(len) {
-            Some(sum) => total = sum,
-            None => return None,
-        }
-    }
-    Some(total)
 }

@@ -1,88 +1,12 @@
 //! Printed parameters.
-ghost use Rattle.std.specs.Prelude.{◌∷◌, ◌++◌, Some, map};
+ghost use Rattle.std.specs.Prelude.{Some};
 ghost use Rattle.std.specs.Fmt.{WritesOnOk};
-ghost use Rattle.std.specs.String.{string_bytes};
-ghost use Rattle.base64.specs.Engines.{standard};
-ghost use Rattle.base64.specs.GeneralPurpose.{encode_of};
-ghost use Rattle.drd_address.specs.drd_words.Print.{escaped_print};
-ghost use Rattle.drd_params.specs.Keys.{key_text};
-ghost use Rattle.drd_params.specs.Print.{later_listed, listed, param_print, value_behind, value_print};
+ghost use Rattle.drd_params.specs.Print.{param_print, value_behind, value_print};
 
-use crate::entry::Entry;
-use crate::key::SvcParamKey;
-use crate::value::{Alpn, EchConfigList, IpHint, Mandatory, SvcParamValue, Unknown};
+use crate::value::SvcParamValue;
 use drd_address::{fmt_base64, fmt_escaped};
+use drd_param_keys::{SvcParamKey, fmt_list};
 use std::fmt;
-
-// Writes entries, each behind a comma.
-fn fmt_later<T: Entry, W: fmt::Write>(f: &mut fmt::Formatter<W>, entries: &[T]) -> fmt::Result
-    ensures { WritesOnOk W.write_str_gives f.old result (later_listed T.shown entries.now) f.new }
-{
-    'entries: for entry in entries {
-        f.write_char(',')?;
-        entry.show(f)?;
-    }
-    Ok(())
-}
-
-// Writes entries with commas between them.
-fn fmt_list<T: Entry, W: fmt::Write>(f: &mut fmt::Formatter<W>, entries: &[T]) -> fmt::Result
-    ensures { WritesOnOk W.write_str_gives f.old result (listed T.shown entries.now) f.new }
-{
-    let Some((first, later)) = entries.split_first() else {
-        return Ok(());
-    };
-    first.show(f)?;
-    fmt_later(f, later)
-}
-
-impl fmt::Display for Mandatory {
-    ghost output = { λ mandatory. Some (listed key_text mandatory.0.items) };
-
-    /// Writes the keys with commas between them.
-    fn fmt<W: fmt::Write>(&self, f: &mut fmt::Formatter<W>) -> fmt::Result {
-        let keys = &self.0;
-        fmt_list(f, keys)
-    }
-}
-
-impl fmt::Display for Alpn {
-    ghost output = { λ alpn. Some (listed string_bytes alpn.0.items) };
-
-    /// Writes the protocols as they are, with commas between them.
-    fn fmt<W: fmt::Write>(&self, f: &mut fmt::Formatter<W>) -> fmt::Result {
-        let protocols = &self.0;
-        fmt_list(f, protocols)
-    }
-}
-
-impl<T: Entry> fmt::Display for IpHint<T> {
-    ghost output = { λ hint. Some (listed T.shown hint.0.items) };
-
-    /// Writes the addresses with commas between them.
-    fn fmt<W: fmt::Write>(&self, f: &mut fmt::Formatter<W>) -> fmt::Result {
-        let addresses = &self.0;
-        fmt_list(f, addresses)
-    }
-}
-
-impl fmt::Display for EchConfigList {
-    ghost output = { λ ech. Some (encode_of standard ech.0.items) };
-
-    /// Writes the octets in base64.
-    fn fmt<W: fmt::Write>(&self, f: &mut fmt::Formatter<W>) -> fmt::Result {
-        fmt_base64(f, &self.0)
-    }
-}
-
-impl fmt::Display for Unknown {
-    ghost output = { λ unknown. Some (escaped_print unknown.0.items) };
-
-    /// Writes the octets as in a text between quotes.
-    fn fmt<W: fmt::Write>(&self, f: &mut fmt::Formatter<W>) -> fmt::Result {
-        fmt_escaped(f, &self.0)
-    }
-}
 
 impl fmt::Display for SvcParamValue {
     ghost output = { λ value. Some (value_print value) };

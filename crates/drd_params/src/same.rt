@@ -1,34 +1,14 @@
 //! Parameters that are compared.
 ghost use Rattle.std.specs.Prelude.{◌≡◌};
 ghost use Rattle.std.specs.Cmp.{partial_equiv_from_equiv};
-ghost use Rattle.std.specs.List.{flat_map};
 ghost use Rattle.drd_address.specs.drd_fields.Equality.{Tells, fields_eq};
-ghost use Rattle.drd_fields.proofs.EqualityLaws.{data_equiv};
+ghost use Rattle.drd_address.proofs.drd_fields_lemmas.EqualityLaws.{data_equiv};
 ghost use Rattle.drd_params.specs.Equality.{params_code, value_code};
 ghost use Rattle.drd_params.specs.Params.{AreParams, params_octets};
 
-use crate::entry::Entry;
-use crate::key::SvcParamKey;
+use crate::list_data::are_same;
 use crate::value::SvcParamValue;
-
-// Whether the octets of two lists are the same.
-fn are_same<T: Entry>(entries: &[T], others: &[T]) -> bool
-    ensures { Tells result (flat_map T.spelled entries.now) (flat_map T.spelled others.now) }
-{
-    let mut left = entries;
-    let mut right = others;
-    'entries: while let Some((entry, later)) = left.split_first() {
-        let Some((other, behind)) = right.split_first() else {
-            return false;
-        };
-        if !entry.same(other) {
-            return false;
-        }
-        left = later;
-        right = behind;
-    }
-    right.is_empty()
-}
+use drd_param_keys::SvcParamKey;
 
 impl PartialEq for SvcParamValue {
     ghost eq = { λ a b. fields_eq (value_code a) (value_code b) };

@@ -1,35 +1,14 @@
 //! Values of parameters (RFC 9460 7, 8).
 ghost use Rattle.std.specs.Prelude.{◌≡◌, ◌⊎◌, IfOk, IfErr};
 ghost use Rattle.drd_address.specs.dnw_decoder.Reading.{IsWantOfMemory};
-ghost use Rattle.drd_params.specs.declared.key.SvcParamKey.TheVariants as of;
-ghost use Rattle.drd_params.specs.declared.value.SvcParamValue.TheVariants as value;
+ghost use Rattle.drd_param_keys.specs.declared.key.SvcParamKey.TheVariants as of;
 ghost use Rattle.drd_params.specs.Values.{IsUnknown, IsValueOf, value_octets};
 ghost use Rattle.drd_params.specs.Refusals.{NoValue};
 
-use crate::entry::read_all;
-use crate::key::SvcParamKey;
 use drd_address::{A, AAAA, DecodeError};
+use drd_param_keys::{SvcParamKey, read_all};
+use drd_param_lists::{Alpn, EchConfigList, IpHint, Mandatory, Unknown, read_alpn, read_mandatory};
 use std::alloc::Global;
-
-/// The keys that a client must know to use the record (RFC 9460 8): at least one.
-#[derive(Clone, Debug, PartialEq, Eq, Hash, Drop)]
-pub struct Mandatory(pub Vec<SvcParamKey>);
-
-/// The protocols beyond the default one (RFC 9460 7.1): at least one, each of at most 255 octets.
-#[derive(Clone, Debug, PartialEq, Eq, Hash, Drop)]
-pub struct Alpn(pub Vec<String>);
-
-/// The configurations of Encrypted ClientHello, as octets.
-#[derive(Clone, Debug, PartialEq, Eq, Hash, Drop)]
-pub struct EchConfigList(pub Vec<u8>);
-
-/// Addresses that may be tried before those of the target are known (RFC 9460 7.3).
-#[derive(Clone, Debug, PartialEq, Eq, Hash, Drop)]
-pub struct IpHint<T>(pub Vec<T>);
-
-/// The octets of the value of any other key.
-#[derive(Clone, Debug, PartialEq, Eq, Hash, Drop)]
-pub struct Unknown(pub Vec<u8>);
 
 /// The value of a parameter.
 #[derive(Clone, Debug, Drop)]
@@ -75,34 +54,6 @@ impl SvcParamValue {
             SvcParamKey::Key65535 => read_unknown(alloc, octets),
             SvcParamKey::Unknown(_) => read_unknown(alloc, octets),
         }
-    }
-}
-
-/// Keys, at least one.
-pub(crate) fn read_mandatory(alloc: Global, octets: &[u8]) -> Result<Mandatory, DecodeError>
-    ensures ok { IfOk result (λ found. IsValueOf of.Mandatory (value.Mandatory found) × (value_octets (value.Mandatory found) ≡ octets.now)) }
-    ensures refused { IfErr result (λ e. IsWantOfMemory e ⊎ NoValue of.Mandatory octets.now e) }
-{
-    if octets.is_empty() {
-        return Err(DecodeError::SvcParamMissingValue);
-    }
-    match read_all::<SvcParamKey>(alloc, octets) {
-        Ok(found) => Ok(Mandatory(found)),
-        Err(refused) => Err(refused),
-    }
-}
-
-/// Strings, at least one.
-pub(crate) fn read_alpn(alloc: Global, octets: &[u8]) -> Result<Alpn, DecodeError>
-    ensures ok { IfOk result (λ found. IsValueOf of.Alpn (value.Alpn found) × (value_octets (value.Alpn found) ≡ octets.now)) }
-    ensures refused { IfErr result (λ e. IsWantOfMemory e ⊎ NoValue of.Alpn octets.now e) }
-{
-    if octets.is_empty() {
-        return Err(DecodeError::SvcParamMissingValue);
-    }
-    match read_all::<String>(alloc, octets) {
-        Ok(found) => Ok(Alpn(found)),
-        Err(refused) => Err(refused),
     }
 }
 

@@ -12,16 +12,17 @@ use Rattle.drd_params.specs.drd_words.Refusals.{IsMessage}
 use Rattle.drd_params.specs.drd_words.Word.{IsOutOfMemory}
 use Rattle.drd_params.specs.drd_words.Words.{EachWord}
 use Rattle.drd_params.proofs.drd_words_lemmas.EachWord.{each-step}
-use Rattle.drd_params.specs.Keys.{key_number, key_of_text}
+use Rattle.drd_param_keys.specs.Keys.{key_number, key_of_text}
 use Rattle.drd_params.specs.Params.{Param, IsParam, Rise}
-use Rattle.drd_params.specs.Texts.{IsKeyText, RefusesKeyText}
+use Rattle.drd_param_keys.specs.Texts.{IsKeyText, RefusesKeyText}
 use Rattle.drd_params.specs.Values.{value_octets}
-use Rattle.drd_params.specs.declared.key.SvcParamKey.{SvcParamKey}
+use Rattle.drd_param_keys.specs.declared.key.SvcParamKey.{SvcParamKey}
 use Rattle.drd_params.specs.declared.value.SvcParamValue.{SvcParamValue}
-use Rattle.drd_params.proofs.KeyTexts.{key-none, key-one, key-once}
+use Rattle.drd_param_keys.proofs.KeyTexts.{key-none, key-one, key-once}
 use Rattle.drd_svcb.specs.ParamRefusals.{RefusesValueText, NoParamText, RefusesParamTexts}
 use Rattle.drd_svcb.specs.ParamRefusalsLaws.{value_causes}
-use Rattle.drd_svcb.specs.Texts.{is_equals, IsValueText, IsUnquoted, IsParamText, AreParamTexts}
+use Rattle.drd_param_keys.specs.Words.{is_equals, IsUnquoted}
+use Rattle.drd_svcb.specs.Texts.{IsValueText, IsParamText, AreParamTexts}
 use Rattle.drd_svcb.proofs.ValueTexts.{value-length, value-of}
 
 -- A text loses its quotes in one way.

@@ -13,17 +13,21 @@ use Rattle.drd_params.specs.dnw_decoder.Octets.{octets_16}
 use Rattle.drd_params.specs.drd_fields.Writing.{string_octets}
 use Rattle.drd_params.specs.drd_words.Data.{IsBase64Text}
 use Rattle.drd_params.specs.drd_words.Words.{EachWord}
-use Rattle.drd_params.specs.EntryLaws.{key_told, string_told, a_told, aaaa_told}
-use Rattle.drd_params.proofs.KeyTexts.{key-one}
-use Rattle.drd_params.specs.Keys.{key_number, IsKey}
-use Rattle.drd_params.specs.Texts.{IsKeyText, IsProtocolText, IsAEntry, IsAaaaEntry}
-use Rattle.drd_params.specs.Values.{IsShortText, IsValueOf, value_octets, a_octets, aaaa_octets}
-use Rattle.drd_params.specs.declared.key.SvcParamKey.{SvcParamKey}
-use Rattle.drd_params.specs.declared.key.SvcParamKey.TheVariants as key
+use Rattle.drd_param_keys.specs.EntryLaws.{key_told, string_told}
+use Rattle.drd_params.specs.drd_address.EntryLaws.{a_told, aaaa_told}
+use Rattle.drd_param_keys.proofs.KeyTexts.{key-one}
+use Rattle.drd_param_keys.specs.Keys.{key_number, IsKey}
+use Rattle.drd_param_keys.specs.Texts.{IsKeyText, IsProtocolText}
+use Rattle.drd_params.specs.drd_address.Entries.{IsAEntry, IsAaaaEntry, a_octets, aaaa_octets}
+use Rattle.drd_param_keys.specs.Entries.{IsShortText}
+use Rattle.drd_params.specs.Values.{IsValueOf, value_octets}
+use Rattle.drd_param_keys.specs.declared.key.SvcParamKey.{SvcParamKey}
+use Rattle.drd_param_keys.specs.declared.key.SvcParamKey.TheVariants as key
 use Rattle.drd_params.specs.declared.value.SvcParamValue.{SvcParamValue}
 use Rattle.drd_params.specs.declared.value.SvcParamValue.TheVariants as value
 use Rattle.std.specs.String.{string_bytes}
-use Rattle.drd_svcb.specs.Texts.{is_comma, IsListText, IsValueText}
+use Rattle.drd_param_keys.specs.ListTexts.{is_comma, IsListText}
+use Rattle.drd_svcb.specs.Texts.{IsValueText}
 use Rattle.drd_params.proofs.drd_words_lemmas.Escaped.{escaped-once}
 
 module _ {T : Type 0} (Written : T → List ℕ → Type 0) where

@@ -1,31 +1,24 @@
 -- Why words are refused as parameters, and as the data (RFC 9460 2.1).
 use Rattle.std.specs.Prelude.{ℕ, ◌≡◌, ◌<◌, ◌≤◌, ◌+◌, List, [], ◌∷◌, length, Option}
 use Rattle.std.proofs.Common.{◌⊎◌}
-use Rattle.std.specs.List.{before_first, after_first, slice_split}
+use Rattle.std.specs.List.{before_first, after_first}
 use lib.Chars.{codes}
 use Rattle.drd_params.specs.dnw_codes.declared.error.ParseError.{ParseError}
 use Rattle.drd_params.specs.dnw_codes.declared.error.ParseError.TheVariants.{UnexpectedToken}
 use Rattle.drd_params.specs.dnw_name.DomainName.{DomainName}
 use Rattle.drd_params.specs.drd_words.Escapes.{RefusesEscapes}
-use Rattle.drd_params.specs.drd_words.Refusals.{IsMessage, IsMissing, RefusesBase64, RefusesEach, RefusesIpv4, RefusesIpv6, RefusesNameWord, RefusesNumber, RefusesOneThen}
+use Rattle.drd_params.specs.drd_words.Refusals.{IsMessage, RefusesIpv4, RefusesIpv6, RefusesNameWord, RefusesNumber, RefusesOneThen}
 use Rattle.drd_params.specs.drd_words.Word.{IsNameWord, IsNumberWord}
-use Rattle.drd_params.specs.Keys.{key_number}
+use Rattle.drd_param_keys.specs.Keys.{key_number}
 use Rattle.drd_params.specs.Params.{Param, IsParam}
-use Rattle.drd_params.specs.Texts.{IsKeyText, RefusesKeyText, IsProtocolText, RefusesProtocolText, IsAEntry, IsAaaaEntry}
+use Rattle.drd_param_keys.specs.Texts.{IsKeyText, RefusesKeyText, IsProtocolText, RefusesProtocolText}
+use Rattle.drd_params.specs.drd_address.Entries.{IsAEntry, IsAaaaEntry}
 use Rattle.drd_params.specs.Values.{value_octets}
-use Rattle.drd_params.specs.declared.key.SvcParamKey.{SvcParamKey}
-use Rattle.drd_params.specs.declared.key.SvcParamKey.TheVariants as key
-use Rattle.drd_svcb.specs.Texts.{is_comma, is_equals, IsUnquoted, IsParamText}
-
--- The first entry between commas that stands for none is refused.
-abbrev pub RefusesList : {T : Type 0} → (T → List ℕ → Type 0) → (List ℕ → ParseError → Type 0)
-    → List ℕ → ParseError → Type 0
-RefusesList Written Unwritten text e = RefusesEach Written Unwritten (slice_split is_comma text) e
-
--- No text, and one that is no base64.
-abbrev pub RefusesEch : List ℕ → ParseError → Type 0
-RefusesEch [] e = IsMissing (codes "base64") e
-RefusesEch text e = RefusesBase64 text e
+use Rattle.drd_param_keys.specs.declared.key.SvcParamKey.{SvcParamKey}
+use Rattle.drd_param_keys.specs.declared.key.SvcParamKey.TheVariants as key
+use Rattle.drd_param_keys.specs.Words.{is_equals, IsUnquoted, RefusesEch}
+use Rattle.drd_svcb.specs.Texts.{IsParamText}
+use Rattle.drd_param_keys.specs.ListTexts.{RefusesList}
 
 -- Why a text is no value of a key: by its first entry that is none, or as a whole.
 abbrev pub RefusesValueText : SvcParamKey → List ℕ → ParseError → Type 0

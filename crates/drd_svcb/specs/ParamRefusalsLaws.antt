@@ -9,18 +9,21 @@ use Rattle.drd_params.specs.drd_words.Refusals.{AreCauses}
 use Rattle.drd_params.specs.drd_words.RefusalsLaws.{each_causes, joined_causes, message_memory, number_causes, one_error}
 use Rattle.drd_params.specs.drd_words.Word.{IsOutOfMemory}
 use Rattle.drd_params.specs.drd_words.Words.{EachWord}
-use Rattle.drd_params.specs.Keys.{key_number}
+use Rattle.drd_param_keys.specs.Keys.{key_number}
 use Rattle.drd_params.specs.Params.{Param, Rise}
-use Rattle.drd_params.specs.Texts.{RefusesKeyText}
-use Rattle.drd_params.specs.TextsLaws.{key_causes, protocol_causes, a_causes, aaaa_causes}
-use Rattle.drd_params.specs.declared.key.SvcParamKey.{SvcParamKey}
-use Rattle.drd_params.specs.declared.key.SvcParamKey.TheVariants as key
+use Rattle.drd_param_keys.specs.Texts.{RefusesKeyText}
+use Rattle.drd_param_keys.specs.TextsLaws.{key_causes, protocol_causes}
+use Rattle.drd_params.specs.drd_address.EntryLaws.{a_causes, aaaa_causes}
+use Rattle.drd_param_keys.specs.declared.key.SvcParamKey.{SvcParamKey}
+use Rattle.drd_param_keys.specs.declared.key.SvcParamKey.TheVariants as key
 use Rattle.drd_params.specs.declared.value.SvcParamValue.{SvcParamValue}
 use Rattle.drd_params.specs.declared.value.SvcParamValue.TheVariants as value
-use Rattle.drd_params.proofs.KeyTexts.{key-once}
+use Rattle.drd_param_keys.proofs.KeyTexts.{key-once}
 use Rattle.drd_params.specs.drd_words.Escapes.{RefusesEscapes}
-use Rattle.drd_svcb.specs.ParamRefusals.{RefusesList, RefusesEch, RefusesValueText, HasNoValue, HasLongValue, RefusesParamTexts}
-use Rattle.drd_svcb.specs.Texts.{is_comma, is_equals, IsListText, IsValueText, IsParamText, AreParamTexts}
+use Rattle.drd_param_keys.specs.ListTexts.{RefusesList, is_comma, IsListText}
+use Rattle.drd_param_keys.specs.Words.{RefusesEch, is_equals}
+use Rattle.drd_svcb.specs.ParamRefusals.{RefusesValueText, HasNoValue, HasLongValue, RefusesParamTexts}
+use Rattle.drd_svcb.specs.Texts.{IsValueText, IsParamText, AreParamTexts}
 
 pub list_causes : {T : Type 0} {Written : T → List ℕ → Type 0}
     {Unwritten : List ℕ → ParseError → Type 0}

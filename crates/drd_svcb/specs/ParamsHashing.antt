@@ -1,22 +1,17 @@
 -- What of parameters is fed to a hasher: the same where they are equal.
-use Rattle.std.specs.Prelude.{List, [], ◌++◌, length}
+use Rattle.std.specs.Prelude.{List, [], ◌++◌}
 use Rattle.std.specs.Hash as fed
 use Rattle.std.specs.Hash.{HashWrites}
-use Rattle.std.specs.List.{flat_map}
 use Rattle.std.specs.String.{string_bytes}
 use Rattle.drd_params.specs.dnw_decoder.Octets.{octets_16}
 use Rattle.drd_params.specs.drd_fields.Writing.{string_octets}
 use Rattle.drd_params.specs.drd_fields.Order.{string_input}
 use Rattle.drd_params.specs.Hashing.{one_write, string_write}
-use Rattle.drd_params.specs.Keys.{key_number}
+use Rattle.drd_param_keys.specs.Keys.{key_number}
 use Rattle.drd_params.specs.Params.{Param}
-use Rattle.drd_params.specs.Values.{a_octets, aaaa_octets}
+use Rattle.drd_params.specs.drd_address.Entries.{a_octets, aaaa_octets}
 use Rattle.drd_params.specs.declared.value.SvcParamValue.{SvcParamValue}
 use Rattle.drd_params.specs.declared.value.SvcParamValue.TheVariants as value
-
--- The number of entries, and each.
-abbrev pub list_input : {T : Type 0} → (T → HashWrites) → List T → HashWrites
-list_input fed_entry entries = fed.usize (length entries) ++ flat_map fed_entry entries
 
 abbrev pub value_input : SvcParamValue → HashWrites
 value_input (value.Mandatory mandatory) =

@@ -12,13 +12,15 @@ use Rattle.drd_params.specs.drd_fields.Equality.{fields_eq}
 use Rattle.drd_fields.proofs.EqualityLaws.{both_true, from_test, same_octets}
 use Rattle.drd_params.specs.drd_fields.Writing.{string_octets}
 use Rattle.drd_params.specs.drd_fields.Order.{string_input}
-use Rattle.drd_params.specs.EntryLaws.{key_laws, a_laws, aaaa_laws, string_laws}
+use Rattle.drd_param_keys.specs.EntryLaws.{key_laws, string_laws}
+use Rattle.drd_params.specs.drd_address.EntryLaws.{a_laws, aaaa_laws}
 use Rattle.drd_params.specs.Equality.{told_length, value_kind, params_code}
-use Rattle.drd_params.specs.Hashing.{one_write, string_write}
-use Rattle.drd_svcb.specs.ParamsHashing.{list_input, value_input, param_input, params_input}
-use Rattle.drd_params.specs.Keys.{key_number}
+use Rattle.drd_params.specs.Hashing.{one_write, string_write, list_input}
+use Rattle.drd_svcb.specs.ParamsHashing.{value_input, param_input, params_input}
+use Rattle.drd_param_keys.specs.Keys.{key_number}
 use Rattle.drd_params.specs.Params.{Param}
-use Rattle.drd_params.specs.Values.{value_octets, a_octets, aaaa_octets}
+use Rattle.drd_params.specs.Values.{value_octets}
+use Rattle.drd_params.specs.drd_address.Entries.{a_octets, aaaa_octets}
 use Rattle.drd_params.specs.declared.value.SvcParamValue.{SvcParamValue}
 use Rattle.drd_params.specs.declared.value.SvcParamValue.TheVariants as value
 

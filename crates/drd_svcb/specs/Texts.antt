@@ -1,30 +1,22 @@
 -- The texts of parameters and of the data (RFC 9460 2.1).
-use Rattle.std.specs.Prelude.{ℕ, ◌≡◌, ◌≢◌, ◌<◌, ◌==◌, Bool, List, [], ◌∷◌, ◌++◌, length, Option}
+use Rattle.std.specs.Prelude.{ℕ, ◌≡◌, ◌≢◌, ◌<◌, ◌==◌, List, [], ◌∷◌, ◌++◌, length, Option}
 use Rattle.std.proofs.Common.{◌⊎◌}
-use Rattle.std.specs.List.{before_first, after_first, slice_split}
-use Rattle.drd_params.specs.dnw_codes.Ascii.{comma, double_quote, equals_sign}
+use Rattle.std.specs.List.{before_first, after_first}
 use Rattle.drd_params.specs.dnw_name.DomainName.{DomainName}
 use Rattle.drd_params.specs.drd_words.Data.{IsBase64Text}
 use Rattle.drd_params.specs.drd_words.Escapes.{EscapedText}
 use Rattle.drd_params.specs.drd_words.Word.{IsNumberWord, IsNameWord}
 use Rattle.drd_params.specs.drd_words.Words.{OneThen, EachWord}
+use Rattle.drd_param_keys.specs.ListTexts.{IsListText}
 use Rattle.drd_params.specs.Params.{Param, AreParams}
-use Rattle.drd_params.specs.Texts.{IsKeyText, IsProtocolText, IsAEntry, IsAaaaEntry}
-use Rattle.drd_params.specs.declared.key.SvcParamKey.{SvcParamKey}
-use Rattle.drd_params.specs.declared.key.SvcParamKey.TheVariants as key
+use Rattle.drd_param_keys.specs.Texts.{IsKeyText, IsProtocolText}
+use Rattle.drd_params.specs.drd_address.Entries.{IsAEntry, IsAaaaEntry}
+use Rattle.drd_param_keys.specs.declared.key.SvcParamKey.{SvcParamKey}
+use Rattle.drd_param_keys.specs.declared.key.SvcParamKey.TheVariants as key
 use Rattle.drd_params.specs.declared.value.SvcParamValue.{SvcParamValue}
 use Rattle.drd_params.specs.declared.value.SvcParamValue.TheVariants as value
 use Rattle.drd_svcb.specs.declared.svcb.SVCB.{SVCB}
-
-abbrev pub is_comma : ℕ → Bool
-is_comma c = c == comma
-
-abbrev pub is_equals : ℕ → Bool
-is_equals c = c == equals_sign
-
--- Entries with commas between them, at least one. None has a comma in it.
-abbrev pub IsListText : {T : Type 0} → (T → List ℕ → Type 0) → List T → List ℕ → Type 0
-IsListText Written entries text = EachWord Written entries (slice_split is_comma text)
+use Rattle.drd_param_keys.specs.Words.{IsUnquoted, is_equals}
 
 -- What the value of a key is written as: lists by commas, a port in decimal digits, configurations
 -- in base64, and the octets of a key without a form of its own as a text with escapes.
@@ -42,12 +34,6 @@ IsValueText (key.Key number) (value.Unknown unknown) text = EscapedText text unk
 IsValueText key.Key65535 (value.Unknown unknown) text = EscapedText text unknown.0.items
 IsValueText (key.Unknown number) (value.Unknown unknown) text = EscapedText text unknown.0.items
 IsValueText other another text = ⊥
-
--- What stands between two quotes; a text that stands between none is itself.
-abbrev pub IsUnquoted : List ℕ → List ℕ → Type 0
-IsUnquoted text inner =
-    (text ≡ double_quote ∷ (inner ++ double_quote ∷ []))
-    ⊎ ((text ≡ inner) × ((between : List ℕ) → text ≢ double_quote ∷ (between ++ double_quote ∷ [])))
 
 -- A key, and behind `=` the text of its value, which quotes may stand around. A key alone has the
 -- empty text.

@@ -2,20 +2,11 @@
 ghost use Rattle.std.specs.Prelude.{◌≡◌, ◌++◌};
 ghost use Rattle.std.specs.Hash as fed;
 ghost use Rattle.std.specs.List.{flat_map, fold};
-ghost use Rattle.drd_svcb.specs.ParamsHashing.{list_input, param_input, params_input, value_input};
+ghost use Rattle.drd_svcb.specs.ParamsHashing.{param_input, params_input, value_input};
 
-use drd_params::{Entry, FieldRef, SvcParamKey, SvcParamValue};
+use drd_param_keys::SvcParamKey;
+use drd_params::{FieldRef, SvcParamValue, feed_all};
 use std::hash::Hasher;
-
-// Feeds entries to a hasher, behind their number.
-fn feed_all<T: Entry, H: Hasher>(state: &mut H, entries: &[T])
-    ensures { state.new ≡ fold H.write state.old (list_input (λ entry. T.input (T.spelled entry)) entries.now) }
-{
-    state.write_usize(entries.len());
-    'entries: for entry in entries {
-        entry.feed(state);
-    }
-}
 
 // Feeds a value to a hasher.
 fn feed_value<H: Hasher>(state: &mut H, value: &SvcParamValue)

@@ -1,39 +1,14 @@
 //! Parameters in order.
 ghost use Rattle.std.specs.Prelude.{◌≡◌};
-ghost use Rattle.std.specs.List.{flat_map};
 ghost use Rattle.drd_params.specs.drd_fields.Order.{Orders, fields_cmp, octets_cmp};
 ghost use Rattle.drd_params.specs.Equality.{param_code, params_code, told_length, value_code, value_kind};
 ghost use Rattle.drd_params.specs.Params.{AreParams, params_octets};
 ghost use Rattle.drd_params.specs.dnw_decoder.Octets.{octets_16};
 ghost use Rattle.drd_params.specs.Values.{value_octets};
 
-use drd_params::{Entry, SvcParamKey, SvcParamValue};
+use drd_param_keys::SvcParamKey;
+use drd_params::{SvcParamValue, cmp_all};
 use std::cmp::Ordering;
-
-// The order of the octets of entries, one behind the other.
-fn cmp_all<T: Entry>(entries: &[T], others: &[T]) -> Ordering
-    ensures { result ≡ octets_cmp (flat_map T.spelled entries.now) (flat_map T.spelled others.now) }
-{
-    let mut left = entries;
-    let mut right = others;
-    'entries: while let Some((entry, later)) = left.split_first() {
-        let Some((other, behind)) = right.split_first() else {
-            return Ordering::Greater;
-        };
-        match entry.order(other) {
-            Ordering::Equal => {
-                left = later;
-                right = behind;
-            }
-            unequal => return unequal,
-        }
-    }
-    if right.is_empty() {
-        Ordering::Equal
-    } else {
-        Ordering::Less
-    }
-}
 
 // The number of a value's kind.
 fn kind(value: &SvcParamValue) -> u16

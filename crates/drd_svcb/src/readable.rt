@@ -1,9 +1,10 @@
 //! Bindings of services, and their parameters (RFC 9460 2.2).
 ghost use Rattle.std.specs.Prelude.{◌≡◌, ◌↔◌, ◌<◌, IsTrue, length};
-ghost use Rattle.drd_params.specs.Keys.{IsKey, key_number, key_of};
+ghost use Rattle.drd_param_keys.specs.Keys.{IsKey, key_number, key_of};
 ghost use Rattle.drd_params.specs.Params.{AreParams, IsParam};
-ghost use Rattle.drd_params.specs.Values.{IsShortText, IsUnknown, IsValueOf, value_octets};
-ghost use Rattle.drd_params.specs.declared.key.SvcParamKey.TheVariants as of;
+ghost use Rattle.drd_param_keys.specs.Entries.{IsShortText};
+ghost use Rattle.drd_params.specs.Values.{IsUnknown, IsValueOf, value_octets};
+ghost use Rattle.drd_param_keys.specs.declared.key.SvcParamKey.TheVariants as of;
 ghost use Rattle.drd_params.specs.drd_fields.Readable.{EndsAtRoot};
 ghost use Rattle.drd_svcb.specs.Readable.{IsService};
 ghost use Rattle.std.specs.List.{All};

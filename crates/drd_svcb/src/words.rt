@@ -1,15 +1,15 @@
 //! Parameters in words (RFC 9460 2.1).
-ghost use Rattle.std.specs.Prelude.{◌≡◌, ◌⊎◌, IfOk, IfErr};
-ghost use Rattle.std.specs.List.{before_first, after_first};
+ghost use Rattle.std.specs.Prelude.{◌⊎◌, IfOk, IfErr};
 ghost use Rattle.drd_params.specs.Params.{IsParam};
 ghost use Rattle.drd_params.specs.drd_words.Word.{IsOutOfMemory};
 ghost use Rattle.drd_params.specs.drd_words.RefusalsLaws.{by_part};
 ghost use Rattle.drd_svcb.specs.ParamRefusals.{NoParamText, RefusesParamTexts};
 ghost use Rattle.drd_svcb.specs.ParamRefusalsLaws.{texts_causes};
-ghost use Rattle.drd_svcb.specs.Texts.{is_equals, IsUnquoted, IsParamText, AreParamTexts};
+ghost use Rattle.drd_svcb.specs.Texts.{IsParamText, AreParamTexts};
 
 use crate::value::value_of;
-use drd_params::{Name, ParseError, SvcParamKey, SvcParamValue, Words};
+use drd_param_keys::{SvcParamKey, parts_of, unquoted};
+use drd_params::{Name, ParseError, SvcParamValue, Words};
 use std::alloc::{AllocError, Global};
 
 /// The parameters that words write, each one of them.
@@ -66,29 +66,5 @@ fn param_of(alloc: Global, word: &str) -> Result<(SvcParamKey, SvcParamValue), P
     match value.octet_len() {
         Some(_len) => Ok((key, value)),
         None => Err(ParseError::Message("a value has at most 65,535 octets")),
-    }
-}
-
-// What stands before the first `=`, and behind it.
-fn parts_of(word: &str) -> (&str, &str)
-    ensures key { result.0.now ≡ before_first is_equals word.now }
-    ensures value { result.1.now ≡ after_first is_equals word.now }
-{
-    match word.split_once('=') {
-        Some(parts) => parts,
-        None => (word, ""),
-    }
-}
-
-// Without the quotes that the text stands between.
-fn unquoted(text: &str) -> &str
-    ensures { IsUnquoted text.now result.now }
-{
-    match text.strip_prefix('"') {
-        None => text,
-        Some(behind) => match behind.strip_suffix('"') {
-            Some(inner) => inner,
-            None => text,
-        },
     }
 }

@@ -1,6 +1,6 @@
 use Rattle.std.proofs.Common.{◌≡◌, ◌<◌, ◌≤◌, ◌+◌, [], ◌∷◌, ◌++◌, inl, inr, refl, length, rules, arith}
 use Rattle.std.proofs.lemmas.Bool.Decides.{nat_tests}
-use Rattle.drd_params.specs.Keys.{key_number}
+use Rattle.drd_param_keys.specs.Keys.{key_number}
 use Rattle.drd_params.proofs.ReadParams.{left-fits, no-order, no-params, read-more}
 use Rattle.drd_params.proofs.params.read_params_until.Goals as goal
 

@@ -1,11 +1,11 @@
 use Rattle.std.proofs.Common.{ℕ, List, inr, refl, subst, arith}
 use Rattle.std.specs.List.{before_first, after_first}
 use Rattle.drd_params.specs.dnw_codes.declared.error.ParseError.TheVariants.{UnexpectedToken}
-use Rattle.drd_params.proofs.KeyTexts.{key-found}
-use Rattle.drd_params.specs.Keys.{key_of_text}
-use Rattle.drd_params.specs.Texts.{IsKeyText}
+use Rattle.drd_param_keys.proofs.KeyTexts.{key-found}
+use Rattle.drd_param_keys.specs.Keys.{key_of_text}
+use Rattle.drd_param_keys.specs.Texts.{IsKeyText}
 use Rattle.drd_svcb.proofs.ParamWords.{param-is, cause-of-key, cause-of-value, cause-of-length}
-use Rattle.drd_svcb.specs.Texts.{is_equals, IsUnquoted}
+use Rattle.drd_param_keys.specs.Words.{is_equals, IsUnquoted}
 use Rattle.drd_svcb.proofs.words.param_of.Goals as goal
 
 pub returns-in-Some-clause-ok : goal.returns-in-Some-clause-ok

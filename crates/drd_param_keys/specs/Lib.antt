@@ -1,0 +1,13 @@
+pub mod Keys
+pub mod Entries
+pub mod EntryLaws
+pub mod Texts
+pub mod TextsLaws
+pub mod ListTexts
+pub mod Words
+pub mod Writing
+pub use Rattle.drd_words.specs.dnw_codes
+pub use Rattle.dnw_encoder.specs.dnw_decoder
+pub use Rattle.drd_words.specs.dnw_label
+pub use Rattle.drd_words.specs.dnw_name
+pub mod drd_words

@@ -1,0 +1,4 @@
+pub mod Emitting
+mod Filling
+pub mod NoLists
+mod Putting
