@@ -6,7 +6,7 @@ use Rattle.std.specs.String.{string_bytes}
 use Rattle.drd_params.specs.dnw_decoder.Octets.{octets_16}
 use Rattle.drd_params.specs.drd_fields.Writing.{string_octets}
 use Rattle.drd_params.specs.drd_fields.Order.{string_input}
-use Rattle.drd_params.specs.Hashing.{one_write, string_write}
+use Rattle.drd_params.specs.Hashing.{list_input, one_write, string_write}
 use Rattle.drd_param_keys.specs.Keys.{key_number}
 use Rattle.drd_params.specs.Params.{Param}
 use Rattle.drd_params.specs.drd_address.Entries.{a_octets, aaaa_octets}
