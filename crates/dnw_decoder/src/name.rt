@@ -9,7 +9,7 @@ ghost use Rattle.dnw_decoder.specs.Reading.{IsWantOfMemory};
 ghost use Rattle.dnw_decoder.specs.Refusals.{IsCause, Refuses};
 ghost use Rattle.dnw_decoder.specs.Spelling.{NameAt};
 
-use dnw_name::{DecodeError, Name, NameBuilder, ProtoError};
+use dnw_name::{DecodeError, Name, NameBuilder};
 use std::alloc::Global;
 
 // One element of a name: its end, a label, or a pointer to where the rest is.
@@ -102,20 +102,6 @@ fn pointer_at<'a>(
     Ok(Element::Pointer(usize::from(target)))
 }
 
-// The name with a label more at its end.
-fn with_label(name: NameBuilder, label: &[u8]) -> Result<NameBuilder, DecodeError>
-    requires { IsLabel label.now }
-    ensures ok { IfOk result (λ longer. (longer ≡ domain_name name.fqdn (name.labels ++ label.now ∷ [])) × IsDomainName longer) }
-    ensures cause { IfErr result (λ e. IsWantOfMemory e ⊎ ((e ≡ DomainNameTooLong (labels_len name.labels + length label.now + 2))
-        × (255 < labels_len name.labels + length label.now + 2))) }
-{
-    match name.append_label(label) {
-        Ok(longer) => Ok(longer),
-        Err(ProtoError::Decode(refused)) => Err(refused),
-        Err(_) => Err(DecodeError::Memory),
-    }
-}
-
 /// The name that is spelled from a start on, and the index behind it.
 pub(crate) fn read_name(
     alloc: Global,
@@ -136,7 +122,7 @@ pub(crate) fn read_name(
         match element_at(octets, segment, bound, place)? {
             Element::End => return Ok((name.finish(), resume.unwrap_or(place + 1))),
             Element::Label(label) => {
-                name = with_label(name, label)?;
+                name.push_label(label)?;
                 place += 1 + label.len();
             }
             Element::Pointer(target) => {

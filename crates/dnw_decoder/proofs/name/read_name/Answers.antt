@@ -28,8 +28,7 @@ returns-in-End-clause-ok c =
 pub elements-preserved-in-Label : goal.elements-preserved-in-Label
 elements-preserved-in-Label c =
     let here = rw c.in-Label.is at c.in_ok-element_at.ensures.ok in
-    let longer = c.in_ok-name-in-Label.ensures.ok in
-    reading_label c.args.octets.now c.args.start c.elements.name c.in_ok-name-in-Label.name c.elements.segment c.elements.bound c.elements.place (c.elements.place + (1 + length c.in-Label.label.now)) c.elements.resume c.in-Label.label.now c.elements.invariant here.0 here.1 here.2 longer.0 longer.1.short
+    reading_label c.args.octets.now c.args.start c.elements.name c.push_label.new.self c.elements.segment c.elements.bound c.elements.place (c.elements.place + (1 + length c.in-Label.label.now)) c.elements.resume c.in-Label.label.now c.elements.invariant here.0 here.1 here.2 c.in_ok-push_label-in-Label.ensures.ok c.push_label.ensures.name.short
 
 pub elements-preserved : goal.elements-preserved
 elements-preserved c =
