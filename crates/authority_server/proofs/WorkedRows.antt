@@ -3,8 +3,8 @@ use Rattle.std.proofs.Common.{◌≡◌, ℕ, Bool, true, false, List, [], ◌�
 use Rattle.std.specs.Prelude.{codes, pos, None}
 use Rattle.zst_zone.specs.dnw_codes.declared.record_type.RecordType.TheVariants as types
 use Rattle.zst_zone.specs.dnw_codes.declared.dns_class.DNSClass.TheVariants as classes
-use Rattle.zsv_message.specs.drd_rdata.declared.rdata.RData.TheVariants as rdata
-use Rattle.zsv_message.specs.zst_record.declared.records.Record.{Record}
+use Rattle.zsv_reply.specs.drd_rdata.declared.rdata.RData.TheVariants as rdata
+use Rattle.zsv_reply.specs.zst_record.declared.records.Record.{Record}
 use Rattle.zst_zone.specs.declared.settings.ZoneType.TheVariants as kinds
 use Rattle.zst_zone.specs.declared.settings.AxfrPolicy.TheVariants as policies
 use Rattle.zsv_message.specs.declared.header.MessageType.TheVariants as messages
@@ -13,16 +13,16 @@ use Rattle.zsv_message.specs.declared.header.ResponseCode.{ResponseCode}
 use Rattle.zsv_message.specs.declared.header.ResponseCode.TheVariants as responses
 use Rattle.zsv_message.specs.declared.header.Metadata.{Metadata}
 use Rattle.zsv_message.specs.declared.request.Query.{Query}
-use Rattle.zsv_message.specs.dnw_name.DomainName.{DomainName, name_octets, name_eq, is_at_or_below}
+use Rattle.zst_zone.specs.dnw_name.DomainName.{DomainName, name_octets, name_eq, is_at_or_below}
 use Rattle.std.specs.Cmp.Lexicographic.{slice_cmp}
 use Rattle.std.specs.Ordering.{nat_cmp}
 use Rattle.std.specs.declared.cmp.Ordering.TheVariants.{Less}
-use Rattle.zsv_message.specs.dnw_name.NameKey.{rank, name_key}
+use Rattle.zst_zone.specs.dnw_name.NameKey.{rank, name_key}
 use Rattle.std.specs.Net.Addr.{ipv4_bits}
 use Rattle.zsv_message.specs.dnw_decoder.Octets.{octets_16, octets_32}
 use Rattle.zsv_message.specs.Headers.{header_of}
-use Rattle.zsv_message.specs.drd_rdata.Writing.{written_octets}
-use Rattle.zsv_message.specs.zst_record.Records.{plain}
+use Rattle.zsv_reply.specs.drd_rdata.Writing.{written_octets}
+use Rattle.zsv_reply.specs.zst_record.Records.{plain}
 use Rattle.zsv_message.specs.dnw_decoder.Spelling.{NameAt, at_end, at_label}
 use Rattle.zsv_message.specs.Requests.{Request, QuestionAt}
 use Rattle.zst_zone.specs.Zones.{View, lookup_result, answered, name_exists, name_error, out_of_zone}

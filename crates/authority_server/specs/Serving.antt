@@ -4,7 +4,7 @@ use Rattle.std.specs.Prelude.{◌≡◌, ℕ, Bool, true, false, List, [], ◌�
 use Rattle.std.specs.declared.net.SocketAddr.{SocketAddr}
 use Rattle.zst_zone.specs.dnw_codes.declared.record_type.RecordType.{RecordType}
 use Rattle.zst_zone.specs.dnw_codes.declared.record_type.RecordType.TheVariants as types
-use Rattle.zsv_message.specs.zst_record.declared.records.Record.{Record}
+use Rattle.zsv_reply.specs.zst_record.declared.records.Record.{Record}
 use Rattle.zsv_message.specs.declared.header.Metadata.{Metadata}
 use Rattle.zsv_message.specs.declared.header.MessageType.{MessageType}
 use Rattle.zsv_message.specs.declared.header.MessageType.TheVariants as messages
@@ -15,12 +15,12 @@ use Rattle.zsv_message.specs.declared.header.ResponseCode.TheVariants as respons
 use Rattle.zsv_message.specs.declared.request.Query.{Query}
 use Rattle.authority_server.specs.declared.server.Protocol.{Protocol}
 use Rattle.authority_server.specs.declared.server.Protocol.TheVariants as protocols
-use Rattle.zsv_message.specs.dnw_name.DomainName.{is_at_or_below}
+use Rattle.zst_zone.specs.dnw_name.DomainName.{is_at_or_below}
 use Rattle.zst_zone.specs.dnw_codes.RecordType.{same_record_type}
-use Rattle.zsv_message.specs.zst_record.Records.{RRset}
+use Rattle.zsv_reply.specs.zst_record.Records.{RRset}
 use Rattle.zst_zone.specs.Zones.{View, Outcome, answered, name_exists, name_error, out_of_zone, rrset_at, lookup_result}
 use Rattle.zsv_message.specs.Requests.{Request, IsRequest}
-use Rattle.zsv_message.specs.Replies.{ReplyParts, IsReply}
+use Rattle.zsv_reply.specs.Replies.{ReplyParts, IsReply}
 
 -- The header of a reply repeats the identifier, the operation, RD and CD.
 abbrev pub reply_metadata : Metadata → Bool → ResponseCode → Metadata

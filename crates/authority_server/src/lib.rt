@@ -4,7 +4,7 @@
 //! frames (`ServesFrames`).
 #![tactic(auto)]
 
-pub use zsv_message::{A, DNSClass, Label, NS, Name, RData, Record, RecordSet, RecordType, SOA};
+pub use zsv_reply::{A, DNSClass, Label, NS, Name, RData, Record, RecordSet, RecordType, SOA};
 
 mod faults;
 mod server;

@@ -26,7 +26,7 @@ pub enum Protocol {
 
 impl Protocol {
     /// How many octets a reply may have.
-    pub fn limit(self) -> usize
+    pub fn limit(self) -> u16
         ensures { result ≡ limit_of self }
     {
         match self {

@@ -1,6 +1,4 @@
 pub mod Flags
-pub mod Fronts
 pub mod Pieces
 pub mod Questions
-pub mod Sections
-pub mod Written
+pub mod QuestionsOver

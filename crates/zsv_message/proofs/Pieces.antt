@@ -1,9 +1,9 @@
 -- What stands at the same places of two messages.
 use Rattle.std.proofs.Common.{◌≡◌, ℕ, ◌+◌, ◌-◌, ◌<◌, ◌≤◌, List, [], ◌∷◌, ◌++◌, length, drop, sym, ap, ◌∙◌, arith, append_assoc}
 use Rattle.std.proofs.lemmas.List.{drop-drop, drop-append-le, append_cancel_right}
-use Rattle.zst_record.specs.dnw_decoder.Octets.{Stands}
-use Rattle.zst_record.specs.dnw_decoder.Spelling.{pointer_octets, Spelled, at_end, at_label, at_pointer}
-use Rattle.zst_record.proofs.dnw_decoder_lemmas.SpellingLaws.{spelled_within}
+use Rattle.dnw_encoder.specs.dnw_decoder.Octets.{Stands}
+use Rattle.dnw_encoder.specs.dnw_decoder.Spelling.{pointer_octets, Spelled, at_end, at_label, at_pointer}
+use Rattle.dnw_encoder.proofs.dnw_decoder_lemmas.SpellingLaws.{spelled_within}
 use Rattle.zsv_message.specs.Wire.{PointsFrom}
 
 -- Between two places, two messages have the same octets.

@@ -1,18 +1,18 @@
 -- Questions, one behind the other: one place holds one of them, and what is read is what stands there.
-use Rattle.std.proofs.Common.{◌≡◌, ℕ, ◌+◌, ◌/◌, ◌%◌, ◌<◌, ◌≤◌, List, [], ◌∷◌, ◌++◌, length, get_or, refl, sym, ap, subst, inl, inr, ◌∙◌, arith, append_assoc, append-nil, length-append, Global, Vec}
+use Rattle.std.proofs.Common.{◌≡◌, ℕ, ◌+◌, ◌/◌, ◌%◌, ◌<◌, ◌≤◌, List, [], ◌∷◌, ◌++◌, length, get_or, refl, sym, ap, subst, inl, inr, ◌∙◌, arith, append_assoc, append-nil, length-append}
 use Rattle.std.specs.Prelude.{◌⊎◌, Err}
-use Rattle.zst_record.specs.dnw_codes.DNSClass.{class_of}
-use Rattle.zst_record.specs.dnw_codes.RecordType.{record_type_of}
-use Rattle.zst_record.specs.dnw_codes.declared.dns_class.DNSClass.{DNSClass}
-use Rattle.zst_record.specs.dnw_codes.declared.error.DecodeError.{DecodeError}
-use Rattle.zst_record.specs.dnw_codes.declared.record_type.RecordType.{RecordType}
-use Rattle.zst_record.specs.dnw_name.DomainName.{DomainName}
-use Rattle.zst_record.specs.dnw_decoder.Codes.{RecordTypeAt, ClassAt}
-use Rattle.zst_record.specs.dnw_decoder.Octets.{octets_16}
-use Rattle.zst_record.specs.dnw_decoder.Reading.{IsWantOfMemory}
-use Rattle.zst_record.specs.dnw_decoder.Spelling.{NameAt}
-use Rattle.zst_record.proofs.dnw_decoder_lemmas.SpellingLaws.{name_once}
-use Rattle.zst_record.proofs.dnw_decoder_lemmas.Standing.{stands_same}
+use Rattle.dnw_codes.specs.DNSClass.{class_of}
+use Rattle.dnw_codes.specs.RecordType.{record_type_of}
+use Rattle.dnw_codes.specs.declared.dns_class.DNSClass.{DNSClass}
+use Rattle.dnw_codes.specs.declared.error.DecodeError.{DecodeError}
+use Rattle.dnw_codes.specs.declared.record_type.RecordType.{RecordType}
+use Rattle.dnw_encoder.specs.dnw_name.DomainName.{DomainName}
+use Rattle.dnw_encoder.specs.dnw_decoder.Codes.{RecordTypeAt, ClassAt}
+use Rattle.dnw_encoder.specs.dnw_decoder.Octets.{octets_16}
+use Rattle.dnw_encoder.specs.dnw_decoder.Reading.{IsWantOfMemory}
+use Rattle.dnw_encoder.specs.dnw_decoder.Spelling.{NameAt}
+use Rattle.dnw_encoder.proofs.dnw_decoder_lemmas.SpellingLaws.{name_once}
+use Rattle.dnw_encoder.proofs.dnw_decoder_lemmas.Standing.{stands_same}
 use Rattle.zsv_message.specs.declared.read.ReadError.{ReadError}
 use Rattle.zsv_message.specs.declared.read.ReadError.TheVariants as errors
 use Rattle.zsv_message.specs.declared.request.Query.{Query}
@@ -116,13 +116,13 @@ entries_none At place before at a none all end e long =
     none_first At at end none found.0 found.2 (longer before found.0 all found.1 long)
 
 -- A reader that finds no further question says so of all.
-pub questions_err : (message : List ℕ) (place count : ℕ) (before : List Query) (at : ℕ) (end last : ℕ) → EntriesAhead (QuestionAt message) place before at → length before < count → (e : ReadError) → Reads (QuestionAt message at) (Err e) end → DecodesTo {X = Vec Query Global} (λ qs. qs.items) (QuestionsAt message place count) (Err e) last
-questions_err message place count before at end last a more errors.Malformed none = λ qs behind there.
+pub questions_err : (message : List ℕ) (place count : ℕ) (before : List Query) (at : ℕ) (end last : ℕ) → EntriesAhead (QuestionAt message) place before at → length before < count → (e : ReadError) {X : Type 0} (view : X → List Query) → Reads (QuestionAt message at) (Err e) end → DecodesTo view (QuestionsAt message place count) (Err e) last
+questions_err message place count before at end last a more errors.Malformed view none = λ qs behind there.
     entries_none (QuestionAt message) place before at a none qs behind there.0 (omega (arith, there.1))
-questions_err message place count before at end last a more errors.Memory none = tt
+questions_err message place count before at end last a more errors.Memory view none = tt
 
 -- A message whose questions can't be read is no request, or memory is wanted behind its header.
-pub request_err : (message : List ℕ) (count end : ℕ) → OpensRequest message → count ≡ (header_of message).counts.queries → (e : ReadError) → DecodesTo {X = Vec Query Global} (λ qs. qs.items) (QuestionsAt message 12 count) (Err e) end → ReadsRequest message (Err e)
-request_err message count end opens counted errors.Malformed none = λ request is.
+pub request_err : (message : List ℕ) (count end : ℕ) → OpensRequest message → count ≡ (header_of message).counts.queries → (e : ReadError) {X : Type 0} (view : X → List Query) → DecodesTo view (QuestionsAt message 12 count) (Err e) end → ReadsRequest message (Err e)
+request_err message count end opens counted errors.Malformed view none = λ request is.
     none request.questions is.end (is.questions.0, is.questions.1 ∙ sym counted)
-request_err message count end opens counted errors.Memory none = opens
+request_err message count end opens counted errors.Memory view none = opens

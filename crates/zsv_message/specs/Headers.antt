@@ -1,5 +1,5 @@
 -- The header of a message: RFC 1035, section 4.1.1; RFC 4035, section 3.2 for AD and CD.
-use Rattle.std.specs.Prelude.{◌≡◌, ℕ, ◌+◌, ◌/◌, ◌%◌, ◌^◌, ◌*◌, ◌<◌, ◌==◌, ◌++◌, Bool, true, false, List, ◌∷◌, get_or, if◌then◌else◌}
+use Rattle.std.specs.Prelude.{◌≡◌, ℕ, ◌+◌, ◌/◌, ◌%◌, ◌^◌, ◌*◌, ◌<◌, ◌≤◌, ◌==◌, ◌++◌, Bool, true, false, List, ◌∷◌, get_or, drop, length, if◌then◌else◌}
 use Rattle.zsv_message.specs.declared.header.MessageType.{MessageType}
 use Rattle.zsv_message.specs.declared.header.MessageType.TheVariants as types
 use Rattle.zsv_message.specs.declared.header.OpCode.{OpCode}
@@ -9,7 +9,7 @@ use Rattle.zsv_message.specs.declared.header.ResponseCode.TheVariants as respons
 use Rattle.zsv_message.specs.declared.header.Metadata.{Metadata}
 use Rattle.zsv_message.specs.declared.header.HeaderCounts.{HeaderCounts}
 use Rattle.zsv_message.specs.declared.header.Header.{Header}
-use Rattle.zst_record.specs.dnw_decoder.Octets.{number_16, octets_16}
+use Rattle.dnw_encoder.specs.dnw_decoder.Octets.{number_16, octets_16}
 
 -- The number of an operation, and the operation of a number.
 abbrev pub op_code_number : OpCode → ℕ
@@ -82,6 +82,12 @@ header_of message = record {
   metadata = metadata_of (number_16 message 0) (get_or message 2 0) (get_or message 3 0);
   counts = counts_of message;
 }
+
+-- A header at a place.
+pub record HeaderAt (message : List ℕ) (place : ℕ) (header : Header) (end : ℕ) : Type 0 where
+  pub means : header ≡ header_of (drop place message)
+  pub behind : end ≡ place + 12
+  pub within : end ≤ length message
 
 abbrev pub flag : Bool → ℕ
 flag b = if b then 1 else 0

@@ -1,9 +1,4 @@
 pub mod Headers
-pub mod Replies
 pub mod Requests
 pub mod Wire
-pub mod Writing
-pub use Rattle.zst_record.specs.dnw_decoder
-pub use Rattle.zst_record.specs.dnw_name
-pub use Rattle.zst_record.specs.drd_rdata
-pub mod zst_record
+pub use Rattle.dnw_encoder.specs.dnw_decoder

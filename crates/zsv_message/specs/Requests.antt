@@ -5,9 +5,9 @@ use Rattle.zsv_message.specs.declared.request.Query.{Query}
 use Rattle.zsv_message.specs.declared.read.ReadError.{ReadError}
 use Rattle.zsv_message.specs.declared.read.ReadError.TheVariants as errors
 use Rattle.zsv_message.specs.Headers.{header_of}
-use Rattle.zst_record.specs.dnw_decoder.Octets.{Stands}
-use Rattle.zst_record.specs.dnw_decoder.Codes.{RecordTypeAt, ClassAt}
-use Rattle.zst_record.specs.dnw_decoder.Spelling.{NameAt}
+use Rattle.dnw_encoder.specs.dnw_decoder.Octets.{Stands}
+use Rattle.dnw_encoder.specs.dnw_decoder.Codes.{RecordTypeAt, ClassAt}
+use Rattle.dnw_encoder.specs.dnw_decoder.Spelling.{NameAt}
 use Rattle.zsv_message.specs.Wire.{Entries, PointsFrom}
 
 -- A question at a place: a name, a type, a class.

@@ -1,8 +1,8 @@
 -- What stands where in a message, one thing behind the other: RFC 1035, section 4.1.
 use Rattle.std.specs.Prelude.{◌≡◌, ℕ, ◌≤◌, List, [], ◌∷◌, Result, Ok, Err}
-use Rattle.zst_record.specs.dnw_codes.declared.error.DecodeError.{DecodeError}
-use Rattle.zst_record.specs.dnw_decoder.Reading.{IsWantOfMemory}
-use Rattle.zst_record.specs.dnw_decoder.Spelling.{Spelled, at_end, at_label, at_pointer}
+use Rattle.dnw_codes.specs.declared.error.DecodeError.{DecodeError}
+use Rattle.dnw_encoder.specs.dnw_decoder.Reading.{IsWantOfMemory}
+use Rattle.dnw_encoder.specs.dnw_decoder.Spelling.{Spelled, at_end, at_label, at_pointer}
 use Rattle.zsv_message.specs.declared.read.ReadError.{ReadError}
 use Rattle.zsv_message.specs.declared.read.ReadError.TheVariants as errors
 

@@ -1,13 +1,12 @@
 //! The header of a message (RFC 1035 section 4.1.1).
 
-ghost use Rattle.std.specs.Prelude.{◌≡◌, ◌+◌, ◌<◌, ◌≤◌, ◌%◌, ◌/◌, ◌++◌, ℕ, List, length, get_or, IfErr, OnOk, OnErr};
-ghost use Rattle.zst_record.specs.dnw_decoder.Octets.{number_16};
-ghost use Rattle.zst_record.specs.dnw_encoder.Effects.{Writes, WritesOctets, IsRefusal};
-ghost use Rattle.zst_record.specs.dnw_encoder.Encoders.{state};
-ghost use Rattle.zsv_message.specs.Headers.{op_code_of, op_code_number, response_code_of, response_code_number, bit, metadata_of, counts_of, header_of, high_octet, low_octet, header_octets, FitsHeader};
-ghost use Rattle.zsv_message.specs.Replies.{header_of_reply};
+ghost use Rattle.std.specs.Prelude.{◌≡◌, ◌+◌, ◌<◌, ◌≤◌, ◌%◌, ◌/◌, ◌++◌, ℕ, List, length, IfOk, IfErr, OnOk, OnErr};
+ghost use Rattle.dnw_encoder.specs.dnw_decoder.Reading.{IsCut};
+ghost use Rattle.dnw_encoder.specs.Effects.{Writes, WritesOctets, IsRefusal};
+ghost use Rattle.dnw_encoder.specs.Encoders.{state};
+ghost use Rattle.zsv_message.specs.Headers.{op_code_of, op_code_number, response_code_of, response_code_number, bit, metadata_of, counts_of, header_of, high_octet, low_octet, header_octets, HeaderAt, FitsHeader};
 
-use zst_record::{BinEncodable, BinEncoder, EncodedSize, ProtoError};
+use dnw_encoder::{BinDecoder, BinEncodable, BinEncoder, DecodeError, EncodedSize, ProtoError};
 
 /// Whether a message asks or answers.
 #[derive(Clone, Copy, Debug, PartialEq, Eq)]
@@ -167,14 +166,6 @@ fn is_set(octet: u8, place: u8) -> bool
     octet >> place & 1 == 1
 }
 
-/// The number in the two octets at a place.
-pub fn u16_at(message: &[u8], place: usize) -> u16
-    requires { place + 2 ≤ length message.now }
-    ensures { result ≡ number_16 message.now place }
-{
-    u16::from(message[place]) * 256 + u16::from(message[place + 1])
-}
-
 impl Metadata {
     // QR, the operation, AA, TC and RD.
     fn high_octet(&self) -> u8
@@ -222,41 +213,28 @@ impl Metadata {
 }
 
 impl Header {
-    /// The header of a message of at least twelve octets.
-    pub fn read(message: &[u8]) -> Header
-        requires { 12 ≤ length message.now }
-        ensures { result ≡ header_of message.now }
+    /// The header at the decoder's index, which moves behind it.
+    pub fn read(decoder: &mut BinDecoder<'_>) -> Result<Header, DecodeError>
+        ensures header { IfOk result (λ header. HeaderAt decoder.old.octets decoder.old.index header decoder.new.index) }
+        ensures same { decoder.new.octets ≡ decoder.old.octets }
+        ensures cut { IfErr result (IsCut 12 decoder.old.octets decoder.old.index) }
     {
-        let counts = HeaderCounts {
-            queries: u16_at(message, 4),
-            answers: u16_at(message, 6),
-            authorities: u16_at(message, 8),
-            additionals: u16_at(message, 10),
-        };
-        let metadata = Metadata::from_flags(u16_at(message, 0), message[2], message[3]);
-        Header { metadata, counts }
-    }
-
-    // The header over so many questions and records. It says whether records were left out.
-    pub(crate) fn over(
-        metadata: Metadata,
-        truncation: bool,
-        queries: u16,
-        answers: u16,
-        authorities: u16,
-    ) -> Header
-        ensures value { result ≡ header_of_reply metadata truncation queries answers authorities }
-        ensures back { FitsHeader metadata → (rest : List ℕ) → header_of (header_octets result ++ rest) ≡ result }
-    {
-        let mut metadata = metadata;
-        metadata.truncation = truncation;
-        let counts = HeaderCounts {
-            queries,
-            answers,
-            authorities,
-            additionals: 0,
-        };
-        Header { metadata, counts }
+        let id = decoder.read_u16()?.unverified();
+        let high = decoder.read_u8()?.unverified();
+        let low = decoder.read_u8()?.unverified();
+        let queries = decoder.read_u16()?.unverified();
+        let answers = decoder.read_u16()?.unverified();
+        let authorities = decoder.read_u16()?.unverified();
+        let additionals = decoder.read_u16()?.unverified();
+        Ok(Header {
+            metadata: Metadata::from_flags(id, high, low),
+            counts: HeaderCounts {
+                queries,
+                answers,
+                authorities,
+                additionals,
+            },
+        })
     }
 
     /// The twelve octets of the header. Of the operation and of the response four bits are written.

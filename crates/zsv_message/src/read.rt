@@ -2,8 +2,8 @@
 
 ghost use Rattle.std.specs.Prelude.{◌≡◌};
 
+use dnw_encoder::DecodeError;
 use std::alloc::{AllocError, AllocFailed};
-use zst_record::DecodeError;
 
 /// Why nothing was read.
 #[derive(Clone, Copy, Debug)]

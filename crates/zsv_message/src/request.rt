@@ -6,9 +6,12 @@ ghost use Rattle.zsv_message.specs.Requests.{QuestionAt, QuestionsAt, Request, I
 
 use crate::header::{Header, Metadata};
 use crate::read::ReadError;
+use dnw_codes::{DNSClass, RecordType};
+use dnw_encoder::{BinDecodable, BinDecoder, Name};
+use smallvec::SmallVec;
 use std::alloc::Global;
+use std::default::MadeWith;
 use std::marker::Model;
-use zst_record::{BinDecodable, BinDecoder, DNSClass, Name, RecordType};
 
 /// A question: a name, a type and a class.
 #[derive(Drop)]
@@ -19,6 +22,17 @@ pub struct Query {
     pub query_type: RecordType,
     /// The class asked for.
     pub query_class: DNSClass,
+}
+
+// What stands in the inline place of a list of questions where none is: it takes no memory.
+impl MadeWith<Global> for Query {
+    fn made_with(alloc: Global) -> Query {
+        Query {
+            name: Name::root(alloc),
+            query_type: RecordType::ZERO,
+            query_class: DNSClass::IN,
+        }
+    }
 }
 
 impl Query {
@@ -40,18 +54,19 @@ impl Query {
     }
 }
 
-// So many questions from the decoder's index on, which moves behind them.
+// So many questions from the decoder's index on, which moves behind them. One, as nearly every request asks, takes no
+// memory for the list.
 fn read_questions(
     alloc: Global,
     decoder: &mut BinDecoder<'_>,
     count: u16,
-) -> Result<Vec<Query>, ReadError>
+) -> Result<SmallVec<Query, 1>, ReadError>
     ensures questions { DecodesTo (λ qs. qs.items) (QuestionsAt decoder.old.octets decoder.old.index count) result decoder.new.index }
     ensures same { decoder.new.octets ≡ decoder.old.octets }
     ensures forward { decoder.old.index ≤ decoder.new.index }
     ensures within { decoder.old.index ≤ length decoder.old.octets → decoder.new.index ≤ length decoder.new.octets }
 {
-    let mut questions = Vec::new(alloc);
+    let mut questions = SmallVec::new(alloc);
     'questions: for _ in 0..count {
         let question = Query::read(alloc, decoder)?;
         questions.push(question)?;
@@ -63,7 +78,7 @@ fn read_questions(
 #[derive(Drop)]
 pub struct MessageRequest<'m> {
     metadata: Metadata,
-    questions: Vec<Query>,
+    questions: SmallVec<Query, 1>,
     question_octets: &'m [u8],
 }
 
@@ -81,15 +96,12 @@ impl<'m> MessageRequest<'m> {
     pub fn read(alloc: Global, message: &'m [u8]) -> Result<MessageRequest<'m>, ReadError>
         ensures { ReadsRequest message.now result }
     {
-        if message.len() < 12 {
-            return Err(ReadError::Malformed);
-        }
-        let header = Header::read(message);
+        let mut decoder = BinDecoder::new(message);
+        let header = Header::read(&mut decoder)?;
         let counts = header.counts;
         if counts.answers > 0 || counts.authorities > 0 || counts.additionals > 0 {
             return Err(ReadError::Malformed);
         }
-        let mut decoder = BinDecoder::new(message).clone(12);
         let questions = read_questions(alloc, &mut decoder, counts.queries)?;
         Ok(MessageRequest {
             metadata: header.metadata,
@@ -109,7 +121,7 @@ impl<'m> MessageRequest<'m> {
     pub fn questions(&self) -> &[Query]
         ensures { result.now ≡ self.now.questions }
     {
-        &self.questions
+        self.questions.as_slice()
     }
 
     /// The octets of the question section, as they were sent.

@@ -1,22 +1,20 @@
 //! What a zone answers to a request (RFC 1034 section 4.3.2).
 
-ghost use Rattle.std.specs.Prelude.{◌≡◌, ◌^◌, ◌<◌, ◌≤◌, true, [], Ok, IfOk, IfErr, length, option_copied};
+ghost use Rattle.std.specs.Prelude.{◌≡◌, ◌≤◌, true, [], Ok, IfOk, IfErr, option_copied};
 ghost use Rattle.std.specs.List.{AllByRecursion};
 ghost use Rattle.zst_zone.specs.dnw_codes.ProtoError.{IsMemory};
 ghost use Rattle.zsv_message.specs.Headers.{FitsHeader, response_code_of, response_code_number};
-ghost use Rattle.zsv_message.specs.zst_record.Records.{ReadsBackAlone};
+ghost use Rattle.zsv_reply.specs.zst_record.Records.{ReadsBackAlone};
 ghost use Rattle.zst_zone.specs.Lookups.{outcome};
-ghost use Rattle.zsv_message.specs.Replies.{bare_failure, IsReply};
+ghost use Rattle.zsv_reply.specs.Replies.{bare_failure, IsReply};
 ghost use Rattle.zsv_message.specs.Requests.{IsRequest};
 ghost use Rattle.authority_server.specs.Serving.{reply_metadata, error_parts, records_of, apex, beside_answer, outcome_parts, question_parts, query_parts, operation_parts, reply_parts};
 ghost use Rattle.authority_server.specs.Servers.{parts_of, IsSound, IsKnown, AsksFullNames};
 
 use std::alloc::{AllocError, Global};
 use zst_zone::{InMemoryZoneHandler, Lookup, ProtoError, key_of};
-use zsv_message::{
-    MessageRequest, MessageResponse, MessageType, Metadata, OpCode, Query, Record, RecordSet,
-    RecordType, ResponseCode, encode_header,
-};
+use zsv_message::{MessageRequest, MessageType, Metadata, OpCode, Query, ResponseCode};
+use zsv_reply::{MessageResponse, Record, RecordSet, RecordType, encode_header};
 
 // The header of a reply: it repeats the identifier, the operation, RD and CD.
 fn reply_header(request: Metadata, authoritative: bool, response_code: ResponseCode) -> Metadata
@@ -209,15 +207,15 @@ pub fn reply_to<K>(
     alloc: Global,
     message: &[u8],
     request: &MessageRequest<'_>,
-    limit: usize,
+    limit: u16,
 ) -> Result<Vec<u8>, AllocError>
     requires message { IsRequest message.now request.now }
     requires lower { 12 ≤ limit }
-    requires upper { limit < 2 ^ 16 }
     ensures { IfOk result (λ reply. IsReply message.now reply.items (reply_parts zone.now request.now) request.now limit) }
 {
     let question_octets = request.question_octets();
-    if limit - 12 < question_octets.len() {
+    let room = usize::from(limit - 12);
+    if room < question_octets.len() {
         return encode_header(alloc, bare_header(request.metadata().id));
     }
     let response = response_to(zone, alloc, request)?;

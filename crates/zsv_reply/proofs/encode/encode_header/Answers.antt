@@ -1,6 +1,6 @@
 use Rattle.std.proofs.Common.{[], append-nil, ◌∙◌}
 use Rattle.zsv_message.proofs.Flags.{reserved_of}
-use Rattle.zsv_message.proofs.encode.encode_header.Goals as goal
+use Rattle.zsv_reply.proofs.encode.encode_header.Goals as goal
 
 pub returns-clause-header : goal.returns-clause-header
 returns-clause-header c = rw c.in_ok-reply.ensures.items (rw append-nil at (c.octets.ensures.value c.requires []))

@@ -1,18 +1,19 @@
 //! A reply in octets, cut at its limit (RFC 1035 section 4.1, RFC 2181 section 9).
 
-ghost use Rattle.std.specs.Prelude.{◌≡◌, ◌+◌, ◌^◌, ◌<◌, ◌≤◌, ◌||◌, false, nat_lt, length, IfOk, IfErr, OnOk};
+ghost use Rattle.std.specs.Prelude.{◌≡◌, ◌+◌, ◌^◌, ◌<◌, ◌≤◌, ◌||◌, ◌++◌, ℕ, List, false, nat_lt, length, IfOk, IfErr, OnOk};
 ghost use Rattle.std.specs.List.{AllByRecursion};
 ghost use Rattle.zst_record.specs.dnw_codes.ProtoError.{IsMemory};
 ghost use Rattle.zst_record.specs.dnw_encoder.Effects.{Writes};
 ghost use Rattle.zst_record.specs.dnw_encoder.Encoders.{state};
 ghost use Rattle.zst_record.specs.drd_rdata.Writing.{WritesInFull};
 ghost use Rattle.zst_record.specs.Records.{ReadsBackAlone};
-ghost use Rattle.zsv_message.specs.Headers.{header_of, reserved_bit, FitsHeader};
-ghost use Rattle.zsv_message.specs.Writing.{written_count, EmitsFront, IsWritten};
+ghost use Rattle.zsv_message.specs.Headers.{header_of, header_octets, reserved_bit, FitsHeader};
+ghost use Rattle.zsv_reply.specs.Replies.{header_of_reply};
+ghost use Rattle.zsv_reply.specs.Writing.{written_count, EmitsFront, IsWritten};
 
-use crate::header::{Header, HeaderCounts, Metadata};
 use std::alloc::{AllocError, Global};
 use zst_record::{BinEncoder, NameEncoding, ProtoError, Record};
+use zsv_message::{Header, HeaderCounts, Metadata};
 
 /// What a reply holds in full.
 #[derive(Clone, Copy)]
@@ -51,6 +52,28 @@ fn emit_front(encoder: &mut BinEncoder<'_>, records: &[Record]) -> Result<u16, P
     }
 }
 
+// The header over so many questions and records. It says whether records were left out.
+fn header_over(
+    metadata: Metadata,
+    truncation: bool,
+    queries: u16,
+    answers: u16,
+    authorities: u16,
+) -> Header
+    ensures value { result ≡ header_of_reply metadata truncation queries answers authorities }
+    ensures back { FitsHeader metadata → (rest : List ℕ) → header_of (header_octets result ++ rest) ≡ result }
+{
+    let mut metadata = metadata;
+    metadata.truncation = truncation;
+    let counts = HeaderCounts {
+        queries,
+        answers,
+        authorities,
+        additionals: 0,
+    };
+    Header { metadata, counts }
+}
+
 impl MessageResponse<'_> {
     // Whether a list is longer than what is kept of it.
     fn leaves_out(&self, answers: u16, authorities: u16) -> bool
@@ -86,7 +109,7 @@ impl MessageResponse<'_> {
         let answers = emit_front(encoder, self.answers)?;
         let authorities = emit_front(encoder, self.authorities)?;
         let truncated = self.leaves_out(answers, authorities);
-        let header = Header::over(self.metadata, truncated, questions, answers, authorities);
+        let header = header_over(self.metadata, truncated, questions, answers, authorities);
         place.replace(encoder, header)
     }
 
@@ -97,10 +120,9 @@ impl MessageResponse<'_> {
         alloc: Global,
         questions: u16,
         question_octets: &[u8],
-        limit: usize,
+        limit: u16,
     ) -> Result<Vec<u8>, ProtoError>
         requires metadata { FitsHeader self.now.metadata }
-        requires limit { limit < 2 ^ 16 }
         requires room { 12 + length question_octets.now ≤ limit }
         ensures written { IfOk result
             (λ reply. AllByRecursion ReadsBackAlone self.now.answers.now
@@ -116,7 +138,7 @@ impl MessageResponse<'_> {
             Err(refused) => return Err(ProtoError::Memory(refused)),
         };
         let mut encoder = BinEncoder::with_offset(&mut reply, 0, NameEncoding::Uncompressed);
-        encoder.set_max_size(limit as u16);
+        encoder.set_max_size(limit);
         self.emit(&mut encoder, questions, question_octets)?;
         encoder.into_bytes();
         Ok(reply)

@@ -8,7 +8,7 @@ use Rattle.zst_record.specs.dnw_encoder.State.{State}
 use Rattle.zst_record.specs.declared.records.Record.{Record}
 use Rattle.zsv_message.specs.declared.header.Metadata.{Metadata}
 use Rattle.zsv_message.specs.Headers.{header_of, reserved_bit}
-use Rattle.zsv_message.specs.Replies.{Front, header_of_reply}
+use Rattle.zsv_reply.specs.Replies.{Front, header_of_reply}
 
 -- How many records were written: all, or those before one that didn't fit.
 abbrev pub written_count : Result ℕ ProtoError → Result ℕ ProtoError

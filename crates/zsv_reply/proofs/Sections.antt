@@ -9,8 +9,8 @@ use Rattle.zst_record.specs.declared.records.Record.{Record}
 use Rattle.zsv_message.specs.declared.header.Header.{Header}
 use Rattle.zsv_message.specs.declared.header.Metadata.{Metadata}
 use Rattle.zsv_message.specs.Headers.{header_of, header_octets, reserved_bit}
-use Rattle.zsv_message.specs.Replies.{Front, header_of_reply}
-use Rattle.zsv_message.specs.Writing.{EmitsFront, IsWritten}
+use Rattle.zsv_reply.specs.Replies.{Front, header_of_reply}
+use Rattle.zsv_reply.specs.Writing.{EmitsFront, IsWritten}
 use Rattle.zsv_message.proofs.Flags.{reserved_zero}
 
 -- An open place before the offset stays open.

@@ -18,8 +18,8 @@ use Rattle.zst_record.specs.drd_rdata.Writing.{WritesInFull}
 use Rattle.zst_record.specs.Records.{RecordAt, ReadsBackAlone, plain}
 use Rattle.zst_record.specs.Writing.{EmitsRecord, RefusesRecord}
 use Rattle.zst_record.specs.declared.records.Record.{Record}
-use Rattle.zsv_message.specs.Replies.{Front}
-use Rattle.zsv_message.specs.Writing.{written_count, EmitsFront}
+use Rattle.zsv_reply.specs.Replies.{Front}
+use Rattle.zsv_reply.specs.Writing.{written_count, EmitsFront}
 
 -- What an encoder does with references to records.
 abbrev pub emits : Bor Record → State → State → Type 0

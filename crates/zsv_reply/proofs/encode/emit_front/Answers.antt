@@ -4,8 +4,8 @@ use Rattle.std.proofs.lemmas.Result.{err_from_is_err_and}
 use Rattle.zst_record.specs.dnw_codes.ProtoError.{IsMemory}
 use Rattle.zst_record.specs.dnw_codes.declared.error.ProtoError.{ProtoError}
 use Rattle.zst_record.specs.dnw_encoder.Encoders.{state}
-use Rattle.zsv_message.proofs.Fronts.{Told, front_told}
-use Rattle.zsv_message.proofs.encode.emit_front.Goals as goal
+use Rattle.zsv_reply.proofs.Fronts.{Told, front_told}
+use Rattle.zsv_reply.proofs.encode.emit_front.Goals as goal
 
 pub returns-in_err-written-clause-cause : goal.returns-in_err-written-clause-cause
 returns-in_err-written-clause-cause c =

@@ -1,15 +1,9 @@
--- A reply that was written is a reply to its request.
-use Rattle.std.proofs.Common.{◌≡◌, ℕ, ◌+◌, ◌<◌, ◌≤◌, List, [], ◌∷◌, length, refl, subst, arith}
-use Rattle.std.specs.List.{AllByRecursion}
-use Rattle.zst_record.specs.dnw_decoder.Octets.{Stands}
-use Rattle.zst_record.proofs.dnw_decoder_lemmas.SpellingLaws.{spelled_within}
-use Rattle.zst_record.specs.Records.{ReadsBackAlone}
+-- Questions of one message that stand in another.
+use Rattle.std.proofs.Common.{◌≡◌, ℕ, ◌+◌, ◌<◌, ◌≤◌, List, [], ◌∷◌, length, arith}
+use Rattle.dnw_encoder.proofs.dnw_decoder_lemmas.SpellingLaws.{spelled_within}
 use Rattle.zsv_message.specs.declared.request.Query.{Query}
-use Rattle.zsv_message.specs.Replies.{ReplyParts, IsReply}
-use Rattle.zsv_message.specs.Requests.{Request, IsRequest, QuestionAt, AvoidsHeader}
+use Rattle.zsv_message.specs.Requests.{QuestionAt, AvoidsHeader}
 use Rattle.zsv_message.specs.Wire.{Entries, PointsFrom}
-use Rattle.zsv_message.specs.Writing.{IsWritten}
-use Rattle.zsv_message.proofs.Fronts.{front_forward}
 use Rattle.zsv_message.proofs.Pieces.{SameThere, stands_over, spelled_over}
 
 -- Questions whose pointers don't go before some octets stand wherever these octets do.
@@ -39,7 +33,7 @@ questions_after m place [] end e = omega (arith, e)
 questions_after m place (q ∷ qs) end (behind, at, more) =
     omega (arith, question_after m place q behind at, questions_after m behind qs end more)
 
-questions_over : (m n : List ℕ) (to : ℕ) → SameThere m n 12 to → to ≤ length n → (place : ℕ) (qs : List Query) (end : ℕ) → 12 ≤ place → end ≤ to → (there : Entries (QuestionAt m) place qs end) → AvoidsHeader m place qs end there → Entries (QuestionAt n) place qs end
+pub questions_over : (m n : List ℕ) (to : ℕ) → SameThere m n 12 to → to ≤ length n → (place : ℕ) (qs : List Query) (end : ℕ) → 12 ≤ place → end ≤ to → (there : Entries (QuestionAt m) place qs end) → AvoidsHeader m place qs end there → Entries (QuestionAt n) place qs end
 questions_over m n to same long place [] end low high e far = e
 questions_over m n to same long place (q ∷ qs) end low high (behind, at, more) far =
     let after = questions_after m behind qs end more in
@@ -48,31 +42,3 @@ questions_over m n to same long place (q ∷ qs) end low high (behind, at, more)
       question_over m n to same long place q behind low (omega (arith, after, high)) at far.0,
       questions_over m n to same long behind qs end (omega (arith, low, before)) high more far.1,
     )
-
--- Where the questions fit.
-pub reply_of_written : (message reply : List ℕ) (request : Request) (parts : ReplyParts) (limit : ℕ) → IsRequest message request →
-    AllByRecursion ReadsBackAlone parts.answers → AllByRecursion ReadsBackAlone parts.authorities → 12 + length request.question_octets ≤ limit →
-    IsWritten reply parts.metadata parts.answers parts.authorities (length request.questions) request.question_octets limit →
-    IsReply message reply parts request limit
-reply_of_written message reply request parts limit is alone_answers alone_authorities room w =
-    let first = 12 + length request.question_octets in
-    let asked_end : is.end ≡ first = omega (arith, is.octets.behind) in
-    let same : SameThere message reply 12 first = record { octets = request.question_octets; in_m = subst (λ (k : ℕ). Stands message 12 request.question_octets k) asked_end is.octets; in_n = w.asked } in
-    let answers_long = front_forward reply limit first parts.answers w.kept w.answers_end w.answers_front in
-    let long : first ≤ length reply = omega (arith, answers_long, front_forward reply limit w.answers_end parts.authorities w.kept_authorities (length reply) w.authorities_front) in
-    record {
-      within = w.within;
-      reserved = w.reserved;
-      whole = λ _. record {
-        questions_end = first;
-        answers = w.kept;
-        answers_end = w.answers_end;
-        authorities = w.kept_authorities;
-        question_octets = w.asked;
-        questions = λ there far. (questions_over message reply first same long 12 request.questions first (omega arith) (omega arith) there far, refl);
-        answers_front = w.answers_front;
-        authorities_front = w.authorities_front;
-        header = w.header;
-      };
-      bare = λ less. absurd (omega (arith, less, room));
-    }

@@ -1,6 +1,6 @@
 use Rattle.std.proofs.Common.{rules}
 use Rattle.zsv_message.proofs.Flags.{octets_back}
-use Rattle.zsv_message.proofs.header.Header.over.Goals as goal
+use Rattle.zsv_reply.proofs.encode.header_over.Goals as goal
 
 pub returns-clause-back : goal.returns-clause-back
 returns-clause-back c fits rest =
