@@ -1,5 +1,5 @@
 -- A record that is written piece by piece.
-use Rattle.std.proofs.Common.{◌≡◌, ℕ, ◌+◌, ◌^◌, ◌<◌, ◌≤◌, inr, List, length, refl, sym, ap, subst, ◌∙◌, arith}
+use Rattle.std.proofs.Common.{◌≡◌, ℕ, ◌+◌, ◌^◌, ◌<◌, ◌≤◌, inr, List, ◌++◌, length, refl, sym, ap, subst, ◌∙◌, arith}
 use Rattle.std.specs.Prelude.{Result, Ok, Err, OnOk, OnErr}
 use Rattle.drd_rdata.specs.dnw_codes.DNSClass.{class_number}
 use Rattle.drd_rdata.specs.dnw_codes.RecordType.{record_type_number}
@@ -7,9 +7,9 @@ use Rattle.drd_rdata.specs.dnw_codes.declared.error.ProtoError.{ProtoError}
 use Rattle.drd_rdata.specs.dnw_codes.declared.record_type.RecordType.TheVariants.{OPT}
 use Rattle.drd_rdata.specs.dnw_decoder.Octets.{octets_16, octets_32, Stands}
 use Rattle.drd_rdata.specs.dnw_decoder.Spelling.{NameAt}
-use Rattle.drd_rdata.proofs.dnw_decoder_lemmas.Standing.{length-octets_32}
+use Rattle.drd_rdata.proofs.dnw_decoder_lemmas.Standing.{length-octets_32, stands_split}
 use Rattle.drd_rdata.specs.dnw_encoder.Effects.{StaysTrue, Keeps, Writes, WritesOctets, Opens, Fills, IsRefusal, place_of}
-use Rattle.drd_rdata.proofs.dnw_encoder_lemmas.Laws.{holds_more, holds_same, holds_written, keeps_then, modes_then, puts_stands, writes_then}
+use Rattle.drd_rdata.proofs.dnw_encoder_lemmas.Laws.{holds_more, holds_same, holds_written, keeps_then, modes_then, puts_stands}
 use Rattle.drd_fields.specs.dnw_encoder.Members.{In}
 use Rattle.drd_rdata.specs.dnw_encoder.Names.{EmitsName}
 use Rattle.drd_rdata.proofs.dnw_encoder_lemmas.PlaceLaws.{opens_open}
@@ -22,7 +22,7 @@ use Rattle.drd_rdata.specs.Writing.{EmitsRData, RefusesRData, WritesInFull, writ
 use Rattle.drd_rdata.proofs.WrittenLaws.{HoldsSome, data_within, encoded_full, written_holds, written_size, written_refused}
 use Rattle.drd_rdata.specs.declared.rdata.RData.{RData}
 use Rattle.zst_record.proofs.OwnCodes.{class_read, class_small, no_options, type_read, type_small}
-use Rattle.zst_record.specs.Writing.{HeadAt, EmitsHead, DataAt, EmitsBehindLength, EmitsRecord, RefusesBehindLength, RefusesRecord}
+use Rattle.zst_record.specs.Writing.{HeadAt, EmitsHead, DataAt, EmitsBehindLength, EmitsRecord, RefusesBehindLength, RefusesRecord, head_numbers}
 use Rattle.zst_record.specs.declared.records.Record.{Record}
 
 -- What stands behind one call stands behind a later one.
@@ -38,41 +38,40 @@ full_after a b w full = record {
 }
 
 -- ---- owner, type, class and time to live
-pub head_emitted : (r : Record) (a b c d e : State) → EmitsName r.name a b → Writes a b → WritesOctets (octets_16 (record_type_number (type_of r.rdata))) b c → Writes b c → WritesOctets (octets_16 (class_number r.dns_class)) c d → Writes c d → WritesOctets (octets_32 r.ttl) d e → Writes d e → r.ttl < 2 ^ 32 → EmitsHead r a e
-head_emitted r a b c d e name ab kind bc class cd ttl de small = record {
+pub head_emitted : (r : Record) (a b c : State) → EmitsName r.name a b → Writes a b → WritesOctets (head_numbers r) b c → Writes b c → r.ttl < 2 ^ 32 → EmitsHead r a c
+head_emitted r a b c name ab numbers bc small = record {
   stays = λ full_name own_type own_class full.
-      let be = writes_then b c e bc (writes_then c d e cd de) in
+      let kind = octets_16 (record_type_number (type_of r.rdata)) in
+      let class = octets_16 (class_number r.dns_class) in
       let named : StaysTrue b b.offset (λ m. NameAt m a.offset r.name b.offset) = subst (λ (n : DomainName). StaysTrue b b.offset (λ m. NameAt m a.offset n b.offset)) (encoded_full a.encoding r.name full.same_case full_name) (name.stays full.sound) in
-      let sound_b = ab.sound full.sound in
-      let sound_c = bc.sound sound_b in
-      let sound_d = cd.sound sound_c in
-      let owner = later_holds b.offset b e (λ m. NameAt m a.offset r.name b.offset) be (omega arith) named in
-      let first = later_holds c.offset c e (λ m. Stands m b.offset (octets_16 (record_type_number (type_of r.rdata))) c.offset) (writes_then c d e cd de) (omega arith) (puts_stands (octets_16 (record_type_number (type_of r.rdata))) b c sound_b kind) in
-      let second = later_holds d.offset d e (λ m. Stands m c.offset (octets_16 (class_number r.dns_class)) d.offset) de (omega arith) (puts_stands (octets_16 (class_number r.dns_class)) c d sound_c class) in
-      let third = puts_stands (octets_32 r.ttl) d e sound_d ttl in
+      let owner = later_holds b.offset b c (λ m. NameAt m a.offset r.name b.offset) bc (omega arith) named in
+      let behind = puts_stands (head_numbers r) b c (ab.sound full.sound) numbers in
       record {
-        of = λ later agrees. record {
-          owner_end = b.offset;
-          type_end = c.offset;
-          class_end = d.offset;
-          owner = owner.of later agrees;
-          record_type = record {
-            number = record_type_number (type_of r.rdata);
-            small = type_small (type_of r.rdata) own_type;
-            there = first.of later agrees;
-            means = type_read (type_of r.rdata) own_type;
-          };
-          dns_class = record {
-            number = class_number r.dns_class;
-            small = class_small r.dns_class own_class;
-            there = second.of later agrees;
-            means = class_read r.dns_class own_class;
-          };
-          ttl = third.of later agrees;
-          small_ttl = small;
-        };
+        of = λ later agrees.
+            let first = stands_split later b.offset kind (class ++ octets_32 r.ttl) c.offset (behind.of later agrees) in
+            let second = stands_split later (b.offset + length kind) class (octets_32 r.ttl) c.offset first.1 in
+            record {
+              owner_end = b.offset;
+              type_end = b.offset + length kind;
+              class_end = b.offset + length kind + length class;
+              owner = owner.of later agrees;
+              record_type = record {
+                number = record_type_number (type_of r.rdata);
+                small = type_small (type_of r.rdata) own_type;
+                there = first.0;
+                means = type_read (type_of r.rdata) own_type;
+              };
+              dns_class = record {
+                number = class_number r.dns_class;
+                small = class_small r.dns_class own_class;
+                there = second.0;
+                means = class_read r.dns_class own_class;
+              };
+              ttl = second.1;
+              small_ttl = small;
+            };
       };
-  size = omega (arith, name.size, kind.offset, class.offset, ttl.offset, length-octets_32 r.ttl);
+  size = omega (arith, name.size, numbers.offset, length-octets_32 r.ttl);
 }
 
 -- ---- data behind their length

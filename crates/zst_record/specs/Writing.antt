@@ -1,5 +1,7 @@
 -- Records as an encoder writes them: RFC 1035, section 4.1.3.
-use Rattle.std.specs.Prelude.{◌≡◌, ◌+◌, ◌<◌, ◌≤◌, ◌^◌, ℕ, true, List, length}
+use Rattle.std.specs.Prelude.{◌≡◌, ◌+◌, ◌<◌, ◌≤◌, ◌^◌, ◌++◌, ℕ, true, List, length}
+use Rattle.drd_rdata.specs.dnw_codes.DNSClass.{class_number}
+use Rattle.drd_rdata.specs.dnw_codes.RecordType.{record_type_number}
 use Rattle.drd_rdata.specs.dnw_codes.declared.error.ProtoError.{ProtoError}
 use Rattle.drd_rdata.specs.dnw_codes.declared.record_type.RecordType.TheVariants.{OPT}
 use Rattle.drd_rdata.specs.dnw_decoder.Codes.{RecordTypeAt, ClassAt}
@@ -38,6 +40,12 @@ pub record HeadAt (message : List ℕ) (place : ℕ) (r : Record) (end : ℕ) : 
   pub dns_class : ClassAt message type_end r.dns_class class_end
   pub ttl : Stands message class_end (octets_32 r.ttl) end
   pub small_ttl : r.ttl < 2 ^ 32
+
+-- The octets of type, class and time to live.
+abbrev pub head_numbers : Record → List ℕ
+head_numbers r =
+    octets_16 (record_type_number (type_of r.rdata))
+    ++ (octets_16 (class_number r.dns_class) ++ octets_32 r.ttl)
 
 -- They were written.
 pub record EmitsHead (r : Record) (old new : State) : Type 0 where

@@ -1,15 +1,27 @@
 //! Records that are written (RFC 1035 section 4.1.3).
 
-ghost use Rattle.std.specs.Prelude.{◌≡◌, ◌+◌, IfErr, OnOk, length};
+ghost use Rattle.std.specs.Prelude.{◌≡◌, ◌+◌, ◌<◌, ◌^◌, IfErr, OnOk, length};
 ghost use Rattle.drd_rdata.specs.dnw_encoder.Effects.{Writes, IsRefusal};
 ghost use Rattle.drd_rdata.specs.dnw_encoder.Encoders.{state};
 ghost use Rattle.drd_rdata.specs.dnw_name.DomainName.{name_octets};
-ghost use Rattle.zst_record.specs.Writing.{EmitsHead, EmitsBehindLength, EmitsRecord, RefusesBehindLength, RefusesRecord};
+ghost use Rattle.zst_record.specs.Writing.{EmitsHead, EmitsBehindLength, EmitsRecord, RefusesBehindLength, RefusesRecord, head_numbers};
 
 use crate::records::Record;
 use drd_rdata::{BinEncodable, BinEncoder, ProtoError, RData};
 
 impl Record {
+    // The numbers of type, class and time to live, as they stand behind the owner.
+    fn head_numbers(&self) -> [u8; 8]
+        ensures octets { result ≡ head_numbers self.now }
+        ensures small { self.now.ttl < 2 ^ 32 }
+    {
+        let (record_type, ttl) = (self.record_type(), self.ttl);
+        let [kind, kind_low] = u16::from(record_type).to_be_bytes();
+        let [class, class_low] = u16::from(self.dns_class).to_be_bytes();
+        let [highest, high, low, lowest] = ttl.to_be_bytes();
+        [kind, kind_low, class, class_low, highest, high, low, lowest]
+    }
+
     // Writes owner, type, class and time to live.
     fn emit_head(&self, encoder: &mut BinEncoder<'_>) -> Result<(), ProtoError>
         ensures same_reference { encoder.new.buffer.ghost_name ≡ encoder.old.buffer.ghost_name }
@@ -18,9 +30,7 @@ impl Record {
         ensures cause { IfErr result (IsRefusal (state encoder.old) (length (name_octets self.now.name) + 8)) }
     {
         self.name.emit(encoder)?;
-        self.record_type().emit(encoder)?;
-        self.dns_class.emit(encoder)?;
-        encoder.emit_u32(self.ttl)
+        encoder.emit_vec(&self.head_numbers())
     }
 }
 

@@ -3,7 +3,7 @@
 ghost use Rattle.std.specs.Prelude.{◌≡◌, ◌↔◌, None, Some, true, IsTrue, IfOk, OnOk, OnErr, position};
 ghost use Rattle.drd_rdata.specs.Order.{rdata_eq};
 ghost use Rattle.drd_rdata.specs.Types.{type_of};
-ghost use Rattle.zst_record.specs.Records.{RRset, IsRRset, IsRecordOf, IsOwnClass, IsOwnType, ReadsBackAlone, belongs_to_message};
+ghost use Rattle.zst_record.specs.Records.{RRset, IsRRset, IsRecordOf, IsOwnClass, IsOwnType, ReadsBackAlone, belongs_to_message, owner_of};
 ghost use Rattle.zst_record.specs.Records.{put_record as with_record, set_with};
 
 use drd_rdata::{DNSClass, Name, RData, RecordType, is_readable};
@@ -82,10 +82,9 @@ fn is_own_class(dns_class: DNSClass) -> bool
     }
 }
 
-/// The records of one owner and type, in order; at least one.
+/// The records of one owner and type, in order; at least one. The owner is that of the first record.
 #[derive(Drop)]
 pub struct RecordSet {
-    name: Name,
     record_type: RecordType,
     records: Vec<Record>,
 }
@@ -95,9 +94,9 @@ impl Model for RecordSet {
 
     ghost Value = { RRset };
 
-    ghost view = { λ set. record { owner = set.name; record_type = set.record_type; records = set.records.items } };
+    ghost view = { λ set. record { record_type = set.record_type; records = set.records.items } };
 
-    ghost invariant = { λ set. IsRRset (record { owner = set.name; record_type = set.record_type; records = set.records.items }) };
+    ghost invariant = { λ set. IsRRset (record { record_type = set.record_type; records = set.records.items }) };
 }
 
 impl RecordSet {
@@ -106,12 +105,10 @@ impl RecordSet {
         requires { ReadsBackAlone first }
         ensures { IfOk result (λ set. set ≡ set_with None first) }
     {
-        let name = first.name.clone()?;
         let record_type = first.record_type();
         let mut records = Vec::with_capacity(alloc, 1)?;
         records.push_reserved(first);
         Ok(RecordSet {
-            name,
             record_type,
             records,
         })
@@ -119,18 +116,18 @@ impl RecordSet {
 
     /// Puts a record of the set's owner and type in place of the one with equal data, else behind the others.
     pub fn put(&mut self, next: Record) -> Result<(), AllocError>
-        requires { IsRecordOf self.old.owner self.old.record_type next }
+        requires { IsRecordOf (owner_of self.old) self.old.record_type next }
         ensures ok { OnOk result (self.new ≡ set_with (Some self.old) next) }
         ensures err { OnErr result (self.new ≡ self.old) }
     {
         put_record(&mut self.records, next)
     }
 
-    /// The owner.
+    /// The owner, as the first record spells it.
     pub fn name(&self) -> &Name
-        ensures { result.now ≡ self.now.owner }
+        ensures { result.now ≡ owner_of self.now }
     {
-        &self.name
+        &self.records[0].name
     }
 
     /// The type.

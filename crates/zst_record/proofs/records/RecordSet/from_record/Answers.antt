@@ -3,4 +3,4 @@ use Rattle.zst_record.proofs.records.RecordSet.from_record.Goals as goal
 
 pub invariant_of-result : goal.invariant_of-result
 invariant_of-result c =
-    rw (c.push_reserved.ensures.items, c.in_ok-records.ensures.items, c.record_type-record_type.ensures, c.in_ok-name.ensures.cases) (IsRRset-single c.args.first c.requires)
+    rw (c.push_reserved.ensures.items, c.in_ok-records.ensures.items, c.record_type-record_type.ensures) (IsRRset-single c.args.first c.requires)
