@@ -2,6 +2,8 @@ pub mod Keys
 pub mod ZoneEntries
 pub mod ZoneMapsBy
 pub mod ZoneNodes
+pub mod ZoneOnce
+pub mod ZoneOrder
 pub mod ZoneSets
 pub use Rattle.zst_record.proofs.dnw_name_lemmas
 pub use Rattle.zst_record.proofs.drd_words_lemmas

@@ -19,7 +19,7 @@ use Rattle.zst_record.specs.dnw_name.DomainName.{DomainName, name_eq, is_at_or_b
 use Rattle.dnw_codes.specs.RecordType.{same_record_type}
 use Rattle.zst_record.specs.dnw_name.NameKey.{name_key}
 use Rattle.zst_zone.proofs.Keys.{begins}
-use Rattle.zst_record.specs.Records.{RRset}
+use Rattle.zst_record.specs.Records.{RRset, owner_of}
 use Rattle.zst_zone.specs.Zones.{rrset_at, exists_in}
 use Rattle.zst_zone.specs.ZoneMaps.{IsOwnedAt, IsNode, sets_of}
 use Rattle.zst_zone.proofs.Keys.{same_key, above_begins}
@@ -57,19 +57,19 @@ any_append p (x ∷ xs) ys = rw (any_append p xs ys) (or_assoc (p x) (list_any p
 
 -- ---- the sets under one key
 abbrev pub is_set_at : DomainName → RecordType → RRset → Bool
-is_set_at name t set = name_eq name set.owner && same_record_type set.record_type t
+is_set_at name t set = name_eq name (owner_of set) && same_record_type set.record_type t
 
 abbrev pub is_of_type : RecordType → RRset → Bool
 is_of_type t set = same_record_type set.record_type t
 
-pub owner_test : (name : DomainName) (key : List ℕ) (set : RRset) → IsOwnedAt key set → name_eq name set.owner ≡ bytes_eq (name_key name) key
-owner_test name key set is = sym (same_key name set.owner) ∙ ap (bytes_eq (name_key name)) is.owner
+pub owner_test : (name : DomainName) (key : List ℕ) (set : RRset) → IsOwnedAt key set → name_eq name (owner_of set) ≡ bytes_eq (name_key name) key
+owner_test name key set is = sym (same_key name (owner_of set)) ∙ ap (bytes_eq (name_key name)) is.owner
 
 pub found_under_key : (name : DomainName) (t : RecordType) (key : List ℕ) (sets : List RRset) → AllByRecursion (IsOwnedAt key) sets
     → bytes_eq (name_key name) key ≡ true → find (is_set_at name t) sets ≡ find (is_of_type t) sets
 found_under_key name t key [] all e = refl
 found_under_key name t key (set ∷ sets) all e =
-    let first : name_eq name set.owner ≡ true = owner_test name key set all.0 ∙ e in
+    let first : name_eq name (owner_of set) ≡ true = owner_test name key set all.0 ∙ e in
     let rest : find (is_set_at name t) sets ≡ find (is_of_type t) sets = found_under_key name t key sets all.1 e in
     rw (first, rest) refl
 
@@ -77,28 +77,28 @@ pub none_under_key : (name : DomainName) (t : RecordType) (key : List ℕ) (sets
     → bytes_eq (name_key name) key ≡ false → find (is_set_at name t) sets ≡ None
 none_under_key name t key [] all e = refl
 none_under_key name t key (set ∷ sets) all e =
-    let first : name_eq name set.owner ≡ false = owner_test name key set all.0 ∙ e in
+    let first : name_eq name (owner_of set) ≡ false = owner_test name key set all.0 ∙ e in
     let rest : find (is_set_at name t) sets ≡ None = none_under_key name t key sets all.1 e in
     rw (first, rest) refl
 
 any_under_key : (name : DomainName) (key : List ℕ) (sets : List RRset) → name.fqdn ≡ true → AllByRecursion (IsOwnedAt key) sets
-    → begins (name_key name) key ≡ false → list_any (λ set. is_at_or_below set.owner name) sets ≡ false
+    → begins (name_key name) key ≡ false → list_any (λ set. is_at_or_below (owner_of set) name) sets ≡ false
 any_under_key name key [] full all e = refl
 any_under_key name key (set ∷ sets) full all e =
-    let first : is_at_or_below set.owner name ≡ false
-    = sym (above_begins set.owner name all.0.full full) ∙ ap (begins (name_key name)) all.0.owner ∙ e in
-    let rest : list_any (λ set. is_at_or_below set.owner name) sets ≡ false = any_under_key name key sets full all.1 e in
+    let first : is_at_or_below (owner_of set) name ≡ false
+    = sym (above_begins (owner_of set) name all.0.full full) ∙ ap (begins (name_key name)) all.0.owner ∙ e in
+    let rest : list_any (λ set. is_at_or_below (owner_of set) name) sets ≡ false = any_under_key name key sets full all.1 e in
     rw (first, rest) refl
 
 exists_under_key : (name : DomainName) (key : List ℕ) (sets : List RRset) → name.fqdn ≡ true → IsNode key sets
-    → list_any (λ set. is_at_or_below set.owner name) sets ≡ begins (name_key name) key
+    → list_any (λ set. is_at_or_below (owner_of set) name) sets ≡ begins (name_key name) key
 exists_under_key name key [] full node = absurd (omega (arith, node.filled))
 exists_under_key name key (set ∷ sets) full node = by (begins (name_key name) key) refl
   where
-    first : is_at_or_below set.owner name ≡ begins (name_key name) key
-    first = sym (above_begins set.owner name node.owned.0.full full) ∙ ap (begins (name_key name)) node.owned.0.owner
+    first : is_at_or_below (owner_of set) name ≡ begins (name_key name) key
+    first = sym (above_begins (owner_of set) name node.owned.0.full full) ∙ ap (begins (name_key name)) node.owned.0.owner
 
-    by : (b : Bool) → begins (name_key name) key ≡ b → (is_at_or_below set.owner name || list_any (λ set. is_at_or_below set.owner name) sets) ≡ begins (name_key name) key
+    by : (b : Bool) → begins (name_key name) key ≡ b → (is_at_or_below (owner_of set) name || list_any (λ set. is_at_or_below (owner_of set) name) sets) ≡ begins (name_key name) key
     by true e = rw (first, e) refl
     by false e = rw (first, e) (any_under_key name key sets full node.owned.1 e)
 
@@ -236,7 +236,7 @@ module _ {K V : Type 0} (octets : K → List ℕ) (sets : V → List RRset) wher
   none_exists name k [] full nodes later le e = refl
   none_exists name k (entry ∷ es) full nodes later le e =
       let first : begins (name_key name) (octets entry.0) ≡ false = not_begun (name_key name) (octets k) (octets entry.0) le later.0 e in
-      any_append (λ set. is_at_or_below set.owner name) (sets entry.1) (sets_of octets sets es)
+      any_append (λ set. is_at_or_below (owner_of set) name) (sets entry.1) (sets_of octets sets es)
       ∙ rw (exists_under_key name (octets entry.0) (sets entry.1) full nodes.0, first) (none_exists name k es full nodes.1 later.1 le e)
 
   or_by : (b x : Bool) → (b ≡ false → x ≡ false) → (b || x) ≡ b
@@ -268,7 +268,7 @@ module _ {K V : Type 0} (octets : K → List ℕ) (sets : V → List RRset) wher
   unfolding IsStrictlySortedBy
   exists_from name [] full nodes ordered = refl
   exists_from name (entry ∷ es) full nodes ordered =
-      any_append (λ set. is_at_or_below set.owner name) (sets entry.1) (sets_of octets sets es)
+      any_append (λ set. is_at_or_below (owner_of set) name) (sets entry.1) (sets_of octets sets es)
       ∙ rw (exists_under_key name (octets entry.0) (sets entry.1) full nodes.0)
       (exists_step (name_key name) entry es (any_exists name es) (is_le (slice_cmp nat_cmp (name_key name) (octets entry.0))) refl
       (none_exists name entry.0 es full nodes.1 ordered.0)

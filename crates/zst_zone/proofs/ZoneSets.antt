@@ -7,13 +7,13 @@ use Rattle.std.specs.List.{AllByRecursion, insert}
 use Rattle.std.proofs.lemmas.Bool.{eqb-true, eqb-false, ltb-true, ltb-false, eq-eqb, ne_eqb}
 use Rattle.dnw_codes.specs.declared.record_type.RecordType.{RecordType}
 use Rattle.zst_record.specs.declared.records.Record.{Record}
-use Rattle.zst_record.specs.dnw_name.DomainName.{name_eq}
+use Rattle.zst_record.specs.dnw_name.DomainName.{DomainName, name_eq}
 use Rattle.dnw_codes.specs.RecordType.{record_type_number, same_record_type}
 use Rattle.zst_record.specs.dnw_name.NameKey.{name_key}
 use Rattle.zst_record.proofs.NameLaws.{name_eq_equiv}
 use Rattle.zst_record.specs.drd_rdata.Types.{type_of}
-use Rattle.zst_record.specs.Records.{RRset, IsRecordOf, ReadsBackAlone}
-use Rattle.zst_record.specs.Records.{set_with}
+use Rattle.zst_record.specs.Records.{RRset, IsRecordOf, ReadsBackAlone, owner_of, set_with}
+use Rattle.zst_record.proofs.PutRecords.{first_put}
 use Rattle.zst_zone.specs.ZoneMaps.{with_record, place_from, IsOwnedAt, IsNode, TypesRise}
 use Rattle.zst_zone.proofs.Keys.{same_key}
 use Rattle.zst_zone.proofs.ZoneNodes.{is_of_type, owner_test}
@@ -27,12 +27,12 @@ pub record FoundAt (i k : ℕ) (sets : List RRset) (r : Record) (d : RRset) (aft
   pub j : ℕ
   pub is : k ≡ i + j
   pub below : j < length sets
-  pub owner : name_eq r.name (get_or sets j d).owner ≡ true
+  pub owner : name_eq r.name (owner_of (get_or sets j d)) ≡ true
   pub of_type : record_type_number (get_or sets j d).record_type ≡ code_of r
   pub after_is : after ≡ set sets j (set_with (Some (get_or sets j d)) r)
 
 found_step : (b c : Bool) (s : RRset) (sets after : List RRset) (r : Record) (d : RRset) (i k : ℕ)
-    → (c ≡ true → record_type_number s.record_type ≡ code_of r) → name_eq r.name s.owner ≡ true
+    → (c ≡ true → record_type_number s.record_type ≡ code_of r) → name_eq r.name (owner_of s) ≡ true
     → (place_from (i + 1) sets (code_of r) ≡ Ok k → FoundAt (i + 1) k sets r d after)
     → cond b (place_from (i + 1) sets (code_of r)) (cond c (Ok i) (Err i)) ≡ Ok k
     → FoundAt i k (s ∷ sets) r d (cond b (s ∷ after) (cond c (set_with (Some s) r ∷ sets) (set_with None r ∷ s ∷ sets)))
@@ -51,7 +51,7 @@ found_step false true s sets after r d i k same owner more e =
     record { j = 0; is = omega arith; below = omega arith; owner = owner; of_type = same refl; after_is = refl }
 found_step false false s sets after r d i k same owner more e = let h : ⊥ = cc in absurd h
 
-pub found_at : (sets : List RRset) (r : Record) (d : RRset) (i k : ℕ) → AllByRecursion (λ set. name_eq r.name set.owner ≡ true) sets
+pub found_at : (sets : List RRset) (r : Record) (d : RRset) (i k : ℕ) → AllByRecursion (λ set. name_eq r.name (owner_of set) ≡ true) sets
     → place_from i sets (code_of r) ≡ Ok k → FoundAt i k sets r d (with_record sets r)
 found_at [] r d i k owned e = let h : ⊥ = cc in absurd h
 found_at (s ∷ sets) r d i k owned e =
@@ -128,11 +128,17 @@ rise (s ∷ sets) r old =
     let ne : record_type_number s.record_type ≡ code_of r → ⊥ = eqb-false (record_type_number s.record_type) (code_of r) c in omega arith)
     old.0 old.1 (rise sets r old.1)
 
+put_owned : (key : List ℕ) (s : RRset) (r : Record) → r.name.fqdn ≡ true → name_key r.name ≡ key → IsOwnedAt key s → IsOwnedAt key (set_with (Some s) r)
+put_owned key s r full at is = record {
+  full = first_put (λ (n : DomainName). n.fqdn ≡ true) s.records r full is.full;
+  owner = first_put (λ (n : DomainName). name_key n ≡ key) s.records r at is.owner;
+}
+
 owned_step : (b c : Bool) (key : List ℕ) (s : RRset) (sets : List RRset) (r : Record) → r.name.fqdn ≡ true → name_key r.name ≡ key
     → IsOwnedAt key s → AllByRecursion (IsOwnedAt key) sets → AllByRecursion (IsOwnedAt key) (with_record sets r)
     → AllByRecursion (IsOwnedAt key) (cond b (s ∷ with_record sets r) (cond c (set_with (Some s) r ∷ sets) (set_with None r ∷ s ∷ sets)))
 owned_step true c key s sets r full at first old more = (first, more)
-owned_step false true key s sets r full at first old more = (record { full = first.full; owner = first.owner }, old)
+owned_step false true key s sets r full at first old more = (put_owned key s r full at first, old)
 owned_step false false key s sets r full at first old more = (record { full = full; owner = at }, (first, old))
 
 owned : (key : List ℕ) (sets : List RRset) (r : Record) → r.name.fqdn ≡ true → name_key r.name ≡ key → AllByRecursion (IsOwnedAt key) sets
@@ -208,15 +214,15 @@ find_with t (s ∷ sets) r old =
 -- ---- as the code finds them
 pub record FoundHere (k : ℕ) (sets : List RRset) (r : Record) (d : RRset) : Type 0 where
   pub below : k < length sets
-  pub is_record : IsRecordOf (get_or sets k d).owner (get_or sets k d).record_type r
+  pub is_record : IsRecordOf (owner_of (get_or sets k d)) (get_or sets k d).record_type r
   pub after_is : with_record sets r ≡ set sets k (set_with (Some (get_or sets k d)) r)
 
 pub found_here : (sets : List RRset) (r : Record) (d : RRset) (k : ℕ) → ReadsBackAlone r
-    → AllByRecursion (λ set. name_eq r.name set.owner ≡ true) sets → Ok k ≡ place_from 0 sets (code_of r) → FoundHere k sets r d
+    → AllByRecursion (λ set. name_eq r.name (owner_of set) ≡ true) sets → Ok k ≡ place_from 0 sets (code_of r) → FoundHere k sets r d
 found_here sets r d k full owned e =
     let f : FoundAt 0 k sets r d (with_record sets r) = found_at sets r d 0 k owned (sym e) in
     let same : f.j ≡ k = let h : k ≡ 0 + f.j = f.is in omega arith in
-    let P : ℕ → Type 0 = λ n. (n < length sets) × (name_eq r.name (get_or sets n d).owner ≡ true)
+    let P : ℕ → Type 0 = λ n. (n < length sets) × (name_eq r.name (owner_of (get_or sets n d)) ≡ true)
     × (record_type_number (get_or sets n d).record_type ≡ code_of r) × (with_record sets r ≡ set sets n (set_with (Some (get_or sets n d)) r)) in
     let h : P k = subst P same (f.below, f.owner, f.of_type, f.after_is) in
     record {
@@ -239,7 +245,7 @@ missed_here sets r k e =
 
 -- ---- a node with a record of its owner
 pub same_owner : (key : List ℕ) (sets : List RRset) (r : Record) → key ≡ name_key r.name → AllByRecursion (IsOwnedAt key) sets
-    → AllByRecursion (λ set. name_eq r.name set.owner ≡ true) sets
+    → AllByRecursion (λ set. name_eq r.name (owner_of set) ≡ true) sets
 same_owner key [] r at all = tt
 same_owner key (s ∷ sets) r at all =
     (owner_test r.name key s all.0 ∙ ap (bytes_eq (name_key r.name)) at ∙ same_key r.name r.name ∙ name_eq_equiv.refl r.name, same_owner key sets r at all.1)

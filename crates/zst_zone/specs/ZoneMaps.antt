@@ -10,13 +10,13 @@ use Rattle.dnw_codes.specs.RecordType.{record_type_number, same_record_type}
 use Rattle.zst_record.specs.dnw_name.NameKey.{name_key}
 use Rattle.zst_record.specs.declared.records.Record.{Record}
 use Rattle.zst_record.specs.drd_rdata.Types.{type_of}
-use Rattle.zst_record.specs.Records.{RRset}
-use Rattle.zst_record.specs.Records.{set_with}
+use Rattle.zst_record.specs.Records.{RRset, owner_of, set_with}
+use Rattle.zst_zone.specs.Zones.{AreInOrder}
 
 -- The set's owner ends at the root, and has this key.
 pub record IsOwnedAt (key : List ℕ) (set : RRset) : Type 0 where
-  pub full : set.owner.fqdn ≡ true
-  pub owner : name_key set.owner ≡ key
+  pub full : (owner_of set).fqdn ≡ true
+  pub owner : name_key (owner_of set) ≡ key
 
 -- Each type is above those before it.
 abbrev pub TypesRise : List RRset → Type 0
@@ -59,7 +59,8 @@ module _ {K V : Type 0} (octets : K → List ℕ) (sets : V → List RRset) wher
     pub ordered : IsStrictlySortedBy (λ a b. slice_cmp nat_cmp (octets a) (octets b))
         (keys_of entries)
 
--- The origin ends at the root, and has this key.
-pub record IsOrigin (origin : DomainName) (key : List ℕ) : Type 0 where
+-- The origin of a zone ends at the root, and has this key; the zone's sets stand in order.
+pub record IsKept (origin : DomainName) (key : List ℕ) (sets : List RRset) : Type 0 where
   pub full : origin.fqdn ≡ true
   pub at : key ≡ name_key origin
+  pub ordered : AreInOrder sets

@@ -1,26 +1,39 @@
 -- A zone: a finite map from owner and type to the set of records stored there (RFC 1035, section
 -- 4.3.2).
-use Rattle.std.specs.Prelude.{◌≡◌, Bool, List, [], Option, Some, None, ◌&&◌, find, if◌then◌else◌}
-use Rattle.std.specs.List.{list_any}
+use Rattle.std.specs.Prelude.{◌≡◌, Bool, List, [], ◌∷◌, Option, Some, None, ◌&&◌, find, if◌then◌else◌}
+use Rattle.std.specs.List.{AllByRecursion, list_any}
+use Rattle.std.specs.Ordering.{nat_cmp, on, then_cmp}
+use Rattle.std.specs.declared.cmp.Ordering.{Ordering}
+use Rattle.std.specs.declared.cmp.Ordering.TheVariants.{Less}
 use Rattle.dnw_codes.specs.declared.record_type.RecordType.{RecordType}
 use Rattle.zst_record.specs.declared.records.Record.{Record}
 use Rattle.zst_zone.specs.declared.settings.ZoneType.{ZoneType}
 use Rattle.zst_zone.specs.declared.settings.AxfrPolicy.{AxfrPolicy}
 use Rattle.zst_zone.specs.declared.settings.NxProofKind.{NxProofKind}
 use Rattle.zst_zone.specs.declared.settings.ZoneSettings.{ZoneSettings}
-use Rattle.zst_record.specs.dnw_name.DomainName.{DomainName, name_eq, is_at_or_below}
-use Rattle.dnw_codes.specs.RecordType.{same_record_type}
+use Rattle.zst_record.specs.dnw_name.DomainName.{DomainName, name_cmp, name_eq, is_at_or_below}
+use Rattle.dnw_codes.specs.RecordType.{record_type_number, same_record_type}
 use Rattle.zst_record.specs.drd_rdata.Types.{type_of}
-use Rattle.zst_record.specs.Records.{RRset, set_with}
+use Rattle.zst_record.specs.Records.{RRset, owner_of, set_with}
 
 -- The set of a type at a name.
 abbrev pub rrset_at : List RRset → DomainName → RecordType → Option RRset
 rrset_at sets name record_type =
-    find (λ set. name_eq name set.owner && same_record_type set.record_type record_type) sets
+    find (λ set. name_eq name (owner_of set) && same_record_type set.record_type record_type) sets
 
 -- A name exists where an owner equals it or lies below it (RFC 4592, section 2.2.2).
 abbrev pub exists_in : List RRset → DomainName → Bool
-exists_in sets name = list_any (λ set. is_at_or_below set.owner name) sets
+exists_in sets name = list_any (λ set. is_at_or_below (owner_of set) name) sets
+
+-- The order of sets: by owner in canonical order (RFC 4034, section 6.1), then by the type's number.
+abbrev pub set_cmp : RRset → RRset → Ordering
+set_cmp =
+    then_cmp (on owner_of name_cmp) (on (λ set. record_type_number set.record_type) nat_cmp)
+
+-- Each set stands before those behind it, so that no owner has two sets of a type.
+abbrev pub AreInOrder : List RRset → Type 0
+AreInOrder [] = Unit {0}
+AreInOrder (set ∷ sets) = AllByRecursion (λ later. set_cmp set later ≡ Less) sets × AreInOrder sets
 
 -- The sets after are those before with this record added, and every other set as it was.
 abbrev pub Adds : List RRset → Record → List RRset → Type 0
@@ -30,7 +43,8 @@ Adds old r new =
     && same_record_type (type_of r.rdata) record_type then Some
     (set_with (rrset_at old name record_type) r) else rrset_at old name record_type)
 
--- What a zone means: where it begins, how it may be used, and its sets.
+-- What a zone means: where it begins, how it may be used, and its sets, which every zone has in
+-- order.
 pub record View : Type 0 where
   pub origin : DomainName
   pub zone_type : ZoneType
@@ -49,9 +63,11 @@ empty_zone name settings =
       sets = [];
     }
 
--- The zone after is the one before with this record added.
+-- The zone after is the one before with this record added. What it stores and their order leave one
+-- list of sets.
 pub record AddsTo (old : View) (r : Record) (new : View) : Type 0 where
   pub adds : Adds old.sets r new.sets
+  pub ordered : AreInOrder new.sets
   pub rest : new ≡ record old { sets = new.sets }
 
 -- Why there is no answer (RFC 2308, section 2), or the answer.

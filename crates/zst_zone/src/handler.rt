@@ -4,7 +4,7 @@ ghost use Rattle.std.specs.Prelude.{◌≡◌, true, option_copied, IfOk, OnOk, 
 ghost use Rattle.zst_record.specs.dnw_name.DomainName.{DomainName, is_at_or_below};
 ghost use Rattle.zst_record.specs.dnw_name.NameKey.{name_key};
 ghost use Rattle.zst_record.specs.Records.{ReadsBackAlone};
-ghost use Rattle.zst_zone.specs.Zones.{rrset_at, lookup_result, empty_zone, AddsTo};
+ghost use Rattle.zst_zone.specs.Zones.{rrset_at, lookup_result, empty_zone, AddsTo, AreInOrder};
 ghost use Rattle.zst_zone.specs.Lookups.{outcome};
 
 use crate::map::{Found, ZoneMap};
@@ -41,13 +41,13 @@ pub struct InMemoryZoneHandler<K> {
 
 impl<K> Model for InMemoryZoneHandler<K> {
     ghost use Rattle.zst_zone.specs.Zones.{View};
-    ghost use Rattle.zst_zone.specs.ZoneMaps.{IsOrigin};
+    ghost use Rattle.zst_zone.specs.ZoneMaps.{IsKept};
 
     ghost Value = { View };
 
     ghost view = { λ zone. record { origin = zone.origin; zone_type = zone.zone_type; axfr_policy = zone.axfr_policy; nx_proof_kind = zone.nx_proof_kind; sets = zone.sets } };
 
-    ghost invariant = { λ zone. IsOrigin zone.origin zone.origin_key.items };
+    ghost invariant = { λ zone. IsKept zone.origin zone.origin_key.items zone.sets };
 }
 
 impl<K> InMemoryZoneHandler<K> {
@@ -76,6 +76,7 @@ impl<K> InMemoryZoneHandler<K> {
     pub fn origin(&self) -> &Name
         ensures value { result.now ≡ self.now.origin }
         ensures full { self.now.origin.fqdn ≡ true }
+        ensures ordered { AreInOrder self.now.sets }
     {
         &self.origin
     }

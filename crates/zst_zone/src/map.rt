@@ -6,8 +6,8 @@ ghost use Rattle.zst_record.specs.dnw_name.DomainName.{DomainName, name_eq};
 ghost use Rattle.zst_record.specs.dnw_name.NameKey.{name_key};
 ghost use Rattle.dnw_codes.specs.RecordType.{record_type_number, same_record_type};
 ghost use Rattle.zst_record.specs.Records.{ReadsBackAlone};
-ghost use Rattle.zst_zone.specs.Zones.{rrset_at, exists_in, Adds};
-ghost use Rattle.zst_record.specs.Records.{set_with};
+ghost use Rattle.zst_zone.specs.Zones.{rrset_at, exists_in, Adds, AreInOrder};
+ghost use Rattle.zst_record.specs.Records.{owner_of, set_with};
 ghost use Rattle.zst_zone.specs.ZoneMaps.{with_record, place_from};
 ghost use Rattle.zst_zone.specs.Lookups.{set_found, name_found};
 
@@ -96,6 +96,7 @@ impl ZoneMap {
         requires keyed { key.items ≡ name_key next.name }
         requires alone { ReadsBackAlone next }
         ensures ok { OnOk result (Adds self.old next self.new) }
+        ensures ordered { OnOk result (AreInOrder self.new) }
         ensures err { OnErr result (self.new ≡ self.old) }
     {
         match self.nodes.entry(key) {
@@ -125,7 +126,7 @@ fn node_of(alloc: Global, next: Record) -> Result<Vec<RecordSet>, AllocError>
 /// Adds a record to the sets of its owner.
 fn add_to_node(alloc: Global, sets: &mut Vec<RecordSet>, next: Record) -> Result<(), AllocError>
     requires alone { ReadsBackAlone next }
-    requires owned { AllByRecursion (λ set. name_eq next.name set.owner ≡ true) sets.old.items }
+    requires owned { AllByRecursion (λ set. name_eq next.name (owner_of set) ≡ true) sets.old.items }
     ensures ok { OnOk result (sets.new.items ≡ with_record sets.old.items next) }
     ensures err { OnErr result (sets.new.items ≡ sets.old.items) }
 {

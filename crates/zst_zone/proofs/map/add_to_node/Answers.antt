@@ -1,17 +1,16 @@
 use Rattle.std.proofs.Common.{◌∙◌, sym, ap, arith, subst, length, set}
 use Rattle.std.specs.Prelude.{List, [], Some, Result, Ok, Err, OnOk}
 use Rattle.std.specs.List.{insert}
-use Rattle.zst_record.specs.Records.{set_with}
 use Rattle.dnw_codes.specs.declared.record_type.RecordType.{RecordType}
 use Rattle.dnw_codes.specs.RecordType.{record_type_number}
-use Rattle.zst_record.specs.Records.{RRset, IsRecordOf}
+use Rattle.zst_record.specs.Records.{RRset, IsRecordOf, owner_of, set_with}
 use Rattle.zst_zone.specs.ZoneMaps.{place_from}
 use Rattle.zst_zone.proofs.ZoneSets.{FoundHere, found_here, MissedHere, missed_here}
 use Rattle.zst_zone.proofs.map.add_to_node.Goals as goal
 
 pub index_mut-requires : goal.index_mut-requires
 index_mut-requires c =
-    let f : FoundHere c.in-Ok.place c.args.sets.now.items c.args.next (record { owner = c.args.next.name; record_type = c.record_type.result; records = [] })
+    let f : FoundHere c.in-Ok.place c.args.sets.now.items c.args.next (record { record_type = c.record_type.result; records = [] })
     = found_here c.args.sets.now.items c.args.next _ c.in-Ok.place c.requires.alone c.requires.owned
     (c.in-Ok.ensures ∙ ap (λ (t : List RRset). place_from 0 t (record_type_number c.record_type.result)) c.deref.ensures.value
     ∙ ap (λ (t : RecordType). place_from 0 c.args.sets.now.items (record_type_number t)) c.record_type.ensures) in
@@ -23,7 +22,7 @@ put-requires c =
     = found_here c.args.sets.now.items c.args.next c.index_mut.result.now c.in-Ok.place c.requires.alone c.requires.owned
     (c.in-Ok.ensures ∙ ap (λ (t : List RRset). place_from 0 t (record_type_number c.record_type.result)) c.deref.ensures.value
     ∙ ap (λ (t : RecordType). place_from 0 c.args.sets.now.items (record_type_number t)) c.record_type.ensures) in
-    subst (λ (s : RRset). IsRecordOf s.owner s.record_type c.args.next) (sym c.index_mut.ensures.value) f.is_record
+    subst (λ (s : RRset). IsRecordOf (owner_of s) s.record_type c.args.next) (sym c.index_mut.ensures.value) f.is_record
 
 pub insert-requires : goal.insert-requires
 insert-requires c =

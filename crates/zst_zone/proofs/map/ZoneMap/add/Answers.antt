@@ -6,6 +6,7 @@ use Rattle.zst_record.specs.Records.{RRset}
 use Rattle.zst_zone.specs.Zones.{Adds}
 use Rattle.zst_zone.specs.ZoneMaps.{sets_of}
 use Rattle.zst_zone.proofs.ZoneMapsBy.{Key, Node, octets, sets}
+use Rattle.zst_zone.proofs.ZoneOrder.{zone_ordered}
 use Rattle.zst_zone.proofs.ZoneSets.{same_owner, node_tried, node_alone}
 use Rattle.zst_zone.proofs.ZoneEntries.{node_found, same_sets, zone_inserted, adds_inserted}
 use Rattle.zst_zone.proofs.map.ZoneMap.add.Goals as goal
@@ -79,3 +80,16 @@ returns-in-Ok-Vacant-clause-ok c =
     c.self.invariant (invariant_of-self-in-Ok-Vacant c) c.requires.keyed (sym (rw c.in-Ok-Vacant.field-0-is at c.in-Ok-Vacant.ensures.found))
     (ap (λ (m : BTreeMap Key Node). m.entries) end ∙ (rw c.in-Ok-Vacant.field-0-is at c.in-Ok-Vacant.ensures.update).1 w)
     (search (made, rules)))
+
+-- the sets stand in order, as the map's entries do
+any_ok : {T E : Type 0} {P : Type 0} (r : Result T E) → P → OnOk r P
+any_ok (Ok x) p = p
+any_ok (Err e) p = tt
+
+pub returns-in-Ok-Occupied-clause-ordered : goal.returns-in-Ok-Occupied-clause-ordered
+returns-in-Ok-Occupied-clause-ordered c =
+    any_ok c.add_to_node.result (zone_ordered octets sets c.self-in-Ok-Occupied-1.given.0.entries (invariant_of-self c))
+
+pub returns-in-Ok-Vacant-clause-ordered : goal.returns-in-Ok-Vacant-clause-ordered
+returns-in-Ok-Vacant-clause-ordered c =
+    zone_ordered octets sets c.self-in_ok-or_try_insert_with-in-Ok-Vacant-2-1.given.0.entries (invariant_of-self-in-Ok-Vacant c)
