@@ -1,6 +1,6 @@
 //! The header of a message (RFC 1035 section 4.1.1).
 
-ghost use Rattle.std.specs.Prelude.{◌≡◌, ◌+◌, ◌<◌, ◌≤◌, ◌%◌, ◌/◌, ◌++◌, ℕ, List, length, IfOk, IfErr, OnOk, OnErr};
+ghost use Rattle.std.specs.Prelude.{◌≡◌, ◌+◌, ◌<◌, ◌≤◌, ◌%◌, ◌/◌, ◌++◌, ℕ, List, IfOk, IfErr, OnOk, OnErr};
 ghost use Rattle.dnw_encoder.specs.dnw_decoder.Reading.{IsCut};
 ghost use Rattle.dnw_encoder.specs.Effects.{Writes, WritesOctets, IsRefusal};
 ghost use Rattle.dnw_encoder.specs.Encoders.{state};
