@@ -1,4 +1,6 @@
 //! Each type of record data as one case of all.
+ghost use Rattle.std.proofs.Common.{refl};
+ghost use Rattle.dnw_codes.specs.declared.record_type.RecordType.TheVariants as of;
 ghost use Rattle.drd_rdata.specs.declared.rdata.RData.TheVariants as rdata;
 
 use crate::rdata::RData;
@@ -11,18 +13,29 @@ use drd_types::{
 /// A type whose data are one case of `RData`.
 pub(crate) trait Case: Sized {
     ghost use Rattle.std.specs.Prelude.{◌≡◌};
+    ghost use Rattle.dnw_codes.specs.declared.record_type.RecordType.{RecordType};
+    ghost use Rattle.drd_rdata.specs.Types.{type_of};
     ghost use Rattle.drd_rdata.specs.declared.rdata.RData.{RData as Rdata};
 
     // The value among the data of all types.
     ghost rdata: { Self → Rdata };
 
+    // The type of the records.
+    ghost kind: { RecordType };
+
     /// The value as record data.
     fn into_rdata(self) -> RData
         ensures { result ≡ rdata self };
+
+    ghost named: { (x : Self) → type_of (rdata x) ≡ kind };
 }
 
 impl Case for A {
     ghost rdata = { rdata.A };
+
+    ghost kind = { of.A };
+
+    ghost named = { λ x. refl };
 
     fn into_rdata(self) -> RData {
         RData::A(self)
@@ -32,6 +45,10 @@ impl Case for A {
 impl Case for AAAA {
     ghost rdata = { rdata.AAAA };
 
+    ghost kind = { of.AAAA };
+
+    ghost named = { λ x. refl };
+
     fn into_rdata(self) -> RData {
         RData::AAAA(self)
     }
@@ -39,6 +56,10 @@ impl Case for AAAA {
 
 impl Case for ANAME {
     ghost rdata = { rdata.ANAME };
+
+    ghost kind = { of.ANAME };
+
+    ghost named = { λ x. refl };
 
     fn into_rdata(self) -> RData {
         RData::ANAME(self)
@@ -48,6 +69,10 @@ impl Case for ANAME {
 impl Case for CAA {
     ghost rdata = { rdata.CAA };
 
+    ghost kind = { of.CAA };
+
+    ghost named = { λ x. refl };
+
     fn into_rdata(self) -> RData {
         RData::CAA(self)
     }
@@ -55,6 +80,10 @@ impl Case for CAA {
 
 impl Case for CERT {
     ghost rdata = { rdata.CERT };
+
+    ghost kind = { of.CERT };
+
+    ghost named = { λ x. refl };
 
     fn into_rdata(self) -> RData {
         RData::CERT(self)
@@ -64,6 +93,10 @@ impl Case for CERT {
 impl Case for CNAME {
     ghost rdata = { rdata.CNAME };
 
+    ghost kind = { of.CNAME };
+
+    ghost named = { λ x. refl };
+
     fn into_rdata(self) -> RData {
         RData::CNAME(self)
     }
@@ -71,6 +104,10 @@ impl Case for CNAME {
 
 impl Case for CSYNC {
     ghost rdata = { rdata.CSYNC };
+
+    ghost kind = { of.CSYNC };
+
+    ghost named = { λ x. refl };
 
     fn into_rdata(self) -> RData {
         RData::CSYNC(self)
@@ -80,6 +117,10 @@ impl Case for CSYNC {
 impl Case for HINFO {
     ghost rdata = { rdata.HINFO };
 
+    ghost kind = { of.HINFO };
+
+    ghost named = { λ x. refl };
+
     fn into_rdata(self) -> RData {
         RData::HINFO(self)
     }
@@ -87,6 +128,10 @@ impl Case for HINFO {
 
 impl Case for HTTPS {
     ghost rdata = { rdata.HTTPS };
+
+    ghost kind = { of.HTTPS };
+
+    ghost named = { λ x. refl };
 
     fn into_rdata(self) -> RData {
         RData::HTTPS(self)
@@ -96,6 +141,10 @@ impl Case for HTTPS {
 impl Case for MX {
     ghost rdata = { rdata.MX };
 
+    ghost kind = { of.MX };
+
+    ghost named = { λ x. refl };
+
     fn into_rdata(self) -> RData {
         RData::MX(self)
     }
@@ -103,6 +152,10 @@ impl Case for MX {
 
 impl Case for NAPTR {
     ghost rdata = { rdata.NAPTR };
+
+    ghost kind = { of.NAPTR };
+
+    ghost named = { λ x. refl };
 
     fn into_rdata(self) -> RData {
         RData::NAPTR(self)
@@ -112,6 +165,10 @@ impl Case for NAPTR {
 impl Case for NULL {
     ghost rdata = { rdata.NULL };
 
+    ghost kind = { of.NULL };
+
+    ghost named = { λ x. refl };
+
     fn into_rdata(self) -> RData {
         RData::NULL(self)
     }
@@ -119,6 +176,10 @@ impl Case for NULL {
 
 impl Case for NS {
     ghost rdata = { rdata.NS };
+
+    ghost kind = { of.NS };
+
+    ghost named = { λ x. refl };
 
     fn into_rdata(self) -> RData {
         RData::NS(self)
@@ -128,6 +189,10 @@ impl Case for NS {
 impl Case for OPENPGPKEY {
     ghost rdata = { rdata.OPENPGPKEY };
 
+    ghost kind = { of.OPENPGPKEY };
+
+    ghost named = { λ x. refl };
+
     fn into_rdata(self) -> RData {
         RData::OPENPGPKEY(self)
     }
@@ -135,6 +200,10 @@ impl Case for OPENPGPKEY {
 
 impl Case for OPT {
     ghost rdata = { rdata.OPT };
+
+    ghost kind = { of.OPT };
+
+    ghost named = { λ x. refl };
 
     fn into_rdata(self) -> RData {
         RData::OPT(self)
@@ -144,6 +213,10 @@ impl Case for OPT {
 impl Case for PTR {
     ghost rdata = { rdata.PTR };
 
+    ghost kind = { of.PTR };
+
+    ghost named = { λ x. refl };
+
     fn into_rdata(self) -> RData {
         RData::PTR(self)
     }
@@ -151,6 +224,10 @@ impl Case for PTR {
 
 impl Case for SMIMEA {
     ghost rdata = { rdata.SMIMEA };
+
+    ghost kind = { of.SMIMEA };
+
+    ghost named = { λ x. refl };
 
     fn into_rdata(self) -> RData {
         RData::SMIMEA(self)
@@ -160,6 +237,10 @@ impl Case for SMIMEA {
 impl Case for SOA {
     ghost rdata = { rdata.SOA };
 
+    ghost kind = { of.SOA };
+
+    ghost named = { λ x. refl };
+
     fn into_rdata(self) -> RData {
         RData::SOA(self)
     }
@@ -167,6 +248,10 @@ impl Case for SOA {
 
 impl Case for SRV {
     ghost rdata = { rdata.SRV };
+
+    ghost kind = { of.SRV };
+
+    ghost named = { λ x. refl };
 
     fn into_rdata(self) -> RData {
         RData::SRV(self)
@@ -176,6 +261,10 @@ impl Case for SRV {
 impl Case for SSHFP {
     ghost rdata = { rdata.SSHFP };
 
+    ghost kind = { of.SSHFP };
+
+    ghost named = { λ x. refl };
+
     fn into_rdata(self) -> RData {
         RData::SSHFP(self)
     }
@@ -183,6 +272,10 @@ impl Case for SSHFP {
 
 impl Case for SVCB {
     ghost rdata = { rdata.SVCB };
+
+    ghost kind = { of.SVCB };
+
+    ghost named = { λ x. refl };
 
     fn into_rdata(self) -> RData {
         RData::SVCB(self)
@@ -192,6 +285,10 @@ impl Case for SVCB {
 impl Case for TLSA {
     ghost rdata = { rdata.TLSA };
 
+    ghost kind = { of.TLSA };
+
+    ghost named = { λ x. refl };
+
     fn into_rdata(self) -> RData {
         RData::TLSA(self)
     }
@@ -199,6 +296,10 @@ impl Case for TLSA {
 
 impl Case for TXT {
     ghost rdata = { rdata.TXT };
+
+    ghost kind = { of.TXT };
+
+    ghost named = { λ x. refl };
 
     fn into_rdata(self) -> RData {
         RData::TXT(self)

@@ -1,5 +1,5 @@
 //! Record data in messages.
-ghost use Rattle.std.specs.Prelude.{◌≡◌, ◌+◌, ◌<◌, ◌≤◌, ◌⊎◌, ℕ, length as size, IfOk, IfErr, OnOk};
+ghost use Rattle.std.specs.Prelude.{◌≡◌, ◌+◌, ◌<◌, ◌≤◌, ◌⊎◌, ◌↔◌, ℕ, length as size, IfOk, IfErr, IsTrue, OnOk};
 ghost use Rattle.dnw_codes.specs.RecordType.{record_type_number};
 ghost use Rattle.dnw_codes.specs.declared.error.DecodeError.TheVariants.{UnknownRecordTypeValue};
 ghost use Rattle.dnw_codes.specs.declared.error.DecodeError.{DecodeError as Error};
@@ -158,17 +158,21 @@ fn shown(start: usize, len: usize, stop: usize, cause: DecodeError) -> DecodeErr
     ensures memory { IsWantOfMemory cause → result ≡ cause }
     ensures shown { IsWantOfMemory cause ⊎ ((IsWantOfMemory cause → ⊥) × Shows start len cause stop result) }
 {
-    let read = stop - start;
-    match cause {
-        DecodeError::Memory => DecodeError::Memory,
-        _ => {
-            if read == len {
-                cause
-            } else {
-                DecodeError::IncorrectRDataLengthRead { read, len }
-            }
-        }
+    if is_memory(&cause) {
+        return cause;
     }
+    let read = stop - start;
+    if read == len {
+        return cause;
+    }
+    DecodeError::IncorrectRDataLengthRead { read, len }
+}
+
+// Whether memory was wanted.
+fn is_memory(cause: &DecodeError) -> bool
+    ensures { IsTrue result ↔ IsWantOfMemory cause.now }
+{
+    matches!(cause, DecodeError::Memory)
 }
 
 // The refusal of a type that has no data.

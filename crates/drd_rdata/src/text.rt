@@ -45,27 +45,32 @@ impl RData {
         ensures unsupported { has_text record_type ≡ false → result ≡ Err (UnsupportedRecordType record_type) }
     {
         match record_type {
-            RecordType::A => written_as::<A, I>(alloc, tokens, origin),
-            RecordType::AAAA => written_as::<AAAA, I>(alloc, tokens, origin),
-            RecordType::ANAME => written_as::<ANAME, I>(alloc, tokens, origin),
-            RecordType::CAA => written_as::<CAA, I>(alloc, tokens, origin),
-            RecordType::CERT => written_as::<CERT, I>(alloc, tokens, origin),
-            RecordType::CNAME => written_as::<CNAME, I>(alloc, tokens, origin),
-            RecordType::CSYNC => written_as::<CSYNC, I>(alloc, tokens, origin),
-            RecordType::HINFO => written_as::<HINFO, I>(alloc, tokens, origin),
-            RecordType::HTTPS => written_as::<HTTPS, I>(alloc, tokens, origin),
-            RecordType::MX => written_as::<MX, I>(alloc, tokens, origin),
-            RecordType::NAPTR => written_as::<NAPTR, I>(alloc, tokens, origin),
-            RecordType::NS => written_as::<NS, I>(alloc, tokens, origin),
-            RecordType::OPENPGPKEY => written_as::<OPENPGPKEY, I>(alloc, tokens, origin),
-            RecordType::PTR => written_as::<PTR, I>(alloc, tokens, origin),
-            RecordType::SMIMEA => written_as::<SMIMEA, I>(alloc, tokens, origin),
-            RecordType::SOA => written_as::<SOA, I>(alloc, tokens, origin),
-            RecordType::SRV => written_as::<SRV, I>(alloc, tokens, origin),
-            RecordType::SSHFP => written_as::<SSHFP, I>(alloc, tokens, origin),
-            RecordType::SVCB => written_as::<SVCB, I>(alloc, tokens, origin),
-            RecordType::TLSA => written_as::<TLSA, I>(alloc, tokens, origin),
-            RecordType::TXT => written_as::<TXT, I>(alloc, tokens, origin),
+            RecordType::A => written_as::<A, I>(alloc, record_type, tokens, origin),
+            RecordType::AAAA => written_as::<AAAA, I>(alloc, record_type, tokens, origin),
+            RecordType::ANAME => written_as::<ANAME, I>(alloc, record_type, tokens, origin),
+            RecordType::CAA => written_as::<CAA, I>(alloc, record_type, tokens, origin),
+            RecordType::CERT => written_as::<CERT, I>(alloc, record_type, tokens, origin),
+            RecordType::CNAME => written_as::<CNAME, I>(alloc, record_type, tokens, origin),
+            RecordType::CSYNC => written_as::<CSYNC, I>(alloc, record_type, tokens, origin),
+            RecordType::HINFO => written_as::<HINFO, I>(alloc, record_type, tokens, origin),
+            RecordType::HTTPS => written_as::<HTTPS, I>(alloc, record_type, tokens, origin),
+            RecordType::MX => written_as::<MX, I>(alloc, record_type, tokens, origin),
+            RecordType::NAPTR => written_as::<NAPTR, I>(alloc, record_type, tokens, origin),
+            RecordType::NS => written_as::<NS, I>(alloc, record_type, tokens, origin),
+            RecordType::OPENPGPKEY => written_as::<OPENPGPKEY, I>(
+                alloc,
+                record_type,
+                tokens,
+                origin,
+            ),
+            RecordType::PTR => written_as::<PTR, I>(alloc, record_type, tokens, origin),
+            RecordType::SMIMEA => written_as::<SMIMEA, I>(alloc, record_type, tokens, origin),
+            RecordType::SOA => written_as::<SOA, I>(alloc, record_type, tokens, origin),
+            RecordType::SRV => written_as::<SRV, I>(alloc, record_type, tokens, origin),
+            RecordType::SSHFP => written_as::<SSHFP, I>(alloc, record_type, tokens, origin),
+            RecordType::SVCB => written_as::<SVCB, I>(alloc, record_type, tokens, origin),
+            RecordType::TLSA => written_as::<TLSA, I>(alloc, record_type, tokens, origin),
+            RecordType::TXT => written_as::<TXT, I>(alloc, record_type, tokens, origin),
             other => Err(ParseError::UnsupportedRecordType(other)),
         }
     }
@@ -103,22 +108,25 @@ impl RData {
 // Data of one type that words write, as data of all types.
 fn written_as<T: TextType, I: Iterator + Drop>(
     alloc: Global,
+    record_type: RecordType,
     tokens: I,
     origin: Option<&Name>,
 ) -> Result<RData, ParseError>
 where
     I::Item: AsStr + Drop,
+    requires own { record_type ≡ T.kind }
     requires can { I.can_next tokens }
     requires ends { IsFinite (I.remaining tokens) }
     ensures ok { IfOk result (λ value. (words : List I.Item) × Drains I.next_gives tokens words
-        × IsTextOf T.kind (map I.Item.text words) (option_copied origin.entry) value) }
-    ensures kind { IfOk result (λ value. type_of value ≡ T.kind) }
+        × IsTextOf record_type (map I.Item.text words) (option_copied origin.entry) value) }
+    ensures kind { IfOk result (λ value. type_of value ≡ record_type) }
     ensures refused { IfErr result (λ e. IsOutOfMemory e ⊎ ((words : List I.Item) × Drains I.next_gives tokens words
-        × ((value : Rdata) → IsTextOf T.kind (map I.Item.text words) (option_copied origin.entry) value → ⊥))
-        ⊎ ((e ≡ UnsupportedRecordType T.kind)
-        × ((words : List (List ℕ)) (value : Rdata) → IsTextOf T.kind words (option_copied origin.entry) value → ⊥))) }
-    ensures cause { IfErr result (λ e. IsOutOfMemory e ⊎ ((words : List I.Item) × Drains I.next_gives tokens words
-        × RefusesTextOf T.kind (map I.Item.text words) (option_copied origin.entry) e)) }
+        × ((value : Rdata) → IsTextOf record_type (map I.Item.text words) (option_copied origin.entry) value → ⊥))
+        ⊎ ((e ≡ UnsupportedRecordType record_type)
+        × ((words : List (List ℕ)) (value : Rdata) → IsTextOf record_type words (option_copied origin.entry) value → ⊥))) }
+    ensures cause { has_text record_type ≡ true → IfErr result (λ e. IsOutOfMemory e ⊎ ((words : List I.Item) × Drains I.next_gives tokens words
+        × RefusesTextOf record_type (map I.Item.text words) (option_copied origin.entry) e)) }
+    ensures unsupported { has_text record_type ≡ false → result ≡ Err (UnsupportedRecordType record_type) }
 {
     match T::from_tokens(alloc, tokens, origin) {
         Ok(data) => Ok(data.into_rdata()),

@@ -1,5 +1,4 @@
 //! Types whose data have a text.
-ghost use Rattle.dnw_codes.specs.declared.record_type.RecordType.TheVariants as of;
 ghost use Rattle.std.proofs.Common.{refl};
 
 use crate::case::Case;
@@ -11,36 +10,29 @@ use drd_types::{
 
 /// A type whose data words write.
 pub(crate) trait TextType: TextData + Case {
-    ghost use Rattle.std.specs.Prelude.{◌≡◌, ℕ, List, Option};
+    ghost use Rattle.std.specs.Prelude.{◌≡◌, ℕ, List, Option, true};
     ghost use Rattle.dnw_codes.specs.declared.error.ParseError.{ParseError};
-    ghost use Rattle.dnw_codes.specs.declared.record_type.RecordType.{RecordType};
     ghost use Rattle.drd_svcb.specs.dnw_name.DomainName.{DomainName};
     ghost use Rattle.drd_rdata.specs.declared.rdata.RData.{RData as Rdata};
-    ghost use Rattle.drd_rdata.specs.Texts.{IsTextOf, RefusesTextOf};
-    ghost use Rattle.drd_rdata.specs.Types.{type_of};
+    ghost use Rattle.drd_rdata.specs.Texts.{IsTextOf, RefusesTextOf, has_text};
 
-    // The type of the records.
-    ghost kind: { RecordType };
-
-    ghost named: { (x : Self) → type_of (Self.rdata x) ≡ kind };
+    ghost has: { has_text Self.kind ≡ true };
 
     // Words that write data by themselves write data of this type.
     ghost writes: { (words : List (List ℕ)) (origin : Option DomainName) (x : Self) → Self.is_text words origin x
-        → IsTextOf kind words origin (Self.rdata x) };
+        → IsTextOf Self.kind words origin (Self.rdata x) };
 
     // Words that write data of this type write them by themselves.
-    ghost alone: { (words : List (List ℕ)) (origin : Option DomainName) (value : Rdata) → IsTextOf kind words origin value
+    ghost alone: { (words : List (List ℕ)) (origin : Option DomainName) (value : Rdata) → IsTextOf Self.kind words origin value
         → (x : Self) × (value ≡ Self.rdata x) × Self.is_text words origin x };
 
     // They are refused as words of this type are.
     ghost stops: { (words : List (List ℕ)) (origin : Option DomainName) (e : ParseError) → Self.refuses words origin e
-        → RefusesTextOf kind words origin e };
+        → RefusesTextOf Self.kind words origin e };
 }
 
 impl TextType for A {
-    ghost kind = { of.A };
-
-    ghost named = { λ x. refl };
+    ghost has = { refl };
 
     ghost writes = { λ words origin x written. (x, refl, written) };
 
@@ -50,9 +42,7 @@ impl TextType for A {
 }
 
 impl TextType for AAAA {
-    ghost kind = { of.AAAA };
-
-    ghost named = { λ x. refl };
+    ghost has = { refl };
 
     ghost writes = { λ words origin x written. (x, refl, written) };
 
@@ -62,9 +52,7 @@ impl TextType for AAAA {
 }
 
 impl TextType for ANAME {
-    ghost kind = { of.ANAME };
-
-    ghost named = { λ x. refl };
+    ghost has = { refl };
 
     ghost writes = { λ words origin x written. (x, refl, written) };
 
@@ -74,9 +62,7 @@ impl TextType for ANAME {
 }
 
 impl TextType for CAA {
-    ghost kind = { of.CAA };
-
-    ghost named = { λ x. refl };
+    ghost has = { refl };
 
     ghost writes = { λ words origin x written. (x, refl, written) };
 
@@ -86,9 +72,7 @@ impl TextType for CAA {
 }
 
 impl TextType for CERT {
-    ghost kind = { of.CERT };
-
-    ghost named = { λ x. refl };
+    ghost has = { refl };
 
     ghost writes = { λ words origin x written. (x, refl, written) };
 
@@ -98,9 +82,7 @@ impl TextType for CERT {
 }
 
 impl TextType for CNAME {
-    ghost kind = { of.CNAME };
-
-    ghost named = { λ x. refl };
+    ghost has = { refl };
 
     ghost writes = { λ words origin x written. (x, refl, written) };
 
@@ -110,9 +92,7 @@ impl TextType for CNAME {
 }
 
 impl TextType for CSYNC {
-    ghost kind = { of.CSYNC };
-
-    ghost named = { λ x. refl };
+    ghost has = { refl };
 
     ghost writes = { λ words origin x written. (x, refl, written) };
 
@@ -122,9 +102,7 @@ impl TextType for CSYNC {
 }
 
 impl TextType for HINFO {
-    ghost kind = { of.HINFO };
-
-    ghost named = { λ x. refl };
+    ghost has = { refl };
 
     ghost writes = { λ words origin x written. (x, refl, written) };
 
@@ -134,9 +112,7 @@ impl TextType for HINFO {
 }
 
 impl TextType for HTTPS {
-    ghost kind = { of.HTTPS };
-
-    ghost named = { λ x. refl };
+    ghost has = { refl };
 
     ghost writes = { λ words origin x written. (x, refl, written) };
 
@@ -146,9 +122,7 @@ impl TextType for HTTPS {
 }
 
 impl TextType for MX {
-    ghost kind = { of.MX };
-
-    ghost named = { λ x. refl };
+    ghost has = { refl };
 
     ghost writes = { λ words origin x written. (x, refl, written) };
 
@@ -158,9 +132,7 @@ impl TextType for MX {
 }
 
 impl TextType for NAPTR {
-    ghost kind = { of.NAPTR };
-
-    ghost named = { λ x. refl };
+    ghost has = { refl };
 
     ghost writes = { λ words origin x written. (x, refl, written) };
 
@@ -170,9 +142,7 @@ impl TextType for NAPTR {
 }
 
 impl TextType for NS {
-    ghost kind = { of.NS };
-
-    ghost named = { λ x. refl };
+    ghost has = { refl };
 
     ghost writes = { λ words origin x written. (x, refl, written) };
 
@@ -182,9 +152,7 @@ impl TextType for NS {
 }
 
 impl TextType for OPENPGPKEY {
-    ghost kind = { of.OPENPGPKEY };
-
-    ghost named = { λ x. refl };
+    ghost has = { refl };
 
     ghost writes = { λ words origin x written. (x, refl, written) };
 
@@ -194,9 +162,7 @@ impl TextType for OPENPGPKEY {
 }
 
 impl TextType for PTR {
-    ghost kind = { of.PTR };
-
-    ghost named = { λ x. refl };
+    ghost has = { refl };
 
     ghost writes = { λ words origin x written. (x, refl, written) };
 
@@ -206,9 +172,7 @@ impl TextType for PTR {
 }
 
 impl TextType for SMIMEA {
-    ghost kind = { of.SMIMEA };
-
-    ghost named = { λ x. refl };
+    ghost has = { refl };
 
     ghost writes = { λ words origin x written. (x, refl, written) };
 
@@ -218,9 +182,7 @@ impl TextType for SMIMEA {
 }
 
 impl TextType for SOA {
-    ghost kind = { of.SOA };
-
-    ghost named = { λ x. refl };
+    ghost has = { refl };
 
     ghost writes = { λ words origin x written. (x, refl, written) };
 
@@ -230,9 +192,7 @@ impl TextType for SOA {
 }
 
 impl TextType for SRV {
-    ghost kind = { of.SRV };
-
-    ghost named = { λ x. refl };
+    ghost has = { refl };
 
     ghost writes = { λ words origin x written. (x, refl, written) };
 
@@ -242,9 +202,7 @@ impl TextType for SRV {
 }
 
 impl TextType for SSHFP {
-    ghost kind = { of.SSHFP };
-
-    ghost named = { λ x. refl };
+    ghost has = { refl };
 
     ghost writes = { λ words origin x written. (x, refl, written) };
 
@@ -254,9 +212,7 @@ impl TextType for SSHFP {
 }
 
 impl TextType for SVCB {
-    ghost kind = { of.SVCB };
-
-    ghost named = { λ x. refl };
+    ghost has = { refl };
 
     ghost writes = { λ words origin x written. (x, refl, written) };
 
@@ -266,9 +222,7 @@ impl TextType for SVCB {
 }
 
 impl TextType for TLSA {
-    ghost kind = { of.TLSA };
-
-    ghost named = { λ x. refl };
+    ghost has = { refl };
 
     ghost writes = { λ words origin x written. (x, refl, written) };
 
@@ -278,9 +232,7 @@ impl TextType for TLSA {
 }
 
 impl TextType for TXT {
-    ghost kind = { of.TXT };
-
-    ghost named = { λ x. refl };
+    ghost has = { refl };
 
     ghost writes = { λ words origin x written. (x, refl, written) };
 
