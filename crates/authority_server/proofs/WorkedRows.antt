@@ -16,7 +16,7 @@ use Rattle.zsv_message.specs.declared.request.Query.{Query}
 use Rattle.zst_zone.specs.dnw_name.DomainName.{DomainName, name_octets, name_eq, is_at_or_below}
 use Rattle.std.specs.Cmp.Lexicographic.{slice_cmp}
 use Rattle.std.specs.Ordering.{nat_cmp}
-use Rattle.std.specs.declared.cmp.Ordering.TheVariants.{Less}
+use Rattle.std.specs.declared.cmp.Ordering.TheVariants.{Less, Greater}
 use Rattle.zst_zone.specs.dnw_name.NameKey.{rank, name_key}
 use Rattle.std.specs.Net.Addr.{ipv4_bits}
 use Rattle.zsv_message.specs.dnw_decoder.Octets.{octets_16, octets_32}
@@ -25,7 +25,7 @@ use Rattle.zsv_reply.specs.drd_rdata.Writing.{written_octets}
 use Rattle.zsv_reply.specs.zst_record.Records.{plain}
 use Rattle.zsv_message.specs.dnw_decoder.Spelling.{NameAt, at_end, at_label}
 use Rattle.zsv_message.specs.Requests.{Request, QuestionAt}
-use Rattle.zst_zone.specs.Zones.{View, lookup_result, answered, name_exists, name_error, out_of_zone}
+use Rattle.zst_zone.specs.Zones.{View, AreInOrder, set_cmp, lookup_result, answered, name_exists, name_error, out_of_zone}
 use Rattle.authority_server.specs.Serving.{reply_parts}
 
 abbrev example : DomainName
@@ -54,7 +54,7 @@ zone = record {
   zone_type = kinds.Primary;
   axfr_policy = policies.AllowAll;
   nx_proof_kind = None;
-  sets = record { owner = example; record_type = types.SOA; records = start ∷ [] } ∷ record { owner = below (codes "www"); record_type = types.A; records = address ∷ [] } ∷ [];
+  sets = record { record_type = types.SOA; records = start ∷ [] } ∷ record { record_type = types.A; records = address ∷ [] } ∷ [];
 }
 
 -- Twelve octets of header, and a question for the address of www.example.com.
@@ -106,6 +106,13 @@ the_zone_not_below_www = refl
 
 elsewhere_not_below : is_at_or_below elsewhere example ≡ false
 elsewhere_not_below = refl
+
+-- Its sets stand in order, and so do no others.
+sets_in_order : AreInOrder zone.sets
+sets_in_order = ((refl, tt), (tt, tt))
+
+address_behind_start : set_cmp (record { record_type = types.A; records = address ∷ [] }) (record { record_type = types.SOA; records = start ∷ [] }) ≡ Greater
+address_behind_start = refl
 
 -- The zone's answers.
 an_address : lookup_result zone (below (codes "wWw")) types.A ≡ answered (address ∷ [])
