@@ -3,3 +3,4 @@ pub mod Standing
 pub mod Progress
 pub mod Reached
 pub mod Refused
+pub use Rattle.dnw_name.proofs.dnw_label_lemmas

@@ -1,11 +1,19 @@
 -- What is kept from one element of a name to the next.
-use Rattle.std.proofs.Common.{◌≡◌, ℕ, ◌+◌, ◌≤◌, ◌<◌, List, [], ◌∷◌, ◌++◌, length, true, Option, Some, None, unwrap_or, refl, arith, ap, ◌∙◌, subst, append-nil}
+use Rattle.std.proofs.Common.{◌≡◌, ℕ, ◌+◌, ◌≤◌, ◌<◌, List, [], ◌∷◌, ◌++◌, length, true, All, ◌-◌, drop, take, Option, Some, None, unwrap_or, refl, arith, ap, sym, ◌∙◌, subst, append-nil, append_assoc}
 use Rattle.dnw_name.specs.DomainName.{DomainName, domain_name, labels_len}
+use Rattle.std.proofs.lemmas.Grind.{flat_map-append}
+use Rattle.std.proofs.lemmas.List.{length-append}
+use Rattle.std.proofs.lemmas.List.Elements.{All-nil, All-push}
+use Rattle.std.proofs.lemmas.List.Sums.{sum_by-append, sum_by_push}
+use Rattle.dnw_name.specs.dnw_codes.declared.error.DecodeError.{DecodeError}
+use Rattle.dnw_name.specs.dnw_codes.declared.error.DecodeError.TheVariants.{DomainNameTooLong}
 use Rattle.dnw_name.specs.dnw_label.Label.{IsLabel}
+use Rattle.dnw_name.specs.dnw_label.Labels.{label_octets}
+use Rattle.dnw_name.proofs.dnw_label_lemmas.LabelsLemmas.{length-label_octets}
 use Rattle.dnw_decoder.specs.Octets.{Stands}
 use Rattle.dnw_decoder.specs.Spelling.{NameAt, Spells, pointer_octets, at_end}
-use Rattle.dnw_decoder.specs.Refusals.{Reaches, at_start, behind_label, at_target}
-use Rattle.dnw_decoder.proofs.Standing.{stands_within}
+use Rattle.dnw_decoder.specs.Refusals.{Reaches, at_start, behind_label, at_target, Refuses, IsCause}
+use Rattle.dnw_decoder.proofs.Standing.{stands_head, stands_taken, stands_within}
 use Rattle.dnw_decoder.proofs.Reached.{reached_whole}
 
 -- Where the name ends if a pointer was followed.
@@ -68,3 +76,102 @@ reading_end message start name segment bound place behind resume r inside there 
   },
   resumes_behind message start place behind resume (omega (arith, there.behind)) (stands_within message place _ behind (omega arith) there) r.ahead,
 )
+
+-- The labels of a run that aren't part of the name yet: they stand from the run's begin on.
+pub record IsWalking (message : List ℕ) (start : ℕ) (built : DomainName) (len segment bound place run : ℕ) (resume : Option ℕ) : Type 0 where
+  pub pending : List (List ℕ)
+  pub each : All IsLabel pending
+  pub reading : IsReading message start (domain_name built.fqdn (built.labels ++ pending)) segment bound place resume
+  pub spelled : Stands message run (label_octets pending) place
+  pub inside : place ≤ length message
+  pub counted : len ≡ labels_len (built.labels ++ pending) + 1
+
+stands_nothing : (message : List ℕ) (place : ℕ) → Stands message place [] place
+stands_nothing message place = record { there = refl; behind = omega arith }
+
+stands_more : (message : List ℕ) (place : ℕ) (xs : List ℕ) (between : ℕ) (ys : List ℕ) (end : ℕ) → Stands message place xs between → Stands message between ys end → Stands message place (xs ++ ys) end
+stands_more message place xs between ys end s t = record {
+  there = s.there ∙ ap (λ (octets : List ℕ). xs ++ octets) t.there ∙ sym (append_assoc xs ys (drop end message));
+  behind = omega (arith, s.behind, t.behind, length-append xs ys);
+}
+
+-- A run begins.
+pub walking_at : (message : List ℕ) (start : ℕ) (built : DomainName) (len segment bound place : ℕ) (resume : Option ℕ) → IsReading message start built segment bound place resume → place ≤ length message → len ≡ labels_len built.labels + 1 → IsWalking message start built len segment bound place place resume
+walking_at message start built len segment bound place resume r inside counted = record {
+  pending = [];
+  each = All-nil IsLabel;
+  reading = subst (λ (labels : List (List ℕ)). IsReading message start (domain_name built.fqdn labels) segment bound place resume) (sym (append-nil built.labels)) r;
+  spelled = stands_nothing message place;
+  inside = inside;
+  counted = counted ∙ ap (λ (labels : List (List ℕ)). labels_len labels + 1) (sym (append-nil built.labels));
+}
+
+pub walking_start : (message : List ℕ) (start : ℕ) → start ≤ length message → IsWalking message start (domain_name true []) 1 start (length message) start start None
+walking_start message start within = walking_at message start (domain_name true []) 1 start (length message) start None (reading_start message start within) within refl
+
+-- A label more.
+pub walking_label : (message : List ℕ) (start : ℕ) (built : DomainName) (len segment bound place run : ℕ) (resume : Option ℕ) (next : List ℕ) → IsWalking message start built len segment bound place run resume → place < bound → IsLabel next → Stands message place (length next ∷ next) (place + (1 + length next)) → len + (1 + length next) ≤ 255 → IsWalking message start built (len + (1 + length next)) segment bound (place + (1 + length next)) run resume
+walking_label message start built len segment bound place run resume next w before is there few =
+    let longer : built.labels ++ (w.pending ++ next ∷ []) ≡ (built.labels ++ w.pending) ++ next ∷ [] = sym (append_assoc built.labels w.pending (next ∷ [])) in
+    let size : labels_len (built.labels ++ (w.pending ++ next ∷ [])) ≡ labels_len (built.labels ++ w.pending) + (length next + 1) = ap labels_len longer ∙ sum_by_push (λ label. length label + 1) (built.labels ++ w.pending) next in
+    record {
+      pending = w.pending ++ next ∷ [];
+      each = All-push IsLabel w.pending next w.each is;
+      reading =
+          reading_label message start (domain_name built.fqdn (built.labels ++ w.pending)) (domain_name built.fqdn (built.labels ++ (w.pending ++ next ∷ []))) segment bound place (place + (1 + length next)) resume next w.reading before is there
+          (ap (domain_name built.fqdn) longer) (omega (arith, size, w.counted, few));
+      spelled =
+          subst (λ (octets : List ℕ). Stands message run octets (place + (1 + length next)))
+          (ap (λ (octets : List ℕ). label_octets w.pending ++ octets) (sym (append-nil (length next ∷ next))) ∙ sym (flat_map-append (λ (label : List ℕ). length label ∷ label) w.pending (next ∷ [])))
+          (stands_more message run (label_octets w.pending) place (length next ∷ next) (place + (1 + length next)) w.spelled there);
+      inside = stands_within message place (length next ∷ next) (place + (1 + length next)) (omega arith) there;
+      counted = omega (arith, size, w.counted);
+    }
+
+-- The run's octets are those of its labels.
+pub record HasRun (message : List ℕ) (built : DomainName) (place run : ℕ) (pending : List (List ℕ)) : Type 0 where
+  pub spelled : take (place - run) (drop run message) ≡ label_octets pending
+  pub ordered : run ≤ place
+  pub short : labels_len built.labels + length (take (place - run) (drop run message)) + 1 ≤ 255
+
+pub has_run : (message : List ℕ) (start : ℕ) (built : DomainName) (len segment bound place run : ℕ) (resume : Option ℕ) (w : IsWalking message start built len segment bound place run resume) → HasRun message built place run w.pending
+has_run message start built len segment bound place run resume w =
+    let long : length (label_octets w.pending) ≡ place - run = omega (arith, w.spelled.behind) in
+    let same : take (place - run) (drop run message) ≡ label_octets w.pending = sym (stands_taken message run (label_octets w.pending) place (place - run) long w.spelled) in
+    record {
+      spelled = same;
+      ordered = omega (arith, w.spelled.behind);
+      short = omega (arith, ap length same, length-label_octets w.pending, sum_by-append (λ (label : List ℕ). length label + 1) built.labels w.pending, w.reading.size);
+    }
+
+-- The run joins the name.
+pub walked : (message : List ℕ) (start : ℕ) (built whole : DomainName) (len segment bound place run : ℕ) (resume : Option ℕ) (w : IsWalking message start built len segment bound place run resume) → whole ≡ domain_name built.fqdn (built.labels ++ w.pending) → IsReading message start whole segment bound place resume × (len ≡ labels_len whole.labels + 1)
+walked message start built whole len segment bound place run resume w e = (
+  subst (λ (n : DomainName). IsReading message start n segment bound place resume) (sym e) w.reading,
+  w.counted ∙ ap (λ (n : DomainName). labels_len n.labels + 1) (sym e),
+)
+
+pub walk_refused : (message : List ℕ) (start : ℕ) (built : DomainName) (len segment bound place run : ℕ) (resume : Option ℕ) (e : DecodeError) (w : IsWalking message start built len segment bound place run resume) → IsCause message (built.labels ++ w.pending) segment bound place e → Refuses message start e
+walk_refused message start built len segment bound place run resume e w cause = record {
+  found = built.labels ++ w.pending;
+  segment = segment;
+  bound = bound;
+  place = place;
+  resume = resume;
+  reached = w.reading.reached;
+  cause = cause;
+}
+
+-- A label that makes the name too long.
+pub walk_too_long : (message : List ℕ) (start : ℕ) (built : DomainName) (len segment bound place run : ℕ) (resume : Option ℕ) (next : List ℕ) → IsWalking message start built len segment bound place run resume → place < bound → IsLabel next → Stands message place (length next ∷ next) (place + (1 + length next)) → 255 < len + (1 + length next) → Refuses message start (DomainNameTooLong (len + (1 + length next)))
+walk_too_long message start built len segment bound place run resume next w before is there many =
+    let head = stands_head message place (length next) next (place + (1 + length next)) there in
+    let inside = stands_within message place (length next ∷ next) (place + (1 + length next)) (omega arith) there in
+    walk_refused message start built len segment bound place run resume (DomainNameTooLong (len + (1 + length next))) w (
+      before,
+      omega (arith, head, is.some),
+      omega (arith, head, is.few),
+      omega (arith, head, inside),
+      omega (arith, head, w.counted),
+      many,
+    )

@@ -9,7 +9,7 @@ ghost use Rattle.dnw_decoder.specs.Reading.{IsWantOfMemory};
 ghost use Rattle.dnw_decoder.specs.Refusals.{IsCause, Refuses};
 ghost use Rattle.dnw_decoder.specs.Spelling.{NameAt};
 
-use dnw_name::{DecodeError, Name, NameBuilder};
+use dnw_name::{DecodeError, Name};
 use std::alloc::Global;
 
 // One element of a name: its end, a label, or a pointer to where the rest is.
@@ -113,23 +113,34 @@ pub(crate) fn read_name(
     ensures within { IfOk result (λ found. (start ≤ found.1) × (found.1 ≤ length octets.now)) }
     ensures refused { IfErr result (Refuses octets.now start) }
 {
-    let mut name = NameBuilder::new(alloc, true);
+    let mut name = Name::root(alloc);
     let mut segment = start;
     let mut bound = octets.len();
     let mut place = start;
     let mut resume = None;
+    // Labels that stand one behind the other are copied at once, where their run ends.
+    let mut run = start;
+    let mut len = 1;
     'elements: loop {
         match element_at(octets, segment, bound, place)? {
-            Element::End => return Ok((name.finish(), resume.unwrap_or(place + 1))),
+            Element::End => {
+                name.push_spelled(&octets[run..place])?;
+                return Ok((name, resume.unwrap_or(place + 1)));
+            }
             Element::Label(label) => {
-                name.push_label(label)?;
+                len += 1 + label.len();
+                if len > Name::MAX_LENGTH {
+                    return Err(DecodeError::DomainNameTooLong(len));
+                }
                 place += 1 + label.len();
             }
             Element::Pointer(target) => {
+                name.push_spelled(&octets[run..place])?;
                 resume = Some(resume.unwrap_or(place + 2));
                 bound = segment;
                 segment = target;
                 place = target;
+                run = target;
             }
         }
     }

@@ -2,8 +2,8 @@ pub mod MemberLaws
 pub mod KeptLaws
 pub mod Laws
 pub mod NameLaws
+pub mod NameOctets
 pub mod PlaceLaws
 pub mod RollbackLaws
-pub mod Pieces
 pub mod Written
 pub mod dnw_decoder_lemmas

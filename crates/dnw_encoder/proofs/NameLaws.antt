@@ -13,6 +13,7 @@ use Rattle.dnw_decoder.proofs.Standing.{stands_within, stands_split}
 use Rattle.dnw_encoder.specs.declared.modes.NameEncoding.{NameEncoding}
 use Rattle.dnw_encoder.specs.declared.modes.NameEncoding.TheVariants.{Compressed, Uncompressed, UncompressedLowercase}
 use Rattle.dnw_encoder.specs.State.{State}
+use Rattle.dnw_decoder.specs.dnw_label.Labels.{label_octets}
 use Rattle.dnw_encoder.specs.Effects.{WritesOctets}
 use Rattle.dnw_encoder.proofs.Laws.{puts_stands, holds_map}
 use Rattle.dnw_encoder.specs.Names.{EmitsName, encoded_name, written_name}
@@ -30,6 +31,9 @@ length-pieces (l ∷ ls) = omega (arith, length-append (length l ∷ l) (pieces 
 -- A name takes as many octets as its labels with their lengths, and one for its end.
 pub length-name_octets : (name : DomainName) → length (name_octets name) ≡ labels_len name.labels + 1
 length-name_octets name = omega (arith, length-append (pieces name.labels) (0 ∷ []), length-pieces name.labels)
+
+pub length-octets : (name : DomainName) → length (name_octets name) ≡ length (label_octets name.labels) + 1
+length-octets name = length-append (label_octets name.labels) (0 ∷ [])
 
 len-lower : (labels : List (List ℕ)) → labels_len (map str_to_ascii_lowercase labels) ≡ labels_len labels
 len-lower [] = refl

@@ -1,5 +1,5 @@
 -- Names as an encoder writes them.
-use Rattle.std.specs.Prelude.{◌≡◌, ℕ, ◌+◌, ◌<◌, ◌≤◌, Bool, true, false, List, ◌∷◌, length, map, cond}
+use Rattle.std.specs.Prelude.{◌≡◌, ◌+◌, ◌<◌, ◌≤◌, true, false, length, map, cond}
 use Rattle.std.specs.Str.{str_to_ascii_lowercase}
 use Rattle.dnw_decoder.specs.dnw_name.DomainName.{DomainName, domain_name, name_octets}
 use Rattle.dnw_decoder.specs.Spelling.{NameAt}
@@ -14,10 +14,6 @@ encoded_name encoding name =
 
 abbrev pub written_name : State → DomainName → DomainName
 written_name s name = encoded_name s.encoding name
-
--- A label behind its length, in lower case or as it is.
-abbrev pub label_piece : Bool → List ℕ → List ℕ
-label_piece lower label = length label ∷ cond lower (str_to_ascii_lowercase label) label
 
 -- A name was written: it reads back at its place, in the finished message too, and takes at most
 -- its plain size; where no pointers are written it stands in full; where they are, one of labels

@@ -1,9 +1,10 @@
 -- What texts of labels begin with.
-use Rattle.std.proofs.Common.{◌≡◌, ◌≢◌, ◌≤◌, ◌++◌, ℕ, false, List, [], ◌∷◌, refl, ap, sym, ◌∙◌, subst, arith, length, ◌⊎◌, inl, inr}
+use Rattle.std.proofs.Common.{◌≡◌, ◌≢◌, ◌≤◌, ◌++◌, ℕ, false, List, [], ◌∷◌, refl, ap, sym, ◌∙◌, subst, arith, length, take, drop, All, ◌⊎◌, inl, inr}
 use Rattle.std.proofs.lemmas.Bool.Decides.{nat_tests}
-use Rattle.std.proofs.lemmas.List.{append_assoc, append-nil}
+use Rattle.std.proofs.lemmas.List.{append_assoc, append-nil, take-append-drop}
+use Rattle.std.proofs.lemmas.List.Elements.{All-head, All-tail}
 use Rattle.dnw_label.proofs.EscapeLaws.{octet-same, octet-shorter, no_octet_in_nothing}
-use Rattle.dnw_label.specs.LabelText.{OctetText, at_dot, LabelText, ends, dot, octet, IsTextLabel}
+use Rattle.dnw_label.specs.LabelText.{OctetText, plain, at_dot, LabelText, ends, dot, octet, IsTextLabel}
 
 pub no_dot : (c : ℕ) (rest : List ℕ) → at_dot (c ∷ rest) ≡ false → c ≡ 46 → ⊥
 no_dot c rest none e = absurd (grind (arith, nat_tests))
@@ -36,6 +37,18 @@ so_far-more text octets rest o behind h here first =
           let new = label-step rest o behind old.0 b here first old.2 in
           (new.0, old.1 ∙ ap (λ m. octets ++ m) new.1 ∙ sym (append_assoc octets (o ∷ []) new.0), new.2);
     }
+
+-- Characters that stand for themselves.
+pub so_far-plain : (text octets plain more : List ℕ) → All (λ c. (c ≢ 46) × (c ≢ 92)) plain → LabelSoFar text octets (plain ++ more) → LabelSoFar text (octets ++ plain) more
+so_far-plain text octets [] more all h = subst (λ os. LabelSoFar text os more) (sym (append-nil octets)) h
+so_far-plain text octets (c ∷ cs) more all h =
+    let first = All-head (λ o. (o ≢ 46) × (o ≢ 92)) c cs all in
+    subst (λ os. LabelSoFar text os more) (append_assoc octets (c ∷ []) cs)
+    (so_far-plain text (octets ++ c ∷ []) cs more (All-tail (λ o. (o ≢ 46) × (o ≢ 92)) c cs all)
+    (so_far-more text octets (c ∷ cs ++ more) c (cs ++ more) h (dot_free (c ∷ cs ++ more) (c, cs ++ more, refl, first.0)) (plain c (cs ++ more) first.1)))
+
+pub so_far-run : (text : List ℕ) (n : ℕ) → All (λ c. (c ≢ 46) × (c ≢ 92)) (take n text) → LabelSoFar text (take n text) (drop n text)
+so_far-run text n all = so_far-plain text [] (take n text) (drop n text) all (subst (LabelSoFar text []) (sym (take-append-drop n text)) (so_far-start text))
 
 pub so_far-ends : (text octets : List ℕ) → LabelSoFar text octets [] → LabelText text octets []
 so_far-ends text octets h = subst (λ (all : List ℕ). LabelText text all []) (append-nil octets) (h.sound [] [] ends)

@@ -5,4 +5,5 @@ pub mod LabelHash
 pub mod LabelPrint
 pub mod LabelRefusals
 pub mod LabelText
+pub mod Labels
 pub mod dnw_codes

@@ -1,5 +1,5 @@
 //! One label of a name.
-ghost use Rattle.std.specs.Prelude.{◌≡◌, false, ◌==◌, ◌<◌, length, IfOk, IfErr, IsErrOf, IsErrAnd, OnOk, ◌⊎◌};
+ghost use Rattle.std.specs.Prelude.{◌≡◌, false, ◌==◌, ◌<◌, ◌≤◌, length, fold, IsOk, IfOk, IfErr, IsErrOf, IsErrAnd, OnOk, OnErr, ◌⊎◌};
 ghost use Rattle.std.specs.Cmp.{partial_order_from_own_ties};
 ghost use Rattle.std.specs.Cmp.Lexicographic.{slice_cmp};
 ghost use Rattle.std.specs.Cmp.Rules.{comparing};
@@ -9,6 +9,7 @@ ghost use Rattle.std.proofs.Common.{rules};
 ghost use Rattle.dnw_codes.specs.ProtoError.{IsMemory, IsMessage};
 ghost use Rattle.dnw_codes.specs.declared.error.DecodeError.TheVariants.{LabelBytesTooLong};
 ghost use Rattle.dnw_label.specs.Label.{IsLabel, label_eq, label_cmp, wildcard_label, is_wildcard_label};
+ghost use Rattle.dnw_label.specs.LabelHash.{label_writes};
 ghost use Rattle.dnw_label.specs.LabelRefusals.{RefusesLabel};
 ghost use Rattle.dnw_label.specs.LabelRefusalsLaws.{label_causes, no_causes};
 
@@ -93,32 +94,21 @@ impl Label {
         ensures refused { IsLabel bytes.now → IfErr result IsMemory }
         ensures cause { IfErr result (λ e. IsMemory e ⊎ RefusesLabel bytes.now e) }
     {
-        if bytes.is_empty() {
-            return Err(ProtoError::Message("a label has at least one octet"));
-        }
-        if bytes.len() > 63 {
-            return Err(ProtoError::Decode(DecodeError::LabelBytesTooLong(bytes.len())));
-        }
+        check_len(bytes.len())?;
         match SmallVec::from_slice(alloc, bytes) {
             Ok(octets) => Ok(Label(octets)),
             Err(refused) => Err(ProtoError::Memory(refused)),
         }
     }
 
-    /// The label of these octets, which are 1 to 63.
-    pub fn of_octets(alloc: Global, octets: &[u8]) -> Result<Label, AllocError>
-        requires { IsLabel octets.now }
-        ensures { IfOk result (λ label. label ≡ octets.now) }
+    // The label of these octets, refused as by `from_raw_bytes`.
+    pub(crate) fn of_octets(octets: SmallVec<u8, 24>) -> Result<Label, ProtoError>
+        ensures ok { IfOk result (λ label. (label ≡ octets.items) × IsLabel octets.items) }
+        ensures refused { IsLabel octets.items → IsOk result }
+        ensures cause { IfErr result (RefusesLabel octets.items) }
     {
-        if octets.len() > 8 {
-            return Ok(Label(SmallVec::from_slice(alloc, octets)?));
-        }
-        // So few octets are copied for less one by one than by a call.
-        let mut own = SmallVec::new(alloc);
-        'octets: for i in 0..octets.len() {
-            own.push_reserved(octets[i]);
-        }
-        Ok(Label(own))
+        check_len(octets.len())?;
+        Ok(Label(octets))
     }
 
     /// The octets of the label.
@@ -192,7 +182,24 @@ impl Label {
     }
 }
 
-fn cmp_octets<F: LabelCmp>(l: &[u8], r: &[u8]) -> Ordering
+// Whether a label may have so many octets.
+fn check_len(len: usize) -> Result<(), ProtoError>
+    ensures ok { OnOk result ((0 < len) × (len ≤ 63)) }
+    ensures empty { len ≡ 0 → IsErrAnd result IsMessage }
+    ensures too_long { 63 < len → IsErrOf result (ProtoError.Decode (LabelBytesTooLong len)) }
+    ensures refused { OnErr result ((len ≡ 0) ⊎ (63 < len)) }
+{
+    if len == 0 {
+        return Err(ProtoError::Message("a label has at least one octet"));
+    }
+    if len > 63 {
+        return Err(ProtoError::Decode(DecodeError::LabelBytesTooLong(len)));
+    }
+    Ok(())
+}
+
+/// The order of two labels by an order of octets: the first octets that differ decide, and a prefix comes first.
+pub fn cmp_octets<F: LabelCmp>(l: &[u8], r: &[u8]) -> Ordering
     ensures { result ≡ slice_cmp F.octet_cmp l.now r.now }
 {
     let shared = l.len().min(r.len());
@@ -268,14 +275,21 @@ impl Hash for Label {
     ghost respects_eq = { label_writes-alike };
 
     fn hash<H: Hasher>(&self, state: &mut H) {
-        let octets = self.as_bytes();
-        let mut buffer = [0; 63];
-        let (lower, _) = buffer.split_at_mut(octets.len());
-        lower.copy_from_slice(octets);
-        lower.make_ascii_lowercase();
-        state.write_u8(octets.len() as u8);
-        state.write(lower);
+        hash_octets(self.as_bytes(), state);
     }
+}
+
+/// Feeds a hasher a label, which is 1 to 63 octets: its length, and its octets in lower case.
+pub fn hash_octets<H: Hasher>(label: &[u8], state: &mut H)
+    requires { IsLabel label.now }
+    ensures { state.new ≡ fold H.write state.old (label_writes label.now) }
+{
+    let mut buffer = [0; 63];
+    let (lower, _) = buffer.split_at_mut(label.len());
+    lower.copy_from_slice(label);
+    lower.make_ascii_lowercase();
+    state.write_u8(label.len() as u8);
+    state.write(lower);
 }
 
 /// What can be made a label: octets, a text, a label.

@@ -1,7 +1,7 @@
 //! Labels in texts.
-ghost use Rattle.std.specs.Prelude.{◌≡◌, ◌≢◌, ◌||◌, ◌&&◌, ◌==◌, ◌<◌, ◌∷◌, [], ◌⊎◌, ℕ, List, IfOk, IfErr, MatchBool, true, false};
+ghost use Rattle.std.specs.Prelude.{◌≤◌, All, length, take, ◌≡◌, ◌≢◌, ◌||◌, ◌&&◌, ◌==◌, ◌<◌, ◌∷◌, [], ◌⊎◌, ℕ, List, IfOk, IfErr, OnErr, MatchBool, true, false};
 ghost use Rattle.std.specs.List.{list_all};
-ghost use Rattle.dnw_codes.specs.Ascii.{full_stop};
+ghost use Rattle.dnw_codes.specs.Ascii.{full_stop, backslash};
 ghost use Rattle.dnw_codes.specs.ProtoError.{IsMemory, IsMessage};
 ghost use Rattle.dnw_label.specs.LabelRefusals.{RefusesTextLabel, RefusesLabelText};
 ghost use Rattle.dnw_label.specs.LabelRefusalsLaws.{text_label_causes};
@@ -21,7 +21,8 @@ impl Label {
         ensures refused { IfErr result (λ e. IsMemory e ⊎ (IsTextLabel text.now → ⊥)) }
         ensures cause { IfErr result (λ e. IsMemory e ⊎ RefusesTextLabel text.now e) }
     {
-        text_label(alloc, text.as_bytes())
+        let label = Label::from_raw_bytes(alloc, text.as_bytes())?;
+        check_text(label)
     }
 
     /// The label of a text, which is that of its ASCII form.
@@ -74,20 +75,28 @@ pub fn label_at(alloc: Global, text: &[u8]) -> Result<(Label, &[u8]), ProtoError
     ensures cause { IfErr result (λ e. IsMemory e ⊎ RefusesLabelText text.now e) }
 {
     let (octets, behind) = label_octets(alloc, text)?;
-    match text_label(alloc, octets.as_slice()) {
+    match text_label(octets) {
         Ok(label) => Ok((label, behind)),
         Err(refused) => Err(refused),
     }
 }
 
-// A label of these octets, if a text may have it.
-fn text_label(alloc: Global, octets: &[u8]) -> Result<Label, ProtoError>
-    ensures ok { IfOk result (λ label. (label ≡ octets.now) × IsTextLabel octets.now) }
-    ensures refused { IfErr result (λ e. IsMemory e ⊎ (IsTextLabel octets.now → ⊥)) }
-    ensures cause { IfErr result (λ e. IsMemory e ⊎ RefusesTextLabel octets.now e) }
+// The label of these octets, if a text may have it.
+fn text_label(octets: SmallVec<u8, 24>) -> Result<Label, ProtoError>
+    ensures ok { IfOk result (λ label. (label ≡ octets.items) × IsTextLabel octets.items) }
+    ensures refused { OnErr result (IsTextLabel octets.items → ⊥) }
+    ensures cause { IfErr result (RefusesTextLabel octets.items) }
 {
-    let label = Label::from_raw_bytes(alloc, octets)?;
-    if !is_label_text(octets) {
+    let label = Label::of_octets(octets)?;
+    check_text(label)
+}
+
+// The label, if a text may have it.
+fn check_text(label: Label) -> Result<Label, ProtoError>
+    ensures ok { IfOk result (λ own. (own ≡ label) × (is_label_text label ≡ true)) }
+    ensures refused { IfErr result (λ e. IsMessage e × (is_label_text label ≡ false)) }
+{
+    if !is_label_text(label.as_bytes()) {
         return Err(ProtoError::Message("a label with a character that has no place in it"));
     }
     Ok(label)
@@ -100,8 +109,13 @@ fn label_octets(alloc: Global, text: &[u8]) -> Result<(SmallVec<u8, 24>, &[u8]),
         ⊎ ((label behind : List ℕ) → LabelText text.now label behind → ⊥)) }
     ensures cause { IfErr result (λ e. IsMemory e ⊎ IsMessage e) }
 {
-    let mut octets = SmallVec::new(alloc);
-    let mut rest = text;
+    // Most labels are plain, and copied at once.
+    let (plain, behind_plain) = text.split_at(plain_len(text));
+    let mut octets = match SmallVec::from_slice(alloc, plain) {
+        Ok(octets) => octets,
+        Err(refused) => return Err(ProtoError::Memory(refused)),
+    };
+    let mut rest = behind_plain;
     'octets: while !ends_label(rest) {
         let Some((octet, behind)) = octet_at(rest) else {
             return Err(ProtoError::Message("a backslash that begins no octet"));
@@ -112,6 +126,18 @@ fn label_octets(alloc: Global, text: &[u8]) -> Result<(SmallVec<u8, 24>, &[u8]),
         }
     }
     Ok((octets, rest))
+}
+
+// How many characters a text begins with that stand for themselves: neither a dot nor a backslash.
+fn plain_len(text: &[u8]) -> usize
+    ensures within { result ≤ length text.now }
+    ensures plain { All (λ c. (c ≢ full_stop) × (c ≢ backslash)) (take result text.now) }
+{
+    let mut len = 0;
+    'characters: while len < text.len() && text[len] != b'.' && text[len] != b'\\' {
+        len += 1;
+    }
+    len
 }
 
 // Whether a text is at its end or at a dot.

@@ -13,9 +13,13 @@ mod label;
 mod label_iter;
 mod label_print;
 mod label_text;
+mod labels;
 
 pub use escape::octet_at;
-pub use label::{CaseInsensitive, CaseSensitive, IntoLabel, Label, LabelCmp};
+pub use label::{
+    CaseInsensitive, CaseSensitive, IntoLabel, Label, LabelCmp, cmp_octets, hash_octets,
+};
 pub use label_iter::LabelIter;
 pub use label_print::fmt_label;
 pub use label_text::label_at;
+pub use labels::Labels;

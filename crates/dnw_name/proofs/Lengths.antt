@@ -1,10 +1,15 @@
 -- Lengths of names.
-use Rattle.std.proofs.Common.{◌≡◌, ℕ, ◌≤◌, ◌+◌, List, [], ◌∷◌, ◌++◌, length, refl, arith, map, drop, Bool}
+use Rattle.std.proofs.Common.{◌≡◌, ◌∙◌, ℕ, ◌≤◌, ◌+◌, List, [], ◌∷◌, ◌++◌, All, length, refl, ap, sym, subst, arith, map, drop, Bool}
+use Rattle.std.specs.Prelude.{OnOk, OnErr}
+use Rattle.std.specs.declared.result.Result.{Result}
+use Rattle.std.specs.declared.result.Result.TheVariants.{Ok, Err}
 use Rattle.std.specs.Str.{str_to_ascii_lowercase}
 use Rattle.std.proofs.lemmas.List.{length-map}
 use Rattle.std.proofs.lemmas.List.Elements.{All-drop, All-map, All-cons, All-head, All-tail, All-weaker, All-push, All-append}
 use Rattle.std.proofs.lemmas.List.Sums.{sum_by-cons, sum_by-take-drop, sum_by_push, sum_by-append}
 use Rattle.dnw_net.specs.dnw_label.Label.{IsLabel, wildcard_label}
+use Rattle.dnw_net.specs.dnw_label.Labels.{label_octets}
+use Rattle.dnw_net.proofs.dnw_label_lemmas.LabelsLemmas.{length-label_octets}
 use Rattle.dnw_name.specs.DomainName.{IsDomainName, domain_name, labels_len}
 
 pub labels_len-cons : (label : List ℕ) (labels : List (List ℕ)) → labels_len (label ∷ labels) ≡ length label + 1 + labels_len labels
@@ -84,3 +89,15 @@ IsDomainName-append f g front labels left right fits =
 
 pub IsDomainName-flag : (f g : Bool) (labels : List (List ℕ)) → IsDomainName (domain_name f labels) → IsDomainName (domain_name g labels)
 IsDomainName-flag f g labels name = record { each = name.each; short = name.short }
+
+-- Labels that octets spell, behind those of a name.
+pub IsDomainName-spelt : {E : Type 0} (r : Result (Unit {0}) E) (f : Bool) (old new : List (List ℕ)) (spelled : List ℕ) → (labels : List (List ℕ)) × All IsLabel labels × (spelled ≡ label_octets labels) → labels_len old + length spelled + 1 ≤ 255 → OnOk r ((labels : List (List ℕ)) → All IsLabel labels → spelled ≡ label_octets labels → new ≡ old ++ labels) → OnErr r (new ≡ old) → IsDomainName (domain_name f old) → IsDomainName (domain_name f new)
+IsDomainName-spelt (Ok x) f old new spelled (labels, each, whole) short ok err name =
+    let long : length spelled ≡ labels_len labels = ap length whole ∙ length-label_octets labels in
+    subst (λ ls. IsDomainName (domain_name f ls)) (sym (ok labels each whole))
+    (record {
+      each = All-append IsLabel old labels name.each each;
+      short = omega (arith, sum_by-append (λ l. length l + 1) old labels, long, short);
+    })
+IsDomainName-spelt (Err e) f old new spelled labels short ok err name =
+    subst (λ ls. IsDomainName (domain_name f ls)) (sym err) name

@@ -4,7 +4,7 @@ use lib.Chars.{codes}
 use Rattle.std.specs.Option.{option_map_or}
 use Rattle.std.specs.Bool.{beq}
 use Rattle.std.specs.Cmp.Lexicographic.{slice_cmp, pointwise}
-use Rattle.std.specs.List.{ends_with, flat_map}
+use Rattle.std.specs.List.{ends_with}
 use Rattle.std.specs.Ordering.{on, then_cmp, eq_of_both, bool_cmp}
 use Rattle.std.specs.declared.cmp.Ordering.{Ordering}
 use Rattle.std.specs.Str.{str_to_ascii_lowercase}
@@ -12,6 +12,7 @@ use Rattle.dnw_net.specs.dnw_codes.declared.error.ProtoError.{ProtoError}
 use Rattle.dnw_net.specs.dnw_codes.declared.error.ProtoError.TheVariants.{Decode}
 use Rattle.dnw_net.specs.dnw_codes.declared.error.DecodeError.TheVariants.{DomainNameTooLong}
 use Rattle.dnw_net.specs.dnw_label.Label.{IsLabel, label_eq, label_cmp, is_wildcard_label, wildcard_label}
+use Rattle.dnw_net.specs.dnw_label.Labels.{label_octets}
 
 -- A name: whether it ends at the root, and its labels from the left.
 pub record DomainName : Type 0 where
@@ -33,7 +34,7 @@ pub record IsDomainName (name : DomainName) : Type 0 where
 
 -- RFC 1035 3.1: each label behind its length, then the end.
 abbrev pub name_octets : DomainName → List ℕ
-name_octets name = flat_map (λ label. length label ∷ label) name.labels ++ 0 ∷ []
+name_octets name = label_octets name.labels ++ 0 ∷ []
 
 -- The same flag, and the same labels up to the case of ASCII letters.
 abbrev pub name_eq : DomainName → DomainName → Bool

@@ -5,7 +5,6 @@ ghost use Rattle.dnw_net.specs.dnw_codes.ProtoError.{IsMemory};
 ghost use Rattle.dnw_name.specs.DomainName.{domain_name, IsDomainName, labels_len};
 ghost use Rattle.dnw_name.specs.NameRefusals.{RefusesOctets};
 
-use crate::builder::NameBuilder;
 use crate::name::Name;
 use dnw_net::{DecodeError, IntoLabel, ProtoError};
 use std::alloc::Global;
@@ -27,17 +26,17 @@ impl Name {
             × (L.refuses label e ⊎ (L.accepts label × RefusesOctets (labels_len (map L.octets items) + length (L.octets label) + 2) e)))) }
     {
         let mut left = labels;
-        let mut name = NameBuilder::new(alloc, true);
+        let mut name = Name::root(alloc);
         'labels: for _taken in 0..128u8 {
             let Some(label) = next_of(&mut left) else {
-                return Ok(name.finish());
+                return Ok(name);
             };
             name = match name.append_label(label) {
                 Ok(longer) => longer,
                 Err(refused) => return Err(refused),
             };
         }
-        let octets = name.finish().len() + 1;
+        let octets = name.len() + 1;
         Err(ProtoError::Decode(DecodeError::DomainNameTooLong(octets)))
     }
 }

@@ -9,11 +9,10 @@
 
 pub use dnw_net::{
     CaseInsensitive, CaseSensitive, DNSClass, DecodeError, IntoLabel, IpNet, Label, LabelCmp,
-    LabelIter, PrefixLenError, ProtoError, RecordType, Restrict, octet_at,
+    LabelIter, Labels, PrefixLenError, ProtoError, RecordType, Restrict, octet_at,
 };
 
 mod arpa;
-mod builder;
 mod from_labels;
 mod key;
 mod lower_name;
@@ -23,7 +22,6 @@ mod name_text;
 mod network;
 mod rr_key;
 
-pub use builder::NameBuilder;
 pub use key::{base_key, key_of};
 pub use lower_name::LowerName;
 pub use name::Name;

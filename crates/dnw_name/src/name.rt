@@ -1,17 +1,15 @@
 //! Names.
-ghost use Rattle.std.specs.Prelude.{◌≡◌, ◌+◌, ◌-◌, ◌<◌, ◌&&◌, ◌==◌, ◌∷◌, [], ◌++◌, drop, true, false, length, IfOk, IfErr, IsErrOf, OnOk, ◌⊎◌};
+ghost use Rattle.std.specs.Prelude.{◌≡◌, ◌+◌, ◌-◌, ◌<◌, ◌&&◌, ◌==◌, ◌∷◌, [], ◌++◌, drop, true, false, length, IfOk, IfErr, IsErrOf, OnOk, OnErr, ◌⊎◌, ◌≤◌, ℕ, List, All};
 ghost use Rattle.dnw_net.specs.dnw_codes.ProtoError.{IsMemory};
+ghost use Rattle.dnw_net.specs.dnw_codes.declared.error.DecodeError.TheVariants.{DomainNameTooLong, Memory};
+ghost use Rattle.dnw_net.specs.dnw_label.Label.{IsLabel};
+ghost use Rattle.dnw_net.specs.dnw_label.Labels.{label_octets};
 ghost use Rattle.dnw_name.specs.DomainName.{DomainName, domain_name, IsDomainName, labels_len, num_labels, name_len, too_long, lowercase_name, wildcard_of, is_at_or_below, is_wildcard, localhost};
 ghost use Rattle.dnw_name.specs.NameRefusals.{RefusesOctets};
 
-mod labels;
 mod order;
 
-use crate::builder::NameBuilder;
-use crate::name::labels::{
-    copies_of, labels_behind, lower_all, lower_copies_of, octets_of, push_copies,
-};
-use dnw_net::{DecodeError, IntoLabel, Label, LabelIter, ProtoError};
+use dnw_net::{DecodeError, IntoLabel, Label, LabelIter, Labels, ProtoError};
 use std::alloc::{AllocError, Global};
 use std::marker::Model;
 
@@ -23,7 +21,7 @@ use std::marker::Model;
 #[derive(Drop)]
 pub struct Name {
     is_fqdn: bool,
-    labels: Vec<Label>,
+    labels: Labels,
 }
 
 impl Model for Name {
@@ -31,9 +29,9 @@ impl Model for Name {
 
     ghost Value = { DomainName };
 
-    ghost view = { λ name. domain_name name.is_fqdn name.labels.items };
+    ghost view = { λ name. domain_name name.is_fqdn name.labels };
 
-    ghost invariant = { λ name. IsDomainName (domain_name name.is_fqdn name.labels.items) };
+    ghost invariant = { λ name. IsDomainName (domain_name name.is_fqdn name.labels) };
 }
 
 impl Name {
@@ -46,7 +44,7 @@ impl Name {
     {
         Name {
             is_fqdn: false,
-            labels: Vec::new(alloc),
+            labels: Labels::new(alloc),
         }
     }
 
@@ -56,25 +54,8 @@ impl Name {
     {
         Name {
             is_fqdn: true,
-            labels: Vec::new(alloc),
+            labels: Labels::new(alloc),
         }
-    }
-
-    // The name of these labels.
-    pub(crate) fn of_labels(is_fqdn: bool, labels: Vec<Label>) -> Name
-        requires { IsDomainName (domain_name is_fqdn labels.items) }
-        ensures { result ≡ domain_name is_fqdn labels.items }
-    {
-        Name { is_fqdn, labels }
-    }
-
-    // The name in the making.
-    fn into_builder(self) -> NameBuilder
-        ensures { result ≡ self }
-    {
-        let octets = octets_of(&self.labels);
-        let Name { is_fqdn, labels } = self;
-        NameBuilder::of_labels(is_fqdn, labels, octets)
     }
 
     /// Whether this is the root.
@@ -119,8 +100,16 @@ impl Name {
         if self.labels.is_empty() {
             1
         } else {
-            octets_of(&self.labels)
+            self.labels.as_octets().len()
         }
+    }
+
+    /// The octets of the labels, each behind the one of its length (RFC 1035 3.1), without those of the end.
+    pub fn as_octets(&self) -> &[u8]
+        ensures octets { result.now ≡ label_octets self.now.labels }
+        ensures name { IsDomainName self.now }
+    {
+        self.labels.as_octets()
     }
 
     /// Whether `len` is 0, which it never is.
@@ -134,8 +123,8 @@ impl Name {
     pub fn is_wildcard(&self) -> bool
         ensures { result ≡ is_wildcard self.now }
     {
-        match self.labels.first() {
-            Some(label) => label.is_wildcard(),
+        match self.iter().next() {
+            Some(label) => label == b"*".as_slice(),
             None => false,
         }
     }
@@ -144,8 +133,8 @@ impl Name {
     pub fn is_localhost(&self) -> bool
         ensures { result ≡ is_at_or_below self.now localhost }
     {
-        match self.labels.last() {
-            Some(label) => label.as_bytes().eq_ignore_ascii_case(b"localhost"),
+        match self.iter().next_back() {
+            Some(label) => label.eq_ignore_ascii_case(b"localhost"),
             None => false,
         }
     }
@@ -163,7 +152,7 @@ impl Name {
             ≡ domain_name self.now.fqdn (drop (length self.now.labels - num_labels) self.now.labels)) }
     {
         let start = self.labels.len().saturating_sub(num_labels);
-        let labels = copies_of(*self.labels.allocator(), &self.labels[start..])?;
+        let labels = Labels::of_iter(*self.labels.allocator(), &self.iter().behind(start))?;
         Ok(Name {
             is_fqdn: self.is_fqdn,
             labels,
@@ -174,11 +163,9 @@ impl Name {
     pub fn to_lowercase(&self) -> Result<Name, AllocError>
         ensures { IfOk result (λ name. name ≡ lowercase_name self.now) }
     {
-        let labels = lower_copies_of(*self.labels.allocator(), &self.labels)?;
-        Ok(Name {
-            is_fqdn: self.is_fqdn,
-            labels,
-        })
+        let mut lower = self.clone()?;
+        lower.make_lowercase();
+        Ok(lower)
     }
 
     /// The name with `*` in place of its first label; the root where there is no label.
@@ -186,10 +173,11 @@ impl Name {
         ensures { IfOk result (λ name. name ≡ wildcard_of self) }
     {
         let alloc = *self.labels.allocator();
-        let Some((_, rest)) = self.labels.split_first() else {
+        let mut rest = self.iter();
+        let Some(_) = rest.next() else {
             return Ok(Name::root(alloc));
         };
-        let labels = labels_behind(alloc, Label::wildcard(alloc), rest)?;
+        let labels = labels_behind(alloc, b"*", &rest)?;
         Ok(Name {
             is_fqdn: self.is_fqdn,
             labels,
@@ -208,9 +196,65 @@ impl Name {
         ensures cause { IfErr result (λ e. IsMemory e ⊎ (L.refuses label e
             ⊎ (L.accepts label × RefusesOctets (labels_len self.labels + length (L.octets label) + 2) e))) }
     {
-        match self.into_builder().append_label(label) {
-            Ok(longer) => Ok(longer.finish()),
-            Err(refused) => Err(refused),
+        let label = label.into_label(*self.labels.allocator())?;
+        let mut name = self;
+        name.append(label)?;
+        Ok(name)
+    }
+
+    // Puts a label at the end, refused as by `append_label`; then the name stays as it was.
+    pub(crate) fn append(&mut self, label: Label) -> Result<(), ProtoError>
+        ensures ok { OnOk result (self.new ≡ domain_name self.old.fqdn (self.old.labels ++ label ∷ [])) }
+        ensures name { IsDomainName self.new }
+        ensures refused { IsDomainName (domain_name self.old.fqdn (self.old.labels ++ label ∷ [])) → IfErr result IsMemory }
+        ensures too_long { 255 < labels_len self.old.labels + length label + 2
+            → IsErrOf result (too_long (labels_len self.old.labels + length label + 2)) }
+        ensures cause { IfErr result (λ e. IsMemory e ⊎ RefusesOctets (labels_len self.old.labels + length label + 2) e) }
+    {
+        match self.push_label(label.as_bytes()) {
+            Ok(()) => Ok(()),
+            Err(DecodeError::Memory) => Err(ProtoError::Memory(AllocError)),
+            Err(refused) => Err(ProtoError::Decode(refused)),
+        }
+    }
+
+    /// Puts a label of these octets, which are 1 to 63, at the end. It is refused by `DomainNameTooLong` where the
+    /// name would take more than 255 octets; a name that refuses a label stays as it was.
+    pub fn push_label(&mut self, octets: &[u8]) -> Result<(), DecodeError>
+        requires { IsLabel octets.now }
+        ensures ok { OnOk result (self.new ≡ domain_name self.old.fqdn (self.old.labels ++ octets.now ∷ [])) }
+        ensures name { IsDomainName self.new }
+        ensures err { OnErr result (self.new ≡ self.old) }
+        ensures refused { IsDomainName (domain_name self.old.fqdn (self.old.labels ++ octets.now ∷ []))
+            → IfErr result (λ e. e ≡ Memory) }
+        ensures too_long { 255 < labels_len self.old.labels + length octets.now + 2
+            → IsErrOf result (DomainNameTooLong (labels_len self.old.labels + length octets.now + 2)) }
+        ensures cause { IfErr result (λ e. (e ≡ Memory) ⊎ ((e ≡ DomainNameTooLong (labels_len self.old.labels + length octets.now + 2))
+            × (255 < labels_len self.old.labels + length octets.now + 2))) }
+    {
+        let longer = self.labels.as_octets().len() + octets.len() + 2;
+        if longer > Name::MAX_LENGTH {
+            return Err(DecodeError::DomainNameTooLong(longer));
+        }
+        match self.labels.push(octets) {
+            Ok(()) => Ok(()),
+            Err(_) => Err(DecodeError::Memory),
+        }
+    }
+
+    /// Puts labels at the end that octets spell, each behind the octet of its length (RFC 1035 3.1), and the name
+    /// takes at most 255 octets with them. It is refused by `Memory` alone, and then the name stays as it was.
+    pub fn push_spelled(&mut self, spelled: &[u8]) -> Result<(), DecodeError>
+        requires labels { (labels : List (List ℕ)) × All IsLabel labels × (spelled.now ≡ label_octets labels) }
+        requires short { labels_len self.old.labels + length spelled.now + 1 ≤ 255 }
+        ensures ok { OnOk result ((labels : List (List ℕ)) → All IsLabel labels → spelled.now ≡ label_octets labels
+            → self.new ≡ domain_name self.old.fqdn (self.old.labels ++ labels)) }
+        ensures err { OnErr result (self.new ≡ self.old) }
+        ensures refused { IfErr result (λ e. e ≡ Memory) }
+    {
+        match self.labels.push_spelled(spelled) {
+            Ok(()) => Ok(()),
+            Err(_) => Err(DecodeError::Memory),
         }
     }
 
@@ -226,22 +270,23 @@ impl Name {
             ⊎ (L.accepts label × RefusesOctets (labels_len self.now.labels + length (L.octets label) + 2) e))) }
     {
         let label = label.into_label(*self.labels.allocator())?;
-        self.prepend(label)
+        self.prepend(label.as_bytes())
     }
 
-    // The name with a label more at its front.
-    fn prepend(&self, label: Label) -> Result<Name, ProtoError>
-        ensures ok { IfOk result (λ name. (name ≡ domain_name self.now.fqdn (label ∷ self.now.labels)) × IsDomainName name) }
-        ensures refused { IsDomainName (domain_name self.now.fqdn (label ∷ self.now.labels)) → IfErr result IsMemory }
-        ensures too_long { 255 < labels_len self.now.labels + length label + 2
-            → IsErrOf result (too_long (labels_len self.now.labels + length label + 2)) }
-        ensures cause { IfErr result (λ e. IsMemory e ⊎ RefusesOctets (labels_len self.now.labels + length label + 2) e) }
+    // The name with a label more at its front, which is 1 to 63 octets.
+    fn prepend(&self, label: &[u8]) -> Result<Name, ProtoError>
+        requires { IsLabel label.now }
+        ensures ok { IfOk result (λ name. (name ≡ domain_name self.now.fqdn (label.now ∷ self.now.labels)) × IsDomainName name) }
+        ensures refused { IsDomainName (domain_name self.now.fqdn (label.now ∷ self.now.labels)) → IfErr result IsMemory }
+        ensures too_long { 255 < labels_len self.now.labels + length label.now + 2
+            → IsErrOf result (too_long (labels_len self.now.labels + length label.now + 2)) }
+        ensures cause { IfErr result (λ e. IsMemory e ⊎ RefusesOctets (labels_len self.now.labels + length label.now + 2) e) }
     {
-        let octets = octets_of(&self.labels) + label.len() + 2;
+        let octets = self.labels.as_octets().len() + label.len() + 2;
         if octets > Name::MAX_LENGTH {
             return Err(ProtoError::Decode(DecodeError::DomainNameTooLong(octets)));
         }
-        match labels_behind(*self.labels.allocator(), label, &self.labels) {
+        match labels_behind(*self.labels.allocator(), label, &self.iter()) {
             Ok(labels) => Ok(Name {
                 is_fqdn: self.is_fqdn,
                 labels,
@@ -259,7 +304,7 @@ impl Name {
             → IsErrOf result (too_long (labels_len self.labels + labels_len other.now.labels + 1)) }
         ensures cause { IfErr result (λ e. IsMemory e ⊎ (255 < labels_len self.labels + labels_len other.now.labels + 1)) }
     {
-        let octets = octets_of(&self.labels) + octets_of(&other.labels) + 1;
+        let octets = self.labels.as_octets().len() + other.labels.as_octets().len() + 1;
         if octets > Name::MAX_LENGTH {
             return Err(ProtoError::Decode(DecodeError::DomainNameTooLong(octets)));
         }
@@ -267,7 +312,7 @@ impl Name {
             is_fqdn: _,
             mut labels,
         } = self;
-        match push_copies(&mut labels, &other.labels) {
+        match labels.append(&other.iter()) {
             Ok(()) => Ok(Name {
                 is_fqdn: other.is_fqdn,
                 labels,
@@ -297,7 +342,7 @@ impl Name {
     pub(crate) fn make_lowercase(&mut self)
         ensures { self.new ≡ lowercase_name self.old }
     {
-        lower_all(&mut self.labels);
+        self.labels.make_lowercase();
     }
 
     /// The labels from the left.
@@ -305,7 +350,7 @@ impl Name {
         ensures labels { result ≡ self.now.labels }
         ensures name { IsDomainName self.now }
     {
-        LabelIter::new(&self.labels)
+        self.labels.iter()
     }
 }
 
@@ -327,4 +372,15 @@ impl Clone for Name {
     fn clone(&self) -> Result<Name, AllocError> {
         self.trim_to(self.labels.len())
     }
+}
+
+// A label of these octets, and copies of those behind it.
+fn labels_behind(alloc: Global, first: &[u8], rest: &LabelIter<'_>) -> Result<Labels, AllocError>
+    requires { IsLabel first.now }
+    ensures { IfOk result (λ labels. labels ≡ first.now ∷ rest.now) }
+{
+    let mut labels = Labels::new(alloc);
+    labels.push(first)?;
+    labels.append(rest)?;
+    Ok(labels)
 }

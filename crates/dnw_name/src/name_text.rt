@@ -8,7 +8,6 @@ ghost use Rattle.dnw_name.specs.DomainName.{DomainName, domain_name, IsDomainNam
 ghost use Rattle.dnw_name.specs.NameRefusals.{RefusesNameText, RefusesCompleted, RefusesLabels};
 ghost use Rattle.dnw_name.specs.NameText.{complete_name, LabelsText, NameText};
 
-use crate::builder::NameBuilder;
 use crate::lower_name::LowerName;
 use crate::name::Name;
 use dnw_net::{ProtoError, label_at};
@@ -192,24 +191,24 @@ fn name_of_labels(alloc: Global, text: &[u8]) -> Result<Name, ProtoError>
         ⊎ ((fqdn : Bool) (labels : List (List ℕ)) → LabelsText text.now fqdn labels → IsDomainName (domain_name fqdn labels) → ⊥)) }
     ensures cause { IfErr result (λ e. IsMemory e ⊎ RefusesLabels text.now e) }
 {
-    let mut name = NameBuilder::new(alloc, false);
+    let mut name = Name::new(alloc);
     let mut rest = text;
     'labels: loop {
         let (label, behind) = match label_at(alloc, rest) {
             Ok(found) => found,
             Err(refused) => return Err(refused),
         };
-        name = match name.append(label) {
-            Ok(longer) => longer,
+        match name.append(label) {
+            Ok(()) => {}
             Err(refused) => return Err(refused),
-        };
+        }
         let Some((_, later)) = behind.split_first() else {
-            return Ok(name.finish());
+            return Ok(name);
         };
         if later.is_empty() {
-            let mut name = name.finish();
-            name.set_fqdn(true);
-            return Ok(name);
+            let mut absolute = name;
+            absolute.set_fqdn(true);
+            return Ok(absolute);
         }
         rest = later;
     }

@@ -5,3 +5,4 @@ pub use Rattle.dnw_label.specs.LabelText
 pub use Rattle.dnw_label.specs.LabelHashLaws
 pub use Rattle.dnw_label.specs.LabelRefusals
 pub use Rattle.dnw_label.specs.LabelRefusalsLaws
+pub use Rattle.dnw_label.specs.Labels

@@ -7,7 +7,8 @@
 
 pub use dnw_label::{
     CaseInsensitive, CaseSensitive, DNSClass, DecodeError, IntoLabel, Label, LabelCmp, LabelIter,
-    ProtoError, RecordType, Restrict, fmt_label, label_at, octet_at,
+    Labels, ProtoError, RecordType, Restrict, cmp_octets, fmt_label, hash_octets, label_at,
+    octet_at,
 };
 
 mod net;

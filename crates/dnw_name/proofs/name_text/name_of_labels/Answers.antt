@@ -19,19 +19,19 @@ returns-in-Err-append-clause-refused c =
     c.labels.invariant.0.0 (c.in-Ok.ensures.ok).0 (c.in-Err-append.ensures.cause)
 
 pub returns-in_default-clause-ok : goal.returns-in_default-clause-ok
-returns-in_default-clause-ok c = rw c.finish.ensures.value (
-  name-last c.args.text.now c.labels.name c.in-Ok-append.longer c.labels.rest.now c.in-Ok.found.0 c.in-Ok.found.1.now
-      c.labels.invariant.0 (c.in-Ok.ensures.ok) (c.in-Ok-append.ensures.ok).0
+returns-in_default-clause-ok c = (
+  name-last c.args.text.now c.labels.name c.append.new.self c.labels.rest.now c.in-Ok.found.0 c.in-Ok.found.1.now
+      c.labels.invariant.0 (c.in-Ok.ensures.ok) c.in-Ok-append.ensures.ok
       (c.in_default.ensures.cases),
-  (c.in-Ok-append.ensures.ok).1,
+  c.append.ensures.name,
 )
 
 pub returns-then-is_empty-clause-ok : goal.returns-then-is_empty-clause-ok
 returns-then-is_empty-clause-ok c =
-    let read = name-closed c.args.text.now c.labels.name c.in-Ok-append.longer c.labels.rest.now c.in-Ok.found.0 c.in-Ok.found.1.now
-    c.labels.invariant.0 (c.in-Ok.ensures.ok) (c.in-Ok-append.ensures.ok).0
+    let read = name-closed c.args.text.now c.labels.name c.append.new.self c.labels.rest.now c.in-Ok.found.0 c.in-Ok.found.1.now
+    c.labels.invariant.0 (c.in-Ok.ensures.ok) c.in-Ok-append.ensures.ok
     c.in-Some.field-0-0.now c.in-Some.later.now (c.in-Some.ensures.cases).0 (c.if-is_empty.ensures) in
-    rw (c.set_fqdn.ensures, c.finish-name.ensures.value) (read, IsDomainName-flag c.in-Ok-append.longer.fqdn true c.in-Ok-append.longer.labels (c.in-Ok-append.ensures.ok).1)
+    rw c.set_fqdn.ensures (read, IsDomainName-flag c.append.new.self.fqdn true c.append.new.self.labels c.append.ensures.name)
 
 pub labels-smaller : goal.labels-smaller
 labels-smaller c =
@@ -39,13 +39,13 @@ labels-smaller c =
 
 pub labels-preserved : goal.labels-preserved
 labels-preserved c = (
-  name-more c.args.text.now c.labels.name c.in-Ok-append.longer c.labels.rest.now c.in-Ok.found.0 c.in-Ok.found.1.now
-      c.labels.invariant.0 (c.in-Ok.ensures.ok) (c.in-Ok-append.ensures.ok).0
+  name-more c.args.text.now c.labels.name c.append.new.self c.labels.rest.now c.in-Ok.found.0 c.in-Ok.found.1.now
+      c.labels.invariant.0 (c.in-Ok.ensures.ok) c.in-Ok-append.ensures.ok
       c.in-Some.field-0-0.now c.in-Some.later.now (c.in-Some.ensures.cases).0 (sym c.is_empty.ensures ∙ c.if-is_empty.false),
-  front-name c.args.text.now c.labels.name c.in-Ok-append.longer c.labels.rest.now c.in-Ok.found.0 c.in-Ok.found.1.now
-      c.in-Some.field-0-0.now c.in-Some.later.now c.labels.invariant.1 (c.in-Ok.ensures.ok) (c.in-Ok-append.ensures.ok).0
+  front-name c.args.text.now c.labels.name c.append.new.self c.labels.rest.now c.in-Ok.found.0 c.in-Ok.found.1.now
+      c.in-Some.field-0-0.now c.in-Some.later.now c.labels.invariant.1 (c.in-Ok.ensures.ok) c.in-Ok-append.ensures.ok
       (c.in-Some.ensures.cases).0 (sym c.is_empty.ensures ∙ c.if-is_empty.false),
-  (c.in-Ok-append.ensures.ok).1.short,
+  c.append.ensures.name.short,
 )
 
 pub returns-in-Err-clause-cause : goal.returns-in-Err-clause-cause

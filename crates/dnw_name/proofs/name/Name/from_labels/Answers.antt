@@ -1,12 +1,11 @@
-use Rattle.std.proofs.Common.{subst, ◌∙◌, arith}
-use Rattle.dnw_name.specs.DomainName.{IsDomainName}
+use Rattle.std.proofs.Common.{arith}
 use Rattle.dnw_name.proofs.Taken.{taken-start, taken-more, taken-done, taken-refused, taken-cause, taken-too_many}
 use Rattle.dnw_name.proofs.name.Name.from_labels.Goals as goal
 
 pub labels-init : goal.labels-init
 labels-init g c =
     taken-start g.I.Iterator.next_gives g.I.Iterator.can_next g.L.IntoLabel.octets g.L.IntoLabel.accepts
-    c.args.labels c.new-name.result c.requires c.new-name.ensures
+    c.args.labels c.root-name.result c.requires c.root-name.ensures
 
 pub next_of-requires : goal.next_of-requires
 next_of-requires g c = c.labels.invariant.ready
@@ -16,7 +15,7 @@ returns-in_default-clause-ok g c =
     let taken =
     taken-done g.I.Iterator.next_gives g.I.Iterator.can_next g.L.IntoLabel.octets g.L.IntoLabel.accepts
     c.args.labels c.labels.left c.next_of.new.items c.labels.name c.labels._taken c.labels.invariant c.in_default.ensures.steps in
-    (taken.0, taken.1, c.finish.ensures.value ∙ taken.2, taken.3)
+    (taken.0, taken.1, taken.2, taken.3)
 
 pub returns-in-Err-clause-refused : goal.returns-in-Err-clause-refused
 returns-in-Err-clause-refused g c =
@@ -33,7 +32,7 @@ labels-preserved g c =
 pub returns-clause-refused : goal.returns-clause-refused
 returns-clause-refused g c =
     absurd (taken-too_many g.I.Iterator.next_gives g.I.Iterator.can_next g.L.IntoLabel.octets g.L.IntoLabel.accepts
-    c.args.labels c.labels.left c.labels.name c.labels._taken c.labels.invariant (subst IsDomainName c.finish-2.ensures.value c.finish-2.ensures.name) (omega arith))
+    c.args.labels c.labels.left c.labels.name c.labels._taken c.labels.invariant c.len-octets.ensures.name (omega arith))
 
 pub returns-in-Err-clause-cause : goal.returns-in-Err-clause-cause
 returns-in-Err-clause-cause g c =
@@ -44,4 +43,4 @@ returns-in-Err-clause-cause g c =
 pub returns-clause-cause : goal.returns-clause-cause
 returns-clause-cause g c =
     absurd (taken-too_many g.I.Iterator.next_gives g.I.Iterator.can_next g.L.IntoLabel.octets g.L.IntoLabel.accepts
-    c.args.labels c.labels.left c.labels.name c.labels._taken c.labels.invariant (subst IsDomainName c.finish-2.ensures.value c.finish-2.ensures.name) (omega arith))
+    c.args.labels c.labels.left c.labels.name c.labels._taken c.labels.invariant c.len-octets.ensures.name (omega arith))

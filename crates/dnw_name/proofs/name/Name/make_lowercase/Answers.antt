@@ -3,4 +3,4 @@ use Rattle.dnw_name.proofs.name.Name.make_lowercase.Goals as goal
 
 pub invariant_of-self : goal.invariant_of-self
 invariant_of-self c =
-    rw c.lower_all.ensures (IsDomainName-lower c.self.inside.is_fqdn c.self.inside.labels.items c.self.invariant)
+    rw c.make_lowercase.ensures (IsDomainName-lower c.self.inside.is_fqdn c.self.inside.labels c.self.invariant)

@@ -1,4 +1,4 @@
-use Rattle.std.proofs.Common.{◌≡◌, ◌<◌, ◌∙◌, sym, false, length, ap, subst, ℕ}
+use Rattle.std.proofs.Common.{◌≡◌, ◌<◌, ◌∙◌, inl, inr, sym, false, length, ap, subst, ℕ}
 use Rattle.dnw_net.specs.dnw_codes.ProtoError.{IsMemory}
 use Rattle.std.proofs.Common.{rules, arith}
 use Rattle.std.proofs.lemmas.Grind.{common_steps}
@@ -48,3 +48,6 @@ returns-in_default-clause-stands c =
       | in_default-via-in_default w ↦ first_of (search rules, grind (arith, common_steps))
     ] in
     completed-not (option_copied c.args.origin) c.args.local.now c.in-Ok.name (c.in-Ok.ensures.ok) same
+
+pub returns-in-Err-clause-refused : goal.returns-in-Err-clause-refused
+returns-in-Err-clause-refused c = elim c.in-Err.ensures.refused [ inl m ↦ inl m | inr none ↦ inr (λ read text whole. none read text) ]

@@ -5,5 +5,5 @@ use Rattle.dnw_name.proofs.name.Name.trim_to.Goals as goal
 
 pub invariant_of-result : goal.invariant_of-result
 invariant_of-result c =
-    let last : c.in_ok-labels.labels.items ≡ drop c.saturating_sub-start.result c.self.inside.labels.items = grind (arith, common_steps) in
-    rw last (IsDomainName-drop c.self.inside.is_fqdn c.self.inside.labels.items c.saturating_sub-start.result c.self.invariant)
+    let last : c.in_ok-labels.labels ≡ drop c.saturating_sub-start.result c.self.inside.labels = grind (arith, common_steps) in
+    rw last (IsDomainName-drop c.self.inside.is_fqdn c.self.inside.labels c.saturating_sub-start.result c.self.invariant)
