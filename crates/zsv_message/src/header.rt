@@ -213,19 +213,20 @@ impl Metadata {
 }
 
 impl Header {
-    /// The header at the decoder's index, which moves behind it.
+    /// The header at the decoder's index, which moves behind it. Where the message is cut, the decoder stays.
     pub fn read(decoder: &mut BinDecoder<'_>) -> Result<Header, DecodeError>
         ensures header { IfOk result (λ header. HeaderAt decoder.old.octets decoder.old.index header decoder.new.index) }
         ensures same { decoder.new.octets ≡ decoder.old.octets }
+        ensures err { OnErr result (decoder.new ≡ decoder.old) }
         ensures cut { IfErr result (IsCut 12 decoder.old.octets decoder.old.index) }
     {
-        let id = decoder.read_u16()?.unverified();
-        let high = decoder.read_u8()?.unverified();
-        let low = decoder.read_u8()?.unverified();
-        let queries = decoder.read_u16()?.unverified();
-        let answers = decoder.read_u16()?.unverified();
-        let authorities = decoder.read_u16()?.unverified();
-        let additionals = decoder.read_u16()?.unverified();
+        let octets = decoder.read_slice(12)?.unverified();
+        let id = u16::from_be_bytes([octets[0], octets[1]]);
+        let (high, low) = (octets[2], octets[3]);
+        let queries = u16::from_be_bytes([octets[4], octets[5]]);
+        let answers = u16::from_be_bytes([octets[6], octets[7]]);
+        let authorities = u16::from_be_bytes([octets[8], octets[9]]);
+        let additionals = u16::from_be_bytes([octets[10], octets[11]]);
         Ok(Header {
             metadata: Metadata::from_flags(id, high, low),
             counts: HeaderCounts {
