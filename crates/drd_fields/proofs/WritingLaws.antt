@@ -1,12 +1,12 @@
 -- Laws of writing: what puts octets emits their field, fields go one behind the other, and a mode may change between.
-use Rattle.std.proofs.Common.{◌≡◌, ℕ, ◌+◌, ◌≤◌, inl, inr, List, [], ◌∷◌, ◌++◌, length, take, drop, refl, sym, ap, subst, ◌∙◌, arith, append_assoc, append-nil, ◌⊎◌}
+use Rattle.std.proofs.Common.{◌≡◌, ℕ, ◌+◌, ◌≤◌, inl, inr, List, [], ◌∷◌, ◌++◌, length, map, take, drop, refl, sym, ap, subst, ◌∙◌, arith, append_assoc, append-nil, ◌⊎◌}
 use Rattle.std.proofs.Math.Nat.{eq-or-lt_of_le}
 use Rattle.std.proofs.lemmas.List.{length-take, length-append, drop-drop, take_at, drop_at, take-append-drop}
 use Rattle.std.specs.Prelude.{Result, Ok, Err, OnOk, OnErr, IfErr}
 use Rattle.dnw_encoder.specs.dnw_codes.declared.error.ProtoError.{ProtoError}
 use Rattle.dnw_encoder.specs.dnw_codes.declared.error.ProtoError.TheVariants.{MaxBufferSizeExceeded}
 use Rattle.dnw_encoder.specs.dnw_decoder.Octets.{Stands, octets_16, octets_32}
-use Rattle.dnw_encoder.proofs.dnw_decoder_lemmas.Standing.{length-octets_32}
+use Rattle.dnw_encoder.proofs.dnw_decoder_lemmas.Standing.{length-octets_32, stands_split}
 use Rattle.dnw_encoder.specs.dnw_name.DomainName.{DomainName}
 use Rattle.dnw_encoder.specs.Effects.{Sound, StaysTrue, Writes, SameModes, WritesOctets, written_at, IsRefusal}
 use Rattle.dnw_encoder.proofs.Laws.{holds_map, holds_written, holds_more, modes_then, puts_stands}
@@ -120,6 +120,26 @@ emits_one f old new e = record {
   size = omega (arith, e.size, length-append (field_octets f) []);
   exact = λ plain. subst (λ (o : List ℕ). WritesOctets o old new) (sym (append-nil (field_octets (encoded_field old.encoding f)))) (e.exact plain);
   candidates = omega (arith, e.candidates);
+}
+
+-- Numbers that stand one behind the other are their fields.
+longs_stand : (ns : List ℕ) (m : NameEncoding) (message : List ℕ) (place end : ℕ) → Stands message place (fields_octets (map long ns)) end → FieldsAt message place (encoded_fields m (map long ns)) end
+longs_stand [] m message place end s = omega (arith, s.behind)
+longs_stand (n ∷ ns) m message place end s =
+    let split = stands_split message place (octets_32 n) (fields_octets (map long ns)) end s in
+    (_, split.0, longs_stand ns m message _ end split.1)
+
+longs_encoded : (ns : List ℕ) (m : NameEncoding) → encoded_fields m (map long ns) ≡ map long ns
+longs_encoded [] m = refl
+longs_encoded (n ∷ ns) m = ap (λ (fs : List Field). long n ∷ fs) (longs_encoded ns m)
+
+-- Numbers that are put at once are written one behind the other.
+pub puts_longs : (ns : List ℕ) (old new : State) → WritesOctets (fields_octets (map long ns)) old new → EmitsFields (map long ns) old new
+puts_longs ns old new p = record {
+  stays = λ sound. holds_map new.offset new _ (λ message. FieldsAt message old.offset (encoded_fields old.encoding (map long ns)) new.offset) (λ message. longs_stand ns old.encoding message old.offset new.offset) (puts_stands (fields_octets (map long ns)) old new sound p);
+  size = omega (arith, p.offset);
+  exact = λ plain. subst (λ (fs : List Field). WritesOctets (fields_octets fs) old new) (sym (longs_encoded ns old.encoding)) p;
+  candidates = omega (arith, ap length p.candidates);
 }
 
 -- A refusal of what is behind is one of the whole.

@@ -4,7 +4,7 @@ ghost use Rattle.std.specs.Int.{w32, cast_unsigned};
 ghost use Rattle.dnw_encoder.specs.Encoders.{state};
 ghost use Rattle.dnw_encoder.specs.Effects.{Writes, IsRefusal};
 ghost use Rattle.drd_fields.specs.Fields.{octet, short, long, name, string, strings, rest};
-ghost use Rattle.drd_fields.specs.Writing.{EmitsData, EmitsField, EndsWithin, RefusesFields, SomeTooLong, string_octets};
+ghost use Rattle.drd_fields.specs.Writing.{EmitsData, EmitsField, EndsWithin, RefusesFields, SomeTooLong, fields_octets, string_octets};
 
 use dnw_encoder::{BinEncodable, BinEncoder, Name, ProtoError, RDataEncoding};
 
@@ -128,6 +128,29 @@ impl<A: DataField, B: DataFields> DataFields for (A, B) {
         let _start = encoder.offset();
         self.0.emit_field(encoder)?;
         self.1.emit_fields(encoder)
+    }
+}
+
+// The octets of five numbers, one behind the other.
+fn octets_of_five(a: u32, b: u32, c: u32, d: u32, e: u32) -> [u8; 20]
+    ensures { result ≡ fields_octets (long a ∷ long b ∷ long c ∷ long d ∷ long e ∷ []) }
+{
+    let [a0, a1, a2, a3] = a.to_be_bytes();
+    let [b0, b1, b2, b3] = b.to_be_bytes();
+    let [c0, c1, c2, c3] = c.to_be_bytes();
+    let [d0, d1, d2, d3] = d.to_be_bytes();
+    let [e0, e1, e2, e3] = e.to_be_bytes();
+    [
+        a0, a1, a2, a3, b0, b1, b2, b3, c0, c1, c2, c3, d0, d1, d2, d3, e0, e1, e2, e3,
+    ]
+}
+
+impl DataFields for (u32, u32, u32, u32, u32) {
+    ghost fields = { λ numbers. long numbers.0 ∷ long numbers.1 ∷ long numbers.2 ∷ long numbers.3 ∷ long numbers.4 ∷ [] };
+
+    /// Writes the five numbers at once.
+    fn emit_fields(&self, encoder: &mut BinEncoder<'_>) -> Result<(), ProtoError> {
+        encoder.emit_vec(&octets_of_five(self.0, self.1, self.2, self.3, self.4))
     }
 }
 

@@ -157,11 +157,14 @@ impl BinEncodable for SOA {
     ghost refuses = { λ soa old e new. RefusesFields (soa_fields soa) old e };
 
     fn emit(&self, encoder: &mut BinEncoder<'_>) -> Result<(), ProtoError> {
-        let times = (
-            self.refresh,
-            (self.retry, (self.expire, (self.minimum, ()))),
+        let numbers = (
+            self.serial,
+            self.refresh.cast_unsigned(),
+            self.retry.cast_unsigned(),
+            self.expire.cast_unsigned(),
+            self.minimum,
         );
-        let fields = (&self.mname, (&self.rname, (self.serial, times)));
+        let fields = (&self.mname, (&self.rname, numbers));
         emit_three(encoder, RDataEncoding::StandardRecord, &fields)
     }
 }
