@@ -93,8 +93,8 @@ pub record IsRRset (set : RRset) : Type 0 where
   pub not_empty : 0 < length set.records
   pub records : AllByRecursion (IsRecordOf (owner_of set) set.record_type) set.records
 
--- Records with one more: in place of the one with equal data, else behind them. A record is replaced
--- whole, with the case of its owner's letters.
+-- Records with one more: in place of the one with equal data, else behind them. A record is
+-- replaced whole, with the case of its owner's letters.
 abbrev pub put_record : List Record → Record → List Record
 put_record [] r = r ∷ []
 put_record (s ∷ ss) r = if rdata_eq s.rdata r.rdata then r ∷ ss else s ∷ put_record ss r

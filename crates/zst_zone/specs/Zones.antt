@@ -25,7 +25,8 @@ rrset_at sets name record_type =
 abbrev pub exists_in : List RRset → DomainName → Bool
 exists_in sets name = list_any (λ set. is_at_or_below (owner_of set) name) sets
 
--- The order of sets: by owner in canonical order (RFC 4034, section 6.1), then by the type's number.
+-- The order of sets: by owner in canonical order (RFC 4034, section 6.1), then by the type's
+-- number.
 abbrev pub set_cmp : RRset → RRset → Ordering
 set_cmp =
     then_cmp (on owner_of name_cmp) (on (λ set. record_type_number set.record_type) nat_cmp)

@@ -106,7 +106,7 @@ impl<K> InMemoryZoneHandler<K> {
     pub fn apex(&self, record_type: RecordType) -> Option<&RecordSet>
         ensures { option_copied result ≡ rrset_at self.now.sets self.now.origin record_type }
     {
-        self.sets.get(&self.origin_key, record_type)
+        self.sets.get_first(&self.origin_key, record_type)
     }
 
     /// Whether the name of a key, which ends at the root, is at or below the origin.

@@ -69,6 +69,17 @@ impl ZoneMap {
         }
     }
 
+    /// The set of a type at the name of a key, as `get` finds it. Where this is the first of all keys, as the origin's
+    /// is among those of its zone, the map is not searched.
+    pub fn get_first(&self, key: &[u8], record_type: RecordType) -> Option<&RecordSet>
+        ensures { (name : DomainName) → key.now ≡ name_key name → option_copied result ≡ rrset_at self.now name record_type }
+    {
+        match self.nodes.first_key_value() {
+            Some((owner, sets)) if owner.as_slice() == key => find_set(sets, record_type),
+            _ => self.get(key, record_type),
+        }
+    }
+
     /// The set of a type at the name of a key, which ends at the root; else whether the name exists: whether an owner
     /// equals it or lies below it (RFC 4592 section 2.2.2). The first key that is not before this one tells both.
     pub fn find(&self, key: &Vec<u8>, record_type: RecordType) -> Found<'_>

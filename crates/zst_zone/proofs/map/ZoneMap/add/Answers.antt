@@ -1,4 +1,4 @@
-use Rattle.std.proofs.Common.{◌≡◌, ◌∙◌, refl, sym, ap, subst, rules}
+use Rattle.std.proofs.Common.{◌∙◌, refl, sym, ap, subst, rules}
 use Rattle.std.specs.Prelude.{List, Result, Ok, Err, OnOk, OnErr, Some, None}
 use Rattle.std.specs.BTreeMap.{BTreeMap}
 use Rattle.std.specs.Map.{keys_of}
