@@ -134,8 +134,8 @@ fn read_words(alloc: Global, words: &[String]) -> Result<Command, Fault>
 {
     match words {
         [origin, _, now] => {
-            let origin = or_usage(parse_owner(alloc, origin.as_bytes()))?;
             let now = or_usage(parse_u64(now.as_bytes()))?;
+            let origin = or_usage(parse_owner(alloc, origin.as_bytes()))?;
             Ok(Command { origin, now })
         }
         _ => Err(Fault::Words),

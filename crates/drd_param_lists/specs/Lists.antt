@@ -1,4 +1,4 @@
--- Lists of keys and of protocols (RFC 9460 7.1, 8), why octets are none, and why one is not written.
+-- Lists of keys and protocols (RFC 9460 7.1, 8), why octets are none, and why one isn't written.
 use Rattle.std.specs.Prelude.{ℕ, ◌≡◌, ◌<◌, List, length, All, String}
 use Rattle.std.proofs.Common.{◌⊎◌}
 use Rattle.std.specs.List.{Contains, flat_map}
@@ -41,7 +41,8 @@ NoKeys octets e =
 abbrev pub NoProtocols : List ℕ → DecodeError → Type 0
 NoProtocols octets e =
     RefusesProtocols octets e
-    × ((texts : List (String Global)) → AreProtocols texts → flat_map text_octets texts ≡ octets → ⊥)
+    × ((texts : List (String Global)) → AreProtocols texts
+    → flat_map text_octets texts ≡ octets → ⊥)
 
 -- A protocol has more than 255 octets, and this one so many.
 abbrev pub HasLongProtocol : List (String Global) → ProtoError → Type 0
