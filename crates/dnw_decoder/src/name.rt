@@ -1,8 +1,9 @@
 //! Names as they are spelled in a message (RFC 1035 4.1.4).
-ghost use Rattle.std.specs.Prelude.{◌≡◌, ◌+◌, ◌-◌, ◌<◌, ◌≤◌, ◌∷◌, [], ◌++◌, ◌⊎◌, ℕ, List, length, get_or, IfOk, IfErr};
-ghost use Rattle.dnw_name.specs.dnw_codes.declared.error.DecodeError.TheVariants.{DomainNameTooLong};
+ghost use Rattle.std.specs.Prelude.{◌≡◌, ◌+◌, ◌-◌, ◌<◌, ◌≤◌, ◌∷◌, [], ◌++◌, ◌⊎◌, ℕ, List, length, get_or, All, IfOk, IfErr, OnOk};
+ghost use Rattle.dnw_name.specs.dnw_codes.declared.error.DecodeError.TheVariants.{DomainNameTooLong, Memory};
 ghost use Rattle.dnw_name.specs.DomainName.{domain_name, labels_len, IsDomainName};
 ghost use Rattle.dnw_name.specs.dnw_label.Label.{IsLabel};
+ghost use Rattle.dnw_name.specs.dnw_label.Labels.{label_octets};
 ghost use Rattle.dnw_decoder.specs.Elements.{ElementAt};
 ghost use Rattle.dnw_decoder.specs.Octets.{Stands};
 ghost use Rattle.dnw_decoder.specs.Reading.{IsWantOfMemory};
@@ -102,6 +103,20 @@ fn pointer_at<'a>(
     Ok(Element::Pointer(usize::from(target)))
 }
 
+// Puts the labels of a run at the end of a name. A run without labels, as between two pointers, costs nothing.
+fn push_run(name: &mut Name, spelled: &[u8]) -> Result<(), DecodeError>
+    requires labels { (labels : List (List ℕ)) × All IsLabel labels × (spelled.now ≡ label_octets labels) }
+    requires short { labels_len name.old.labels + length spelled.now + 1 ≤ 255 }
+    ensures ok { OnOk result ((labels : List (List ℕ)) → All IsLabel labels → spelled.now ≡ label_octets labels
+        → name.new ≡ domain_name name.old.fqdn (name.old.labels ++ labels)) }
+    ensures refused { IfErr result (λ e. e ≡ Memory) }
+{
+    if spelled.is_empty() {
+        return Ok(());
+    }
+    name.push_spelled(spelled)
+}
+
 /// The name that is spelled from a start on, and the index behind it.
 pub(crate) fn read_name(
     alloc: Global,
@@ -124,7 +139,7 @@ pub(crate) fn read_name(
     'elements: loop {
         match element_at(octets, segment, bound, place)? {
             Element::End => {
-                name.push_spelled(&octets[run..place])?;
+                push_run(&mut name, &octets[run..place])?;
                 return Ok((name, resume.unwrap_or(place + 1)));
             }
             Element::Label(label) => {
@@ -135,7 +150,7 @@ pub(crate) fn read_name(
                 place += 1 + label.len();
             }
             Element::Pointer(target) => {
-                name.push_spelled(&octets[run..place])?;
+                push_run(&mut name, &octets[run..place])?;
                 resume = Some(resume.unwrap_or(place + 2));
                 bound = segment;
                 segment = target;

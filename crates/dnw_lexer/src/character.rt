@@ -1,10 +1,11 @@
 //! Characters of a text.
-ghost use Rattle.std.specs.Prelude.{◌≡◌, ◌∷◌, ◌++◌, [], MatchOption, OnOk, IfErr, IfSome, IsUtf8, chars};
+ghost use Rattle.std.specs.Prelude.{◌≡◌, ◌∷◌, ◌++◌, [], MatchOption, OnOk, IfOk, IfErr, IfSome, IsUtf8, chars};
 ghost use Rattle.std.specs.Str.{encode_utf8_all};
 ghost use Rattle.dnw_codes.specs.declared.error.LexerError.TheVariants.{Memory};
 ghost use Rattle.std.specs.String.{string_bytes};
 
 use dnw_codes::LexerError;
+use std::alloc::Global;
 
 /// The first character of a text, and what stands behind it.
 pub fn split_char(text: &str) -> Option<(char, &str)>
@@ -14,6 +15,17 @@ pub fn split_char(text: &str) -> Option<(char, &str)>
     let mut characters = text.chars();
     let first = characters.next()?;
     Some((first, characters.as_str()))
+}
+
+/// A word without characters yet, with room for the most that zone files have.
+pub fn new_word(alloc: Global) -> Result<String, LexerError>
+    ensures empty { IfOk result (λ word. string_bytes word ≡ []) }
+    ensures refused { IfErr result (λ e. e ≡ Memory) }
+{
+    match String::with_capacity(alloc, 16) {
+        Ok(word) => Ok(word),
+        Err(_) => Err(LexerError::Memory),
+    }
 }
 
 /// Puts a character at a word's end.

@@ -6,7 +6,7 @@ ghost use Rattle.dnw_codes.specs.declared.error.LexerError.TheVariants.{Memory, 
 ghost use Rattle.dnw_codes.specs.Ascii.{backslash, close_parenthesis, is_octal};
 ghost use Rattle.dnw_lexer.specs.Lexer.{PlainText, StringText, ends_word, plain_character, escape, octal_at};
 
-use crate::character::{push, split_char};
+use crate::character::{new_word, push, split_char};
 use crate::gap::{at_line_end, is_blank};
 use dnw_codes::LexerError;
 use std::alloc::Global;
@@ -22,7 +22,7 @@ pub fn plain_word<'a>(
     ensures text { IfOk result (λ found. IsUtf8 found.1.now) }
     ensures err { IfErr result (λ e. (e ≡ Memory) ⊎ PlainText inside (chars text.now) (Err e)) }
 {
-    let mut word = String::new(alloc);
+    let mut word = new_word(alloc)?;
     let mut rest = text;
     'characters: while let Some((c, behind)) = split_char(rest) {
         if ends_word(inside, c, behind) {
@@ -90,7 +90,7 @@ pub fn quoted_string<'a>(alloc: Global, text: &'a str) -> Result<(String, &'a st
     ensures text { IfOk result (λ found. IsUtf8 found.1.now) }
     ensures err { IfErr result (λ e. (e ≡ Memory) ⊎ StringText (chars text.now) (Err e)) }
 {
-    let mut word = String::new(alloc);
+    let mut word = new_word(alloc)?;
     let mut rest = text;
     'characters: while let Some((c, behind)) = split_char(rest) {
         if c == '"' {
