@@ -12,8 +12,8 @@ use Rattle.authority.specs.declared.program.Fault.{Fault}
 use Rattle.authority.specs.declared.program.Fault.TheVariants as faults
 use Rattle.authority_server.specs.declared.stream.StreamError.{StreamError}
 use Rattle.authority_server.specs.declared.stream.StreamError.TheVariants as streams
-use Rattle.authority_load.specs.zst_zone.declared.settings.ZoneType.TheVariants as kinds
-use Rattle.authority_load.specs.zst_zone.declared.settings.AxfrPolicy.TheVariants as policies
+use Rattle.authority_load.specs.zst_zone.zst_codes.declared.settings.ZoneType.TheVariants as kinds
+use Rattle.authority_load.specs.zst_zone.zst_codes.declared.settings.AxfrPolicy.TheVariants as policies
 use Rattle.authority_server.specs.dnw_name.DomainName.{DomainName}
 use Rattle.authority_load.specs.zst_zone.Zones.{View}
 use Rattle.authority_load.specs.ZoneText.{IsOwnerText, IsNumberText, IsZoneText, IsLoadFault}

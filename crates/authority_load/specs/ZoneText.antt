@@ -6,7 +6,7 @@ use Rattle.std.specs.Str.{str_eq_ignore_ascii_case}
 use Rattle.std.specs.Str.Lines.{lines}
 use Rattle.std.specs.Bool.{MatchBool}
 use Rattle.std.specs.Net.Grammar.{IsNumber}
-use Rattle.zst_zone.specs.dnw_codes.Ascii.{semicolon, is_blank}
+use Rattle.dnw_codes.specs.Ascii.{semicolon, is_blank}
 use Rattle.zst_zone.specs.dnw_codes.declared.record_type.RecordType.{RecordType}
 use Rattle.zst_zone.specs.dnw_codes.declared.record_type.RecordType.TheVariants as types
 use Rattle.zst_zone.specs.dnw_codes.declared.dns_class.DNSClass.TheVariants as classes

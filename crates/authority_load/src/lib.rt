@@ -6,7 +6,7 @@
 
 pub use zst_zone::{
     AxfrPolicy, InMemoryZoneHandler, Lookup, LowerName, NxProofKind, ProtoError, RrKey, Salt,
-    ZoneSettings, ZoneType, key_of,
+    ZoneSettings, ZoneType,
 };
 
 mod line;

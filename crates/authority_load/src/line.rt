@@ -1,9 +1,8 @@
 //! The record of a line.
 
-ghost use Rattle.std.specs.Prelude.{◌≡◌, ◌<◌, ◌∷◌, length, IfOk, MatchOption, true, is_some};
+ghost use Rattle.std.specs.Prelude.{◌≡◌, ◌<◌, ◌∷◌, ◌⊎◌, length, IfOk, MatchOption, false, true, is_some};
 ghost use Rattle.zst_zone.specs.dnw_codes.declared.record_type.RecordType.TheVariants as types;
-ghost use Rattle.zst_zone.specs.dnw_name.DomainName.{DomainName};
-ghost use Rattle.zst_zone.specs.dnw_name.NameKey.{name_key};
+ghost use Rattle.zst_zone.specs.dnw_name.DomainName.{lowercase_name};
 ghost use Rattle.zst_zone.specs.Zones.{rrset_at};
 ghost use Rattle.authority_load.specs.ZoneText.{data_text, has_full_names, words_of, type_of_text, is_internet, is_start, with_cause, HeaderGives, LineGives};
 
@@ -12,7 +11,7 @@ use crate::number::parse_u32;
 use crate::text::{TextError, parse_owner, parse_rdata};
 use crate::words::first_word;
 use std::alloc::Global;
-use zst_zone::{DNSClass, InMemoryZoneHandler, Lookup, Name, RData, Record, RecordType, key_of};
+use zst_zone::{DNSClass, InMemoryZoneHandler, Lookup, Name, NameKey, RData, Record, RecordType};
 
 /// The first four words of a line, and the text of the data behind them.
 #[derive(Clone, Copy)]
@@ -36,7 +35,7 @@ struct Header<'a> {
 /// A record, and the key of its owner.
 #[derive(Drop)]
 pub struct KeyedRecord {
-    pub key: Vec<u8>,
+    pub key: NameKey,
     pub next: Record,
 }
 
@@ -47,10 +46,10 @@ pub fn record_of<K>(
     line: &str,
 ) -> Result<KeyedRecord, LoadCause>
     ensures gives { LineGives zone.now line.now (λ taken. taken.next) result }
-    ensures keyed { IfOk result (λ taken. taken.key.items ≡ name_key taken.next.name) }
+    ensures keyed { IfOk result (λ taken. taken.key ≡ lowercase_name taken.next.name) }
 {
     let header = header_of(alloc, line)?;
-    let key = match key_of(alloc, &header.name) {
+    let key = match NameKey::of(alloc, &header.name) {
         Ok(key) => key,
         Err(_) => return Err(LoadCause::OutOfMemory),
     };
@@ -61,21 +60,40 @@ pub fn record_of<K>(
         parse_rdata(alloc, header.record_type, header.rdata),
         LoadCause::Data,
     )?;
-    if !ends_at_root(&rdata) {
-        return Err(LoadCause::NotReadBack);
+    match fault_of(zone, header.record_type, &key, &rdata) {
+        Some(cause) => Err(cause),
+        None => Ok(KeyedRecord {
+            key,
+            next: Record {
+                name: header.name,
+                dns_class: DNSClass::IN,
+                ttl: header.ttl,
+                rdata,
+            },
+        }),
     }
-    if is_soa(header.record_type) && has_soa(zone, &key) {
-        return Err(LoadCause::SecondSoa);
+}
+
+/// Why a record of a type and these data may not be added at the name of a key, which ends at the root, if so.
+fn fault_of<K>(
+    zone: &InMemoryZoneHandler<K>,
+    record_type: RecordType,
+    key: &NameKey,
+    rdata: &RData,
+) -> Option<LoadCause>
+    ensures { key.now.fqdn ≡ true → MatchOption result
+        ((has_full_names rdata.now ≡ true) × (is_start record_type ≡ true → is_some (rrset_at zone.now.sets key.now types.SOA) ≡ false))
+        (λ cause. ((cause ≡ LoadCause.NotReadBack) × (has_full_names rdata.now ≡ false))
+        ⊎ ((cause ≡ LoadCause.SecondSoa) × (has_full_names rdata.now ≡ true) × (is_start record_type ≡ true)
+        × (is_some (rrset_at zone.now.sets key.now types.SOA) ≡ true))) }
+{
+    if !ends_at_root(rdata) {
+        return Some(LoadCause::NotReadBack);
     }
-    Ok(KeyedRecord {
-        key,
-        next: Record {
-            name: header.name,
-            dns_class: DNSClass::IN,
-            ttl: header.ttl,
-            rdata,
-        },
-    })
+    if is_soa(record_type) && has_soa(zone, key) {
+        return Some(LoadCause::SecondSoa);
+    }
+    None
 }
 
 /// What the first four words of a line say.
@@ -164,8 +182,8 @@ fn is_soa(record_type: RecordType) -> bool
 }
 
 /// Whether the zone has a start of authority at the name of a key, which ends at the root.
-fn has_soa<K>(zone: &InMemoryZoneHandler<K>, key: &Vec<u8>) -> bool
-    ensures { (name : DomainName) → name.fqdn ≡ true → key.now.items ≡ name_key name → result ≡ is_some (rrset_at zone.now.sets name types.SOA) }
+fn has_soa<K>(zone: &InMemoryZoneHandler<K>, key: &NameKey) -> bool
+    ensures { key.now.fqdn ≡ true → result ≡ is_some (rrset_at zone.now.sets key.now types.SOA) }
 {
     match zone.lookup_at(key, RecordType::SOA) {
         Lookup::Answer(_) => true,

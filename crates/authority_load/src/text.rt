@@ -5,8 +5,9 @@ ghost use Rattle.zst_zone.specs.dnw_name.NameText.{NameText};
 ghost use Rattle.zst_zone.specs.drd_rdata.Types.{type_of};
 ghost use Rattle.authority_load.specs.ZoneText.{IsDataText, IsOwnerText, ReadsText};
 
+use dnw_codes::ParseError;
 use std::alloc::Global;
-use zst_zone::{Name, ParseError, ProtoError, RData, RecordType};
+use zst_zone::{Name, ProtoError, RData, RecordType};
 
 /// Why a text was not read.
 #[derive(Clone, Copy, Debug)]

@@ -2,7 +2,7 @@
 
 ghost use Rattle.std.specs.Prelude.{◌≡◌, ◌<◌, not, [], ◌∷◌, length, position, MatchOption, IfSome};
 ghost use Rattle.std.specs.List.{list_all};
-ghost use Rattle.zst_zone.specs.dnw_codes.Ascii.{is_blank};
+ghost use Rattle.dnw_codes.specs.Ascii.{is_blank};
 ghost use Rattle.authority_load.specs.ZoneText.{behind_word, is_skipped_line, words_of};
 
 /// The first word, and what stands behind it.

@@ -1,10 +1,14 @@
 -- What a request that was read says: full names, and a header that can be written.
-use Rattle.std.proofs.Common.{◌≡◌, ℕ, ◌/◌, ◌%◌, true, List, [], ◌∷◌, sym, ap, subst, arith}
-use Rattle.std.specs.Prelude.{get_or}
+use Rattle.std.proofs.Common.{◌≡◌, ℕ, ◌/◌, ◌%◌, Bool, true, false, cond, List, [], ◌∷◌, refl, sym, ap, subst, arith}
+use Rattle.std.specs.Prelude.{get_or, unwrap_or, find, Some, ◌==◌}
+use Rattle.std.proofs.lemmas.Bool.{eqb-true}
 use Rattle.std.specs.List.{AllByRecursion}
 use Rattle.zsv_message.specs.declared.request.Query.{Query}
 use Rattle.zsv_message.specs.dnw_decoder.Octets.{number_16}
-use Rattle.zsv_message.specs.Headers.{op_code_of, op_code_number, response_code_of, response_code_number, metadata_of, FitsHeader}
+use Rattle.zsv_message.specs.Headers.{op_code_of, op_code_number, metadata_of, FitsHeader}
+use Rattle.zsv_message.specs.zst_codes.ResponseCode.{named_response_codes, response_code_of, response_code_number}
+use Rattle.zsv_message.specs.zst_codes.declared.response_code.ResponseCode.{ResponseCode}
+use Rattle.zsv_message.specs.zst_codes.declared.response_code.ResponseCode.TheVariants.{Unknown}
 use Rattle.zsv_message.specs.Wire.{Entries}
 use Rattle.zsv_message.specs.Requests.{Request, IsRequest, QuestionAt}
 use Rattle.authority_server.specs.Servers.{AsksFullNames}
@@ -19,8 +23,19 @@ asks_full m request is = full_questions m 12 request.questions is.end is.questio
 op_code_back : (n : ℕ) → op_code_number (op_code_of n) ≡ n
 op_code_back n = grind arith
 
+-- A code that is found by its number among others has it, and so has the one without a name.
+found_back : (n : ℕ) (named : List ResponseCode) → response_code_number (unwrap_or (find (λ code. response_code_number code == n) named) (Unknown n)) ≡ n
+found_back n [] = refl
+found_back n (code ∷ named) = by (response_code_number code == n) (eqb-true (response_code_number code) n) (found_back n named)
+  where
+    by : (b : Bool) → (b ≡ true → response_code_number code ≡ n)
+        → response_code_number (unwrap_or (find (λ other. response_code_number other == n) named) (Unknown n)) ≡ n
+        → response_code_number (unwrap_or (cond b (Some code) (find (λ other. response_code_number other == n) named)) (Unknown n)) ≡ n
+    by true same more = same refl
+    by false same more = more
+
 response_code_back : (n : ℕ) → response_code_number (response_code_of n) ≡ n
-response_code_back n = grind arith
+response_code_back n = found_back n named_response_codes
 
 fits_metadata : (id high low : ℕ) → FitsHeader (metadata_of id high low)
 fits_metadata id high low = record {

@@ -5,19 +5,16 @@ use Rattle.zst_zone.specs.dnw_codes.declared.record_type.RecordType.TheVariants 
 use Rattle.zst_zone.specs.dnw_codes.declared.dns_class.DNSClass.TheVariants as classes
 use Rattle.zsv_reply.specs.drd_rdata.declared.rdata.RData.TheVariants as rdata
 use Rattle.zsv_reply.specs.zst_record.declared.records.Record.{Record}
-use Rattle.zst_zone.specs.declared.settings.ZoneType.TheVariants as kinds
-use Rattle.zst_zone.specs.declared.settings.AxfrPolicy.TheVariants as policies
+use Rattle.zst_zone.specs.zst_codes.declared.settings.ZoneType.TheVariants as kinds
+use Rattle.zst_zone.specs.zst_codes.declared.settings.AxfrPolicy.TheVariants as policies
 use Rattle.zsv_message.specs.declared.header.MessageType.TheVariants as messages
 use Rattle.zsv_message.specs.declared.header.OpCode.TheVariants as operations
-use Rattle.zsv_message.specs.declared.header.ResponseCode.{ResponseCode}
-use Rattle.zsv_message.specs.declared.header.ResponseCode.TheVariants as responses
+use Rattle.zsv_message.specs.zst_codes.declared.response_code.ResponseCode.{ResponseCode}
+use Rattle.zsv_message.specs.zst_codes.declared.response_code.ResponseCode.TheVariants as responses
 use Rattle.zsv_message.specs.declared.header.Metadata.{Metadata}
 use Rattle.zsv_message.specs.declared.request.Query.{Query}
-use Rattle.zst_zone.specs.dnw_name.DomainName.{DomainName, name_octets, name_eq, is_at_or_below}
-use Rattle.std.specs.Cmp.Lexicographic.{slice_cmp}
-use Rattle.std.specs.Ordering.{nat_cmp}
+use Rattle.zst_zone.specs.dnw_name.DomainName.{DomainName, name_cmp, name_octets, name_eq, is_at_or_below}
 use Rattle.std.specs.declared.cmp.Ordering.TheVariants.{Less, Greater}
-use Rattle.zst_zone.specs.dnw_name.NameKey.{rank, name_key}
 use Rattle.std.specs.Net.Addr.{ipv4_bits}
 use Rattle.zsv_message.specs.dnw_decoder.Octets.{octets_16, octets_32}
 use Rattle.zsv_message.specs.Headers.{header_of}
@@ -194,12 +191,12 @@ outside_parts = refl
 no_question_parts : reply_parts zone (asks plain_metadata []) ≡ record { metadata = answer_metadata false responses.FormErr; answers = []; authorities = [] }
 no_question_parts = refl
 
--- Keys rise in the canonical order: the nine names of RFC 4034, section 6.1.
+-- Names rise in the canonical order: the nine names of RFC 4034, section 6.1.
 abbrev named : List (List ℕ) → DomainName
 named labels = record { fqdn = true; labels = labels }
 
 abbrev rises : List (List ℕ) → List (List ℕ) → Type 0
-rises a b = slice_cmp nat_cmp (name_key (named a)) (name_key (named b)) ≡ Less
+rises a b = name_cmp (named a) (named b) ≡ Less
 
 canonical_order :
     rises (codes "example" ∷ []) (codes "a" ∷ codes "example" ∷ [])
@@ -210,5 +207,4 @@ canonical_order :
     × rises (codes "z" ∷ codes "example" ∷ []) ((1 ∷ []) ∷ codes "z" ∷ codes "example" ∷ [])
     × rises ((1 ∷ []) ∷ codes "z" ∷ codes "example" ∷ []) (codes "*" ∷ codes "z" ∷ codes "example" ∷ [])
     × rises (codes "*" ∷ codes "z" ∷ codes "example" ∷ []) ((200 ∷ []) ∷ codes "z" ∷ codes "example" ∷ [])
-unfolding rank
 canonical_order = (refl, refl, refl, refl, refl, refl, refl, refl)

@@ -2,10 +2,11 @@
 use Rattle.std.specs.Prelude.{◌≡◌, ◌<◌, Bool, true, false}
 use Rattle.std.specs.List.{AllByRecursion}
 use Rattle.zsv_reply.specs.declared.encode.MessageResponse.{MessageResponse}
-use Rattle.zst_zone.specs.declared.settings.ZoneType.{ZoneType}
-use Rattle.zst_zone.specs.declared.settings.ZoneType.TheVariants as zones
-use Rattle.zsv_message.specs.declared.header.ResponseCode.{ResponseCode}
-use Rattle.zsv_message.specs.Headers.{FitsHeader, response_code_of, response_code_number}
+use Rattle.zst_zone.specs.zst_codes.declared.settings.ZoneType.{ZoneType}
+use Rattle.zst_zone.specs.zst_codes.declared.settings.ZoneType.TheVariants as zones
+use Rattle.zsv_message.specs.zst_codes.declared.response_code.ResponseCode.{ResponseCode}
+use Rattle.zsv_message.specs.Headers.{FitsHeader}
+use Rattle.zsv_message.specs.zst_codes.ResponseCode.{response_code_of, response_code_number}
 use Rattle.zsv_message.specs.Requests.{Request}
 use Rattle.zsv_reply.specs.zst_record.Records.{ReadsBackAlone}
 use Rattle.zsv_reply.specs.Replies.{ReplyParts}

@@ -10,8 +10,8 @@ use Rattle.zsv_message.specs.declared.header.MessageType.{MessageType}
 use Rattle.zsv_message.specs.declared.header.MessageType.TheVariants as messages
 use Rattle.zsv_message.specs.declared.header.OpCode.{OpCode}
 use Rattle.zsv_message.specs.declared.header.OpCode.TheVariants as operations
-use Rattle.zsv_message.specs.declared.header.ResponseCode.{ResponseCode}
-use Rattle.zsv_message.specs.declared.header.ResponseCode.TheVariants as responses
+use Rattle.zsv_message.specs.zst_codes.declared.response_code.ResponseCode.{ResponseCode}
+use Rattle.zsv_message.specs.zst_codes.declared.response_code.ResponseCode.TheVariants as responses
 use Rattle.zsv_message.specs.declared.request.Query.{Query}
 use Rattle.authority_server.specs.declared.server.Protocol.{Protocol}
 use Rattle.authority_server.specs.declared.server.Protocol.TheVariants as protocols

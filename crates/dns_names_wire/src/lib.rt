@@ -13,5 +13,4 @@ pub use dnw_wire::{
     BinDecodable, BinDecoder, BinEncodable, BinEncoder, CaseInsensitive, CaseSensitive,
     EncodedSize, IntoLabel, IntoName, IpNet, Label, LabelCmp, LabelIter, LowerName, ModalEncoder,
     Name, NameEncoding, Place, PrefixLenError, RDataEncoding, RecordTypeIter, RecordTypeSet, RrKey,
-    base_key, key_of,
 };

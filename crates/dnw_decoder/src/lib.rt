@@ -6,7 +6,7 @@
 
 pub use dnw_name::{
     CaseInsensitive, CaseSensitive, IntoLabel, IntoName, IpNet, Label, LabelCmp, LabelIter,
-    LowerName, Name, PrefixLenError, RrKey, base_key, key_of,
+    LowerName, Name, PrefixLenError, RrKey,
 };
 
 mod decodable;

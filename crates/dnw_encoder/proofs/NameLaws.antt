@@ -18,19 +18,16 @@ use Rattle.dnw_encoder.specs.Effects.{WritesOctets}
 use Rattle.dnw_encoder.proofs.Laws.{puts_stands, holds_map}
 use Rattle.dnw_encoder.specs.Names.{EmitsName, encoded_name, written_name}
 
-abbrev pieces : List (List ℕ) → List ℕ
-pieces labels = flat_map (λ label. length label ∷ label) labels
-
 pub len-cons : (label : List ℕ) (labels : List (List ℕ)) → labels_len (label ∷ labels) ≡ length label + 1 + labels_len labels
 len-cons = sum_by-cons (λ label. length label + 1)
 
-length-pieces : (labels : List (List ℕ)) → length (pieces labels) ≡ labels_len labels
-length-pieces [] = refl
-length-pieces (l ∷ ls) = omega (arith, length-append (length l ∷ l) (pieces ls), length-pieces ls, len-cons l ls)
+length-labels : (labels : List (List ℕ)) → length (label_octets labels) ≡ labels_len labels
+length-labels [] = refl
+length-labels (l ∷ ls) = omega (arith, length-append (length l ∷ l) (label_octets ls), length-labels ls, len-cons l ls)
 
 -- A name takes as many octets as its labels with their lengths, and one for its end.
 pub length-name_octets : (name : DomainName) → length (name_octets name) ≡ labels_len name.labels + 1
-length-name_octets name = omega (arith, length-append (pieces name.labels) (0 ∷ []), length-pieces name.labels)
+length-name_octets name = omega (arith, length-append (label_octets name.labels) (0 ∷ []), length-labels name.labels)
 
 pub length-octets : (name : DomainName) → length (name_octets name) ≡ length (label_octets name.labels) + 1
 length-octets name = length-append (label_octets name.labels) (0 ∷ [])
@@ -53,7 +50,7 @@ spelled_octets message segment place [] end are s =
     at_end (omega (arith, stands_within message place (0 ∷ []) end (omega arith) s, s.behind)) s
 spelled_octets message segment place (l ∷ ls) end are s =
     let is : IsLabel l = All-head IsLabel l ls are in
-    let both = stands_split message place (length l ∷ l) (pieces ls ++ 0 ∷ []) end (subst (λ (o : List ℕ). Stands message place o end) (append_assoc (length l ∷ l) (pieces ls) (0 ∷ [])) s) in
+    let both = stands_split message place (length l ∷ l) (label_octets ls ++ 0 ∷ []) end (subst (λ (o : List ℕ). Stands message place o end) (append_assoc (length l ∷ l) (label_octets ls) (0 ∷ [])) s) in
     let within = stands_within message place (length l ∷ l) (place + length (length l ∷ l)) (omega arith) both.0 in
     at_label (omega (arith, within)) is both.0 (spelled_octets message segment (place + length (length l ∷ l)) ls end (All-tail IsLabel l ls are) both.1)
 

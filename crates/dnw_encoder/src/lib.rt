@@ -4,7 +4,7 @@
 pub use dnw_codes::{DecodeError, ParseError, ProtoError, Restrict};
 pub use dnw_decoder::{
     BinDecodable, BinDecoder, CaseInsensitive, CaseSensitive, IntoLabel, IntoName, IpNet, Label,
-    LabelCmp, LabelIter, LowerName, Name, PrefixLenError, RrKey, base_key, key_of,
+    LabelCmp, LabelIter, LowerName, Name, PrefixLenError, RrKey,
 };
 
 mod buffer;

@@ -1,20 +1,17 @@
 -- A name at or below another: its labels from the right begin with the other's.
-use Rattle.std.proofs.Common.{◌≡◌, ℕ, ◌<◌, ◌≤◌, ◌-◌, ◌++◌, Bool, true, false, ◌&&◌, List, [], ◌∷◌, length, take, drop, reverse, nat_eq, refl, ap, sym, ◌∙◌, arith, rules, inl, inr}
-use Rattle.std.specs.Char.{to_ascii_lowercase}
+use Rattle.std.proofs.Common.{◌≡◌, ℕ, ◌<◌, ◌≤◌, ◌-◌, ◌++◌, Bool, true, false, ◌&&◌, List, [], ◌∷◌, length, take, drop, reverse, refl, ap, sym, ◌∙◌, arith, rules, inl, inr}
 use Rattle.std.specs.Cmp.{IsTotalOrder}
 use Rattle.std.specs.Cmp.Lexicographic.{slice_cmp, pointwise}
 use Rattle.std.specs.Cmp.Rules.{comparing}
-use Rattle.std.specs.List.{flat_map, starts_with, ends_with}
+use Rattle.std.specs.List.{starts_with, ends_with}
 use Rattle.std.specs.Ordering.{bool_cmp, ordering_then, ordering_reverse, is_le, is_eq, eq_by_cmp}
 use Rattle.std.specs.declared.cmp.Ordering.{Ordering}
 use Rattle.std.specs.declared.cmp.Ordering.TheVariants.{Less, Equal, Greater}
 use Rattle.std.proofs.lemmas.Bool.{cases_lt}
-use Rattle.std.proofs.lemmas.Bool.Decides.{nat_tests}
 use Rattle.std.proofs.lemmas.List.{reverse-append, take-append-drop, length-reverse, length-drop}
 use Rattle.dnw_net.specs.dnw_label.Label.{label_cmp, label_eq}
 use Rattle.dnw_name.specs.DomainName.{DomainName, name_cmp, is_at_or_below}
-use Rattle.dnw_name.specs.NameKey.{rank, label_key, labels_key}
-use Rattle.dnw_name.specs.NameOrderLaws.{label_eq-by_cmp, pointwise-reverse, and-assoc}
+use Rattle.dnw_name.specs.NameOrderLaws.{label_eq-by_cmp, pointwise-reverse}
 
 -- A list begins with the items of another.
 abbrev pub is_front : {K : Type 0} → (K → K → Bool) → List K → List K → Bool
@@ -26,38 +23,6 @@ pub starts_with-front : {K : Type 0} (E : K → K → Bool) (xs zs : List K) →
 starts_with-front E xs [] = refl
 starts_with-front E [] (z ∷ zs) = refl
 starts_with-front E (x ∷ xs) (z ∷ zs) = ap (λ b. E z x && b) (starts_with-front E xs zs)
-
--- Ranks are the same where the octets in lower case are.
-pub rank-same : (a b : ℕ) → nat_eq (rank a) (rank b) ≡ nat_eq (to_ascii_lowercase a) (to_ascii_lowercase b)
-unfolding rank
-rank-same a b = grind (arith, nat_tests)
-
-pub rank_is_no_end : (a : ℕ) → nat_eq (rank a) 0 ≡ false
-unfolding rank
-rank_is_no_end a = grind (arith, nat_tests)
-
-pub end_is_no_rank : (a : ℕ) → nat_eq 0 (rank a) ≡ false
-unfolding rank
-end_is_no_rank a = grind (arith, nat_tests)
-
-pub label_key-front : (z x s t : List ℕ) → is_front nat_eq (label_key z ++ s) (label_key x ++ t) ≡ (label_eq z x && is_front nat_eq s t)
-label_key-front [] [] s t = refl
-label_key-front [] (b ∷ x) s t = ap (λ e. e && is_front nat_eq s (label_key x ++ t)) (end_is_no_rank b)
-label_key-front (a ∷ z) [] s t = ap (λ e. e && is_front nat_eq (label_key z ++ s) t) (rank_is_no_end a)
-label_key-front (a ∷ z) (b ∷ x) s t =
-    ap (λ e. e && is_front nat_eq (label_key z ++ s) (label_key x ++ t)) (rank-same a b)
-    ∙ ap (λ e. nat_eq (to_ascii_lowercase a) (to_ascii_lowercase b) && e) (label_key-front z x s t)
-    ∙ and-assoc (nat_eq (to_ascii_lowercase a) (to_ascii_lowercase b)) (label_eq z x) (is_front nat_eq s t)
-
-pub no_label_in_nothing : (z s : List ℕ) → is_front nat_eq (label_key z ++ s) [] ≡ false
-no_label_in_nothing [] s = refl
-no_label_in_nothing (a ∷ z) s = refl
-
-pub labels-front : (zs xs : List (List ℕ)) → is_front nat_eq (flat_map label_key zs) (flat_map label_key xs) ≡ is_front label_eq zs xs
-labels-front [] xs = refl
-labels-front (z ∷ zs) [] = no_label_in_nothing z (flat_map label_key zs)
-labels-front (z ∷ zs) (x ∷ xs) =
-    label_key-front z x (flat_map label_key zs) (flat_map label_key xs) ∙ ap (λ b. label_eq z x && b) (labels-front zs xs)
 
 -- A list of the front's length is the front where they agree item by item.
 pointwise-front : {K : Type 0} (E : K → K → Bool) (zs front rest : List K) → length zs ≡ length front → pointwise E zs front ≡ is_front E zs (front ++ rest)
@@ -97,13 +62,6 @@ ends_with-front E xs zs =
 
 pub at_or_below-front : (name ancestor : DomainName) → is_at_or_below name ancestor ≡ is_front label_eq (reverse ancestor.labels) (reverse name.labels)
 at_or_below-front name ancestor = ends_with-front label_eq name.labels ancestor.labels
-
--- A name is at or below another where its key, behind the flag, begins with the other's.
-pub key-front : (name ancestor : DomainName) → starts_with nat_eq (labels_key name.labels) (labels_key ancestor.labels) ≡ is_at_or_below name ancestor
-key-front name ancestor =
-    starts_with-front nat_eq (labels_key name.labels) (labels_key ancestor.labels)
-    ∙ labels-front (reverse ancestor.labels) (reverse name.labels)
-    ∙ sym (at_or_below-front name ancestor)
 
 first_step : (o : Ordering) (front : Bool) (rest : Ordering) → (is_eq o && front) ≡ true → (front ≡ true → is_le rest ≡ true) → is_le (ordering_then o rest) ≡ true
 first_step Less front rest h more = refl

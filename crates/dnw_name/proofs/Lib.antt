@@ -1,7 +1,6 @@
 pub mod ArpaEnds
 pub mod ArpaLemmas
 pub mod Fronts
-pub mod KeyOrder
 pub mod Lengths
 pub mod Orders
 pub mod RefusalLaws

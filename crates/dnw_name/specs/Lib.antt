@@ -2,7 +2,6 @@ pub mod NameHashLaws
 pub mod Arpa
 pub mod DomainName
 pub mod NameHash
-pub mod NameKey
 pub mod NameOrderLaws
 pub mod NamePrint
 pub mod NameRefusals

@@ -2,19 +2,17 @@
 //!
 //! A contract sees a `Name` as a `DomainName`: a flag and the labels from the left. `name_cmp` is its order and
 //! `name_eq` its equality, and `is_at_or_below` says that a name lies in a zone. `Name::zone_of` says that a
-//! zone's origin stands before its names and that they stand together; `key_of` gives octets whose plain order
-//! is that of names and whose fronts are the keys of suffixes; `Name::from_ascii` and `Name::to_ascii` read and
-//! print texts, each exactly by its definition.
+//! zone's origin stands before its names and that they stand together; `Name::from_ascii` and `Name::to_ascii`
+//! read and print texts, each exactly by its definition.
 #![tactic(auto)]
 
 pub use dnw_net::{
     CaseInsensitive, CaseSensitive, DNSClass, DecodeError, IntoLabel, IpNet, Label, LabelCmp,
-    LabelIter, Labels, PrefixLenError, ProtoError, RecordType, Restrict, octet_at,
+    LabelIter, PrefixLenError, ProtoError, RecordType, Restrict, octet_at,
 };
 
 mod arpa;
 mod from_labels;
-mod key;
 mod lower_name;
 mod name;
 mod name_print;
@@ -22,7 +20,6 @@ mod name_text;
 mod network;
 mod rr_key;
 
-pub use key::{base_key, key_of};
 pub use lower_name::LowerName;
 pub use name::Name;
 pub use name_text::IntoName;

@@ -10,7 +10,7 @@ pub use dnw_codes::{DecodeError, ParseError, ProtoError, RecordType, Restrict};
 pub use dnw_encoder::{
     BinDecodable, BinDecoder, BinEncodable, BinEncoder, CaseInsensitive, CaseSensitive,
     EncodedSize, IntoLabel, IntoName, IpNet, Label, LabelCmp, LabelIter, LowerName, ModalEncoder,
-    Name, NameEncoding, Place, PrefixLenError, RDataEncoding, RrKey, base_key, key_of,
+    Name, NameEncoding, Place, PrefixLenError, RDataEncoding, RrKey,
 };
 
 mod bits;

@@ -7,7 +7,7 @@ pub use drd_fields::{
 };
 pub use drd_words::{
     DecodeError, Name, ParseError, ProtoError, Restrict, TextData, Word, Words, fmt_base64,
-    fmt_escaped, key_of, number_behind, unescaped, words_of_text,
+    fmt_escaped, number_behind, unescaped, words_of_text,
 };
 
 mod a;

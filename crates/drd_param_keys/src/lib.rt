@@ -4,7 +4,7 @@
 pub use dnw_encoder::{BinDecodable, BinDecoder, BinEncodable, BinEncoder};
 pub use drd_words::{
     DecodeError, Name, ParseError, ProtoError, TextData, Word, Words, fmt_base64, fmt_escaped,
-    key_of, unescaped, words_of_text,
+    unescaped, words_of_text,
 };
 
 mod entry;

@@ -4,7 +4,7 @@
 pub use drd_address::{
     A, AAAA, BinDecoder, BinEncodable, BinEncoder, DecodeError, FieldRef, Name, ParseError,
     ProtoError, RDataEncoding, RecordDataDecodable, Rest, Restrict, TextData, Word, Words,
-    emit_three, key_of, read_window, unescaped, words_of_text,
+    emit_three, read_window, unescaped, words_of_text,
 };
 pub use drd_param_keys::SvcParamKey;
 pub use drd_param_lists::{Alpn, EchConfigList, IpHint, Mandatory, Unknown};

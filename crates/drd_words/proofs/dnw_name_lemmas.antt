@@ -1,3 +1,2 @@
 pub use Rattle.dnw_name.proofs.Fronts
-pub use Rattle.dnw_name.proofs.KeyOrder
 pub use Rattle.dnw_name.proofs.TextLemmas

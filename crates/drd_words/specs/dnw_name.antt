@@ -1,5 +1,4 @@
 pub use Rattle.dnw_name.specs.DomainName
-pub use Rattle.dnw_name.specs.NameKey
 pub use Rattle.dnw_name.specs.NameOrderLaws
 pub use Rattle.dnw_name.specs.NamePrint
 pub use Rattle.dnw_name.specs.NameText

@@ -7,7 +7,7 @@
 #![tactic(auto)]
 
 pub use dnw_lexer::{DecodeError, ParseError, ProtoError, Restrict, number_behind};
-pub use dnw_name::{IpNet, Label, LowerName, Name, PrefixLenError, RrKey, key_of};
+pub use dnw_name::{IpNet, Label, LowerName, Name, PrefixLenError, RrKey};
 
 mod data;
 mod escape;

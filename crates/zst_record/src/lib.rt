@@ -6,7 +6,7 @@
 
 pub use drd_rdata::{
     A, BinDecodable, BinDecoder, BinEncodable, BinEncoder, DNSClass, DecodeError, EncodedSize,
-    Label, LowerName, NS, Name, NameEncoding, ProtoError, RData, RecordType, RrKey, SOA, key_of,
+    Label, LowerName, NS, Name, NameEncoding, ProtoError, RData, RecordType, RrKey, SOA,
 };
 
 mod emit;

@@ -1,4 +1,5 @@
 pub mod Keys
+pub mod LowerNames
 pub mod ZoneEntries
 pub mod ZoneMapsBy
 pub mod ZoneNodes

@@ -12,11 +12,11 @@ use Rattle.std.specs.Cmp.Lexicographic.{slice_cmp}
 use Rattle.std.specs.Str.{bytes_eq}
 use Rattle.std.proofs.lemmas.Map.Text.{is_eq-slice_cmp}
 use Rattle.std.proofs.lemmas.Slice.Eq.{bytes_eq-Decides}
-use Rattle.dnw_codes.specs.declared.record_type.RecordType.{RecordType}
+use Rattle.zst_record.specs.dnw_codes.declared.record_type.RecordType.{RecordType}
 use Rattle.zst_record.specs.declared.records.Record.{Record}
 use Rattle.zst_record.specs.dnw_name.DomainName.{DomainName, name_eq}
-use Rattle.dnw_codes.specs.RecordType.{same_record_type}
-use Rattle.zst_record.specs.dnw_name.NameKey.{name_key}
+use Rattle.zst_record.specs.dnw_codes.RecordType.{same_record_type}
+use Rattle.zst_key.specs.NameKeys.{name_key}
 use Rattle.zst_record.specs.drd_rdata.Types.{type_of}
 use Rattle.zst_record.specs.Records.{RRset}
 use Rattle.zst_zone.specs.Zones.{rrset_at, Adds}

@@ -1,71 +1,89 @@
 -- What the map's own calls say of a zone.
-use Rattle.std.proofs.Common.{◌≡◌, ℕ, ◌∙◌, sym, ap, nat_eq, Vec, Global}
-use Rattle.std.specs.Prelude.{Bool, true, List, ◌∷◌, Option, Some, None, cond}
-use Rattle.std.specs.List.{starts_with}
-use Rattle.std.specs.Map.{lookup}
-use Rattle.std.specs.BTreeMap.{is_at}
-use Rattle.std.specs.Ordering.{nat_cmp}
+use Rattle.std.proofs.Common.{◌≡◌, ℕ, ◌∙◌, sym, ap, subst, nat_eq, Vec, Global}
+use Rattle.std.specs.Prelude.{Bool, true, List, [], ◌∷◌, ◌&&◌, Option, Some, None, cond}
+use Rattle.std.specs.Bool.{beq}
+use Rattle.std.specs.List.{filter, starts_with}
+use Rattle.std.specs.List.Sorted.{IsStrictlySortedBy}
+use Rattle.std.specs.Map.{keys_of, lookup}
+use Rattle.std.specs.BTreeMap.{insert_entry, is_at}
+use Rattle.std.specs.Ordering.{is_le, nat_cmp}
+use Rattle.std.specs.declared.cmp.Ordering.{Ordering}
 use Rattle.std.specs.Cmp.Lexicographic.{slice_cmp}
-use Rattle.std.specs.Str.{bytes_eq}
-use Rattle.dnw_codes.specs.declared.record_type.RecordType.{RecordType}
-use Rattle.zst_record.specs.dnw_name.DomainName.{DomainName}
-use Rattle.zst_record.specs.dnw_name.NameKey.{name_key}
-use Rattle.zst_zone.proofs.Keys.{begins}
+use Rattle.zst_record.specs.dnw_codes.declared.record_type.RecordType.{RecordType}
+use Rattle.zst_record.specs.dnw_name.DomainName.{DomainName, is_at_or_below, name_cmp, name_eq}
+use Rattle.zst_key.specs.NameKeys.{name_key}
+use Rattle.zst_key.specs.declared.key.NameKey.{NameKey}
+use Rattle.zst_key.proofs.KeyLemmas.{key-below}
+use Rattle.zst_key.proofs.KeyOrder.{keys-order}
 use Rattle.zst_record.specs.Records.{RRset}
 use Rattle.zst_zone.specs.Zones.{rrset_at, exists_in}
 use Rattle.zst_zone.specs.ZoneMaps.{IsZone, sets_of}
-use Rattle.zst_zone.proofs.Keys.{begins-starts_with}
+use Rattle.zst_zone.proofs.Keys.{begins, begins-starts_with, same_key}
+use Rattle.zst_zone.proofs.ZoneEntries.{at_key, key_cmp}
 use Rattle.zst_zone.proofs.ZoneNodes.{set_in, stored_in, exists_from, first_begins, first_at, from_key, lookup_first}
-
-abbrev pub Key : Type 0
-Key = Vec ℕ Global
 
 abbrev pub Node : Type 0
 Node = Vec RRset Global
 
-abbrev pub octets : Key → List ℕ
-octets key = key.items
-
 abbrev pub sets : Node → List RRset
 sets node = node.items
 
-pub stored_by : (entries : List (Key × Node)) (zone : List RRset) (key : List ℕ) (t : RecordType) (found : Option Node)
-    → IsZone octets sets entries → sets_of octets sets entries ≡ zone → found ≡ lookup (is_at (λ (k : Key). slice_cmp nat_cmp key k.items)) entries
-    → (name : DomainName) → key ≡ name_key name → set_in octets sets found t ≡ rrset_at zone name t
-stored_by entries zone key t found is view e name same =
-    ap (λ o. set_in octets sets o t) (e ∙ ap (λ (q : List ℕ). lookup (is_at (λ (k : Key). slice_cmp nat_cmp q k.items)) entries) same)
-    ∙ sym (stored_in octets sets name t entries is.nodes is.ordered)
-    ∙ ap (λ (z : List RRset). rrset_at z name t) view
+abbrev pub Entries : Type 0
+Entries = List (NameKey × Node)
 
-pub first_by : (entries : List (Key × Node)) (zone : List RRset) (key : List ℕ) (t : RecordType) (found : Option Node)
-    → IsZone octets sets entries → sets_of octets sets entries ≡ zone → found ≡ first_at octets sets key (from_key octets sets key entries)
-    → (name : DomainName) → key ≡ name_key name → set_in octets sets found t ≡ rrset_at zone name t
+-- No entries are a zone's.
+pub none_kept : IsZone name_key sets []
+unfolding IsStrictlySortedBy
+none_kept = record { nodes = tt; ordered = tt }
+
+-- The order of names is that of their keys.
+pub looked_by_key : (key : DomainName) (entries : Entries) → lookup (is_at (name_cmp key)) entries ≡ lookup (at_key name_key sets (name_key key)) entries
+looked_by_key key entries = ap (λ (R : DomainName → DomainName → Ordering). lookup (is_at (R key)) entries) (sym keys-order)
+
+pub from_by_key : (key : DomainName) (entries : Entries) → filter (λ (e : NameKey × Node). is_le (name_cmp key e.0) && true) entries ≡ from_key name_key sets (name_key key) entries
+from_by_key key entries = ap (λ (R : DomainName → DomainName → Ordering). filter (λ (e : NameKey × Node). is_le (R key e.0) && true) entries) (sym keys-order)
+
+pub inserted_by_key : (key : NameKey) (node : Node) (entries : Entries) → insert_entry name_cmp entries key node ≡ insert_entry (key_cmp name_key sets) entries key node
+inserted_by_key key node entries = ap (λ (R : DomainName → DomainName → Ordering). insert_entry R entries key node) (sym keys-order)
+
+pub sorted_by_key : (entries : Entries) → IsStrictlySortedBy name_cmp (keys_of entries) → IsStrictlySortedBy (key_cmp name_key sets) (keys_of entries)
+sorted_by_key entries = subst (λ (R : DomainName → DomainName → Ordering). IsStrictlySortedBy R (keys_of entries)) (sym keys-order)
+
+pub stored_by : (entries : Entries) (zone : List RRset) (key : DomainName) (t : RecordType) (found : Option Node)
+    → IsZone name_key sets entries → sets_of name_key sets entries ≡ zone → found ≡ lookup (is_at (name_cmp key)) entries
+    → set_in name_key sets found t ≡ rrset_at zone key t
+stored_by entries zone key t found is view e =
+    ap (λ o. set_in name_key sets o t) (e ∙ looked_by_key key entries)
+    ∙ sym (stored_in name_key sets key t entries is.nodes is.ordered)
+    ∙ ap (λ (z : List RRset). rrset_at z key t) view
+
+pub first_by : (entries : Entries) (zone : List RRset) (key : DomainName) (t : RecordType) (found : Option Node)
+    → IsZone name_key sets entries → sets_of name_key sets entries ≡ zone → found ≡ first_at name_key sets (name_key key) (from_key name_key sets (name_key key) entries)
+    → set_in name_key sets found t ≡ rrset_at zone key t
 first_by entries zone key t found is view e =
-    stored_by entries zone key t found is view (e ∙ sym (lookup_first octets sets key entries is.ordered))
+    stored_by entries zone key t found is view (e ∙ sym (lookup_first name_key sets (name_key key) entries is.ordered) ∙ sym (looked_by_key key entries))
 
-pub exists_by : (entries : List (Key × Node)) (zone : List RRset) (key : List ℕ) (result : Bool)
-    → IsZone octets sets entries → sets_of octets sets entries ≡ zone → result ≡ first_begins octets sets key (from_key octets sets key entries)
-    → (name : DomainName) → name.fqdn ≡ true → key ≡ name_key name → result ≡ exists_in zone name
-exists_by entries zone key result is view e name full same =
-    e ∙ ap (λ (q : List ℕ). first_begins octets sets q (from_key octets sets q entries)) same
-    ∙ sym (exists_from octets sets name entries full is.nodes is.ordered)
-    ∙ ap (λ (z : List RRset). exists_in z name) view
+pub exists_by : (entries : Entries) (zone : List RRset) (key : DomainName) (result : Bool)
+    → IsZone name_key sets entries → sets_of name_key sets entries ≡ zone → result ≡ first_begins name_key sets (name_key key) (from_key name_key sets (name_key key) entries)
+    → key.fqdn ≡ true → result ≡ exists_in zone key
+exists_by entries zone key result is view e full =
+    e ∙ sym (exists_from name_key sets key entries full is.nodes is.ordered)
+    ∙ ap (λ (z : List RRset). exists_in z key) view
 
 -- ---- by the first entry from the key on
-pub set_at : (entries : List (Key × Node)) (zone : List RRset) (key : List ℕ) (t : RecordType) (owner : Key) (node : Node) (rest : List (Key × Node)) (b : Bool)
-    → IsZone octets sets entries → sets_of octets sets entries ≡ zone → from_key octets sets key entries ≡ (owner, node) ∷ rest → bytes_eq key owner.items ≡ b
-    → (name : DomainName) → key ≡ name_key name → set_in octets sets (cond b (Some node) None) t ≡ rrset_at zone name t
+pub set_at : (entries : Entries) (zone : List RRset) (key : DomainName) (t : RecordType) (owner : NameKey) (node : Node) (rest : Entries) (b : Bool)
+    → IsZone name_key sets entries → sets_of name_key sets entries ≡ zone → from_key name_key sets (name_key key) entries ≡ (owner, node) ∷ rest → name_eq key owner ≡ b
+    → set_in name_key sets (cond b (Some node) None) t ≡ rrset_at zone key t
 set_at entries zone key t owner node rest b is view first same =
     first_by entries zone key t (cond b (Some node) None) is view
-    (sym (ap (first_at octets sets key) first ∙ ap (λ (u : Bool). cond u (Some node) None) same))
+    (sym (ap (first_at name_key sets (name_key key)) first ∙ ap (λ (u : Bool). cond u (Some node) None) (same_key key owner ∙ same)))
 
-pub name_at : (entries : List (Key × Node)) (zone : List RRset) (key : List ℕ) (owner : Key) (node : Node) (rest : List (Key × Node)) (b : Bool)
-    → IsZone octets sets entries → sets_of octets sets entries ≡ zone → from_key octets sets key entries ≡ (owner, node) ∷ rest → begins key owner.items ≡ b
-    → (name : DomainName) → name.fqdn ≡ true → key ≡ name_key name → b ≡ exists_in zone name
+pub name_at : (entries : Entries) (zone : List RRset) (key : DomainName) (owner : NameKey) (node : Node) (rest : Entries) (b : Bool)
+    → IsZone name_key sets entries → sets_of name_key sets entries ≡ zone → from_key name_key sets (name_key key) entries ≡ (owner, node) ∷ rest
+    → begins (name_key key) (name_key owner) ≡ b → key.fqdn ≡ true → b ≡ exists_in zone key
 name_at entries zone key owner node rest b is view first begun =
-    exists_by entries zone key b is view (sym (ap (first_begins octets sets key) first ∙ begun))
+    exists_by entries zone key b is view (sym (ap (first_begins name_key sets (name_key key)) first ∙ begun))
 
-pub begins_by : (key owner needle text : List ℕ) (b : Bool) → b ≡ starts_with nat_eq text needle → text ≡ owner → needle ≡ key → begins key owner ≡ b
-begins_by key owner needle text b e at_owner at_key =
-    begins-starts_with key owner
-    ∙ sym (e ∙ ap (λ (t : List ℕ). starts_with nat_eq t needle) at_owner ∙ ap (starts_with nat_eq owner) at_key)
+-- The test of the code, as the key's octets say it.
+pub begins_by : (key owner : DomainName) (b : Bool) → b ≡ (beq owner.fqdn key.fqdn && is_at_or_below owner key) → begins (name_key key) (name_key owner) ≡ b
+begins_by key owner b e = begins-starts_with (name_key key) (name_key owner) ∙ key-below owner key ∙ sym e

@@ -14,10 +14,10 @@ use Rattle.std.proofs.lemmas.Map.Text.{is_eq-slice_cmp}
 use Rattle.std.proofs.lemmas.Cmp.{nat_list_cmp_total}
 use Rattle.std.proofs.lemmas.Slice.Eq.{bytes_eq-Decides}
 use Rattle.std.proofs.lemmas.Bool.{eqb-true, cases_order, and_parts, true≢false, le-ltb, ne_eqb, eq-eqb}
-use Rattle.dnw_codes.specs.declared.record_type.RecordType.{RecordType}
+use Rattle.zst_record.specs.dnw_codes.declared.record_type.RecordType.{RecordType}
 use Rattle.zst_record.specs.dnw_name.DomainName.{DomainName, name_eq, is_at_or_below}
-use Rattle.dnw_codes.specs.RecordType.{same_record_type}
-use Rattle.zst_record.specs.dnw_name.NameKey.{name_key}
+use Rattle.zst_record.specs.dnw_codes.RecordType.{same_record_type}
+use Rattle.zst_key.specs.NameKeys.{name_key}
 use Rattle.zst_zone.proofs.Keys.{begins}
 use Rattle.zst_record.specs.Records.{RRset, owner_of}
 use Rattle.zst_zone.specs.Zones.{rrset_at, exists_in}

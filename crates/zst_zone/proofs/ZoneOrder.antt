@@ -10,11 +10,11 @@ use Rattle.std.specs.Ordering.{nat_cmp, ordering_reverse, ordering_then}
 use Rattle.std.specs.declared.cmp.Ordering.{Ordering}
 use Rattle.std.specs.declared.cmp.Ordering.TheVariants.{Less, Equal, Greater}
 use Rattle.std.proofs.lemmas.Cmp.{nat_list_cmp_total}
-use Rattle.dnw_codes.specs.RecordType.{record_type_number}
+use Rattle.zst_record.specs.dnw_codes.RecordType.{record_type_number}
 use Rattle.zst_record.specs.Records.{RRset, owner_of}
 use Rattle.zst_record.specs.dnw_name.DomainName.{name_cmp}
-use Rattle.zst_record.specs.dnw_name.NameKey.{name_key}
-use Rattle.zst_record.proofs.dnw_name_lemmas.KeyOrder.{key-order}
+use Rattle.zst_key.specs.NameKeys.{name_key}
+use Rattle.zst_key.proofs.KeyOrder.{key-order}
 use Rattle.zst_zone.specs.Zones.{AreInOrder, set_cmp}
 use Rattle.zst_zone.specs.ZoneMaps.{IsNode, IsOwnedAt, IsZone, TypesRise, sets_of}
 

@@ -5,11 +5,11 @@ use Rattle.std.specs.declared.alloc.AllocError.{AllocError}
 use Rattle.std.specs.Str.{bytes_eq}
 use Rattle.std.specs.List.{AllByRecursion, insert}
 use Rattle.std.proofs.lemmas.Bool.{eqb-true, eqb-false, ltb-true, ltb-false, eq-eqb, ne_eqb}
-use Rattle.dnw_codes.specs.declared.record_type.RecordType.{RecordType}
+use Rattle.zst_record.specs.dnw_codes.declared.record_type.RecordType.{RecordType}
 use Rattle.zst_record.specs.declared.records.Record.{Record}
 use Rattle.zst_record.specs.dnw_name.DomainName.{DomainName, name_eq}
-use Rattle.dnw_codes.specs.RecordType.{record_type_number, same_record_type}
-use Rattle.zst_record.specs.dnw_name.NameKey.{name_key}
+use Rattle.zst_record.specs.dnw_codes.RecordType.{record_type_number, same_record_type}
+use Rattle.zst_key.specs.NameKeys.{name_key}
 use Rattle.zst_record.proofs.NameLaws.{name_eq_equiv}
 use Rattle.zst_record.specs.drd_rdata.Types.{type_of}
 use Rattle.zst_record.specs.Records.{RRset, IsRecordOf, ReadsBackAlone, owner_of, set_with}

@@ -1,9 +1,10 @@
 pub mod Lookups
 pub mod ZoneMaps
 pub mod Zones
-pub mod dnw_codes
+pub use Rattle.zst_record.specs.dnw_codes
 pub use Rattle.zst_record.specs.dnw_name
 pub use Rattle.zst_record.specs.drd_names
 pub use Rattle.zst_record.specs.drd_rdata
 pub use Rattle.zst_record.specs.drd_words
+pub mod zst_codes
 pub mod zst_record

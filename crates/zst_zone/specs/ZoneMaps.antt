@@ -5,9 +5,9 @@ use Rattle.std.specs.List.Sorted.{IsStrictlySortedBy}
 use Rattle.std.specs.Ordering.{nat_cmp}
 use Rattle.std.specs.Cmp.Lexicographic.{slice_cmp}
 use Rattle.std.specs.Map.{keys_of}
-use Rattle.zst_record.specs.dnw_name.DomainName.{DomainName}
-use Rattle.dnw_codes.specs.RecordType.{record_type_number, same_record_type}
-use Rattle.zst_record.specs.dnw_name.NameKey.{name_key}
+use Rattle.zst_record.specs.dnw_name.DomainName.{DomainName, lowercase_name}
+use Rattle.zst_record.specs.dnw_codes.RecordType.{record_type_number, same_record_type}
+use Rattle.zst_key.specs.NameKeys.{name_key}
 use Rattle.zst_record.specs.declared.records.Record.{Record}
 use Rattle.zst_record.specs.drd_rdata.Types.{type_of}
 use Rattle.zst_record.specs.Records.{RRset, owner_of, set_with}
@@ -59,8 +59,8 @@ module _ {K V : Type 0} (octets : K → List ℕ) (sets : V → List RRset) wher
     pub ordered : IsStrictlySortedBy (λ a b. slice_cmp nat_cmp (octets a) (octets b))
         (keys_of entries)
 
--- The origin of a zone ends at the root, and has this key; the zone's sets stand in order.
-pub record IsKept (origin : DomainName) (key : List ℕ) (sets : List RRset) : Type 0 where
+-- The origin of a zone ends at the root, and this is its key; the zone's sets stand in order.
+pub record IsKept (origin key : DomainName) (sets : List RRset) : Type 0 where
   pub full : origin.fqdn ≡ true
-  pub at : key ≡ name_key origin
+  pub at : key ≡ lowercase_name origin
   pub ordered : AreInOrder sets

@@ -5,14 +5,14 @@ use Rattle.std.specs.List.{AllByRecursion, list_any}
 use Rattle.std.specs.Ordering.{nat_cmp, on, then_cmp}
 use Rattle.std.specs.declared.cmp.Ordering.{Ordering}
 use Rattle.std.specs.declared.cmp.Ordering.TheVariants.{Less}
-use Rattle.dnw_codes.specs.declared.record_type.RecordType.{RecordType}
+use Rattle.zst_record.specs.dnw_codes.declared.record_type.RecordType.{RecordType}
 use Rattle.zst_record.specs.declared.records.Record.{Record}
-use Rattle.zst_zone.specs.declared.settings.ZoneType.{ZoneType}
-use Rattle.zst_zone.specs.declared.settings.AxfrPolicy.{AxfrPolicy}
-use Rattle.zst_zone.specs.declared.settings.NxProofKind.{NxProofKind}
+use Rattle.zst_codes.specs.declared.settings.ZoneType.{ZoneType}
+use Rattle.zst_codes.specs.declared.settings.AxfrPolicy.{AxfrPolicy}
+use Rattle.zst_codes.specs.declared.nx_proof.NxProofKind.{NxProofKind}
 use Rattle.zst_zone.specs.declared.settings.ZoneSettings.{ZoneSettings}
 use Rattle.zst_record.specs.dnw_name.DomainName.{DomainName, name_cmp, name_eq, is_at_or_below}
-use Rattle.dnw_codes.specs.RecordType.{record_type_number, same_record_type}
+use Rattle.zst_record.specs.dnw_codes.RecordType.{record_type_number, same_record_type}
 use Rattle.zst_record.specs.drd_rdata.Types.{type_of}
 use Rattle.zst_record.specs.Records.{RRset, owner_of, set_with}
 

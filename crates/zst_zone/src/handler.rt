@@ -1,17 +1,18 @@
 //! A zone kept in memory, and what it answers.
 
-ghost use Rattle.std.specs.Prelude.{◌≡◌, true, option_copied, IfOk, OnOk, OnErr};
-ghost use Rattle.zst_record.specs.dnw_name.DomainName.{DomainName, is_at_or_below};
-ghost use Rattle.zst_record.specs.dnw_name.NameKey.{name_key};
+ghost use Rattle.std.specs.Prelude.{◌≡◌, ◌&&◌, true, option_copied, IfOk, OnOk, OnErr};
+ghost use Rattle.zst_record.specs.dnw_name.DomainName.{is_at_or_below, lowercase_name};
 ghost use Rattle.zst_record.specs.Records.{ReadsBackAlone};
 ghost use Rattle.zst_zone.specs.Zones.{rrset_at, lookup_result, empty_zone, AddsTo, AreInOrder};
 ghost use Rattle.zst_zone.specs.Lookups.{outcome};
 
 use crate::map::{Found, ZoneMap};
-use crate::settings::{AxfrPolicy, NxProofKind, ZoneSettings, ZoneType};
+use crate::settings::ZoneSettings;
 use std::alloc::{AllocError, Global};
 use std::marker::{Model, PhantomData};
-use zst_record::{Name, Record, RecordSet, RecordType, RrKey, key_of};
+use zst_codes::{AxfrPolicy, NxProofKind, ZoneType};
+use zst_key::NameKey;
+use zst_record::{Name, Record, RecordSet, RecordType, RrKey};
 
 /// What a zone holds for a name and a type, or why there is nothing (RFC 2308 section 2).
 #[derive(Clone, Copy)]
@@ -31,7 +32,7 @@ pub enum Lookup<'z> {
 pub struct InMemoryZoneHandler<K> {
     origin: Name,
     /// The origin's key, made once.
-    origin_key: Vec<u8>,
+    origin_key: NameKey,
     zone_type: ZoneType,
     axfr_policy: AxfrPolicy,
     nx_proof_kind: Option<NxProofKind>,
@@ -47,7 +48,7 @@ impl<K> Model for InMemoryZoneHandler<K> {
 
     ghost view = { λ zone. record { origin = zone.origin; zone_type = zone.zone_type; axfr_policy = zone.axfr_policy; nx_proof_kind = zone.nx_proof_kind; sets = zone.sets } };
 
-    ghost invariant = { λ zone. IsKept zone.origin zone.origin_key.items zone.sets };
+    ghost invariant = { λ zone. IsKept zone.origin zone.origin_key zone.sets };
 }
 
 impl<K> InMemoryZoneHandler<K> {
@@ -60,7 +61,7 @@ impl<K> InMemoryZoneHandler<K> {
         requires { origin.fqdn ≡ true }
         ensures { IfOk result (λ zone. zone ≡ empty_zone origin settings) }
     {
-        let origin_key = key_of(alloc, &origin)?;
+        let origin_key = NameKey::of(alloc, &origin)?;
         Ok(InMemoryZoneHandler {
             origin,
             origin_key,
@@ -109,18 +110,18 @@ impl<K> InMemoryZoneHandler<K> {
         self.sets.get_first(&self.origin_key, record_type)
     }
 
-    /// Whether the name of a key, which ends at the root, is at or below the origin.
-    pub fn is_in_zone(&self, key: &[u8]) -> bool
-        ensures { (name : DomainName) → name.fqdn ≡ true → key.now ≡ name_key name → result ≡ is_at_or_below name self.now.origin }
+    /// Whether the name of a key is at or below the origin, where it ends at the root; a relative name is outside.
+    pub fn is_in_zone(&self, key: &NameKey) -> bool
+        ensures { result ≡ (key.now.fqdn && is_at_or_below key.now self.now.origin) }
     {
-        key.starts_with(&self.origin_key)
+        key.is_below(&self.origin_key)
     }
 
     /// The set of an owner and a type.
     pub fn get(&self, alloc: Global, at: &RrKey) -> Result<Option<&RecordSet>, AllocError>
         ensures { IfOk result (λ found. option_copied found ≡ rrset_at self.now.sets at.now.name at.now.record_type) }
     {
-        let key = key_of(alloc, &at.name)?;
+        let key = NameKey::of(alloc, &at.name)?;
         Ok(self.sets.get(&key, at.record_type))
     }
 
@@ -134,13 +135,13 @@ impl<K> InMemoryZoneHandler<K> {
         requires { name.now.fqdn ≡ true }
         ensures { IfOk result (λ found. outcome found ≡ lookup_result self.now name.now record_type) }
     {
-        let key = key_of(alloc, name)?;
+        let key = NameKey::of(alloc, name)?;
         Ok(self.lookup_at(&key, record_type))
     }
 
     /// What the zone answers for the name of a key and a type. The name ends at the root.
-    pub fn lookup_at(&self, key: &Vec<u8>, record_type: RecordType) -> Lookup<'_>
-        ensures { (name : DomainName) → name.fqdn ≡ true → key.now.items ≡ name_key name → outcome result ≡ lookup_result self.now name record_type }
+    pub fn lookup_at(&self, key: &NameKey, record_type: RecordType) -> Lookup<'_>
+        ensures { key.now.fqdn ≡ true → outcome result ≡ lookup_result self.now key.now record_type }
     {
         match self.sets.find(key, record_type) {
             Found::Set(set) => Lookup::Answer(set),
@@ -157,13 +158,13 @@ impl<K> InMemoryZoneHandler<K> {
         ensures ok { OnOk result (AddsTo self.old next self.new) }
         ensures err { OnErr result (self.new ≡ self.old) }
     {
-        let key = key_of(alloc, &next.name)?;
+        let key = NameKey::of(alloc, &next.name)?;
         self.insert_at(alloc, key, next)
     }
 
     /// Adds a record as `insert` does, under the key of its owner.
-    pub fn insert_at(&mut self, alloc: Global, key: Vec<u8>, next: Record) -> Result<(), AllocError>
-        requires keyed { key.items ≡ name_key next.name }
+    pub fn insert_at(&mut self, alloc: Global, key: NameKey, next: Record) -> Result<(), AllocError>
+        requires keyed { key ≡ lowercase_name next.name }
         requires alone { ReadsBackAlone next }
         ensures ok { OnOk result (AddsTo self.old next self.new) }
         ensures err { OnErr result (self.new ≡ self.old) }

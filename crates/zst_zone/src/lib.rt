@@ -4,12 +4,15 @@
 //! by name and type, and `lookup_result` says what is answered, or why nothing is.
 #![tactic(auto)]
 
-pub use dnw_codes::{DNSClass, ParseError, ProtoError, RecordType};
-pub use zst_record::{LowerName, Name, RData, Record, RrKey, key_of};
+pub use zst_codes::{AxfrPolicy, Nsec3HashAlgorithm, NxProofKind, Salt, SaltLenError, ZoneType};
+pub use zst_key::NameKey;
+pub use zst_record::{
+    DNSClass, LowerName, Name, ProtoError, RData, Record, RecordSet, RecordType, RrKey,
+};
 
 mod handler;
 mod map;
 mod settings;
 
 pub use handler::{InMemoryZoneHandler, Lookup};
-pub use settings::{AxfrPolicy, NxProofKind, Salt, ZoneSettings, ZoneType};
+pub use settings::ZoneSettings;

@@ -2,9 +2,8 @@
 
 ghost use Rattle.std.specs.Prelude.{◌≡◌, true, [], ◌∷◌, find, option_copied, IfOk, OnOk, OnErr};
 ghost use Rattle.std.specs.List.{AllByRecursion};
-ghost use Rattle.zst_record.specs.dnw_name.DomainName.{DomainName, name_eq};
-ghost use Rattle.zst_record.specs.dnw_name.NameKey.{name_key};
-ghost use Rattle.dnw_codes.specs.RecordType.{record_type_number, same_record_type};
+ghost use Rattle.zst_record.specs.dnw_name.DomainName.{name_eq, lowercase_name};
+ghost use Rattle.zst_record.specs.dnw_codes.RecordType.{record_type_number, same_record_type};
 ghost use Rattle.zst_record.specs.Records.{ReadsBackAlone};
 ghost use Rattle.zst_zone.specs.Zones.{rrset_at, exists_in, Adds, AreInOrder};
 ghost use Rattle.zst_record.specs.Records.{owner_of, set_with};
@@ -12,10 +11,12 @@ ghost use Rattle.zst_zone.specs.ZoneMaps.{with_record, place_from};
 ghost use Rattle.zst_zone.specs.Lookups.{set_found, name_found};
 
 use std::alloc::{AllocError, Global};
+use std::cmp::Ordering;
 use std::collections::BTreeMap;
 use std::collections::btree_map::Entry;
 use std::marker::Model;
 use std::mem;
+use zst_key::NameKey;
 use zst_record::{Record, RecordSet, RecordType};
 
 /// What a map holds for a name and a type.
@@ -33,7 +34,7 @@ pub enum Found<'z> {
 #[derive(Drop)]
 pub struct ZoneMap {
     /// The sets of each owner, by rising type, under the owner's key.
-    nodes: BTreeMap<Vec<u8>, Vec<RecordSet>>,
+    nodes: BTreeMap<NameKey, Vec<RecordSet>>,
 }
 
 impl Model for ZoneMap {
@@ -42,11 +43,12 @@ impl Model for ZoneMap {
 
     ghost Value = { List RRset };
 
+    ghost use Rattle.zst_key.specs.NameKeys.{name_key};
     ghost use Rattle.zst_zone.specs.ZoneMaps.{sets_of, IsZone};
 
-    ghost view = { λ zone. sets_of (λ key. key.items) (λ node. node.items) zone.nodes.entries };
+    ghost view = { λ zone. sets_of name_key (λ node. node.items) zone.nodes.entries };
 
-    ghost invariant = { λ zone. IsZone (λ key. key.items) (λ node. node.items) zone.nodes.entries };
+    ghost invariant = { λ zone. IsZone name_key (λ node. node.items) zone.nodes.entries };
 }
 
 impl ZoneMap {
@@ -60,8 +62,8 @@ impl ZoneMap {
     }
 
     /// The set of a type at the name of a key.
-    pub fn get(&self, key: &[u8], record_type: RecordType) -> Option<&RecordSet>
-        ensures { (name : DomainName) → key.now ≡ name_key name → option_copied result ≡ rrset_at self.now name record_type }
+    pub fn get(&self, key: &NameKey, record_type: RecordType) -> Option<&RecordSet>
+        ensures { option_copied result ≡ rrset_at self.now key.now record_type }
     {
         match self.nodes.get(key) {
             Some(sets) => find_set(sets, record_type),
@@ -71,28 +73,28 @@ impl ZoneMap {
 
     /// The set of a type at the name of a key, as `get` finds it. Where this is the first of all keys, as the origin's
     /// is among those of its zone, the map is not searched.
-    pub fn get_first(&self, key: &[u8], record_type: RecordType) -> Option<&RecordSet>
-        ensures { (name : DomainName) → key.now ≡ name_key name → option_copied result ≡ rrset_at self.now name record_type }
+    pub fn get_first(&self, key: &NameKey, record_type: RecordType) -> Option<&RecordSet>
+        ensures { option_copied result ≡ rrset_at self.now key.now record_type }
     {
         match self.nodes.first_key_value() {
-            Some((owner, sets)) if owner.as_slice() == key => find_set(sets, record_type),
+            Some((owner, sets)) if owner == key => find_set(sets, record_type),
             _ => self.get(key, record_type),
         }
     }
 
     /// The set of a type at the name of a key, which ends at the root; else whether the name exists: whether an owner
     /// equals it or lies below it (RFC 4592 section 2.2.2). The first key that is not before this one tells both.
-    pub fn find(&self, key: &Vec<u8>, record_type: RecordType) -> Found<'_>
-        ensures set { (name : DomainName) → key.now.items ≡ name_key name → set_found result ≡ rrset_at self.now name record_type }
-        ensures name { (name : DomainName) → name.fqdn ≡ true → key.now.items ≡ name_key name → name_found result ≡ exists_in self.now name }
+    pub fn find(&self, key: &NameKey, record_type: RecordType) -> Found<'_>
+        ensures set { set_found result ≡ rrset_at self.now key.now record_type }
+        ensures name { key.now.fqdn ≡ true → name_found result ≡ exists_in self.now key.now }
     {
         let Some((owner, sets)) = self.nodes.range(key..).next() else {
             return Found::Nothing;
         };
-        if !owner.starts_with(key) {
+        if !owner.is_below(key) {
             return Found::Nothing;
         }
-        if owner.len() > key.len() {
+        if key != owner {
             return Found::Exists;
         }
         match find_set(sets, record_type) {
@@ -103,8 +105,8 @@ impl ZoneMap {
 
     /// Adds a record, whose owner has this key, to the set of its owner and type, in place of the one with equal data;
     /// where there is no such set, one is made. The map is searched once.
-    pub fn add(&mut self, alloc: Global, key: Vec<u8>, next: Record) -> Result<(), AllocError>
-        requires keyed { key.items ≡ name_key next.name }
+    pub fn add(&mut self, alloc: Global, key: NameKey, next: Record) -> Result<(), AllocError>
+        requires keyed { key ≡ lowercase_name next.name }
         requires alone { ReadsBackAlone next }
         ensures ok { OnOk result (Adds self.old next self.new) }
         ensures ordered { OnOk result (AreInOrder self.new) }
@@ -155,11 +157,11 @@ fn add_to_node(alloc: Global, sets: &mut Vec<RecordSet>, next: Record) -> Result
 fn place_of(sets: &[RecordSet], record_type: RecordType) -> Result<usize, usize>
     ensures { result ≡ place_from 0 sets.now (record_type_number record_type) }
 {
-    let code = u16::from(record_type);
     for (place, set) in sets.iter().enumerate() {
-        let other = u16::from(set.record_type());
-        if code <= other {
-            return if other == code { Ok(place) } else { Err(place) };
+        match set.record_type().cmp(&record_type) {
+            Ordering::Less => {}
+            Ordering::Equal => return Ok(place),
+            Ordering::Greater => return Err(place),
         }
     }
     Err(sets.len())

@@ -4,12 +4,11 @@ use Rattle.zsv_message.specs.declared.header.MessageType.{MessageType}
 use Rattle.zsv_message.specs.declared.header.MessageType.TheVariants as types
 use Rattle.zsv_message.specs.declared.header.OpCode.{OpCode}
 use Rattle.zsv_message.specs.declared.header.OpCode.TheVariants as operations
-use Rattle.zsv_message.specs.declared.header.ResponseCode.{ResponseCode}
-use Rattle.zsv_message.specs.declared.header.ResponseCode.TheVariants as responses
 use Rattle.zsv_message.specs.declared.header.Metadata.{Metadata}
 use Rattle.zsv_message.specs.declared.header.HeaderCounts.{HeaderCounts}
 use Rattle.zsv_message.specs.declared.header.Header.{Header}
 use Rattle.dnw_encoder.specs.dnw_decoder.Octets.{number_16, octets_16}
+use Rattle.zst_codes.specs.ResponseCode.{low_bits, response_code_number, response_code_of}
 
 -- The number of an operation, and the operation of a number.
 abbrev pub op_code_number : OpCode → ℕ
@@ -24,24 +23,6 @@ op_code_of n =
     if n == 0 then operations.Query else if n == 2 then operations.Status else if n
     == 4 then operations.Notify
     else if n == 5 then operations.Update else operations.Unknown n
-
--- The number of a response code, and the response code of a number.
-abbrev pub response_code_number : ResponseCode → ℕ
-response_code_number responses.NoError = 0
-response_code_number responses.FormErr = 1
-response_code_number responses.ServFail = 2
-response_code_number responses.NXDomain = 3
-response_code_number responses.NotImp = 4
-response_code_number responses.Refused = 5
-response_code_number (responses.Unknown n) = n
-
-abbrev pub response_code_of : ℕ → ResponseCode
-response_code_of n =
-    if n == 0 then responses.NoError else if n == 1 then responses.FormErr else if n
-    == 2 then responses.ServFail
-    else if n == 3 then responses.NXDomain else if n == 4 then responses.NotImp else if n
-    == 5 then responses.Refused
-    else responses.Unknown n
 
 -- Whether the bit of weight 2 ^ k is set.
 abbrev pub bit : ℕ → ℕ → Bool
@@ -107,7 +88,7 @@ high_octet m =
 abbrev pub low_octet : Metadata → ℕ
 low_octet m =
     128 * flag m.recursion_available + 32 * flag m.authentic_data + 16 * flag m.checking_disabled
-    + response_code_number m.response_code % 16
+    + low_bits m.response_code
 
 -- The twelve octets of a header.
 abbrev pub header_octets : Header → List ℕ

@@ -2,3 +2,4 @@ pub mod Headers
 pub mod Requests
 pub mod Wire
 pub use Rattle.dnw_encoder.specs.dnw_decoder
+pub mod zst_codes

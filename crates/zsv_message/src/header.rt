@@ -4,9 +4,10 @@ ghost use Rattle.std.specs.Prelude.{◌≡◌, ◌+◌, ◌<◌, ◌≤◌, ◌%
 ghost use Rattle.dnw_encoder.specs.dnw_decoder.Reading.{IsCut};
 ghost use Rattle.dnw_encoder.specs.Effects.{Writes, WritesOctets, IsRefusal};
 ghost use Rattle.dnw_encoder.specs.Encoders.{state};
-ghost use Rattle.zsv_message.specs.Headers.{op_code_of, op_code_number, response_code_of, response_code_number, bit, metadata_of, counts_of, header_of, high_octet, low_octet, header_octets, HeaderAt, FitsHeader};
+ghost use Rattle.zsv_message.specs.Headers.{op_code_of, op_code_number, bit, metadata_of, counts_of, header_of, high_octet, low_octet, header_octets, HeaderAt, FitsHeader};
 
 use dnw_encoder::{BinDecoder, BinEncodable, BinEncoder, DecodeError, EncodedSize, ProtoError};
+use zst_codes::ResponseCode;
 
 /// Whether a message asks or answers.
 #[derive(Clone, Copy, Debug, PartialEq, Eq)]
@@ -56,57 +57,6 @@ impl OpCode {
             OpCode::Notify => 4,
             OpCode::Update => 5,
             OpCode::Unknown(number) => number,
-        }
-    }
-}
-
-/// How a request was answered.
-#[derive(Clone, Copy, Debug)]
-pub enum ResponseCode {
-    /// As asked.
-    NoError,
-    /// The request is not one that can be read.
-    FormErr,
-    /// The server failed.
-    ServFail,
-    /// No such name.
-    NXDomain,
-    /// No such operation here.
-    NotImp,
-    /// The server does not answer this.
-    Refused,
-    /// Any other code, by its number.
-    Unknown(u16),
-}
-
-impl ResponseCode {
-    /// The response code of a number.
-    pub fn from_u16(number: u16) -> ResponseCode
-        ensures { result ≡ response_code_of number }
-    {
-        match number {
-            0 => ResponseCode::NoError,
-            1 => ResponseCode::FormErr,
-            2 => ResponseCode::ServFail,
-            3 => ResponseCode::NXDomain,
-            4 => ResponseCode::NotImp,
-            5 => ResponseCode::Refused,
-            _ => ResponseCode::Unknown(number),
-        }
-    }
-
-    /// The number of the response code.
-    pub fn code(self) -> u16
-        ensures { result ≡ response_code_number self }
-    {
-        match self {
-            ResponseCode::NoError => 0,
-            ResponseCode::FormErr => 1,
-            ResponseCode::ServFail => 2,
-            ResponseCode::NXDomain => 3,
-            ResponseCode::NotImp => 4,
-            ResponseCode::Refused => 5,
-            ResponseCode::Unknown(number) => number,
         }
     }
 }
@@ -186,7 +136,7 @@ impl Metadata {
         128 * u8::from(self.recursion_available)
             + 32 * u8::from(self.authentic_data)
             + 16 * u8::from(self.checking_disabled)
-            + (self.response_code.code() % 16) as u8
+            + self.response_code.low()
     }
 
     // What the identifier and the two octets of flags say.
@@ -207,7 +157,7 @@ impl Metadata {
             recursion_available: is_set(low, 7),
             authentic_data: is_set(low, 5),
             checking_disabled: is_set(low, 4),
-            response_code: ResponseCode::from_u16(u16::from(low % 16)),
+            response_code: u16::from(low % 16).into(),
         }
     }
 }

@@ -3,10 +3,12 @@
 //! `MessageRequest::read` reads exactly what `IsRequest` says.
 #![tactic(auto)]
 
+pub use zst_codes::ResponseCode;
+
 mod header;
 mod read;
 mod request;
 
-pub use header::{Header, HeaderCounts, MessageType, Metadata, OpCode, ResponseCode};
+pub use header::{Header, HeaderCounts, MessageType, Metadata, OpCode};
 pub use read::ReadError;
 pub use request::{MessageRequest, Query};

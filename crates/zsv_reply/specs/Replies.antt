@@ -6,7 +6,7 @@ use Rattle.zsv_message.specs.declared.header.Metadata.{Metadata}
 use Rattle.zsv_message.specs.declared.header.Header.{Header}
 use Rattle.zsv_message.specs.declared.header.MessageType.TheVariants as messages
 use Rattle.zsv_message.specs.declared.header.OpCode.TheVariants as operations
-use Rattle.zsv_message.specs.declared.header.ResponseCode.TheVariants as responses
+use Rattle.zsv_message.specs.zst_codes.declared.response_code.ResponseCode.TheVariants as responses
 use Rattle.zsv_message.specs.Headers.{header_of, reserved_bit}
 use Rattle.zst_record.specs.dnw_decoder.Octets.{Stands}
 use Rattle.zst_record.specs.Records.{RecordAt, plain}

@@ -3,7 +3,8 @@
 ghost use Rattle.std.specs.Prelude.{◌≡◌, ◌≤◌, true, [], Ok, IfOk, IfErr, option_copied};
 ghost use Rattle.std.specs.List.{AllByRecursion};
 ghost use Rattle.zst_zone.specs.dnw_codes.ProtoError.{IsMemory};
-ghost use Rattle.zsv_message.specs.Headers.{FitsHeader, response_code_of, response_code_number};
+ghost use Rattle.zsv_message.specs.Headers.{FitsHeader};
+ghost use Rattle.zsv_message.specs.zst_codes.ResponseCode.{response_code_of, response_code_number};
 ghost use Rattle.zsv_reply.specs.zst_record.Records.{ReadsBackAlone};
 ghost use Rattle.zst_zone.specs.Lookups.{outcome};
 ghost use Rattle.zsv_reply.specs.Replies.{bare_failure, IsReply};
@@ -12,7 +13,7 @@ ghost use Rattle.authority_server.specs.Serving.{reply_metadata, error_parts, re
 ghost use Rattle.authority_server.specs.Servers.{parts_of, IsSound, IsKnown, AsksFullNames};
 
 use std::alloc::{AllocError, Global};
-use zst_zone::{InMemoryZoneHandler, Lookup, ProtoError, key_of};
+use zst_zone::{InMemoryZoneHandler, Lookup, NameKey, ProtoError};
 use zsv_message::{MessageRequest, MessageType, Metadata, OpCode, Query, ResponseCode};
 use zsv_reply::{MessageResponse, Record, RecordSet, RecordType, encode_header};
 
@@ -125,7 +126,7 @@ fn question_response<'z, K>(
     ensures value { IfOk result (λ r. parts_of r ≡ question_parts zone.now request question.now) }
     ensures sound { FitsHeader request → IfOk result IsSound }
 {
-    let key = key_of(alloc, &question.name)?;
+    let key = NameKey::of(alloc, &question.name)?;
     if !zone.is_in_zone(&key) {
         return Ok(error_response(request, ResponseCode::Refused));
     }

@@ -1,8 +1,8 @@
 use Rattle.std.proofs.Common.{◌∙◌, sym, ap, arith, subst, length, set}
 use Rattle.std.specs.Prelude.{List, [], Some, Result, Ok, Err, OnOk}
 use Rattle.std.specs.List.{insert}
-use Rattle.dnw_codes.specs.declared.record_type.RecordType.{RecordType}
-use Rattle.dnw_codes.specs.RecordType.{record_type_number}
+use Rattle.zst_record.specs.dnw_codes.declared.record_type.RecordType.{RecordType}
+use Rattle.zst_record.specs.dnw_codes.RecordType.{record_type_number}
 use Rattle.zst_record.specs.Records.{RRset, IsRecordOf, owner_of, set_with}
 use Rattle.zst_zone.specs.ZoneMaps.{place_from}
 use Rattle.zst_zone.proofs.ZoneSets.{FoundHere, found_here, MissedHere, missed_here}

@@ -6,11 +6,11 @@ use Rattle.zst_zone.proofs.map.ZoneMap.get.Goals as goal
 
 pub returns-in-Some : goal.returns-in-Some
 returns-in-Some c =
-    λ name same. c.find_set.ensures ∙ ap (find (is_of_type c.args.record_type)) c.deref.ensures.value
+    c.find_set.ensures ∙ ap (find (is_of_type c.args.record_type)) c.deref.ensures.value
     ∙ stored_by c.self.inside.nodes.entries c.args.self.now c.args.key.now c.args.record_type (Some c.in-Some.sets.now)
-    c.self.invariant c.self.view_is c.in-Some.ensures.value name same
+    c.self.invariant c.self.view_is c.in-Some.ensures.value
 
 pub returns-in-None : goal.returns-in-None
 returns-in-None c =
-    λ name same. stored_by c.self.inside.nodes.entries c.args.self.now c.args.key.now c.args.record_type None
-    c.self.invariant c.self.view_is c.in-None.ensures.value name same
+    stored_by c.self.inside.nodes.entries c.args.self.now c.args.key.now c.args.record_type None
+    c.self.invariant c.self.view_is c.in-None.ensures.value

@@ -1,0 +1,13 @@
+//! Zones as they are stored: records and their sets, keys of owners, a zone in memory, and what handlers answer.
+//!
+//! This is the face of the crates below, and holds nothing of its own: response codes, answers of handlers and how a
+//! zone may be used from `zst_codes`, EDNS from `zst_edns`, records and zones from `zst_zone` and what it passes on.
+#![tactic(auto)]
+
+pub use zst_codes::{LookupControlFlow, LookupError, Nsec3QueryInfo, ResponseCode, TsigVerdict};
+pub use zst_edns::{Edns, EdnsFlags};
+pub use zst_zone::{
+    AxfrPolicy, DNSClass, InMemoryZoneHandler, Lookup, LowerName, Name, NameKey,
+    Nsec3HashAlgorithm, NxProofKind, ProtoError, RData, Record, RecordSet, RecordType, RrKey, Salt,
+    SaltLenError, ZoneSettings, ZoneType,
+};

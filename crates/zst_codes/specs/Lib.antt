@@ -1,0 +1,3 @@
+pub mod ControlFlow
+pub mod LookupError
+pub mod ResponseCode

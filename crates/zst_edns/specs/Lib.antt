@@ -1,0 +1,3 @@
+pub mod Edns
+pub mod Flags
+pub mod Lending

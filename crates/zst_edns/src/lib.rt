@@ -1,0 +1,11 @@
+//! EDNS: what an OPT record says beside its options, and these (RFC 6891 6.1).
+//!
+//! `IsEdnsOf` says what the class and the TTL of the record stand for, and `edns_ttl` which TTL is written: a TTL that is
+//! read and written stays. `EdnsFlags` are the last sixteen bits of it.
+#![tactic(auto)]
+
+mod edns;
+mod edns_flags;
+
+pub use edns::Edns;
+pub use edns_flags::EdnsFlags;

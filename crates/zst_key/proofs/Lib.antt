@@ -1,0 +1,3 @@
+pub mod KeyFronts
+pub mod KeyLemmas
+pub mod KeyOrder

@@ -1,0 +1,3 @@
+pub mod Ancestors
+pub mod NameKeys
+pub mod dnw_name

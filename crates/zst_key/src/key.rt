@@ -1,0 +1,111 @@
+//! Keys of names.
+ghost use Rattle.std.specs.Prelude.{◌≡◌, ◌<◌, ◌&&◌, ◌∷◌, [], take, IfOk, IsOk, OnOk, OnErr};
+ghost use Rattle.std.specs.Bool.{beq};
+ghost use Rattle.std.specs.Cmp.{partial_order_from_own_ties};
+ghost use Rattle.std.specs.Cmp.Rules.{comparing};
+ghost use Rattle.std.specs.Ordering.{as_partial_cmp};
+ghost use Rattle.std.specs.Str.{str_to_ascii_lowercase};
+ghost use Rattle.std.proofs.Common.{rules};
+ghost use Rattle.dnw_name.specs.DomainName.{name_eq, name_cmp, name_len, is_at_or_below, lowercase_name};
+ghost use Rattle.dnw_name.specs.NameOrderLaws.{name_eq-by_cmp};
+ghost use Rattle.zst_key.specs.Ancestors.{parent, star};
+
+use crate::octets::{INLINE, octets_of};
+use dnw_name::Name;
+use smallvec::SmallVec;
+use std::alloc::{AllocError, Global};
+use std::cmp::Ordering;
+use std::marker::Model;
+
+/// The key of a name, which stands for the name in lower case. Keys are equal and ordered as names are (RFC 4034 6.1).
+/// Those of names of up to 39 octets take no memory.
+#[derive(Drop)]
+pub struct NameKey {
+    octets: SmallVec<u8, INLINE>,
+}
+
+impl Model for NameKey {
+    ghost use Rattle.dnw_name.specs.DomainName.{DomainName};
+
+    ghost Value = { DomainName };
+
+    ghost use Rattle.zst_key.specs.NameKeys.{name_of_key, IsKey};
+
+    ghost view = { λ key. name_of_key key.octets.items };
+
+    ghost invariant = { λ key. IsKey key.octets.items };
+}
+
+impl NameKey {
+    /// The key of a name. It takes no memory where the name has at most 39 octets.
+    pub fn of(alloc: Global, name: &Name) -> Result<NameKey, AllocError>
+        ensures key { IfOk result (λ key. key ≡ lowercase_name name.now) }
+        ensures short { name_len name.now < 40 → IsOk result }
+    {
+        let octets = octets_of(alloc, name)?;
+        Ok(NameKey { octets })
+    }
+
+    /// Goes to the name without its first label, which is handed in. It takes no memory.
+    pub fn to_parent(&mut self, first: &[u8])
+        requires { take 1 self.old.labels ≡ str_to_ascii_lowercase first.now ∷ [] }
+        ensures { self.new ≡ parent self.old }
+    {
+        let end = self.octets.len() - first.len() - 1;
+        self.octets.truncate(end);
+    }
+
+    /// Goes to the wildcard below the name (RFC 4592 2.1.1).
+    pub fn to_star(&mut self) -> Result<(), AllocError>
+        ensures ok { OnOk result (self.new ≡ star self.old) }
+        ensures err { OnErr result (self.new ≡ self.old) }
+    {
+        self.octets.extend_from_slice(&[43, 0])?;
+        Ok(())
+    }
+
+    /// Whether the name is the other one, or lies below it, where both end at the root or neither does.
+    pub fn is_below(&self, other: &NameKey) -> bool
+        ensures { result ≡ (beq self.now.fqdn other.now.fqdn && is_at_or_below self.now other.now) }
+    {
+        self.octets.starts_with(&other.octets)
+    }
+}
+
+impl PartialEq for NameKey {
+    ghost eq = { name_eq };
+
+    ghost laws = { Prim.search (comparing, rules) depth 12 };
+
+    fn eq(&self, other: &NameKey) -> bool {
+        self.octets.as_slice() == other.octets.as_slice()
+    }
+}
+
+impl Eq for NameKey {
+    ghost laws = { Prim.search (comparing, rules) depth 12 };
+}
+
+impl Ord for NameKey {
+    ghost cmp = { name_cmp };
+
+    ghost total = { Prim.search (comparing, rules) depth 12 };
+
+    ghost matches_partial_cmp = { Prim.search (comparing, rules) };
+
+    ghost matches_eq = { name_eq-by_cmp };
+
+    fn cmp(&self, other: &NameKey) -> Ordering {
+        self.octets.as_slice().cmp(other.octets.as_slice())
+    }
+}
+
+impl PartialOrd for NameKey {
+    ghost partial_cmp = { as_partial_cmp name_cmp };
+
+    ghost laws = { partial_order_from_own_ties (Prim.search (comparing, rules) depth 12) name_eq-by_cmp };
+
+    fn partial_cmp(&self, other: &NameKey) -> Option<Ordering> {
+        Some(self.cmp(other))
+    }
+}

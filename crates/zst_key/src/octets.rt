@@ -1,0 +1,68 @@
+//! Octets whose plain order is the canonical order of names.
+ghost use Rattle.std.specs.Prelude.{◌≡◌, ◌+◌, ◌++◌, ◌<◌, length, IfOk, IsOk};
+ghost use Rattle.smallvec.specs.SmallVec.{HasRoomFor, small_vec_len};
+ghost use Rattle.dnw_name.specs.DomainName.{name_len};
+ghost use Rattle.zst_key.specs.NameKeys.{rank, label_key, name_key};
+
+use dnw_name::Name;
+use smallvec::SmallVec;
+use std::alloc::{AllocError, Global};
+
+/// How many octets of a key stand where the key does, and take no memory of their own: names of up to 39 octets.
+pub(crate) const INLINE: usize = 40;
+
+// The rank of each octet: a capital's is that of its small letter.
+#[rattlefmt::skip]
+static RANKS: [u8; 256] = [
+      1,   2,   3,   4,   5,   6,   7,   8,   9,  10,  11,  12,  13,  14,  15,  16,
+     17,  18,  19,  20,  21,  22,  23,  24,  25,  26,  27,  28,  29,  30,  31,  32,
+     33,  34,  35,  36,  37,  38,  39,  40,  41,  42,  43,  44,  45,  46,  47,  48,
+     49,  50,  51,  52,  53,  54,  55,  56,  57,  58,  59,  60,  61,  62,  63,  64,
+     65,  72,  73,  74,  75,  76,  77,  78,  79,  80,  81,  82,  83,  84,  85,  86,
+     87,  88,  89,  90,  91,  92,  93,  94,  95,  96,  97,  66,  67,  68,  69,  70,
+     71,  72,  73,  74,  75,  76,  77,  78,  79,  80,  81,  82,  83,  84,  85,  86,
+     87,  88,  89,  90,  91,  92,  93,  94,  95,  96,  97,  98,  99, 100, 101, 102,
+    103, 104, 105, 106, 107, 108, 109, 110, 111, 112, 113, 114, 115, 116, 117, 118,
+    119, 120, 121, 122, 123, 124, 125, 126, 127, 128, 129, 130, 131, 132, 133, 134,
+    135, 136, 137, 138, 139, 140, 141, 142, 143, 144, 145, 146, 147, 148, 149, 150,
+    151, 152, 153, 154, 155, 156, 157, 158, 159, 160, 161, 162, 163, 164, 165, 166,
+    167, 168, 169, 170, 171, 172, 173, 174, 175, 176, 177, 178, 179, 180, 181, 182,
+    183, 184, 185, 186, 187, 188, 189, 190, 191, 192, 193, 194, 195, 196, 197, 198,
+    199, 200, 201, 202, 203, 204, 205, 206, 207, 208, 209, 210, 211, 212, 213, 214,
+    215, 216, 217, 218, 219, 220, 221, 222, 223, 224, 225, 226, 227, 228, 229, 230,
+];
+
+// The octets of a name's key: the flag, then the labels from the root down, each octet by its rank, without regard to
+// case. So the octets of a suffix are a front, and plain order is the canonical order of names (RFC 4034 6.1).
+pub(crate) fn octets_of(alloc: Global, name: &Name) -> Result<SmallVec<u8, INLINE>, AllocError>
+    ensures key { IfOk result (λ octets. octets.items ≡ name_key name.now) }
+    ensures short { name_len name.now < 40 → IsOk result }
+{
+    let mut octets = SmallVec::with_capacity(alloc, name.len() + 1)?;
+    octets.push_reserved(u8::from(name.is_fqdn()));
+    let mut labels = name.iter();
+    'labels: while let Some(label) = labels.next_back() {
+        push_label(&mut octets, label);
+    }
+    Ok(octets)
+}
+
+// Appends a label's octets by their ranks, then 0, for which there is room.
+fn push_label(octets: &mut SmallVec<u8, INLINE>, label: &[u8])
+    requires { HasRoomFor octets.old (length label.now + 1) }
+    ensures items { octets.new.items ≡ octets.old.items ++ label_key label.now }
+    ensures len { small_vec_len octets.new ≡ small_vec_len octets.old + (length label.now + 1) }
+    ensures capacity { octets.new.capacity ≡ octets.old.capacity }
+{
+    'octets: for i in 0..label.len() {
+        octets.push_reserved(rank(label[i]));
+    }
+    octets.push_reserved(0);
+}
+
+// The place of an octet among the octets without capitals, from 1 on.
+fn rank(octet: u8) -> u8
+    ensures { result ≡ rank octet }
+{
+    RANKS[usize::from(octet)]
+}
