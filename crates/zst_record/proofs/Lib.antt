@@ -1,5 +1,5 @@
-pub mod NameLaws
 pub mod PutRecords
+pub mod ReadingLaws
 pub mod OwnCodes
 pub mod Emission
 pub use Rattle.drd_rdata.proofs.dnw_name_lemmas

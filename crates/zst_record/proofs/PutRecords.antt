@@ -9,7 +9,7 @@ use Rattle.drd_rdata.specs.dnw_codes.declared.record_type.RecordType.{RecordType
 use Rattle.zst_record.specs.declared.records.Record.{Record}
 use Rattle.drd_rdata.specs.declared.rdata.RData.{RData}
 use Rattle.drd_rdata.specs.dnw_name.DomainName.{DomainName, name_eq}
-use Rattle.zst_record.proofs.NameLaws.{name_eq_equiv}
+use Rattle.zst_record.specs.RecordLaws.{name_eq_equiv}
 use Rattle.drd_rdata.specs.dnw_codes.RecordType.{record_type_number}
 use Rattle.drd_rdata.specs.Order.{rdata_eq}
 use Rattle.drd_rdata.specs.Types.{type_of}

@@ -1,4 +1,6 @@
 pub mod Records
+pub mod RecordLaws
+pub mod Reading
 pub mod Writing
 pub use Rattle.drd_rdata.specs.dnw_codes
 pub use Rattle.drd_rdata.specs.dnw_decoder

@@ -1,11 +1,12 @@
 -- Resource records and their sets: RFC 1035, section 4.1.3; RFC 2181, section 5.
 use Rattle.std.specs.Prelude.{◌≡◌, ℕ, ◌+◌, ◌^◌, ◌<◌, Bool, true, false, List, [], ◌∷◌, length, Option, Some, None, if◌then◌else◌}
 use Rattle.std.specs.List.{AllByRecursion}
+use Rattle.std.specs.Ordering.{eq_of_both, on}
 use Rattle.drd_rdata.specs.dnw_codes.declared.record_type.RecordType.{RecordType}
 use Rattle.drd_rdata.specs.dnw_codes.declared.record_type.RecordType.TheVariants as kind
 use Rattle.drd_rdata.specs.dnw_codes.declared.dns_class.DNSClass.{DNSClass}
 use Rattle.drd_rdata.specs.dnw_codes.declared.dns_class.DNSClass.TheVariants as class
-use Rattle.drd_rdata.specs.dnw_codes.DNSClass.{class_of}
+use Rattle.drd_rdata.specs.dnw_codes.DNSClass.{class_of, same_class}
 use Rattle.drd_rdata.specs.dnw_codes.RecordType.{record_type_of, same_record_type}
 use Rattle.drd_rdata.specs.dnw_name.DomainName.{DomainName, domain_name, name_octets, name_eq}
 use Rattle.drd_rdata.specs.dnw_decoder.Codes.{RecordTypeAt, ClassAt}
@@ -15,6 +16,7 @@ use Rattle.drd_rdata.specs.Order.{rdata_eq}
 use Rattle.drd_rdata.specs.Reading.{ReadsAs, IsReadable}
 use Rattle.drd_rdata.specs.Types.{type_of}
 use Rattle.drd_rdata.specs.Writing.{written_octets}
+use Rattle.drd_rdata.specs.declared.rdata.RData.{RData}
 use Rattle.zst_record.specs.declared.records.Record.{Record}
 
 -- A record at a place, as it is read: its owner; the numbers of its type and its class; its time to
@@ -35,6 +37,16 @@ pub record RecordAt (message : List ℕ) (place : ℕ) (r : Record) (end : ℕ) 
   pub small_len : len < 2 ^ 16
   pub rdata : ReadsAs (type_of r.rdata) message first len r.rdata
   pub filled : end ≡ first + len
+
+abbrev pub record_with : DomainName → DNSClass → ℕ → RData → Record
+record_with owner class ttl value =
+    record { name = owner; dns_class = class; ttl = ttl; rdata = value }
+
+-- Two records are the same but for their time to live: RFC 2136, section 1.1.1.
+abbrev pub record_eq : Record → Record → Bool
+record_eq =
+    eq_of_both (on (λ r. r.name) name_eq)
+    (eq_of_both (on (λ r. r.dns_class) same_class) (on (λ r. r.rdata) rdata_eq))
 
 -- The octets that a record takes, its names in full.
 abbrev pub plain : Record → ℕ

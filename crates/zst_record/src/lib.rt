@@ -10,6 +10,7 @@ pub use drd_rdata::{
 };
 
 mod emit;
+mod read;
 mod records;
 
 pub use records::{Record, RecordSet};

@@ -1,9 +1,13 @@
 //! Resource records and their sets (RFC 1035 section 4.1.3, RFC 2181 section 5).
 
 ghost use Rattle.std.specs.Prelude.{◌≡◌, ◌↔◌, None, Some, true, IsTrue, IfOk, OnOk, OnErr, position};
+ghost use Rattle.std.specs.Cmp.{partial_equiv_from_equiv};
 ghost use Rattle.drd_rdata.specs.Order.{rdata_eq};
 ghost use Rattle.drd_rdata.specs.Types.{type_of};
-ghost use Rattle.zst_record.specs.Records.{RRset, IsRRset, IsRecordOf, IsOwnClass, IsOwnType, ReadsBackAlone, belongs_to_message, owner_of};
+ghost use Rattle.drd_rdata.specs.dnw_codes.declared.dns_class.DNSClass.TheVariants.{IN};
+ghost use Rattle.drd_rdata.specs.declared.rdata.RData.TheVariants.{Update0};
+ghost use Rattle.zst_record.specs.Records.{RRset, IsRRset, IsRecordOf, IsOwnClass, IsOwnType, ReadsBackAlone, belongs_to_message, owner_of, record_eq, record_with};
+ghost use Rattle.zst_record.specs.RecordLaws.{record_equiv};
 ghost use Rattle.zst_record.specs.Records.{put_record as with_record, set_with};
 
 use drd_rdata::{DNSClass, Name, RData, RecordType, is_readable};
@@ -24,6 +28,25 @@ pub struct Record {
 }
 
 impl Record {
+    /// A record of class IN.
+    pub fn from_rdata(name: Name, ttl: u32, rdata: RData) -> Record
+        ensures { result ≡ record_with name IN ttl rdata }
+    {
+        Record {
+            name,
+            dns_class: DNSClass::IN,
+            ttl,
+            rdata,
+        }
+    }
+
+    /// A record of class IN without data, as an update has them (RFC 2136 2.4).
+    pub fn update0(name: Name, ttl: u32, record_type: RecordType) -> Record
+        ensures { result ≡ record_with name IN ttl (Update0 record_type) }
+    {
+        Record::from_rdata(name, ttl, RData::Update0(record_type))
+    }
+
     /// The type of the record.
     pub fn record_type(&self) -> RecordType
         ensures { result ≡ type_of self.now.rdata }
@@ -42,6 +65,17 @@ impl Record {
             && is_own_class(self.dns_class)
             && !is_of_messages(self.record_type())
             && is_readable(&self.rdata)
+    }
+}
+
+/// Whether two records are the same but for their time to live (RFC 2136 1.1.1).
+impl PartialEq for Record {
+    ghost eq = { record_eq };
+
+    ghost laws = { partial_equiv_from_equiv record_equiv };
+
+    fn eq(&self, other: &Record) -> bool {
+        self.name == other.name && self.dns_class == other.dns_class && self.rdata == other.rdata
     }
 }
 

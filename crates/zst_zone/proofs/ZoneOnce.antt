@@ -14,7 +14,7 @@ use Rattle.zst_record.specs.Records.{RRset, owner_of}
 use Rattle.zst_record.specs.declared.records.Record.{Record}
 use Rattle.zst_record.specs.dnw_name.DomainName.{DomainName, name_cmp, name_eq}
 use Rattle.zst_record.specs.dnw_name.NameOrderLaws.{name_eq-by_cmp}
-use Rattle.zst_record.proofs.NameLaws.{name_eq_equiv}
+use Rattle.zst_record.specs.RecordLaws.{name_eq_equiv}
 use Rattle.zst_zone.specs.Zones.{AddsTo, AreInOrder, View, rrset_at, set_cmp}
 use Rattle.zst_zone.proofs.ZoneNodes.{is_set_at}
 

@@ -10,7 +10,7 @@ use Rattle.zst_record.specs.declared.records.Record.{Record}
 use Rattle.zst_record.specs.dnw_name.DomainName.{DomainName, name_eq}
 use Rattle.zst_record.specs.dnw_codes.RecordType.{record_type_number, same_record_type}
 use Rattle.zst_key.specs.NameKeys.{name_key}
-use Rattle.zst_record.proofs.NameLaws.{name_eq_equiv}
+use Rattle.zst_record.specs.RecordLaws.{name_eq_equiv}
 use Rattle.zst_record.specs.drd_rdata.Types.{type_of}
 use Rattle.zst_record.specs.Records.{RRset, IsRecordOf, ReadsBackAlone, owner_of, set_with}
 use Rattle.zst_record.proofs.PutRecords.{first_put}
