@@ -15,7 +15,7 @@ use Rattle.authority_server.specs.declared.stream.StreamError.TheVariants as str
 use Rattle.authority_load.specs.zst_zone.zst_codes.declared.settings.ZoneType.TheVariants as kinds
 use Rattle.authority_load.specs.zst_zone.zst_codes.declared.settings.AxfrPolicy.TheVariants as policies
 use Rattle.authority_server.specs.dnw_name.DomainName.{DomainName}
-use Rattle.authority_load.specs.zst_zone.Zones.{View}
+use Rattle.authority_load.specs.zst_zone.zst_handler.Zones.{Zone}
 use Rattle.authority_load.specs.ZoneText.{IsOwnerText, IsNumberText, IsZoneText, IsLoadFault}
 use Rattle.authority_server.specs.Frames.{ServesFrames, ServesUntil}
 
@@ -30,7 +30,7 @@ pub record AreWords (words : List (List ℕ)) (origin : DomainName) (now : ℕ) 
 
 -- The zone that the program begins with: kept here, transferred to everybody, without proofs of
 -- absence or records.
-abbrev pub first_zone : DomainName → View
+abbrev pub first_zone : DomainName → Zone
 first_zone name =
     record {
       origin = name;
@@ -45,7 +45,7 @@ pub record Starts (words : List (List ℕ)) (file : Option (List ℕ)) : Type 0 
   pub origin : DomainName
   pub now : ℕ
   pub text : List ℕ
-  pub zone : View
+  pub zone : Zone
   pub right_words : AreWords words origin now
   pub readable : file ≡ Some text
   pub loaded : IsZoneText (first_zone origin) text zone
@@ -138,7 +138,7 @@ WordsGive words origin now (Err (faults.Zone error)) = ⊥
 WordsGive words origin now (Err (faults.Stream error)) = error ≡ streams.OutOfMemory false
 
 -- What the text gives.
-abbrev pub TextGives : DomainName → List ℕ → Result View Fault → Type 0
+abbrev pub TextGives : DomainName → List ℕ → Result Zone Fault → Type 0
 TextGives origin text (Ok zone) =
     IsZoneText (first_zone origin) text zone × (zone.zone_type ≡ kinds.Primary)
 TextGives origin text (Err faults.Words) = ⊥

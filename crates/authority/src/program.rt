@@ -1,7 +1,8 @@
 //! The body of the program: a zone's text in, framed questions in, framed replies out.
 
-ghost use Rattle.std.specs.Prelude.{◌≡◌, true, map, option_copied};
+ghost use Rattle.std.specs.Prelude.{◌≡◌, IfOk, map, option_copied};
 ghost use Rattle.std.specs.String.{string_bytes};
+ghost use Rattle.authority_load.specs.zst_zone.zst_handler.Zones.{ZoneReadsBack};
 ghost use Rattle.authority.specs.Programs.{Answers, IsLoopback, StatusIs, TextGives, WordsGive, read_or_usage, status_of};
 
 use authority_load::{
@@ -114,8 +115,8 @@ fn loopback() -> SocketAddr
 
 /// The zone of the text: kept here, to be transferred by everybody, without proofs of absence.
 fn load(alloc: Global, origin: Name, text: &str) -> Result<InMemoryZoneHandler<NoSigner>, Fault>
-    requires { origin.fqdn ≡ true }
-    ensures { TextGives origin text.now result }
+    ensures text { TextGives origin text.now result }
+    ensures reads_back { IfOk result ZoneReadsBack }
 {
     let settings = ZoneSettings {
         zone_type: ZoneType::Primary,

@@ -18,7 +18,7 @@ use Rattle.zst_zone.specs.dnw_codes.declared.error.ProtoError.{ProtoError}
 use Rattle.std.specs.Prelude.{◌⊎◌, IfOk}
 use Rattle.std.proofs.Common.{inl, inr}
 use Rattle.authority_load.specs.ZoneText.{ReadsText, TellsTextCause}
-use Rattle.zst_zone.specs.Zones.{View, rrset_at}
+use Rattle.zst_zone.specs.zst_handler.Zones.{Zone, rrset_at}
 use Rattle.authority_load.specs.ZoneText.{words_of, data_text, field, IsOwnerText, IsNumberText, is_internet, type_of_text, AreData, IsDataText, has_full_names, is_start, StandsAt, NoneBefore, cause_order, with_cause, IsHeading, Heading}
 use Rattle.authority_load.proofs.Readable.{loaded, readable, same_full}
 use Rattle.zst_zone.proofs.dnw_name_lemmas.TextLemmas.{name-same}
@@ -48,10 +48,10 @@ at_turn causes.SecondSoa = refl
 pub same_turn : (a b : LoadCause) → cause_order a ≡ cause_order b → a ≡ b
 same_turn a b e = sym (at_turn a) ∙ ap cause_at e ∙ at_turn b
 
-pub none_first : (zone : View) (line : List ℕ) → NoneBefore zone line 1
+pub none_first : (zone : Zone) (line : List ℕ) → NoneBefore zone line 1
 none_first zone line = λ earlier above below stands. absurd (omega arith)
 
-pub none_next : (zone : View) (line : List ℕ) (cause : LoadCause) → NoneBefore zone line (cause_order cause) → (StandsAt zone line cause → ⊥) → NoneBefore zone line (cause_order cause + 1)
+pub none_next : (zone : Zone) (line : List ℕ) (cause : LoadCause) → NoneBefore zone line (cause_order cause) → (StandsAt zone line cause → ⊥) → NoneBefore zone line (cause_order cause + 1)
 none_next zone line cause before not_here = λ earlier above below stands. decided earlier above below stands (eqb (cause_order earlier) (cause_order cause)) refl
   where
     decided : (earlier : LoadCause) → 0 < cause_order earlier → cause_order earlier < cause_order cause + 1 → StandsAt zone line earlier → (b : Bool) → eqb (cause_order earlier) (cause_order cause) ≡ b → ⊥
@@ -59,7 +59,7 @@ none_next zone line cause before not_here = λ earlier above below stands. decid
     decided earlier above below stands false e = before earlier above (omega (arith, eqb-false (cause_order earlier) (cause_order cause) e)) stands
 
 -- What the first four words say rules out the causes before the seventh.
-pub none_7 : (zone : View) (line : List ℕ) (h : Heading) → IsHeading line h → NoneBefore zone line 7
+pub none_7 : (zone : Zone) (line : List ℕ) (h : Heading) → IsHeading line h → NoneBefore zone line 7
 none_7 zone line h known =
     let counted : 4 ≤ length (words_of line) = known.count in
     let n2 : NoneBefore zone line 2 = none_next zone line causes.FieldCount (none_first zone line) (λ few. omega arith) in
@@ -81,20 +81,20 @@ field_kept P cause (Err errors.Malformed) x keeps e = absurd (cc)
 field_kept P cause (Err errors.OutOfMemory) x keeps e = absurd (cc)
 
 -- ---- a field that is not: its cause stands, unless memory was refused
-abbrev pub Stands : View → List ℕ → LoadCause → Type 0
+abbrev pub Stands : Zone → List ℕ → LoadCause → Type 0
 Stands zone line cause = StandsAt zone line cause × NoneBefore zone line (cause_order cause)
 
-stands_memory : (zone : View) (line : List ℕ) → Stands zone line causes.OutOfMemory
+stands_memory : (zone : Zone) (line : List ℕ) → Stands zone line causes.OutOfMemory
 stands_memory zone line = (tt, λ earlier above below. absurd (omega arith))
 
-pub field_refused : {X : Type 0} (IsText : X → Type 0) (zone : View) (line : List ℕ) (cause : LoadCause) (r : Result X TextError) (e : LoadCause) → ReadsText IsText r → with_cause cause r ≡ Err e
+pub field_refused : {X : Type 0} (IsText : X → Type 0) (zone : Zone) (line : List ℕ) (cause : LoadCause) (r : Result X TextError) (e : LoadCause) → ReadsText IsText r → with_cause cause r ≡ Err e
     → (((x : X) → IsText x → ⊥) → StandsAt zone line cause) → NoneBefore zone line (cause_order cause) → Stands zone line e
 field_refused IsText zone line cause (Ok y) e reads is stands before = absurd (cc)
 field_refused IsText zone line cause (Err errors.Malformed) e reads is stands before = let same : cause ≡ e = cc in subst (Stands zone line) same (stands reads, before)
 field_refused IsText zone line cause (Err errors.OutOfMemory) e reads is stands before = let same : causes.OutOfMemory ≡ e = cc in subst (Stands zone line) same (stands_memory zone line)
 
 -- The time to live of a line with an owner is none.
-pub ttl_refused : (zone : View) (line : List ℕ) (owner ttl : List ℕ) (behind : List (List ℕ)) (name : DomainName) (r : Result ℕ TextError) (e : LoadCause) → words_of line ≡ owner ∷ ttl ∷ behind → 4 ≤ length (words_of line)
+pub ttl_refused : (zone : Zone) (line : List ℕ) (owner ttl : List ℕ) (behind : List (List ℕ)) (name : DomainName) (r : Result ℕ TextError) (e : LoadCause) → words_of line ≡ owner ∷ ttl ∷ behind → 4 ≤ length (words_of line)
     → IsOwnerText owner name → ReadsText (IsNumberText 32 ttl) r → with_cause causes.Ttl r ≡ Err e → Stands zone line e
 ttl_refused zone line owner ttl behind name r e spelled counted owned reads is =
     let first : field line 0 ≡ owner = ap (λ ws. get_or ws 0 []) spelled in
@@ -107,7 +107,7 @@ ttl_refused zone line owner ttl behind name r e spelled counted owned reads is =
 abbrev IsLine : List ℕ → List ℕ → List ℕ → List ℕ → List ℕ → List (List ℕ) → Type 0
 IsLine line owner ttl class type_word behind = words_of line ≡ owner ∷ ttl ∷ class ∷ type_word ∷ behind
 
-none_4 : (zone : View) (line : List ℕ) (owner ttl class type_word : List ℕ) (behind : List (List ℕ)) (name : DomainName) (n : ℕ) → IsLine line owner ttl class type_word behind
+none_4 : (zone : Zone) (line : List ℕ) (owner ttl class type_word : List ℕ) (behind : List (List ℕ)) (name : DomainName) (n : ℕ) → IsLine line owner ttl class type_word behind
     → IsOwnerText owner name → IsNumberText 32 ttl n → NoneBefore zone line 4
 none_4 zone line owner ttl class type_word behind name n spelled owned timed =
     let first : field line 0 ≡ owner = ap (λ ws. get_or ws 0 []) spelled in
@@ -117,13 +117,13 @@ none_4 zone line owner ttl class type_word behind name n spelled owned timed =
     let n3 : NoneBefore zone line 3 = none_next zone line causes.Owner n2 (λ none. none name (subst (λ w. IsOwnerText w name) (sym first) owned)) in
     none_next zone line causes.Ttl n3 (λ none. none n (subst (λ w. IsNumberText 32 w n) (sym second) timed))
 
-pub class_refused : (zone : View) (line : List ℕ) (owner ttl class type_word : List ℕ) (behind : List (List ℕ)) (name : DomainName) (n : ℕ) → IsLine line owner ttl class type_word behind
+pub class_refused : (zone : Zone) (line : List ℕ) (owner ttl class type_word : List ℕ) (behind : List (List ℕ)) (name : DomainName) (n : ℕ) → IsLine line owner ttl class type_word behind
     → IsOwnerText owner name → IsNumberText 32 ttl n → is_internet class ≡ false → Stands zone line causes.Class
 class_refused zone line owner ttl class type_word behind name n spelled owned timed other =
     let third : field line 2 ≡ class = ap (λ ws. get_or ws 2 []) spelled in
     (ap is_internet third ∙ other, none_4 zone line owner ttl class type_word behind name n spelled owned timed)
 
-pub type_refused : (zone : View) (line : List ℕ) (owner ttl class type_word : List ℕ) (behind : List (List ℕ)) (name : DomainName) (n : ℕ) → IsLine line owner ttl class type_word behind
+pub type_refused : (zone : Zone) (line : List ℕ) (owner ttl class type_word : List ℕ) (behind : List (List ℕ)) (name : DomainName) (n : ℕ) → IsLine line owner ttl class type_word behind
     → IsOwnerText owner name → IsNumberText 32 ttl n → is_internet class ≡ true → type_of_text type_word ≡ None → Stands zone line causes.UnknownType
 type_refused zone line owner ttl class type_word behind name n spelled owned timed known unknown =
     let third : field line 2 ≡ class = ap (λ ws. get_or ws 2 []) spelled in
@@ -131,7 +131,7 @@ type_refused zone line owner ttl class type_word behind name n spelled owned tim
     (ap type_of_text fourth ∙ unknown, none_next zone line causes.Class (none_4 zone line owner ttl class type_word behind name n spelled owned timed) (λ wrong. both_ways (is_internet (field line 2)) wrong (ap is_internet third ∙ known)))
 
 -- ---- the rest of a line
-pub none_8 : (zone : View) (line : List ℕ) (h : Heading) → IsHeading line h → is_at_or_below h.name zone.origin ≡ true → NoneBefore zone line 8
+pub none_8 : (zone : Zone) (line : List ℕ) (h : Heading) → IsHeading line h → is_at_or_below h.name zone.origin ≡ true → NoneBefore zone line 8
 none_8 zone line h known inside =
     none_next zone line causes.OutsideZone (none_7 zone line h known) (λ outside.
     let same : outside.0 ≡ h.name = name-same (field line 0) outside.0 h.name outside.1.name_text known.owner.name_text in
@@ -148,7 +148,7 @@ data_none line h known none value is =
     let same : type_of value ≡ h.record_type = cc in
     none value (subst (λ ws. IsDataText h.record_type ws value) (sym known.rest) (subst (λ t. IsDataText t (data_text line) value) same is.1))
 
-pub none_9 : (zone : View) (line : List ℕ) (value : RData) → NoneBefore zone line 8 → AreData line value → NoneBefore zone line 9
+pub none_9 : (zone : Zone) (line : List ℕ) (value : RData) → NoneBefore zone line 8 → AreData line value → NoneBefore zone line 9
 none_9 zone line value before is = none_next zone line causes.Data before (λ none. none value is)
 
 -- The data of a line whose names end at the root are read from their octets.
@@ -163,14 +163,14 @@ all_full line a b of-a of-b =
     same_full (type_of a) of-a.1.0 a b (loaded (field line 3) (type_of a) of-a.0) of-a.1.2
     (subst (λ t. IsTextOf t of-a.1.0 None b) same (subst (λ ws. IsTextOf (type_of b) ws None b) words of-b.1.2))
 
-pub none_11 : (zone : View) (line : List ℕ) (value : RData) → NoneBefore zone line 8 → AreData line value → has_full_names value ≡ true → NoneBefore zone line 11
+pub none_11 : (zone : Zone) (line : List ℕ) (value : RData) → NoneBefore zone line 8 → AreData line value → has_full_names value ≡ true → NoneBefore zone line 11
 none_11 zone line value before is full =
     let n10 : NoneBefore zone line 10 = none_next zone line causes.NotReadBack (none_9 zone line value before is) (λ other.
     other.2 (data_readable line other.0 other.1 (all_full line other.0 value other.1 is ∙ full))) in
     none_next zone line causes.BesideCname n10 (λ wrong. wrong)
 
 -- A start of authority where there is one.
-pub second_stands : (zone : View) (line : List ℕ) (h : Heading) → IsHeading line h → is_start h.record_type ≡ true → is_some (rrset_at zone.sets h.name types.SOA) ≡ true → StandsAt zone line causes.SecondSoa
+pub second_stands : (zone : Zone) (line : List ℕ) (h : Heading) → IsHeading line h → is_start h.record_type ≡ true → is_some (rrset_at zone.sets h.name types.SOA) ≡ true → StandsAt zone line causes.SecondSoa
 second_stands zone line h known start there =
     (h.name, known.type_word ∙ ap (λ t. Some t) (start_is h.record_type start), known.owner, some_there (rrset_at zone.sets h.name types.SOA) there)
   where
@@ -181,7 +181,7 @@ second_stands zone line h known start there =
     some_there : {X : Type 0} (o : Option X) → is_some o ≡ true → IsSome o
     some_there o e = e
 
-pub none_12 : (zone : View) (line : List ℕ) (h : Heading) → IsHeading line h → NoneBefore zone line 11 → (is_start h.record_type ≡ true → is_some (rrset_at zone.sets h.name types.SOA) ≡ false) → NoneBefore zone line 12
+pub none_12 : (zone : Zone) (line : List ℕ) (h : Heading) → IsHeading line h → NoneBefore zone line 11 → (is_start h.record_type ≡ true → is_some (rrset_at zone.sets h.name types.SOA) ≡ false) → NoneBefore zone line 12
 none_12 zone line h known before free =
     none_next zone line causes.SecondSoa before (λ second.
     let types-same : Some types.SOA ≡ Some h.record_type = sym second.1 ∙ known.type_word in

@@ -8,27 +8,37 @@ use Rattle.std.proofs.lemmas.List.{take_more, get_or_default}
 use Rattle.std.proofs.lemmas.List.Splits.{join_with_byte-slice_split}
 use Rattle.zst_zone.specs.zst_record.declared.records.Record.{Record}
 use Rattle.authority_load.specs.declared.loader.LoadCause.{LoadCause}
-use Rattle.zst_zone.specs.Zones.{View, AddsTo}
+use Rattle.zst_zone.specs.zst_handler.Zones.{Zone, ZoneReadsBack, AddsTo}
+use Rattle.zst_zone.proofs.ReadBack.{adds_reads_back}
 use Rattle.authority_load.specs.ZoneText.{Loads, LoadsLine, IsTaken, RefusesLine, IsRefusedAt, is_skipped_line}
 
-loads_push : (zone : View) (xs : List (List ℕ)) (x : List ℕ) (mid end : View) → Loads zone xs mid → LoadsLine mid x end → Loads zone (xs ++ x ∷ []) end
+loads_push : (zone : Zone) (xs : List (List ℕ)) (x : List ℕ) (mid end : Zone) → Loads zone xs mid → LoadsLine mid x end → Loads zone (xs ++ x ∷ []) end
 loads_push zone [] x mid end before more = (end, subst (λ z. LoadsLine z x end) before more, refl)
 loads_push zone (y ∷ ys) x mid end before more = (before.0, before.1, loads_push before.0 ys x mid end before.2 more)
 
-pub loads_more : (zone : View) (all : List (List ℕ)) (k : ℕ) (line : List ℕ) (mid end : View) → (k < length all) × (line ≡ get_or all k line) → Loads zone (take k all) mid → LoadsLine mid line end → Loads zone (take (k + 1) all) end
+pub loads_more : (zone : Zone) (all : List (List ℕ)) (k : ℕ) (line : List ℕ) (mid end : Zone) → (k < length all) × (line ≡ get_or all k line) → Loads zone (take k all) mid → LoadsLine mid line end → Loads zone (take (k + 1) all) end
 loads_more zone all k line mid end at before more =
     let e : take (k + 1) all ≡ take k all ++ get_or all k line ∷ [] = take_more all k line at.0 in
     subst (λ xs. Loads zone xs end) (sym e) (loads_push zone (take k all) (get_or all k line) mid end before (subst (λ x. LoadsLine mid x end) at.1 more))
 
 -- A line changes the sets alone.
-line_keeps : (zone : View) (line : List ℕ) (end : View) (skipped : Bool) → MatchBool skipped (end ≡ zone) ((r : Record) × IsTaken zone line r × AddsTo zone r end) → end ≡ record zone { sets = end.sets }
+line_keeps : (zone : Zone) (line : List ℕ) (end : Zone) (skipped : Bool) → MatchBool skipped (end ≡ zone) ((r : Record) × IsTaken zone line r × AddsTo zone r end) → end ≡ record zone { sets = end.sets }
 line_keeps zone line end true same = subst (λ z. end ≡ record z { sets = end.sets }) same refl
 line_keeps zone line end false added = added.2.rest
 
-pub loads_keep : (zone : View) (xs : List (List ℕ)) (end : View) → Loads zone xs end → end ≡ record zone { sets = end.sets }
+pub loads_keep : (zone : Zone) (xs : List (List ℕ)) (end : Zone) → Loads zone xs end → end ≡ record zone { sets = end.sets }
 loads_keep zone [] end same = subst (λ z. end ≡ record z { sets = end.sets }) same refl
 loads_keep zone (x ∷ xs) end run =
-    loads_keep run.0 xs end run.2 ∙ ap (λ (z : View). record z { sets = end.sets }) (line_keeps zone x run.0 (is_skipped_line x) run.1)
+    loads_keep run.0 xs end run.2 ∙ ap (λ (z : Zone). record z { sets = end.sets }) (line_keeps zone x run.0 (is_skipped_line x) run.1)
+
+-- What loads can be read alone, if what was there before can.
+line_reads_back : (zone : Zone) (line : List ℕ) (end : Zone) (skipped : Bool) → MatchBool skipped (end ≡ zone) ((r : Record) × IsTaken zone line r × AddsTo zone r end) → ZoneReadsBack zone → ZoneReadsBack end
+line_reads_back zone line end true same back = subst ZoneReadsBack (sym same) back
+line_reads_back zone line end false added back = adds_reads_back zone end added.0 added.2 back added.1.reads_back
+
+pub loads_read_back : (zone : Zone) (xs : List (List ℕ)) (end : Zone) → Loads zone xs end → ZoneReadsBack zone → ZoneReadsBack end
+loads_read_back zone [] end same back = subst ZoneReadsBack (sym same) back
+loads_read_back zone (x ∷ xs) end run back = loads_read_back run.0 xs end run.2 (line_reads_back zone x run.0 (is_skipped_line x) run.1 back)
 
 lines_in : (parts : List (List ℕ)) → length (lines_of_parts parts) ≤ length (join_with_byte 10 parts)
 lines_in [] = omega arith
@@ -48,7 +58,7 @@ lines_at_most text =
     omega (arith, in-parts, ap length (join_with_byte-slice_split 10 text))
 
 -- A line is refused behind those that load.
-pub refused_at : (empty zone : View) (text : List ℕ) (k number : ℕ) (line : List ℕ) (cause : LoadCause) → (k < length (lines text)) × (line ≡ get_or (lines text) k line)
+pub refused_at : (empty zone : Zone) (text : List ℕ) (k number : ℕ) (line : List ℕ) (cause : LoadCause) → (k < length (lines text)) × (line ≡ get_or (lines text) k line)
     → number ≡ k → Loads empty (take k (lines text)) zone → RefusesLine zone line cause → IsRefusedAt empty text (number + 1) cause
 refused_at empty zone text k number line cause at same before refused =
     let place : number + 1 - 1 ≡ k = omega arith in

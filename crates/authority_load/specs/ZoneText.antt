@@ -27,7 +27,7 @@ use Rattle.zst_zone.specs.drd_rdata.Texts.{IsTextOf}
 use Rattle.zst_zone.specs.drd_rdata.Types.{type_of}
 use Rattle.zst_zone.specs.zst_record.Records.{ReadsBackAlone}
 use Rattle.zst_zone.specs.zst_record.declared.records.Record.{Record}
-use Rattle.zst_zone.specs.Zones.{View, AddsTo, rrset_at}
+use Rattle.zst_zone.specs.zst_handler.Zones.{Zone, AddsTo, rrset_at}
 
 -- What a reader of texts answers: a value of the text, or that it has none.
 abbrev pub ReadsText : {X : Type 0} → (X → Type 0) → Result X TextError → Type 0
@@ -119,7 +119,7 @@ pub record IsRecordText (line : List ℕ) (r : Record) : Type 0 where
   pub value : AreData line r.rdata
 
 -- The cause stands at a line, in the zone as it is before the line.
-abbrev pub StandsAt : View → List ℕ → LoadCause → Type 0
+abbrev pub StandsAt : Zone → List ℕ → LoadCause → Type 0
 StandsAt zone line causes.FieldCount = length (words_of line) < 4
 StandsAt zone line causes.Owner = (name : DomainName) → IsOwnerText (field line 0) name → ⊥
 StandsAt zone line causes.Ttl = (n : ℕ) → IsNumberText 32 (field line 1) n → ⊥
@@ -154,7 +154,7 @@ cause_order causes.BesideCname = 10
 cause_order causes.SecondSoa = 11
 
 -- No cause stands that is tried before a turn.
-abbrev pub NoneBefore : View → List ℕ → ℕ → Type 0
+abbrev pub NoneBefore : Zone → List ℕ → ℕ → Type 0
 NoneBefore zone line n =
     (earlier : LoadCause) → 0 < cause_order earlier → cause_order earlier < n
     → StandsAt zone line earlier → ⊥
@@ -184,62 +184,62 @@ pub record IsHeading (line : List ℕ) (h : Heading) : Type 0 where
 abbrev pub HeaderGives : {H : Type 0} → List ℕ → (H → Heading) → Result H LoadCause → Type 0
 HeaderGives line heading (Ok h) = IsHeading line (heading h)
 HeaderGives line heading (Err cause) =
-    (zone : View) → StandsAt zone line cause × NoneBefore zone line (cause_order cause)
+    (zone : Zone) → StandsAt zone line cause × NoneBefore zone line (cause_order cause)
 
 -- A record that may be added to the zone.
-pub record IsTaken (zone : View) (line : List ℕ) (r : Record) : Type 0 where
+pub record IsTaken (zone : Zone) (line : List ℕ) (r : Record) : Type 0 where
   pub text : IsRecordText line r
   pub inside : is_at_or_below r.name zone.origin ≡ true
   pub reads_back : ReadsBackAlone r
   pub no_cause : NoneBefore zone line 12
 
 -- What a line gives: its record, or the first cause that stands there.
-abbrev pub LineGives : {R : Type 0} → View → List ℕ → (R → Record) → Result R LoadCause → Type 0
+abbrev pub LineGives : {R : Type 0} → Zone → List ℕ → (R → Record) → Result R LoadCause → Type 0
 LineGives zone line record_in (Ok r) = IsTaken zone line (record_in r)
 LineGives zone line record_in (Err cause) =
     StandsAt zone line cause × NoneBefore zone line (cause_order cause)
 
 -- The zone after a line: as it was where the line is passed over, else with the record of the line.
-abbrev pub LoadsLine : View → List ℕ → View → Type 0
+abbrev pub LoadsLine : Zone → List ℕ → Zone → Type 0
 LoadsLine zone line next =
     MatchBool (is_skipped_line line) (next ≡ zone)
     ((r : Record) × IsTaken zone line r × AddsTo zone r next)
 
 -- A line is refused.
-pub record RefusesLine (zone : View) (line : List ℕ) (cause : LoadCause) : Type 0 where
+pub record RefusesLine (zone : Zone) (line : List ℕ) (cause : LoadCause) : Type 0 where
   pub not_skipped : is_skipped_line line ≡ false
   pub stands : StandsAt zone line cause
   pub first : NoneBefore zone line (cause_order cause)
 
 -- What loading a line answers.
-abbrev pub LineLoads : {X : Type 0} → View → List ℕ → View → Result X LoadCause → Type 0
+abbrev pub LineLoads : {X : Type 0} → Zone → List ℕ → Zone → Result X LoadCause → Type 0
 LineLoads zone line next (Ok done) = LoadsLine zone line next
 LineLoads zone line next (Err cause) = RefusesLine zone line cause
 
 -- The zone after some lines.
-abbrev pub Loads : View → List (List ℕ) → View → Type 0
+abbrev pub Loads : Zone → List (List ℕ) → Zone → Type 0
 Loads zone [] end = end ≡ zone
-Loads zone (line ∷ later) end = (next : View) × LoadsLine zone line next × Loads next later end
+Loads zone (line ∷ later) end = (next : Zone) × LoadsLine zone line next × Loads next later end
 
 -- The text is that of the zone, from a zone without records on.
-abbrev pub IsZoneText : View → List ℕ → View → Type 0
+abbrev pub IsZoneText : Zone → List ℕ → Zone → Type 0
 IsZoneText empty text zone = Loads empty (lines text) zone
 
 -- A text is refused at a line: the lines before it load, and its cause is the first that stands
 -- there.
-pub record IsRefusedAt (empty : View) (text : List ℕ) (line : ℕ) (cause : LoadCause) : Type 0 where
-  pub zone : View
+pub record IsRefusedAt (empty : Zone) (text : List ℕ) (line : ℕ) (cause : LoadCause) : Type 0 where
+  pub zone : Zone
   pub before : Loads empty (take (line - 1) (lines text)) zone
   pub there : (0 < line) × (line ≤ length (lines text))
   pub refused : RefusesLine zone (get_or (lines text) (line - 1) []) cause
 
 -- A text is not loaded: it is refused at a line; for want of memory before any, at line 1.
-abbrev pub IsLoadFault : View → List ℕ → LoadError → Type 0
+abbrev pub IsLoadFault : Zone → List ℕ → LoadError → Type 0
 IsLoadFault empty text error =
     IsRefusedAt empty text error.line error.cause
     ⊎ ((error.line ≡ 1) × (error.cause ≡ causes.OutOfMemory))
 
 -- What loading answers.
-abbrev pub LoadAnswers : View → List ℕ → Result View LoadError → Type 0
+abbrev pub LoadAnswers : Zone → List ℕ → Result Zone LoadError → Type 0
 LoadAnswers empty text (Ok zone) = IsZoneText empty text zone
 LoadAnswers empty text (Err error) = IsLoadFault empty text error

@@ -1,4 +1,3 @@
-pub use Rattle.zst_zone.specs.Lookups
-pub use Rattle.zst_zone.specs.Zones
 pub use Rattle.zst_zone.specs.declared
 pub use Rattle.zst_zone.specs.zst_codes
+pub use Rattle.zst_zone.specs.zst_handler

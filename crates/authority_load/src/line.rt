@@ -3,7 +3,7 @@
 ghost use Rattle.std.specs.Prelude.{◌≡◌, ◌<◌, ◌∷◌, ◌⊎◌, length, IfOk, MatchOption, false, true, is_some};
 ghost use Rattle.zst_zone.specs.dnw_codes.declared.record_type.RecordType.TheVariants as types;
 ghost use Rattle.zst_zone.specs.dnw_name.DomainName.{lowercase_name};
-ghost use Rattle.zst_zone.specs.Zones.{rrset_at};
+ghost use Rattle.zst_zone.specs.zst_handler.Zones.{rrset_at};
 ghost use Rattle.authority_load.specs.ZoneText.{data_text, has_full_names, words_of, type_of_text, is_internet, is_start, with_cause, HeaderGives, LineGives};
 
 use crate::loader::LoadCause;
@@ -11,7 +11,7 @@ use crate::number::parse_u32;
 use crate::text::{TextError, parse_owner, parse_rdata};
 use crate::words::first_word;
 use std::alloc::Global;
-use zst_zone::{DNSClass, InMemoryZoneHandler, Lookup, Name, NameKey, RData, Record, RecordType};
+use zst_zone::{DNSClass, InMemoryZoneHandler, Name, NameKey, RData, Record, RecordType};
 
 /// The first four words of a line, and the text of the data behind them.
 #[derive(Clone, Copy)]
@@ -74,14 +74,14 @@ pub fn record_of<K>(
     }
 }
 
-/// Why a record of a type and these data may not be added at the name of a key, which ends at the root, if so.
+/// Why a record of a type and these data may not be added at the name of a key, if so.
 fn fault_of<K>(
     zone: &InMemoryZoneHandler<K>,
     record_type: RecordType,
     key: &NameKey,
     rdata: &RData,
 ) -> Option<LoadCause>
-    ensures { key.now.fqdn ≡ true → MatchOption result
+    ensures { MatchOption result
         ((has_full_names rdata.now ≡ true) × (is_start record_type ≡ true → is_some (rrset_at zone.now.sets key.now types.SOA) ≡ false))
         (λ cause. ((cause ≡ LoadCause.NotReadBack) × (has_full_names rdata.now ≡ false))
         ⊎ ((cause ≡ LoadCause.SecondSoa) × (has_full_names rdata.now ≡ true) × (is_start record_type ≡ true)
@@ -181,14 +181,11 @@ fn is_soa(record_type: RecordType) -> bool
     }
 }
 
-/// Whether the zone has a start of authority at the name of a key, which ends at the root.
+/// Whether the zone has a start of authority at the name of a key.
 fn has_soa<K>(zone: &InMemoryZoneHandler<K>, key: &NameKey) -> bool
-    ensures { key.now.fqdn ≡ true → result ≡ is_some (rrset_at zone.now.sets key.now types.SOA) }
+    ensures { result ≡ is_some (rrset_at zone.now.sets key.now types.SOA) }
 {
-    match zone.lookup_at(key, RecordType::SOA) {
-        Lookup::Answer(_) => true,
-        Lookup::NameExists | Lookup::NxDomain | Lookup::Refused => false,
-    }
+    zone.get_at(key, RecordType::SOA).is_some()
 }
 
 /// Whether each name in the data ends at the root.

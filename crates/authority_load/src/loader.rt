@@ -1,7 +1,7 @@
 //! Lines of a zone's text, one after the other.
 
-ghost use Rattle.std.specs.Prelude.{◌≡◌, true, IfOk};
-ghost use Rattle.zst_zone.specs.Zones.{empty_zone};
+ghost use Rattle.std.specs.Prelude.{◌≡◌, IfOk};
+ghost use Rattle.zst_zone.specs.zst_handler.Zones.{ZoneReadsBack, empty_zone};
 ghost use Rattle.authority_load.specs.ZoneText.{LoadAnswers, LineLoads};
 
 use crate::line::{KeyedRecord, record_of};
@@ -49,7 +49,7 @@ pub struct LoadError {
     pub cause: LoadCause,
 }
 
-/// The zone of a text. The origin ends at the root.
+/// The zone of a text. Each of its records can be read alone.
 ///
 /// Lines end at LF or CR LF. Empty lines, lines of spaces and tabs, and lines that begin with `;` are passed over. Every
 /// other line is a record: owner, time to live, class and type between spaces and tabs, then the words of the data, which may
@@ -60,9 +60,9 @@ pub fn load_zone<K>(
     settings: ZoneSettings,
     text: &str,
 ) -> Result<InMemoryZoneHandler<K>, LoadError>
-    requires { origin.fqdn ≡ true }
     ensures answers { LoadAnswers (empty_zone origin settings) text.now result }
     ensures settings { IfOk result (λ zone. zone ≡ record (empty_zone origin settings) { sets = zone.sets }) }
+    ensures reads_back { IfOk result ZoneReadsBack }
 {
     let mut zone = match InMemoryZoneHandler::empty(alloc, origin, settings) {
         Ok(zone) => zone,

@@ -1,24 +1,13 @@
--- What a request that was read says: full names, and a header that can be written.
+-- What a request that was read says: a header that can be written.
 use Rattle.std.proofs.Common.{◌≡◌, ℕ, ◌/◌, ◌%◌, Bool, true, false, cond, List, [], ◌∷◌, refl, sym, ap, subst, arith}
 use Rattle.std.specs.Prelude.{get_or, unwrap_or, find, Some, ◌==◌}
 use Rattle.std.proofs.lemmas.Bool.{eqb-true}
-use Rattle.std.specs.List.{AllByRecursion}
-use Rattle.zsv_message.specs.declared.request.Query.{Query}
 use Rattle.zsv_message.specs.dnw_decoder.Octets.{number_16}
 use Rattle.zsv_message.specs.Headers.{op_code_of, op_code_number, metadata_of, FitsHeader}
 use Rattle.zsv_message.specs.zst_codes.ResponseCode.{named_response_codes, response_code_of, response_code_number}
 use Rattle.zsv_message.specs.zst_codes.declared.response_code.ResponseCode.{ResponseCode}
 use Rattle.zsv_message.specs.zst_codes.declared.response_code.ResponseCode.TheVariants.{Unknown}
-use Rattle.zsv_message.specs.Wire.{Entries}
-use Rattle.zsv_message.specs.Requests.{Request, IsRequest, QuestionAt}
-use Rattle.authority_server.specs.Servers.{AsksFullNames}
-
-full_questions : (m : List ℕ) (place : ℕ) (qs : List Query) (end : ℕ) → Entries (QuestionAt m) place qs end → AllByRecursion (λ q. q.name.fqdn ≡ true) qs
-full_questions m place [] end e = tt
-full_questions m place (q ∷ qs) end (behind, at, more) = (at.name.full, full_questions m behind qs end more)
-
-pub asks_full : (m : List ℕ) (request : Request) → IsRequest m request → AsksFullNames request
-asks_full m request is = full_questions m 12 request.questions is.end is.questions.0
+use Rattle.zsv_message.specs.Requests.{Request, IsRequest}
 
 op_code_back : (n : ℕ) → op_code_number (op_code_of n) ≡ n
 op_code_back n = grind arith

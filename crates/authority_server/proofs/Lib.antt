@@ -1,5 +1,6 @@
 pub mod Asked
 pub mod Encoded
+pub mod Found
 pub mod ServedRuns
 pub mod StreamFaults
 pub mod StreamRuns

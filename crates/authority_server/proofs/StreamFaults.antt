@@ -8,7 +8,7 @@ use Rattle.std.proofs.lemmas.List.{take-append-le}
 use Rattle.authority_server.specs.declared.stream.StreamError.{StreamError}
 use Rattle.authority_server.specs.declared.stream.StreamError.TheVariants as errors
 use Rattle.authority_server.specs.declared.faults.Faults.{Faults}
-use Rattle.authority_server.specs.Faults.{IsFaultOf, NoneFailed, WriterFailed, no_faults, reader_failed}
+use Rattle.authority_server.specs.Faults.{IsFaultOf, WriterFailed, reader_failed}
 use Rattle.authority_server.specs.Frames.{in_length, in_message, ReadsLess, IsMessageFault, IsReadFault, WritesFront}
 
 -- What a part records is what the whole tells.

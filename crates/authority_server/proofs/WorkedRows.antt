@@ -22,7 +22,9 @@ use Rattle.zsv_reply.specs.drd_rdata.Writing.{written_octets}
 use Rattle.zsv_reply.specs.zst_record.Records.{plain}
 use Rattle.zsv_message.specs.dnw_decoder.Spelling.{NameAt, at_end, at_label}
 use Rattle.zsv_message.specs.Requests.{Request, QuestionAt}
-use Rattle.zst_zone.specs.Zones.{View, AreInOrder, set_cmp, lookup_result, answered, name_exists, name_error, out_of_zone}
+use Rattle.zsv_reply.specs.zst_record.RecordSets.{RRset}
+use Rattle.zst_zone.specs.zst_handler.Zones.{Zone, AreInOrder, set_cmp}
+use Rattle.authority_server.specs.Lookups.{lookup_result, answered, name_exists, name_error, out_of_zone}
 use Rattle.authority_server.specs.Serving.{reply_parts}
 
 abbrev example : DomainName
@@ -45,13 +47,19 @@ start = record {
 abbrev address : Record
 address = record { name = below (codes "www"); dns_class = classes.IN; ttl = 3600; rdata = rdata.A (record { 0 = record { octets = 192 ∷ 0 ∷ 2 ∷ 1 ∷ [] } }) }
 
-abbrev zone : View
+abbrev set_of_start : RRset
+set_of_start = record { name = example; dns_class = classes.IN; record_type = types.SOA; records = start ∷ []; signatures = [] }
+
+abbrev set_of_address : RRset
+set_of_address = record { name = below (codes "www"); dns_class = classes.IN; record_type = types.A; records = address ∷ []; signatures = [] }
+
+abbrev zone : Zone
 zone = record {
   origin = example;
   zone_type = kinds.Primary;
   axfr_policy = policies.AllowAll;
   nx_proof_kind = None;
-  sets = record { record_type = types.SOA; records = start ∷ [] } ∷ record { record_type = types.A; records = address ∷ [] } ∷ [];
+  sets = set_of_start ∷ set_of_address ∷ [];
 }
 
 -- Twelve octets of header, and a question for the address of www.example.com.
@@ -108,7 +116,7 @@ elsewhere_not_below = refl
 sets_in_order : AreInOrder zone.sets
 sets_in_order = ((refl, tt), (tt, tt))
 
-address_behind_start : set_cmp (record { record_type = types.A; records = address ∷ [] }) (record { record_type = types.SOA; records = start ∷ [] }) ≡ Greater
+address_behind_start : set_cmp set_of_address set_of_start ≡ Greater
 address_behind_start = refl
 
 -- The zone's answers.
@@ -179,16 +187,16 @@ answer_metadata authoritative code = record {
 }
 
 -- What full replies hold.
-address_parts : reply_parts zone (asks plain_metadata (one (below (codes "www")) ∷ [])) ≡ record { metadata = answer_metadata true responses.NoError; answers = address ∷ []; authorities = [] }
+address_parts : reply_parts zone (asks plain_metadata (one (below (codes "www")) ∷ [])) ≡ record { metadata = answer_metadata true responses.NoError; answers = address ∷ []; authorities = []; additionals = [] }
 address_parts = refl
 
-missing_parts : reply_parts zone (asks plain_metadata (one (below (codes "z")) ∷ [])) ≡ record { metadata = answer_metadata true responses.NXDomain; answers = []; authorities = start ∷ [] }
+missing_parts : reply_parts zone (asks plain_metadata (one (below (codes "z")) ∷ [])) ≡ record { metadata = answer_metadata true responses.NXDomain; answers = []; authorities = start ∷ []; additionals = [] }
 missing_parts = refl
 
-outside_parts : reply_parts zone (asks plain_metadata (one elsewhere ∷ [])) ≡ record { metadata = answer_metadata false responses.Refused; answers = []; authorities = [] }
+outside_parts : reply_parts zone (asks plain_metadata (one elsewhere ∷ [])) ≡ record { metadata = answer_metadata false responses.Refused; answers = []; authorities = []; additionals = [] }
 outside_parts = refl
 
-no_question_parts : reply_parts zone (asks plain_metadata []) ≡ record { metadata = answer_metadata false responses.FormErr; answers = []; authorities = [] }
+no_question_parts : reply_parts zone (asks plain_metadata []) ≡ record { metadata = answer_metadata false responses.FormErr; answers = []; authorities = []; additionals = [] }
 no_question_parts = refl
 
 -- Names rise in the canonical order: the nine names of RFC 4034, section 6.1.

@@ -1,5 +1,6 @@
 pub mod Faults
 pub mod Frames
+pub mod Lookups
 pub mod Runs
 pub mod Servers
 pub mod Serving

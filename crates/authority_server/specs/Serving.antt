@@ -17,10 +17,11 @@ use Rattle.authority_server.specs.declared.server.Protocol.{Protocol}
 use Rattle.authority_server.specs.declared.server.Protocol.TheVariants as protocols
 use Rattle.zst_zone.specs.dnw_name.DomainName.{is_at_or_below}
 use Rattle.zst_zone.specs.dnw_codes.RecordType.{same_record_type}
-use Rattle.zsv_reply.specs.zst_record.Records.{RRset}
-use Rattle.zst_zone.specs.Zones.{View, Outcome, answered, name_exists, name_error, out_of_zone, rrset_at, lookup_result}
+use Rattle.zsv_reply.specs.zst_record.RecordSets.{RRset}
+use Rattle.zst_zone.specs.zst_handler.Zones.{Zone, rrset_at}
 use Rattle.zsv_message.specs.Requests.{Request, IsRequest}
 use Rattle.zsv_reply.specs.Replies.{ReplyParts, IsReply}
+use Rattle.authority_server.specs.Lookups.{Outcome, answered, name_exists, name_error, out_of_zone, lookup_result}
 
 -- The header of a reply repeats the identifier, the operation, RD and CD.
 abbrev pub reply_metadata : Metadata → Bool → ResponseCode → Metadata
@@ -43,6 +44,7 @@ error_parts m code = record {
   metadata = reply_metadata m false code;
   answers = [];
   authorities = [];
+  additionals = [];
 }
 
 -- The records of a set, if there is one.
@@ -51,72 +53,76 @@ records_of None = []
 records_of (Some set) = set.records
 
 -- The set of a type at the zone's origin.
-abbrev pub apex : View → RecordType → List Record
-apex view record_type = records_of (rrset_at view.sets view.origin record_type)
+abbrev pub apex : Zone → RecordType → List Record
+apex zone record_type = records_of (rrset_at zone.sets zone.origin record_type)
 
 -- With an answer to a question for the zone's start come its name servers.
-abbrev pub beside_answer : View → RecordType → List Record
-beside_answer view record_type =
-    if same_record_type record_type types.SOA then apex view types.NS else []
+abbrev pub beside_answer : Zone → RecordType → List Record
+beside_answer zone record_type =
+    if same_record_type record_type types.SOA then apex zone types.NS else []
 
 -- The zone's own answer: the records; or the zone's start, with or without a name error.
-abbrev pub outcome_parts : View → Metadata → RecordType → Outcome → ReplyParts
-outcome_parts view m record_type (answered records) = record {
+abbrev pub outcome_parts : Zone → Metadata → RecordType → Outcome → ReplyParts
+outcome_parts zone m record_type (answered records) = record {
   metadata = reply_metadata m true responses.NoError;
   answers = records;
-  authorities = beside_answer view record_type;
+  authorities = beside_answer zone record_type;
+  additionals = [];
 }
-outcome_parts view m record_type name_exists = record {
+outcome_parts zone m record_type name_exists = record {
   metadata = reply_metadata m true responses.NoError;
   answers = [];
-  authorities = apex view types.SOA;
+  authorities = apex zone types.SOA;
+  additionals = [];
 }
-outcome_parts view m record_type name_error = record {
+outcome_parts zone m record_type name_error = record {
   metadata = reply_metadata m true responses.NXDomain;
   answers = [];
-  authorities = apex view types.SOA;
+  authorities = apex zone types.SOA;
+  additionals = [];
 }
-outcome_parts view m record_type out_of_zone = record {
+outcome_parts zone m record_type out_of_zone = record {
   metadata = reply_metadata m true responses.Refused;
   answers = [];
   authorities = [];
+  additionals = [];
 }
 
 -- One question: refused outside the zone; transfers are not served.
-abbrev pub question_parts : View → Metadata → Query → ReplyParts
-question_parts view m q =
-    if is_at_or_below q.name view.origin
+abbrev pub question_parts : Zone → Metadata → Query → ReplyParts
+question_parts zone m q =
+    if is_at_or_below q.name zone.origin
     then if same_record_type q.query_type types.AXFR then error_parts m responses.ServFail
-    else outcome_parts view m q.query_type (lookup_result view q.name q.query_type)
+    else outcome_parts zone m q.query_type (lookup_result zone q.name q.query_type)
     else error_parts m responses.Refused
 
 -- A query asks one question.
-abbrev pub query_parts : View → Metadata → List Query → ReplyParts
-query_parts view m [] = error_parts m responses.FormErr
-query_parts view m (q ∷ []) = question_parts view m q
-query_parts view m (q ∷ r ∷ qs) = error_parts m responses.FormErr
+abbrev pub query_parts : Zone → Metadata → List Query → ReplyParts
+query_parts zone m [] = error_parts m responses.FormErr
+query_parts zone m (q ∷ []) = question_parts zone m q
+query_parts zone m (q ∷ r ∷ qs) = error_parts m responses.FormErr
 
 -- Other operations are not implemented.
-abbrev pub operation_parts : View → Metadata → OpCode → List Query → ReplyParts
-operation_parts view m operations.Query qs = query_parts view m qs
-operation_parts view m operations.Status qs = error_parts m responses.NotImp
-operation_parts view m operations.Notify qs = error_parts m responses.NotImp
-operation_parts view m operations.Update qs = error_parts m responses.NotImp
-operation_parts view m (operations.Unknown n) qs = error_parts m responses.NotImp
+abbrev pub operation_parts : Zone → Metadata → OpCode → List Query → ReplyParts
+operation_parts zone m operations.Query qs = query_parts zone m qs
+operation_parts zone m operations.Status qs = error_parts m responses.NotImp
+operation_parts zone m operations.Notify qs = error_parts m responses.NotImp
+operation_parts zone m operations.Update qs = error_parts m responses.NotImp
+operation_parts zone m (operations.Unknown n) qs = error_parts m responses.NotImp
 
 -- A reply sent as a request is a format error.
-abbrev pub request_parts : View → Request → MessageType → ReplyParts
-request_parts view request messages.Response = error_parts request.metadata responses.FormErr
-request_parts view request messages.Query =
-    operation_parts view request.metadata request.metadata.op_code request.questions
+abbrev pub request_parts : Zone → Request → MessageType → ReplyParts
+request_parts zone request messages.Response = error_parts request.metadata responses.FormErr
+request_parts zone request messages.Query =
+    operation_parts zone request.metadata request.metadata.op_code request.questions
 
 -- What a full reply to a request holds.
-abbrev pub reply_parts : View → Request → ReplyParts
-reply_parts view request = request_parts view request request.metadata.message_type
+abbrev pub reply_parts : Zone → Request → ReplyParts
+reply_parts zone request = request_parts zone request request.metadata.message_type
 
 -- What a server is: the zone that it serves.
 pub record World : Type 0 where
-  pub zone : View
+  pub zone : Zone
 
 -- A message as it came: its octets, its source, its transport and the moment.
 pub record Received : Type 0 where

@@ -86,7 +86,7 @@ impl<S, K> Model for Authority<S, K> {
 impl<S, K> Authority<S, K> {
     ghost use Rattle.authority_server.specs.Servers.{IsServed};
 
-    /// A server of a zone that is kept here: a primary's or a secondary's.
+    /// A server of a zone that is kept here, a primary's or a secondary's, and whose records can be read back.
     pub fn with_zone(alloc: Global, suite: S, zone: InMemoryZoneHandler<K>) -> Authority<S, K>
         requires { IsServed zone }
         ensures { result ≡ record { zone = zone } }

@@ -7,7 +7,8 @@
 pub use zst_codes::{LookupControlFlow, LookupError, Nsec3QueryInfo, ResponseCode, TsigVerdict};
 pub use zst_edns::{Edns, EdnsFlags};
 pub use zst_zone::{
-    AxfrPolicy, DNSClass, InMemoryZoneHandler, Lookup, LowerName, Name, NameKey,
-    Nsec3HashAlgorithm, NxProofKind, ProtoError, RData, Record, RecordSet, RecordType, RrKey, Salt,
+    AnswerSet, AuthLookup, AxfrPolicy, DNSClass, InMemoryZoneHandler, Lookup, LookupOptions,
+    LookupRecords, LookupRecordsIter, LowerName, Name, NameKey, Nsec3HashAlgorithm, NxProofKind,
+    ProtoError, RData, Record, RecordRef, RecordSet, RecordType, RrKey, RrsetRecords, Salt,
     SaltLenError, ZoneSettings, ZoneType,
 };

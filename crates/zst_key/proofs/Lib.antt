@@ -1,3 +1,6 @@
+pub mod Climbing
 pub mod KeyFronts
 pub mod KeyLemmas
 pub mod KeyOrder
+pub mod NamesAbove
+pub mod ParentEnds

@@ -1,16 +1,15 @@
 //! Keys of names.
-ghost use Rattle.std.specs.Prelude.{◌≡◌, ◌<◌, ◌&&◌, ◌∷◌, [], take, IfOk, IsOk, OnOk, OnErr};
+ghost use Rattle.std.specs.Prelude.{◌≡◌, ◌↔◌, ◌<◌, ◌&&◌, [], true, false, IfOk, IsOk, IsTrue, OnOk, OnErr};
 ghost use Rattle.std.specs.Bool.{beq};
 ghost use Rattle.std.specs.Cmp.{partial_order_from_own_ties};
 ghost use Rattle.std.specs.Cmp.Rules.{comparing};
 ghost use Rattle.std.specs.Ordering.{as_partial_cmp};
-ghost use Rattle.std.specs.Str.{str_to_ascii_lowercase};
 ghost use Rattle.std.proofs.Common.{rules};
 ghost use Rattle.dnw_name.specs.DomainName.{name_eq, name_cmp, name_len, is_at_or_below, lowercase_name};
 ghost use Rattle.dnw_name.specs.NameOrderLaws.{name_eq-by_cmp};
-ghost use Rattle.zst_key.specs.Ancestors.{parent, star};
+ghost use Rattle.zst_key.specs.Ancestors.{other_flag, parent, star, GoesToShared};
 
-use crate::octets::{INLINE, octets_of};
+use crate::octets::{INLINE, octets_of, parent_end};
 use dnw_name::Name;
 use smallvec::SmallVec;
 use std::alloc::{AllocError, Global};
@@ -46,13 +45,42 @@ impl NameKey {
         Ok(NameKey { octets })
     }
 
-    /// Goes to the name without its first label, which is handed in. It takes no memory.
-    pub fn to_parent(&mut self, first: &[u8])
-        requires { take 1 self.old.labels ≡ str_to_ascii_lowercase first.now ∷ [] }
+    /// Whether the name ends at the root.
+    pub fn is_fqdn(&self) -> bool
+        ensures { result ≡ self.now.fqdn }
+    {
+        self.octets[0] == 1
+    }
+
+    /// Whether the name has no labels, so that none is above it.
+    pub fn is_root(&self) -> bool
+        ensures { IsTrue result ↔ (self.now.labels ≡ []) }
+    {
+        self.octets.len() == 1
+    }
+
+    /// Goes to the name above. Where there is none, nothing changes. It takes no memory.
+    pub fn to_parent(&mut self)
         ensures { self.new ≡ parent self.old }
     {
-        let end = self.octets.len() - first.len() - 1;
+        let end = parent_end(self.octets.as_slice());
         self.octets.truncate(end);
+    }
+
+    /// Goes up to the nearest name that the other one equals or lies below too. Where one of both ends at the root and
+    /// one doesn't, there is none; then nothing changes, and false is answered. It takes no memory.
+    pub fn to_shared(&mut self, other: &NameKey) -> bool
+        ensures flags { result ≡ beq self.old.fqdn other.now.fqdn }
+        ensures shared { result ≡ true → GoesToShared self.old other.now self.new }
+        ensures same { result ≡ false → self.new ≡ self.old }
+    {
+        if self.is_fqdn() != other.is_fqdn() {
+            return false;
+        }
+        'levels: while !other.is_below(self) {
+            self.to_parent();
+        }
+        true
     }
 
     /// Goes to the wildcard below the name (RFC 4592 2.1.1).
@@ -64,11 +92,37 @@ impl NameKey {
         Ok(())
     }
 
+    /// Goes to the name of the same labels that ends at the root where this one doesn't, and the other way round.
+    pub fn to_other_flag(&mut self)
+        ensures { self.new ≡ other_flag self.old }
+    {
+        self.octets[0] = 1 - self.octets[0];
+    }
+
+    /// Whether the name's labels end with the other's, whether or not either ends at the root.
+    pub fn is_at_or_below(&self, other: &NameKey) -> bool
+        ensures { result ≡ is_at_or_below self.now other.now }
+    {
+        self.octets.as_slice()[1..].starts_with(&other.octets.as_slice()[1..])
+    }
+
     /// Whether the name is the other one, or lies below it, where both end at the root or neither does.
     pub fn is_below(&self, other: &NameKey) -> bool
-        ensures { result ≡ (beq self.now.fqdn other.now.fqdn && is_at_or_below self.now other.now) }
+        ensures below { result ≡ (beq self.now.fqdn other.now.fqdn && is_at_or_below self.now other.now) }
+        ensures lower { lowercase_name self.now ≡ self.now }
+        ensures lower_other { lowercase_name other.now ≡ other.now }
     {
         self.octets.starts_with(&other.octets)
+    }
+}
+
+impl Clone for NameKey {
+    ghost is_clone = { λ key copy. copy ≡ key };
+
+    /// It takes no memory where the name has at most 39 octets.
+    fn clone(&self) -> Result<NameKey, AllocError> {
+        let octets = SmallVec::from_slice(*self.octets.allocator(), self.octets.as_slice())?;
+        Ok(NameKey { octets })
     }
 }
 

@@ -4,7 +4,9 @@
 //! (RFC 4034 6.1), and the key of a name above another is a front of the other's.
 #![tactic(auto)]
 
+mod above;
 mod key;
 mod octets;
 
+pub use above::nearest;
 pub use key::NameKey;

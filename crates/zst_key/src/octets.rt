@@ -1,7 +1,8 @@
 //! Octets whose plain order is the canonical order of names.
-ghost use Rattle.std.specs.Prelude.{◌≡◌, ◌+◌, ◌++◌, ◌<◌, length, IfOk, IsOk};
+ghost use Rattle.std.specs.Prelude.{◌≡◌, ◌+◌, ◌++◌, ◌<◌, ◌≤◌, length, take, IfOk, IsOk};
 ghost use Rattle.smallvec.specs.SmallVec.{HasRoomFor, small_vec_len};
-ghost use Rattle.dnw_name.specs.DomainName.{name_len};
+ghost use Rattle.dnw_name.specs.DomainName.{DomainName, name_len};
+ghost use Rattle.zst_key.specs.Ancestors.{parent};
 ghost use Rattle.zst_key.specs.NameKeys.{rank, label_key, name_key};
 
 use dnw_name::Name;
@@ -58,6 +59,22 @@ fn push_label(octets: &mut SmallVec<u8, INLINE>, label: &[u8])
         octets.push_reserved(rank(label[i]));
     }
     octets.push_reserved(0);
+}
+
+// Where the octets of the name above end in those of a key; of a name without labels, where its own do.
+pub(crate) fn parent_end(octets: &[u8]) -> usize
+    requires { 0 < length octets.now }
+    ensures within { result ≤ length octets.now }
+    ensures parent { (name : DomainName) → octets.now ≡ name_key name → take result octets.now ≡ name_key (parent name) }
+{
+    let mut end = octets.len();
+    if 1 < end {
+        end -= 1;
+    }
+    'octets: while 1 < end && octets[end - 1] != 0 {
+        end -= 1;
+    }
+    end
 }
 
 // The place of an octet among the octets without capitals, from 1 on.

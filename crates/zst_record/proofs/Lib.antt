@@ -7,3 +7,4 @@ pub use Rattle.drd_rdata.proofs.drd_words_lemmas
 pub use Rattle.drd_rdata.proofs.dnw_decoder_lemmas
 pub use Rattle.drd_rdata.proofs.dnw_encoder_lemmas
 pub mod drd_rdata_lemmas
+pub mod TakenRecords

@@ -1,4 +1,6 @@
+pub mod Lending
 pub mod Records
+pub mod RecordSets
 pub mod RecordLaws
 pub mod Reading
 pub mod Writing

@@ -12,7 +12,7 @@ use Rattle.zst_record.specs.Records.{record_eq}
 pub name_eq_equiv : IsEquivalence name_eq
 name_eq_equiv = Prim.search (comparing, rules) depth 12
 
-class_equiv : IsEquivalence same_class
+pub class_equiv : IsEquivalence same_class
 class_equiv = Prim.search (comparing, rules)
 
 pub record_equiv : IsEquivalence record_eq

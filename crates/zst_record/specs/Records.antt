@@ -1,14 +1,13 @@
--- Resource records and their sets: RFC 1035, section 4.1.3; RFC 2181, section 5.
-use Rattle.std.specs.Prelude.{◌≡◌, ℕ, ◌+◌, ◌^◌, ◌<◌, Bool, true, false, List, [], ◌∷◌, length, Option, Some, None, if◌then◌else◌}
-use Rattle.std.specs.List.{AllByRecursion}
+-- Resource records: RFC 1035, section 4.1.3.
+use Rattle.std.specs.Prelude.{◌≡◌, ℕ, ◌+◌, ◌^◌, ◌<◌, Bool, true, false, List, length}
 use Rattle.std.specs.Ordering.{eq_of_both, on}
 use Rattle.drd_rdata.specs.dnw_codes.declared.record_type.RecordType.{RecordType}
 use Rattle.drd_rdata.specs.dnw_codes.declared.record_type.RecordType.TheVariants as kind
 use Rattle.drd_rdata.specs.dnw_codes.declared.dns_class.DNSClass.{DNSClass}
 use Rattle.drd_rdata.specs.dnw_codes.declared.dns_class.DNSClass.TheVariants as class
 use Rattle.drd_rdata.specs.dnw_codes.DNSClass.{class_of, same_class}
-use Rattle.drd_rdata.specs.dnw_codes.RecordType.{record_type_of, same_record_type}
-use Rattle.drd_rdata.specs.dnw_name.DomainName.{DomainName, domain_name, name_octets, name_eq}
+use Rattle.drd_rdata.specs.dnw_codes.RecordType.{record_type_of}
+use Rattle.drd_rdata.specs.dnw_name.DomainName.{DomainName, name_octets, name_eq}
 use Rattle.drd_rdata.specs.dnw_decoder.Codes.{RecordTypeAt, ClassAt}
 use Rattle.drd_rdata.specs.dnw_decoder.Octets.{octets_16, octets_32, Stands}
 use Rattle.drd_rdata.specs.dnw_decoder.Spelling.{NameAt}
@@ -79,43 +78,3 @@ pub record ReadsBackAlone (r : Record) : Type 0 where
   pub own_class : IsOwnClass r.dns_class
   pub rdata : IsReadable r.rdata
   pub of_zones : belongs_to_message (type_of r.rdata) ≡ false
-
--- A set: the records of one owner and type, in order.
-pub record RRset : Type 0 where
-  pub record_type : RecordType
-  pub records : List Record
-
--- The owner of a set is that of its first record, as that spells it. Every set has a record; the
--- root stands where there is none.
-abbrev pub first_owner : List Record → DomainName
-first_owner [] = domain_name true []
-first_owner (first ∷ later) = first.name
-
-abbrev pub owner_of : RRset → DomainName
-owner_of set = first_owner set.records
-
--- A record of the set: the set's owner and type; it reads back alone.
-pub record IsRecordOf (owner : DomainName) (record_type : RecordType) (r : Record) : Type 0 where
-  pub at_owner : name_eq r.name owner ≡ true
-  pub of_type : same_record_type (type_of r.rdata) record_type ≡ true
-  pub reads_back : ReadsBackAlone r
-
--- A set has a record, and each of its records is of its owner and type.
-pub record IsRRset (set : RRset) : Type 0 where
-  pub not_empty : 0 < length set.records
-  pub records : AllByRecursion (IsRecordOf (owner_of set) set.record_type) set.records
-
--- Records with one more: in place of the one with equal data, else behind them. A record is
--- replaced whole, with the case of its owner's letters.
-abbrev pub put_record : List Record → Record → List Record
-put_record [] r = r ∷ []
-put_record (s ∷ ss) r = if rdata_eq s.rdata r.rdata then r ∷ ss else s ∷ put_record ss r
-
--- The set that a record makes, alone or with those stored. Where it replaces the first one, the
--- set's owner is spelled as it spells it.
-abbrev pub set_with : Option RRset → Record → RRset
-set_with None r = record { record_type = type_of r.rdata; records = r ∷ [] }
-set_with (Some set) r = record {
-  record_type = set.record_type;
-  records = put_record set.records r;
-}

@@ -4,18 +4,19 @@ ghost use Rattle.std.specs.Prelude.{◌≡◌, ◌+◌, ◌<◌, ◌^◌, IfErr,
 ghost use Rattle.drd_rdata.specs.dnw_encoder.Effects.{Writes, IsRefusal};
 ghost use Rattle.drd_rdata.specs.dnw_encoder.Encoders.{state};
 ghost use Rattle.drd_rdata.specs.dnw_name.DomainName.{name_octets};
+ghost use Rattle.zst_record.specs.Lending.{seen};
 ghost use Rattle.zst_record.specs.Writing.{EmitsHead, EmitsBehindLength, EmitsRecord, RefusesBehindLength, RefusesRecord, head_numbers};
 
-use crate::records::Record;
+use crate::records::{Record, RecordRef};
 use drd_rdata::{BinEncodable, BinEncoder, ProtoError, RData};
 
-impl Record {
+impl RecordRef<'_> {
     // The numbers of type, class and time to live, as they stand behind the owner.
     fn head_numbers(&self) -> [u8; 8]
-        ensures octets { result ≡ head_numbers self.now }
+        ensures octets { result ≡ head_numbers (seen self.now) }
         ensures small { self.now.ttl < 2 ^ 32 }
     {
-        let (record_type, ttl) = (self.record_type(), self.ttl);
+        let (record_type, ttl) = (self.rdata.record_type(), self.ttl);
         let [kind, kind_low] = u16::from(record_type).to_be_bytes();
         let [class, class_low] = u16::from(self.dns_class).to_be_bytes();
         let [highest, high, low, lowest] = ttl.to_be_bytes();
@@ -26,8 +27,8 @@ impl Record {
     fn emit_head(&self, encoder: &mut BinEncoder<'_>) -> Result<(), ProtoError>
         ensures same_reference { encoder.new.buffer.ghost_name ≡ encoder.old.buffer.ghost_name }
         ensures writes { Writes (state encoder.old) (state encoder.new) }
-        ensures ok { OnOk result (EmitsHead self.now (state encoder.old) (state encoder.new)) }
-        ensures cause { IfErr result (IsRefusal (state encoder.old) (length (name_octets self.now.name) + 8)) }
+        ensures ok { OnOk result (EmitsHead (seen self.now) (state encoder.old) (state encoder.new)) }
+        ensures cause { IfErr result (IsRefusal (state encoder.old) (length (name_octets (seen self.now).name) + 8)) }
     {
         self.name.emit(encoder)?;
         encoder.emit_vec(&self.head_numbers())
@@ -49,6 +50,18 @@ fn emit_behind_length(encoder: &mut BinEncoder<'_>, rdata: &RData) -> Result<(),
     }
 }
 
+impl BinEncodable for RecordRef<'_> {
+    ghost emits = { λ lent old new. EmitsRecord (seen lent) old new };
+
+    ghost refuses = { λ lent old e new. RefusesRecord (seen lent) old e };
+
+    /// Writes owner, type, class and time to live, then the data behind their length.
+    fn emit(&self, encoder: &mut BinEncoder<'_>) -> Result<(), ProtoError> {
+        self.emit_head(encoder)?;
+        emit_behind_length(encoder, self.rdata)
+    }
+}
+
 impl BinEncodable for Record {
     ghost emits = { EmitsRecord };
 
@@ -56,7 +69,6 @@ impl BinEncodable for Record {
 
     /// Writes owner, type, class and time to live, then the data behind their length.
     fn emit(&self, encoder: &mut BinEncoder<'_>) -> Result<(), ProtoError> {
-        self.emit_head(encoder)?;
-        emit_behind_length(encoder, &self.rdata)
+        self.lend().emit(encoder)
     }
 }

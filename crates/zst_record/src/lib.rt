@@ -5,12 +5,17 @@
 #![tactic(auto)]
 
 pub use drd_rdata::{
-    A, BinDecodable, BinDecoder, BinEncodable, BinEncoder, DNSClass, DecodeError, EncodedSize,
-    Label, LowerName, NS, Name, NameEncoding, ProtoError, RData, RecordType, RrKey, SOA,
+    A, ANAME, BinDecodable, BinDecoder, BinEncodable, BinEncoder, CNAME, DNSClass, DecodeError,
+    EncodedSize, Label, LowerName, MX, NS, Name, NameEncoding, ProtoError, RData, RecordType,
+    RrKey, SOA, SRV,
 };
 
 mod emit;
 mod read;
+mod record_set;
 mod records;
+mod rrset_records;
 
-pub use records::{Record, RecordSet};
+pub use record_set::RecordSet;
+pub use records::{Record, RecordRef};
+pub use rrset_records::RrsetRecords;

@@ -1,18 +1,15 @@
-//! Resource records and their sets (RFC 1035 section 4.1.3, RFC 2181 section 5).
+//! Resource records (RFC 1035 section 4.1.3).
 
-ghost use Rattle.std.specs.Prelude.{◌≡◌, ◌↔◌, None, Some, true, IsTrue, IfOk, OnOk, OnErr, position};
+ghost use Rattle.std.specs.Prelude.{◌≡◌, ◌↔◌, IsTrue};
 ghost use Rattle.std.specs.Cmp.{partial_equiv_from_equiv};
-ghost use Rattle.drd_rdata.specs.Order.{rdata_eq};
 ghost use Rattle.drd_rdata.specs.Types.{type_of};
 ghost use Rattle.drd_rdata.specs.dnw_codes.declared.dns_class.DNSClass.TheVariants.{IN};
 ghost use Rattle.drd_rdata.specs.declared.rdata.RData.TheVariants.{Update0};
-ghost use Rattle.zst_record.specs.Records.{RRset, IsRRset, IsRecordOf, IsOwnClass, IsOwnType, ReadsBackAlone, belongs_to_message, owner_of, record_eq, record_with};
+ghost use Rattle.zst_record.specs.Records.{IsOwnClass, IsOwnType, ReadsBackAlone, belongs_to_message, record_eq, record_with};
 ghost use Rattle.zst_record.specs.RecordLaws.{record_equiv};
-ghost use Rattle.zst_record.specs.Records.{put_record as with_record, set_with};
+ghost use Rattle.zst_record.specs.Lending.{seen};
 
 use drd_rdata::{DNSClass, Name, RData, RecordType, is_readable};
-use std::alloc::{AllocError, Global};
-use std::marker::Model;
 
 /// A resource record.
 #[derive(Drop)]
@@ -47,6 +44,18 @@ impl Record {
         Record::from_rdata(name, ttl, RData::Update0(record_type))
     }
 
+    /// The record, lent.
+    pub fn lend(&self) -> RecordRef<'_>
+        ensures { seen result ≡ self.now }
+    {
+        RecordRef {
+            name: &self.name,
+            dns_class: self.dns_class,
+            ttl: self.ttl,
+            rdata: &self.rdata,
+        }
+    }
+
     /// The type of the record.
     pub fn record_type(&self) -> RecordType
         ensures { result ≡ type_of self.now.rdata }
@@ -66,6 +75,19 @@ impl Record {
             && !is_of_messages(self.record_type())
             && is_readable(&self.rdata)
     }
+}
+
+/// A record that is lent field by field, as an answer has it whose owner or time to live isn't the zone's own.
+#[derive(Clone, Copy)]
+pub struct RecordRef<'r> {
+    /// The owner.
+    pub name: &'r Name,
+    /// The class.
+    pub dns_class: DNSClass,
+    /// The time to live, in seconds.
+    pub ttl: u32,
+    /// The data, which give the type.
+    pub rdata: &'r RData,
 }
 
 /// Whether two records are the same but for their time to live (RFC 2136 1.1.1).
@@ -114,87 +136,4 @@ fn is_own_class(dns_class: DNSClass) -> bool
         },
         _ => true,
     }
-}
-
-/// The records of one owner and type, in order; at least one. The owner is that of the first record.
-#[derive(Drop)]
-pub struct RecordSet {
-    record_type: RecordType,
-    records: Vec<Record>,
-}
-
-impl Model for RecordSet {
-    ghost use Rattle.zst_record.specs.Records.{RRset, IsRRset};
-
-    ghost Value = { RRset };
-
-    ghost view = { λ set. record { record_type = set.record_type; records = set.records.items } };
-
-    ghost invariant = { λ set. IsRRset (record { record_type = set.record_type; records = set.records.items }) };
-}
-
-impl RecordSet {
-    /// The set of one record.
-    pub fn from_record(alloc: Global, first: Record) -> Result<RecordSet, AllocError>
-        requires { ReadsBackAlone first }
-        ensures { IfOk result (λ set. set ≡ set_with None first) }
-    {
-        let record_type = first.record_type();
-        let mut records = Vec::with_capacity(alloc, 1)?;
-        records.push_reserved(first);
-        Ok(RecordSet {
-            record_type,
-            records,
-        })
-    }
-
-    /// Puts a record of the set's owner and type in place of the one with equal data, else behind the others.
-    pub fn put(&mut self, next: Record) -> Result<(), AllocError>
-        requires { IsRecordOf (owner_of self.old) self.old.record_type next }
-        ensures ok { OnOk result (self.new ≡ set_with (Some self.old) next) }
-        ensures err { OnErr result (self.new ≡ self.old) }
-    {
-        put_record(&mut self.records, next)
-    }
-
-    /// The owner, as the first record spells it.
-    pub fn name(&self) -> &Name
-        ensures { result.now ≡ owner_of self.now }
-    {
-        &self.records[0].name
-    }
-
-    /// The type.
-    pub fn record_type(&self) -> RecordType
-        ensures { result ≡ self.now.record_type }
-    {
-        self.record_type
-    }
-
-    /// The records, in order.
-    pub fn records(&self) -> &[Record]
-        ensures value { result.now ≡ self.now.records }
-        ensures set { IsRRset self.now }
-    {
-        &self.records
-    }
-}
-
-/// Puts a record in place of the one with equal data, else behind the others.
-fn put_record(records: &mut Vec<Record>, next: Record) -> Result<(), AllocError>
-    ensures ok { OnOk result (records.new.items ≡ with_record records.old.items next) }
-    ensures err { OnErr result (records.new.items ≡ records.old.items) }
-{
-    match place_of(records, &next.rdata) {
-        Some(place) => records[place] = next,
-        None => records.push(next)?,
-    }
-    Ok(())
-}
-
-/// Where the record with equal data stands.
-fn place_of(records: &[Record], rdata: &RData) -> Option<usize>
-    ensures { result ≡ position (λ stored. rdata_eq stored.rdata rdata.now) records.now }
-{
-    records.iter().position(|stored| stored.rdata == *rdata)
 }

@@ -1,5 +1,7 @@
 pub mod Keys
 pub mod LowerNames
+pub mod Names
+pub mod ReadBack
 pub mod ZoneEntries
 pub mod ZoneMapsBy
 pub mod ZoneNodes

@@ -18,9 +18,9 @@ use Rattle.zst_record.specs.dnw_name.DomainName.{DomainName, name_eq}
 use Rattle.zst_record.specs.dnw_codes.RecordType.{same_record_type}
 use Rattle.zst_key.specs.NameKeys.{name_key}
 use Rattle.zst_record.specs.drd_rdata.Types.{type_of}
-use Rattle.zst_record.specs.Records.{RRset}
-use Rattle.zst_zone.specs.Zones.{rrset_at, Adds}
-use Rattle.zst_record.specs.Records.{set_with}
+use Rattle.zst_record.specs.RecordSets.{RRset}
+use Rattle.zst_handler.specs.Zones.{rrset_at, Adds}
+use Rattle.zst_record.specs.RecordSets.{set_with}
 use Rattle.zst_zone.specs.ZoneMaps.{IsNode, IsZone, TypesRise, sets_of, with_record}
 use Rattle.zst_zone.proofs.Keys.{same_key}
 use Rattle.zst_zone.proofs.ZoneNodes.{is_of_type, set_in, stored_in}

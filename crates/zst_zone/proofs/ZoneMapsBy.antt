@@ -1,24 +1,23 @@
 -- What the map's own calls say of a zone.
-use Rattle.std.proofs.Common.{◌≡◌, ℕ, ◌∙◌, sym, ap, subst, nat_eq, Vec, Global}
-use Rattle.std.specs.Prelude.{Bool, true, List, [], ◌∷◌, ◌&&◌, Option, Some, None, cond}
+use Rattle.std.proofs.Common.{◌≡◌, ◌∙◌, sym, ap, subst, Vec, Global}
+use Rattle.std.specs.Prelude.{Bool, true, List, [], ◌&&◌, Option}
 use Rattle.std.specs.Bool.{beq}
-use Rattle.std.specs.List.{filter, starts_with}
+use Rattle.std.specs.List.{filter}
 use Rattle.std.specs.List.Sorted.{IsStrictlySortedBy}
 use Rattle.std.specs.Map.{keys_of, lookup}
 use Rattle.std.specs.BTreeMap.{insert_entry, is_at}
-use Rattle.std.specs.Ordering.{is_le, nat_cmp}
+use Rattle.std.specs.Ordering.{is_le}
 use Rattle.std.specs.declared.cmp.Ordering.{Ordering}
-use Rattle.std.specs.Cmp.Lexicographic.{slice_cmp}
 use Rattle.zst_record.specs.dnw_codes.declared.record_type.RecordType.{RecordType}
-use Rattle.zst_record.specs.dnw_name.DomainName.{DomainName, is_at_or_below, name_cmp, name_eq}
+use Rattle.zst_record.specs.dnw_name.DomainName.{DomainName, is_at_or_below, name_cmp}
 use Rattle.zst_key.specs.NameKeys.{name_key}
 use Rattle.zst_key.specs.declared.key.NameKey.{NameKey}
 use Rattle.zst_key.proofs.KeyLemmas.{key-below}
 use Rattle.zst_key.proofs.KeyOrder.{keys-order}
-use Rattle.zst_record.specs.Records.{RRset}
-use Rattle.zst_zone.specs.Zones.{rrset_at, exists_in}
-use Rattle.zst_zone.specs.ZoneMaps.{IsZone, sets_of}
-use Rattle.zst_zone.proofs.Keys.{begins, begins-starts_with, same_key}
+use Rattle.zst_record.specs.RecordSets.{RRset}
+use Rattle.zst_handler.specs.Zones.{rrset_at}
+use Rattle.zst_zone.specs.ZoneMaps.{IsZone, exists_alike, sets_of}
+use Rattle.zst_zone.proofs.Keys.{begins, begins-starts_with}
 use Rattle.zst_zone.proofs.ZoneEntries.{at_key, key_cmp}
 use Rattle.zst_zone.proofs.ZoneNodes.{set_in, stored_in, exists_from, first_begins, first_at, from_key, lookup_first}
 
@@ -65,24 +64,10 @@ first_by entries zone key t found is view e =
 
 pub exists_by : (entries : Entries) (zone : List RRset) (key : DomainName) (result : Bool)
     → IsZone name_key sets entries → sets_of name_key sets entries ≡ zone → result ≡ first_begins name_key sets (name_key key) (from_key name_key sets (name_key key) entries)
-    → key.fqdn ≡ true → result ≡ exists_in zone key
-exists_by entries zone key result is view e full =
-    e ∙ sym (exists_from name_key sets key entries full is.nodes is.ordered)
-    ∙ ap (λ (z : List RRset). exists_in z key) view
-
--- ---- by the first entry from the key on
-pub set_at : (entries : Entries) (zone : List RRset) (key : DomainName) (t : RecordType) (owner : NameKey) (node : Node) (rest : Entries) (b : Bool)
-    → IsZone name_key sets entries → sets_of name_key sets entries ≡ zone → from_key name_key sets (name_key key) entries ≡ (owner, node) ∷ rest → name_eq key owner ≡ b
-    → set_in name_key sets (cond b (Some node) None) t ≡ rrset_at zone key t
-set_at entries zone key t owner node rest b is view first same =
-    first_by entries zone key t (cond b (Some node) None) is view
-    (sym (ap (first_at name_key sets (name_key key)) first ∙ ap (λ (u : Bool). cond u (Some node) None) (same_key key owner ∙ same)))
-
-pub name_at : (entries : Entries) (zone : List RRset) (key : DomainName) (owner : NameKey) (node : Node) (rest : Entries) (b : Bool)
-    → IsZone name_key sets entries → sets_of name_key sets entries ≡ zone → from_key name_key sets (name_key key) entries ≡ (owner, node) ∷ rest
-    → begins (name_key key) (name_key owner) ≡ b → key.fqdn ≡ true → b ≡ exists_in zone key
-name_at entries zone key owner node rest b is view first begun =
-    exists_by entries zone key b is view (sym (ap (first_begins name_key sets (name_key key)) first ∙ begun))
+    → result ≡ exists_alike zone key
+exists_by entries zone key result is view e =
+    e ∙ sym (exists_from name_key sets key entries is.nodes is.ordered)
+    ∙ ap (λ (z : List RRset). exists_alike z key) view
 
 -- The test of the code, as the key's octets say it.
 pub begins_by : (key owner : DomainName) (b : Bool) → b ≡ (beq owner.fqdn key.fqdn && is_at_or_below owner key) → begins (name_key key) (name_key owner) ≡ b

@@ -1,6 +1,7 @@
 -- What a zone's entries say of a name: which set is stored there, and whether it exists.
 use Rattle.std.proofs.Common.{◌≡◌, ℕ, ◌<◌, ◌≤◌, length, refl, ap, sym, ◌∙◌, arith, ⊎_elim}
 use Rattle.std.specs.Prelude.{Bool, true, false, ◌&&◌, ◌||◌, List, [], ◌∷◌, ◌++◌, Option, Some, None, cond, find, nat_eq, nat_lt}
+use Rattle.std.specs.Bool.{beq}
 use Rattle.std.specs.List.{AllByRecursion, list_any, filter}
 use Rattle.std.specs.List.Sorted.{IsStrictlySortedBy}
 use Rattle.std.specs.Map.{keys_of, lookup}
@@ -19,10 +20,12 @@ use Rattle.zst_record.specs.dnw_name.DomainName.{DomainName, name_eq, is_at_or_b
 use Rattle.zst_record.specs.dnw_codes.RecordType.{same_record_type}
 use Rattle.zst_key.specs.NameKeys.{name_key}
 use Rattle.zst_zone.proofs.Keys.{begins}
-use Rattle.zst_record.specs.Records.{RRset, owner_of}
-use Rattle.zst_zone.specs.Zones.{rrset_at, exists_in}
+use Rattle.zst_record.specs.RecordSets.{RRset}
+use Rattle.zst_handler.specs.Zones.{rrset_at}
+use Rattle.zst_zone.specs.ZoneMaps.{exists_alike}
 use Rattle.zst_zone.specs.ZoneMaps.{IsOwnedAt, IsNode, sets_of}
-use Rattle.zst_zone.proofs.Keys.{same_key, above_begins}
+use Rattle.zst_zone.proofs.Keys.{begins-starts_with, same_key}
+use Rattle.zst_key.proofs.KeyLemmas.{key-below}
 
 -- ---- tests of lists
 abbrev pub or_else : {X : Type 0} → Option X → Option X → Option X
@@ -57,19 +60,19 @@ any_append p (x ∷ xs) ys = rw (any_append p xs ys) (or_assoc (p x) (list_any p
 
 -- ---- the sets under one key
 abbrev pub is_set_at : DomainName → RecordType → RRset → Bool
-is_set_at name t set = name_eq name (owner_of set) && same_record_type set.record_type t
+is_set_at name t set = name_eq name set.name && same_record_type set.record_type t
 
 abbrev pub is_of_type : RecordType → RRset → Bool
 is_of_type t set = same_record_type set.record_type t
 
-pub owner_test : (name : DomainName) (key : List ℕ) (set : RRset) → IsOwnedAt key set → name_eq name (owner_of set) ≡ bytes_eq (name_key name) key
-owner_test name key set is = sym (same_key name (owner_of set)) ∙ ap (bytes_eq (name_key name)) is.owner
+pub owner_test : (name : DomainName) (key : List ℕ) (set : RRset) → IsOwnedAt key set → name_eq name set.name ≡ bytes_eq (name_key name) key
+owner_test name key set is = sym (same_key name set.name) ∙ ap (bytes_eq (name_key name)) is.owner
 
 pub found_under_key : (name : DomainName) (t : RecordType) (key : List ℕ) (sets : List RRset) → AllByRecursion (IsOwnedAt key) sets
     → bytes_eq (name_key name) key ≡ true → find (is_set_at name t) sets ≡ find (is_of_type t) sets
 found_under_key name t key [] all e = refl
 found_under_key name t key (set ∷ sets) all e =
-    let first : name_eq name (owner_of set) ≡ true = owner_test name key set all.0 ∙ e in
+    let first : name_eq name set.name ≡ true = owner_test name key set all.0 ∙ e in
     let rest : find (is_set_at name t) sets ≡ find (is_of_type t) sets = found_under_key name t key sets all.1 e in
     rw (first, rest) refl
 
@@ -77,30 +80,36 @@ pub none_under_key : (name : DomainName) (t : RecordType) (key : List ℕ) (sets
     → bytes_eq (name_key name) key ≡ false → find (is_set_at name t) sets ≡ None
 none_under_key name t key [] all e = refl
 none_under_key name t key (set ∷ sets) all e =
-    let first : name_eq name (owner_of set) ≡ false = owner_test name key set all.0 ∙ e in
+    let first : name_eq name set.name ≡ false = owner_test name key set all.0 ∙ e in
     let rest : find (is_set_at name t) sets ≡ None = none_under_key name t key sets all.1 e in
     rw (first, rest) refl
 
-any_under_key : (name : DomainName) (key : List ℕ) (sets : List RRset) → name.fqdn ≡ true → AllByRecursion (IsOwnedAt key) sets
-    → begins (name_key name) key ≡ false → list_any (λ set. is_at_or_below (owner_of set) name) sets ≡ false
-any_under_key name key [] full all e = refl
-any_under_key name key (set ∷ sets) full all e =
-    let first : is_at_or_below (owner_of set) name ≡ false
-    = sym (above_begins (owner_of set) name all.0.full full) ∙ ap (begins (name_key name)) all.0.owner ∙ e in
-    let rest : list_any (λ set. is_at_or_below (owner_of set) name) sets ≡ false = any_under_key name key sets full all.1 e in
+-- Whether the owner of a set equals a name or lies below it, where both end at the root or neither does.
+abbrev pub is_alike : DomainName → RRset → Bool
+is_alike name set = beq set.name.fqdn name.fqdn && is_at_or_below set.name name
+
+alike_begins : (name : DomainName) (key : List ℕ) (set : RRset) → IsOwnedAt key set → is_alike name set ≡ begins (name_key name) key
+alike_begins name key set is = sym (key-below set.name name) ∙ sym (begins-starts_with (name_key name) (name_key set.name)) ∙ ap (begins (name_key name)) is.owner
+
+any_under_key : (name : DomainName) (key : List ℕ) (sets : List RRset) → AllByRecursion (IsOwnedAt key) sets
+    → begins (name_key name) key ≡ false → exists_alike sets name ≡ false
+any_under_key name key [] all e = refl
+any_under_key name key (set ∷ sets) all e =
+    let first : is_alike name set ≡ false = alike_begins name key set all.0 ∙ e in
+    let rest : exists_alike sets name ≡ false = any_under_key name key sets all.1 e in
     rw (first, rest) refl
 
-exists_under_key : (name : DomainName) (key : List ℕ) (sets : List RRset) → name.fqdn ≡ true → IsNode key sets
-    → list_any (λ set. is_at_or_below (owner_of set) name) sets ≡ begins (name_key name) key
-exists_under_key name key [] full node = absurd (omega (arith, node.filled))
-exists_under_key name key (set ∷ sets) full node = by (begins (name_key name) key) refl
+exists_under_key : (name : DomainName) (key : List ℕ) (sets : List RRset) → IsNode key sets
+    → exists_alike sets name ≡ begins (name_key name) key
+exists_under_key name key [] node = absurd (omega (arith, node.filled))
+exists_under_key name key (set ∷ sets) node = by (begins (name_key name) key) refl
   where
-    first : is_at_or_below (owner_of set) name ≡ begins (name_key name) key
-    first = sym (above_begins (owner_of set) name node.owned.0.full full) ∙ ap (begins (name_key name)) node.owned.0.owner
+    first : is_alike name set ≡ begins (name_key name) key
+    first = alike_begins name key set node.owned.0
 
-    by : (b : Bool) → begins (name_key name) key ≡ b → (is_at_or_below (owner_of set) name || list_any (λ set. is_at_or_below (owner_of set) name) sets) ≡ begins (name_key name) key
+    by : (b : Bool) → begins (name_key name) key ≡ b → (is_alike name set || exists_alike sets name) ≡ begins (name_key name) key
     by true e = rw (first, e) refl
-    by false e = rw (first, e) (any_under_key name key sets full node.owned.1 e)
+    by false e = rw (first, e) (any_under_key name key sets node.owned.1 e)
 
 -- ---- keys in order
 begins_below : (q k : List ℕ) → begins q k ≡ true → is_le (slice_cmp nat_cmp q k) ≡ true
@@ -222,7 +231,7 @@ module _ {K V : Type 0} (octets : K → List ℕ) (sets : V → List RRset) wher
   first_begins q (entry ∷ es) = begins q (octets entry.0)
 
   abbrev any_exists : DomainName → List (K × V) → Bool
-  any_exists name es = exists_in (sets_of octets sets es) name
+  any_exists name es = exists_alike (sets_of octets sets es) name
 
   not_begun : (q k l : List ℕ) → is_le (slice_cmp nat_cmp q k) ≡ true → slice_cmp nat_cmp k l ≡ Less → begins q k ≡ false → begins q l ≡ false
   not_begun q k l le less e = by (begins q l) refl
@@ -231,13 +240,13 @@ module _ {K V : Type 0} (octets : K → List ℕ) (sets : V → List RRset) wher
       by true t = absurd (true≢false (sym (begins_between q k l le less t) ∙ e))
       by false t = refl
 
-  none_exists : (name : DomainName) (k : K) (es : List (K × V)) → name.fqdn ≡ true → AreNodes es → AllByRecursion (λ l. key_cmp k l ≡ Less) (keys_of es)
+  none_exists : (name : DomainName) (k : K) (es : List (K × V)) → AreNodes es → AllByRecursion (λ l. key_cmp k l ≡ Less) (keys_of es)
       → is_le (slice_cmp nat_cmp (name_key name) (octets k)) ≡ true → begins (name_key name) (octets k) ≡ false → any_exists name es ≡ false
-  none_exists name k [] full nodes later le e = refl
-  none_exists name k (entry ∷ es) full nodes later le e =
+  none_exists name k [] nodes later le e = refl
+  none_exists name k (entry ∷ es) nodes later le e =
       let first : begins (name_key name) (octets entry.0) ≡ false = not_begun (name_key name) (octets k) (octets entry.0) le later.0 e in
-      any_append (λ set. is_at_or_below (owner_of set) name) (sets entry.1) (sets_of octets sets es)
-      ∙ rw (exists_under_key name (octets entry.0) (sets entry.1) full nodes.0, first) (none_exists name k es full nodes.1 later.1 le e)
+      any_append (is_alike name) (sets entry.1) (sets_of octets sets es)
+      ∙ rw (exists_under_key name (octets entry.0) (sets entry.1) nodes.0, first) (none_exists name k es nodes.1 later.1 le e)
 
   or_by : (b x : Bool) → (b ≡ false → x ≡ false) → (b || x) ≡ b
   or_by true x h = refl
@@ -263,16 +272,16 @@ module _ {K V : Type 0} (octets : K → List ℕ) (sets : V → List RRset) wher
   exists_step q entry es x false e none more = or_past (begins q (octets entry.0)) x (first_begins q (from_key q es)) (not_past q (octets entry.0) e) more
 
   -- a name exists where the first entry from its key on begins with that key
-  pub exists_from : (name : DomainName) (es : List (K × V)) → name.fqdn ≡ true → AreNodes es → IsStrictlySortedBy key_cmp (keys_of es)
-      → exists_in (sets_of octets sets es) name ≡ first_begins (name_key name) (from_key (name_key name) es)
+  pub exists_from : (name : DomainName) (es : List (K × V)) → AreNodes es → IsStrictlySortedBy key_cmp (keys_of es)
+      → exists_alike (sets_of octets sets es) name ≡ first_begins (name_key name) (from_key (name_key name) es)
   unfolding IsStrictlySortedBy
-  exists_from name [] full nodes ordered = refl
-  exists_from name (entry ∷ es) full nodes ordered =
-      any_append (λ set. is_at_or_below (owner_of set) name) (sets entry.1) (sets_of octets sets es)
-      ∙ rw (exists_under_key name (octets entry.0) (sets entry.1) full nodes.0)
+  exists_from name [] nodes ordered = refl
+  exists_from name (entry ∷ es) nodes ordered =
+      any_append (is_alike name) (sets entry.1) (sets_of octets sets es)
+      ∙ rw (exists_under_key name (octets entry.0) (sets entry.1) nodes.0)
       (exists_step (name_key name) entry es (any_exists name es) (is_le (slice_cmp nat_cmp (name_key name) (octets entry.0))) refl
-      (none_exists name entry.0 es full nodes.1 ordered.0)
-      (exists_from name es full nodes.1 ordered.1))
+      (none_exists name entry.0 es nodes.1 ordered.0)
+      (exists_from name es nodes.1 ordered.1))
 
   -- ---- which node stands under a key
   -- the first of some entries, if it has this key

@@ -10,12 +10,12 @@ use Rattle.std.specs.declared.cmp.Ordering.TheVariants.{Less, Equal, Greater}
 use Rattle.std.proofs.lemmas.Bool.{and_parts, eqb-true, eq-eqb}
 use Rattle.zst_record.specs.dnw_codes.declared.record_type.RecordType.{RecordType}
 use Rattle.zst_record.specs.dnw_codes.RecordType.{record_type_number, same_record_type}
-use Rattle.zst_record.specs.Records.{RRset, owner_of}
+use Rattle.zst_record.specs.RecordSets.{RRset}
 use Rattle.zst_record.specs.declared.records.Record.{Record}
 use Rattle.zst_record.specs.dnw_name.DomainName.{DomainName, name_cmp, name_eq}
 use Rattle.zst_record.specs.dnw_name.NameOrderLaws.{name_eq-by_cmp}
 use Rattle.zst_record.specs.RecordLaws.{name_eq_equiv}
-use Rattle.zst_zone.specs.Zones.{AddsTo, AreInOrder, View, rrset_at, set_cmp}
+use Rattle.zst_handler.specs.Zones.{AddsTo, AreInOrder, Zone, rrset_at, set_cmp}
 use Rattle.zst_zone.proofs.ZoneNodes.{is_set_at}
 
 set_total : IsTotalOrder set_cmp
@@ -27,18 +27,18 @@ is_equal Equal e = refl
 is_equal Greater e = cc
 
 -- ---- one owner and type
-own_set : (a : RRset) → is_set_at (owner_of a) a.record_type a ≡ true
+own_set : (a : RRset) → is_set_at a.name a.record_type a ≡ true
 own_set a =
-    let owner : name_eq (owner_of a) (owner_of a) ≡ true = name_eq_equiv.refl (owner_of a) in
+    let owner : name_eq a.name a.name ≡ true = name_eq_equiv.refl a.name in
     let kind : same_record_type a.record_type a.record_type ≡ true = eq-eqb (record_type_number a.record_type) (record_type_number a.record_type) refl in
     rw (owner, kind) refl
 
-tied : (name : DomainName) (t : RecordType) (a b : RRset) → is_set_at name t a ≡ true → is_set_at name t b ≡ true → set_cmp a b ≡ Equal
+pub tied : (name : DomainName) (t : RecordType) (a b : RRset) → is_set_at name t a ≡ true → is_set_at name t b ≡ true → set_cmp a b ≡ Equal
 tied name t a b at_a at_b =
-    let p = and_parts (name_eq name (owner_of a)) (same_record_type a.record_type t) at_a in
-    let q = and_parts (name_eq name (owner_of b)) (same_record_type b.record_type t) at_b in
-    let named : name_eq (owner_of a) (owner_of b) ≡ true = sym (name_eq_equiv.congr name (owner_of a) (owner_of b) p.0) ∙ q.0 in
-    let owner : name_cmp (owner_of a) (owner_of b) ≡ Equal = is_equal (name_cmp (owner_of a) (owner_of b)) (sym (name_eq-by_cmp (owner_of a) (owner_of b)) ∙ named) in
+    let p = and_parts (name_eq name a.name) (same_record_type a.record_type t) at_a in
+    let q = and_parts (name_eq name b.name) (same_record_type b.record_type t) at_b in
+    let named : name_eq a.name b.name ≡ true = sym (name_eq_equiv.congr name a.name b.name p.0) ∙ q.0 in
+    let owner : name_cmp a.name b.name ≡ Equal = is_equal (name_cmp a.name b.name) (sym (name_eq-by_cmp a.name b.name) ∙ named) in
     let kind : record_type_number a.record_type ≡ record_type_number b.record_type =
     eqb-true (record_type_number a.record_type) (record_type_number t) p.1 ∙ sym (eqb-true (record_type_number b.record_type) (record_type_number t) q.1) in
     ap (λ (o : Ordering). ordering_then o (nat_cmp (record_type_number a.record_type) (record_type_number b.record_type))) owner
@@ -54,7 +54,7 @@ none_behind name t a (s ∷ sets) at behind = by (is_set_at name t s) refl (none
     by false e more = more
 
 -- ---- the first of each
-find_in : (name : DomainName) (t : RecordType) (a x : RRset) (sets : List RRset) → AllByRecursion (λ later. set_cmp a later ≡ Less) sets
+pub find_in : (name : DomainName) (t : RecordType) (a x : RRset) (sets : List RRset) → AllByRecursion (λ later. set_cmp a later ≡ Less) sets
     → find (is_set_at name t) sets ≡ Some x → set_cmp a x ≡ Less
 find_in name t a x [] behind e = let h : ⊥ = cc in absurd h
 find_in name t a x (s ∷ sets) behind e = by (is_set_at name t s) e (find_in name t a x sets behind.1)
@@ -76,8 +76,8 @@ not_both x y below above =
     let h : Less ≡ Greater = sym below ∙ set_total.antisymm x y ∙ ap ordering_reverse above in
     let g : ⊥ = cc in g
 
-found_first : (x : RRset) (xs : List RRset) → rrset_at (x ∷ xs) (owner_of x) x.record_type ≡ Some x
-found_first x xs = ap (λ (b : Bool). cond b (Some x) (find (is_set_at (owner_of x) x.record_type) xs)) (own_set x)
+pub found_first : (x : RRset) (xs : List RRset) → rrset_at (x ∷ xs) x.name x.record_type ≡ Some x
+found_first x xs = ap (λ (b : Bool). cond b (Some x) (find (is_set_at x.name x.record_type) xs)) (own_set x)
 
 same_first : (x y : RRset) → (x ≡ y) ⊎ (set_cmp y x ≡ Less) → (y ≡ x) ⊎ (set_cmp x y ≡ Less) → x ≡ y
 same_first x y (inl e) other = e
@@ -93,19 +93,19 @@ same_rest name t x xs ys false at first second e = e
 
 pub sets_once : (xs ys : List RRset) → AreInOrder xs → AreInOrder ys → ((name : DomainName) (t : RecordType) → rrset_at xs name t ≡ rrset_at ys name t) → xs ≡ ys
 sets_once [] [] a b same = refl
-sets_once [] (y ∷ ys) a b same = let h : None ≡ Some y = same (owner_of y) y.record_type ∙ found_first y ys in cc
-sets_once (x ∷ xs) [] a b same = let h : Some x ≡ None = sym (found_first x xs) ∙ same (owner_of x) x.record_type in cc
+sets_once [] (y ∷ ys) a b same = let h : None ≡ Some y = same y.name y.record_type ∙ found_first y ys in cc
+sets_once (x ∷ xs) [] a b same = let h : Some x ≡ None = sym (found_first x xs) ∙ same x.name x.record_type in cc
 sets_once (x ∷ xs) (y ∷ ys) a b same =
     let first : x ≡ y = same_first x y
-    (first_or_behind (owner_of x) x.record_type x y ys b (sym (same (owner_of x) x.record_type) ∙ found_first x xs))
-    (first_or_behind (owner_of y) y.record_type y x xs a (same (owner_of y) y.record_type ∙ found_first y ys)) in
+    (first_or_behind x.name x.record_type x y ys b (sym (same x.name x.record_type) ∙ found_first x xs))
+    (first_or_behind y.name y.record_type y x xs a (same y.name y.record_type ∙ found_first y ys)) in
     let behind : AllByRecursion (λ later. set_cmp x later ≡ Less) ys = subst (λ (u : RRset). AllByRecursion (λ later. set_cmp u later ≡ Less) ys) (sym first) b.0 in
     let rest : xs ≡ ys = sets_once xs ys a.1 b.1
     (λ name t. same_rest name t x xs ys (is_set_at name t x) refl a.0 behind
     (same name t ∙ ap (λ (u : RRset). rrset_at (u ∷ ys) name t) (sym first))) in
     ap (λ (u : RRset). u ∷ xs) first ∙ ap (λ (us : List RRset). y ∷ us) rest
 
-pub adds_once : (old : View) (r : Record) (a b : View) → AddsTo old r a → AddsTo old r b → a ≡ b
+pub adds_once : (old : Zone) (r : Record) (a b : Zone) → AddsTo old r a → AddsTo old r b → a ≡ b
 adds_once old r a b first second =
     let same : a.sets ≡ b.sets = sets_once a.sets b.sets first.ordered second.ordered (λ name t. first.adds name t ∙ sym (second.adds name t)) in
     first.rest ∙ ap (λ (s : List RRset). record old { sets = s }) same ∙ sym second.rest

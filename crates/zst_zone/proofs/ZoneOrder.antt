@@ -11,11 +11,11 @@ use Rattle.std.specs.declared.cmp.Ordering.{Ordering}
 use Rattle.std.specs.declared.cmp.Ordering.TheVariants.{Less, Equal, Greater}
 use Rattle.std.proofs.lemmas.Cmp.{nat_list_cmp_total}
 use Rattle.zst_record.specs.dnw_codes.RecordType.{record_type_number}
-use Rattle.zst_record.specs.Records.{RRset, owner_of}
+use Rattle.zst_record.specs.RecordSets.{RRset}
 use Rattle.zst_record.specs.dnw_name.DomainName.{name_cmp}
 use Rattle.zst_key.specs.NameKeys.{name_key}
 use Rattle.zst_key.proofs.KeyOrder.{key-order}
-use Rattle.zst_zone.specs.Zones.{AreInOrder, set_cmp}
+use Rattle.zst_handler.specs.Zones.{AreInOrder, set_cmp}
 use Rattle.zst_zone.specs.ZoneMaps.{IsNode, IsOwnedAt, IsZone, TypesRise, sets_of}
 
 own_reverse : (o : Ordering) → o ≡ ordering_reverse o → o ≡ Equal
@@ -27,10 +27,10 @@ same_place : (key : List ℕ) → slice_cmp nat_cmp key key ≡ Equal
 same_place key = own_reverse (slice_cmp nat_cmp key key) (nat_list_cmp_total.antisymm key key)
 
 -- Owners stand as their keys do.
-owners_stand : (k l : List ℕ) (a b : RRset) (o : Ordering) → IsOwnedAt k a → IsOwnedAt l b → slice_cmp nat_cmp k l ≡ o → name_cmp (owner_of a) (owner_of b) ≡ o
+owners_stand : (k l : List ℕ) (a b : RRset) (o : Ordering) → IsOwnedAt k a → IsOwnedAt l b → slice_cmp nat_cmp k l ≡ o → name_cmp a.name b.name ≡ o
 owners_stand k l a b o is_a is_b e =
-    sym (key-order (owner_of a) (owner_of b))
-    ∙ ap (λ (t : List ℕ). slice_cmp nat_cmp t (name_key (owner_of b))) is_a.owner
+    sym (key-order a.name b.name)
+    ∙ ap (λ (t : List ℕ). slice_cmp nat_cmp t (name_key b.name)) is_a.owner
     ∙ ap (slice_cmp nat_cmp k) is_b.owner
     ∙ e
 

@@ -1,6 +1,6 @@
 -- The sets of one owner with one record more: where they differ, and what each type's set is then.
 use Rattle.std.proofs.Common.{◌≡◌, ℕ, ◌+◌, ◌<◌, ◌≤◌, suc, refl, ap, sym, ◌∙◌, arith, length, get_or, set, take, drop, subst}
-use Rattle.std.specs.Prelude.{Bool, true, false, ◌==◌, List, [], ◌∷◌, ◌++◌, Option, Some, None, cond, find, nat_lt, Result, Ok, Err, OnOk, OnErr}
+use Rattle.std.specs.Prelude.{Bool, true, false, not, ◌==◌, List, [], ◌∷◌, ◌++◌, Option, Some, None, cond, find, nat_lt, Result, Ok, Err, OnOk, OnErr}
 use Rattle.std.specs.declared.alloc.AllocError.{AllocError}
 use Rattle.std.specs.Str.{bytes_eq}
 use Rattle.std.specs.List.{AllByRecursion, insert}
@@ -11,9 +11,10 @@ use Rattle.zst_record.specs.dnw_name.DomainName.{DomainName, name_eq}
 use Rattle.zst_record.specs.dnw_codes.RecordType.{record_type_number, same_record_type}
 use Rattle.zst_key.specs.NameKeys.{name_key}
 use Rattle.zst_record.specs.RecordLaws.{name_eq_equiv}
+use Rattle.zst_record.specs.drd_rdata.Order.{rdata_eq}
 use Rattle.zst_record.specs.drd_rdata.Types.{type_of}
-use Rattle.zst_record.specs.Records.{RRset, IsRecordOf, ReadsBackAlone, owner_of, set_with}
-use Rattle.zst_record.proofs.PutRecords.{first_put}
+use Rattle.zst_record.specs.dnw_codes.DNSClass.{same_class}
+use Rattle.zst_record.specs.RecordSets.{RRset, first_of_put, set_with}
 use Rattle.zst_zone.specs.ZoneMaps.{with_record, place_from, IsOwnedAt, IsNode, TypesRise}
 use Rattle.zst_zone.proofs.Keys.{same_key}
 use Rattle.zst_zone.proofs.ZoneNodes.{is_of_type, owner_test}
@@ -27,12 +28,12 @@ pub record FoundAt (i k : ℕ) (sets : List RRset) (r : Record) (d : RRset) (aft
   pub j : ℕ
   pub is : k ≡ i + j
   pub below : j < length sets
-  pub owner : name_eq r.name (owner_of (get_or sets j d)) ≡ true
+  pub owner : name_eq r.name ((get_or sets j d).name) ≡ true
   pub of_type : record_type_number (get_or sets j d).record_type ≡ code_of r
   pub after_is : after ≡ set sets j (set_with (Some (get_or sets j d)) r)
 
 found_step : (b c : Bool) (s : RRset) (sets after : List RRset) (r : Record) (d : RRset) (i k : ℕ)
-    → (c ≡ true → record_type_number s.record_type ≡ code_of r) → name_eq r.name (owner_of s) ≡ true
+    → (c ≡ true → record_type_number s.record_type ≡ code_of r) → name_eq r.name s.name ≡ true
     → (place_from (i + 1) sets (code_of r) ≡ Ok k → FoundAt (i + 1) k sets r d after)
     → cond b (place_from (i + 1) sets (code_of r)) (cond c (Ok i) (Err i)) ≡ Ok k
     → FoundAt i k (s ∷ sets) r d (cond b (s ∷ after) (cond c (set_with (Some s) r ∷ sets) (set_with None r ∷ s ∷ sets)))
@@ -51,7 +52,7 @@ found_step false true s sets after r d i k same owner more e =
     record { j = 0; is = omega arith; below = omega arith; owner = owner; of_type = same refl; after_is = refl }
 found_step false false s sets after r d i k same owner more e = let h : ⊥ = cc in absurd h
 
-pub found_at : (sets : List RRset) (r : Record) (d : RRset) (i k : ℕ) → AllByRecursion (λ set. name_eq r.name (owner_of set) ≡ true) sets
+pub found_at : (sets : List RRset) (r : Record) (d : RRset) (i k : ℕ) → AllByRecursion (λ set. name_eq r.name set.name ≡ true) sets
     → place_from i sets (code_of r) ≡ Ok k → FoundAt i k sets r d (with_record sets r)
 found_at [] r d i k owned e = let h : ⊥ = cc in absurd h
 found_at (s ∷ sets) r d i k owned e =
@@ -128,24 +129,33 @@ rise (s ∷ sets) r old =
     let ne : record_type_number s.record_type ≡ code_of r → ⊥ = eqb-false (record_type_number s.record_type) (code_of r) c in omega arith)
     old.0 old.1 (rise sets r old.1)
 
-put_owned : (key : List ℕ) (s : RRset) (r : Record) → r.name.fqdn ≡ true → name_key r.name ≡ key → IsOwnedAt key s → IsOwnedAt key (set_with (Some s) r)
-put_owned key s r full at is = record {
-  full = first_put (λ (n : DomainName). n.fqdn ≡ true) s.records r full is.full;
-  owner = first_put (λ (n : DomainName). name_key n ≡ key) s.records r at is.owner;
+first_named : (P : DomainName → Type 0) (alone : Bool) (name : DomainName) (records : List Record) (r : Record) → P r.name → P name
+    → P (cond alone r.name (first_of_put r.name name records r))
+first_named P true name records r mine there = mine
+first_named P false name [] r mine there = mine
+first_named P false name (s ∷ records) r mine there = by (rdata_eq s.rdata r.rdata)
+  where
+    by : (b : Bool) → P (cond b r.name name)
+    by true = mine
+    by false = there
+
+put_owned : (key : List ℕ) (s : RRset) (r : Record) → name_key r.name ≡ key → IsOwnedAt key s → IsOwnedAt key (set_with (Some s) r)
+put_owned key s r at is = record {
+  owner = first_named (λ (n : DomainName). name_key n ≡ key) (not (same_class r.dns_class s.dns_class)) s.name s.records r at is.owner;
 }
 
-owned_step : (b c : Bool) (key : List ℕ) (s : RRset) (sets : List RRset) (r : Record) → r.name.fqdn ≡ true → name_key r.name ≡ key
+owned_step : (b c : Bool) (key : List ℕ) (s : RRset) (sets : List RRset) (r : Record) → name_key r.name ≡ key
     → IsOwnedAt key s → AllByRecursion (IsOwnedAt key) sets → AllByRecursion (IsOwnedAt key) (with_record sets r)
     → AllByRecursion (IsOwnedAt key) (cond b (s ∷ with_record sets r) (cond c (set_with (Some s) r ∷ sets) (set_with None r ∷ s ∷ sets)))
-owned_step true c key s sets r full at first old more = (first, more)
-owned_step false true key s sets r full at first old more = (put_owned key s r full at first, old)
-owned_step false false key s sets r full at first old more = (record { full = full; owner = at }, (first, old))
+owned_step true c key s sets r at first old more = (first, more)
+owned_step false true key s sets r at first old more = (put_owned key s r at first, old)
+owned_step false false key s sets r at first old more = (record { owner = at }, (first, old))
 
-owned : (key : List ℕ) (sets : List RRset) (r : Record) → r.name.fqdn ≡ true → name_key r.name ≡ key → AllByRecursion (IsOwnedAt key) sets
+owned : (key : List ℕ) (sets : List RRset) (r : Record) → name_key r.name ≡ key → AllByRecursion (IsOwnedAt key) sets
     → AllByRecursion (IsOwnedAt key) (with_record sets r)
-owned key [] r full at all = (record { full = full; owner = at }, tt)
-owned key (s ∷ sets) r full at all =
-    owned_step (nat_lt (record_type_number s.record_type) (code_of r)) (record_type_number s.record_type == code_of r) key s sets r full at all.0 all.1 (owned key sets r full at all.1)
+owned key [] r at all = (record { owner = at }, tt)
+owned key (s ∷ sets) r at all =
+    owned_step (nat_lt (record_type_number s.record_type) (code_of r)) (record_type_number s.record_type == code_of r) key s sets r at all.0 all.1 (owned key sets r at all.1)
 
 filled : (sets : List RRset) (r : Record) → 0 < length (with_record sets r)
 filled [] r = omega arith
@@ -156,9 +166,9 @@ filled (s ∷ sets) r = by (nat_lt (record_type_number s.record_type) (code_of r
     by false true = omega arith
     by false false = omega arith
 
-pub IsNode-with : (key : List ℕ) (sets : List RRset) (r : Record) → r.name.fqdn ≡ true → name_key r.name ≡ key → AllByRecursion (IsOwnedAt key) sets → TypesRise sets
+pub IsNode-with : (key : List ℕ) (sets : List RRset) (r : Record) → name_key r.name ≡ key → AllByRecursion (IsOwnedAt key) sets → TypesRise sets
     → IsNode key (with_record sets r)
-IsNode-with key sets r full at all risen = record { filled = filled sets r; owned = owned key sets r full at all; rise = rise sets r risen }
+IsNode-with key sets r at all risen = record { filled = filled sets r; owned = owned key sets r at all; rise = rise sets r risen }
 
 -- ---- each type's set
 -- no set of a type stands among those of greater types
@@ -214,20 +224,22 @@ find_with t (s ∷ sets) r old =
 -- ---- as the code finds them
 pub record FoundHere (k : ℕ) (sets : List RRset) (r : Record) (d : RRset) : Type 0 where
   pub below : k < length sets
-  pub is_record : IsRecordOf (owner_of (get_or sets k d)) (get_or sets k d).record_type r
+  pub owner : name_eq r.name (get_or sets k d).name ≡ true
+  pub kind : same_record_type (type_of r.rdata) (get_or sets k d).record_type ≡ true
   pub after_is : with_record sets r ≡ set sets k (set_with (Some (get_or sets k d)) r)
 
-pub found_here : (sets : List RRset) (r : Record) (d : RRset) (k : ℕ) → ReadsBackAlone r
-    → AllByRecursion (λ set. name_eq r.name (owner_of set) ≡ true) sets → Ok k ≡ place_from 0 sets (code_of r) → FoundHere k sets r d
-found_here sets r d k full owned e =
+pub found_here : (sets : List RRset) (r : Record) (d : RRset) (k : ℕ)
+    → AllByRecursion (λ set. name_eq r.name set.name ≡ true) sets → Ok k ≡ place_from 0 sets (code_of r) → FoundHere k sets r d
+found_here sets r d k owned e =
     let f : FoundAt 0 k sets r d (with_record sets r) = found_at sets r d 0 k owned (sym e) in
     let same : f.j ≡ k = let h : k ≡ 0 + f.j = f.is in omega arith in
-    let P : ℕ → Type 0 = λ n. (n < length sets) × (name_eq r.name (owner_of (get_or sets n d)) ≡ true)
+    let P : ℕ → Type 0 = λ n. (n < length sets) × (name_eq r.name ((get_or sets n d).name) ≡ true)
     × (record_type_number (get_or sets n d).record_type ≡ code_of r) × (with_record sets r ≡ set sets n (set_with (Some (get_or sets n d)) r)) in
     let h : P k = subst P same (f.below, f.owner, f.of_type, f.after_is) in
     record {
       below = h.0;
-      is_record = record { at_owner = h.1; of_type = eq-eqb (code_of r) (record_type_number (get_or sets k d).record_type) (sym h.2); reads_back = full };
+      owner = h.1;
+      kind = eq-eqb (code_of r) (record_type_number (get_or sets k d).record_type) (sym h.2);
       after_is = h.3;
     }
 
@@ -245,17 +257,17 @@ missed_here sets r k e =
 
 -- ---- a node with a record of its owner
 pub same_owner : (key : List ℕ) (sets : List RRset) (r : Record) → key ≡ name_key r.name → AllByRecursion (IsOwnedAt key) sets
-    → AllByRecursion (λ set. name_eq r.name (owner_of set) ≡ true) sets
+    → AllByRecursion (λ set. name_eq r.name set.name ≡ true) sets
 same_owner key [] r at all = tt
 same_owner key (s ∷ sets) r at all =
     (owner_test r.name key s all.0 ∙ ap (bytes_eq (name_key r.name)) at ∙ same_key r.name r.name ∙ name_eq_equiv.refl r.name, same_owner key sets r at all.1)
 
 pub node_tried : (key : List ℕ) (old new : List RRset) (r : Record) (result : Result (Unit {0}) AllocError) → IsNode key old → key ≡ name_key r.name
-    → ReadsBackAlone r → OnOk result (new ≡ with_record old r) → OnErr result (new ≡ old) → IsNode key new
-node_tried key old new r (Ok u) node at full done kept =
-    rw done (IsNode-with key old r full.owner (sym at) node.owned node.rise)
-node_tried key old new r (Err e) node at full done kept = rw kept (record { filled = node.filled; owned = node.owned; rise = node.rise })
+    → OnOk result (new ≡ with_record old r) → OnErr result (new ≡ old) → IsNode key new
+node_tried key old new r (Ok u) node at done kept =
+    rw done (IsNode-with key old r (sym at) node.owned node.rise)
+node_tried key old new r (Err e) node at done kept = rw kept (record { filled = node.filled; owned = node.owned; rise = node.rise })
 
-pub node_alone : (key : List ℕ) (new : List RRset) (r : Record) → key ≡ name_key r.name → ReadsBackAlone r → new ≡ with_record [] r → IsNode key new
-node_alone key new r at full is =
-    rw is (IsNode-with key [] r full.owner (sym at) tt tt)
+pub node_alone : (key : List ℕ) (new : List RRset) (r : Record) → key ≡ name_key r.name → new ≡ with_record [] r → IsNode key new
+node_alone key new r at is =
+    rw is (IsNode-with key [] r (sym at) tt tt)

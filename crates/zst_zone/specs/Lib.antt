@@ -1,10 +1,10 @@
 pub mod Lookups
 pub mod ZoneMaps
-pub mod Zones
-pub use Rattle.zst_record.specs.dnw_codes
-pub use Rattle.zst_record.specs.dnw_name
-pub use Rattle.zst_record.specs.drd_names
-pub use Rattle.zst_record.specs.drd_rdata
-pub use Rattle.zst_record.specs.drd_words
-pub mod zst_codes
+pub use Rattle.zst_handler.specs.dnw_codes
+pub use Rattle.zst_handler.specs.dnw_name
+pub use Rattle.zst_handler.specs.drd_names
+pub use Rattle.zst_handler.specs.drd_rdata
+pub use Rattle.zst_handler.specs.drd_words
+pub use Rattle.zst_handler.specs.zst_codes
+pub mod zst_handler
 pub mod zst_record

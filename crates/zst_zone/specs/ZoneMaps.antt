@@ -1,22 +1,27 @@
 -- How a zone's sets stand in its map: under each owner's key, the owner's sets by rising type.
-use Rattle.std.specs.Prelude.{◌≡◌, ℕ, ◌+◌, ◌<◌, true, List, [], ◌∷◌, length, if◌then◌else◌, nat_lt, ◌==◌, None, Some, Result, Ok, Err}
-use Rattle.std.specs.List.{AllByRecursion, flat_map}
+use Rattle.std.specs.Prelude.{◌≡◌, ℕ, ◌+◌, ◌<◌, ◌&&◌, Bool, List, [], ◌∷◌, length, if◌then◌else◌, nat_lt, ◌==◌, None, Some, Result, Ok, Err}
+use Rattle.std.specs.Bool.{beq}
+use Rattle.std.specs.List.{AllByRecursion, flat_map, list_any}
 use Rattle.std.specs.List.Sorted.{IsStrictlySortedBy}
 use Rattle.std.specs.Ordering.{nat_cmp}
 use Rattle.std.specs.Cmp.Lexicographic.{slice_cmp}
 use Rattle.std.specs.Map.{keys_of}
-use Rattle.zst_record.specs.dnw_name.DomainName.{DomainName, lowercase_name}
+use Rattle.zst_record.specs.dnw_name.DomainName.{DomainName, is_at_or_below, lowercase_name}
 use Rattle.zst_record.specs.dnw_codes.RecordType.{record_type_number, same_record_type}
 use Rattle.zst_key.specs.NameKeys.{name_key}
 use Rattle.zst_record.specs.declared.records.Record.{Record}
 use Rattle.zst_record.specs.drd_rdata.Types.{type_of}
-use Rattle.zst_record.specs.Records.{RRset, owner_of, set_with}
-use Rattle.zst_zone.specs.Zones.{AreInOrder}
+use Rattle.zst_record.specs.RecordSets.{RRset, set_with}
+use Rattle.zst_handler.specs.Zones.{AreInOrder}
 
--- The set's owner ends at the root, and has this key.
+-- The set's owner has this key.
 pub record IsOwnedAt (key : List ℕ) (set : RRset) : Type 0 where
-  pub full : (owner_of set).fqdn ≡ true
-  pub owner : name_key (owner_of set) ≡ key
+  pub owner : name_key set.name ≡ key
+
+-- Whether an owner equals a name or lies below it, where both end at the root or neither does.
+abbrev pub exists_alike : List RRset → DomainName → Bool
+exists_alike sets name =
+    list_any (λ set. beq set.name.fqdn name.fqdn && is_at_or_below set.name name) sets
 
 -- Each type is above those before it.
 abbrev pub TypesRise : List RRset → Type 0
@@ -59,8 +64,7 @@ module _ {K V : Type 0} (octets : K → List ℕ) (sets : V → List RRset) wher
     pub ordered : IsStrictlySortedBy (λ a b. slice_cmp nat_cmp (octets a) (octets b))
         (keys_of entries)
 
--- The origin of a zone ends at the root, and this is its key; the zone's sets stand in order.
+-- This is the key of the zone's origin, and its sets stand in order.
 pub record IsKept (origin key : DomainName) (sets : List RRset) : Type 0 where
-  pub full : origin.fqdn ≡ true
   pub at : key ≡ lowercase_name origin
   pub ordered : AreInOrder sets

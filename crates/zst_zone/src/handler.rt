@@ -1,18 +1,20 @@
 //! A zone kept in memory, and what it answers.
 
-ghost use Rattle.std.specs.Prelude.{◌≡◌, ◌&&◌, true, option_copied, IfOk, OnOk, OnErr};
-ghost use Rattle.zst_record.specs.dnw_name.DomainName.{is_at_or_below, lowercase_name};
-ghost use Rattle.zst_record.specs.Records.{ReadsBackAlone};
-ghost use Rattle.zst_zone.specs.Zones.{rrset_at, lookup_result, empty_zone, AddsTo, AreInOrder};
-ghost use Rattle.zst_zone.specs.Lookups.{outcome};
+ghost use Rattle.std.specs.Prelude.{◌≡◌, option_copied, IfOk, OnOk, OnErr};
+ghost use Rattle.zst_handler.specs.dnw_name.DomainName.{is_at_or_below, lowercase_name};
+ghost use Rattle.zst_handler.specs.Answers.{denial_error};
+ghost use Rattle.zst_handler.specs.Lookups.{denial};
+ghost use Rattle.zst_zone.specs.Lookups.{denied, outcome, stored_outcome};
+ghost use Rattle.zst_handler.specs.Zones.{rrset_at, empty_zone, AddsTo, AreInOrder};
 
-use crate::map::{Found, ZoneMap};
-use crate::settings::ZoneSettings;
+use crate::map::ZoneMap;
 use std::alloc::{AllocError, Global};
 use std::marker::{Model, PhantomData};
-use zst_codes::{AxfrPolicy, NxProofKind, ZoneType};
+use zst_handler::{
+    AxfrPolicy, LookupError, Name, NxProofKind, Record, RecordSet, RecordType, ResponseCode, RrKey,
+    ZoneSettings, ZoneType,
+};
 use zst_key::NameKey;
-use zst_record::{Name, Record, RecordSet, RecordType, RrKey};
 
 /// What a zone holds for a name and a type, or why there is nothing (RFC 2308 section 2).
 #[derive(Clone, Copy)]
@@ -41,10 +43,10 @@ pub struct InMemoryZoneHandler<K> {
 }
 
 impl<K> Model for InMemoryZoneHandler<K> {
-    ghost use Rattle.zst_zone.specs.Zones.{View};
+    ghost use Rattle.zst_handler.specs.Zones.{Zone};
     ghost use Rattle.zst_zone.specs.ZoneMaps.{IsKept};
 
-    ghost Value = { View };
+    ghost Value = { Zone };
 
     ghost view = { λ zone. record { origin = zone.origin; zone_type = zone.zone_type; axfr_policy = zone.axfr_policy; nx_proof_kind = zone.nx_proof_kind; sets = zone.sets } };
 
@@ -58,7 +60,6 @@ impl<K> InMemoryZoneHandler<K> {
         origin: Name,
         settings: ZoneSettings,
     ) -> Result<InMemoryZoneHandler<K>, AllocError>
-        requires { origin.fqdn ≡ true }
         ensures { IfOk result (λ zone. zone ≡ empty_zone origin settings) }
     {
         let origin_key = NameKey::of(alloc, &origin)?;
@@ -76,7 +77,6 @@ impl<K> InMemoryZoneHandler<K> {
     /// Where the zone begins.
     pub fn origin(&self) -> &Name
         ensures value { result.now ≡ self.now.origin }
-        ensures full { self.now.origin.fqdn ≡ true }
         ensures ordered { AreInOrder self.now.sets }
     {
         &self.origin
@@ -110,11 +110,11 @@ impl<K> InMemoryZoneHandler<K> {
         self.sets.get_first(&self.origin_key, record_type)
     }
 
-    /// Whether the name of a key is at or below the origin, where it ends at the root; a relative name is outside.
+    /// Whether the name of a key is at or below the origin, whether or not they end at the root.
     pub fn is_in_zone(&self, key: &NameKey) -> bool
-        ensures { result ≡ (key.now.fqdn && is_at_or_below key.now self.now.origin) }
+        ensures { result ≡ is_at_or_below key.now self.now.origin }
     {
-        key.is_below(&self.origin_key)
+        key.is_at_or_below(&self.origin_key)
     }
 
     /// The set of an owner and a type.
@@ -122,39 +122,50 @@ impl<K> InMemoryZoneHandler<K> {
         ensures { IfOk result (λ found. option_copied found ≡ rrset_at self.now.sets at.now.name at.now.record_type) }
     {
         let key = NameKey::of(alloc, &at.name)?;
-        Ok(self.sets.get(&key, at.record_type))
+        Ok(self.get_at(&key, at.record_type))
     }
 
-    /// What the zone answers for a name and a type; it makes one key.
+    /// The set of a type at the name of a key.
+    pub fn get_at(&self, key: &NameKey, record_type: RecordType) -> Option<&RecordSet>
+        ensures { option_copied result ≡ rrset_at self.now.sets key.now record_type }
+    {
+        self.sets.get_first(key, record_type)
+    }
+
+    /// What the zone holds for a name and a type, or why there is nothing; it makes one key.
     pub fn lookup(
         &self,
         alloc: Global,
         name: &Name,
         record_type: RecordType,
     ) -> Result<Lookup<'_>, AllocError>
-        requires { name.now.fqdn ≡ true }
-        ensures { IfOk result (λ found. outcome found ≡ lookup_result self.now name.now record_type) }
+        ensures { IfOk result (λ found. outcome found ≡ stored_outcome self.now name.now record_type) }
     {
         let key = NameKey::of(alloc, name)?;
-        Ok(self.lookup_at(&key, record_type))
+        match self.get_at(&key, record_type) {
+            Some(set) => Ok(Lookup::Answer(set)),
+            None => Ok(absence(self.denial(&key)?)),
+        }
     }
 
-    /// What the zone answers for the name of a key and a type. The name ends at the root.
-    pub fn lookup_at(&self, key: &NameKey, record_type: RecordType) -> Lookup<'_>
-        ensures { key.now.fqdn ≡ true → outcome result ≡ lookup_result self.now key.now record_type }
+    /// Why nothing is found for the name of a key, where nothing is: the name exists, or does not exist in the zone, or is
+    /// outside it (RFC 2308 section 2).
+    pub fn denial(&self, key: &NameKey) -> Result<LookupError, AllocError>
+        ensures { IfOk result (λ e. e ≡ denial_error (denial self.now key.now)) }
     {
-        match self.sets.find(key, record_type) {
-            Found::Set(set) => Lookup::Answer(set),
-            Found::Exists => Lookup::NameExists,
-            Found::Nothing if self.is_in_zone(key) => Lookup::NxDomain,
-            Found::Nothing => Lookup::Refused,
+        if self.sets.exists(key)? {
+            return Ok(LookupError::NameExists);
+        }
+        if self.is_in_zone(key) {
+            Ok(LookupError::ResponseCode(ResponseCode::NXDomain))
+        } else {
+            Ok(LookupError::ResponseCode(ResponseCode::Refused))
         }
     }
 
     /// Adds a record to the set of its owner and type, in place of the one with equal data; where there is no such set,
-    /// one is made. Names of the record end at the root. It makes one key.
+    /// one is made. It makes one key.
     pub fn insert(&mut self, alloc: Global, next: Record) -> Result<(), AllocError>
-        requires { ReadsBackAlone next }
         ensures ok { OnOk result (AddsTo self.old next self.new) }
         ensures err { OnErr result (self.new ≡ self.old) }
     {
@@ -164,11 +175,21 @@ impl<K> InMemoryZoneHandler<K> {
 
     /// Adds a record as `insert` does, under the key of its owner.
     pub fn insert_at(&mut self, alloc: Global, key: NameKey, next: Record) -> Result<(), AllocError>
-        requires keyed { key ≡ lowercase_name next.name }
-        requires alone { ReadsBackAlone next }
+        requires { key ≡ lowercase_name next.name }
         ensures ok { OnOk result (AddsTo self.old next self.new) }
         ensures err { OnErr result (self.new ≡ self.old) }
     {
         self.sets.add(alloc, key, next)
+    }
+}
+
+// Why there is nothing.
+fn absence(denial: LookupError) -> Lookup<'static>
+    ensures { outcome result ≡ denied denial }
+{
+    match denial {
+        LookupError::NameExists => Lookup::NameExists,
+        LookupError::ResponseCode(ResponseCode::NXDomain) => Lookup::NxDomain,
+        _ => Lookup::Refused,
     }
 }

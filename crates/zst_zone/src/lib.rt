@@ -1,18 +1,18 @@
-//! A zone in memory: the sets of its records, and what a lookup answers (RFC 1035 section 4.3.2, RFC 2308).
+//! A zone in memory: the sets of its records, and what a lookup answers (RFC 1034 section 4.3.2, RFC 2308).
 //!
-//! A contract sees a zone as a `View`: where it begins, how it may be used, and its sets. `rrset_at` finds a set
-//! by name and type, and `lookup_result` says what is answered, or why nothing is.
+//! A contract sees a zone as a `Zone`: where it begins, how it may be used, and its sets. `rrset_at` finds a set
+//! by name and type, and `denial` says why nothing is found.
 #![tactic(auto)]
 
-pub use zst_codes::{AxfrPolicy, Nsec3HashAlgorithm, NxProofKind, Salt, SaltLenError, ZoneType};
-pub use zst_key::NameKey;
-pub use zst_record::{
-    DNSClass, LowerName, Name, ProtoError, RData, Record, RecordSet, RecordType, RrKey,
+pub use zst_handler::{
+    AnswerSet, AuthLookup, AxfrPolicy, DNSClass, LookupControlFlow, LookupError, LookupOptions,
+    LookupRecords, LookupRecordsIter, LowerName, Name, Nsec3HashAlgorithm, NxProofKind, ProtoError,
+    RData, Record, RecordRef, RecordSet, RecordType, ResponseCode, RrKey, RrsetRecords, Salt,
+    SaltLenError, ZoneSettings, ZoneType,
 };
+pub use zst_key::NameKey;
 
 mod handler;
 mod map;
-mod settings;
 
 pub use handler::{InMemoryZoneHandler, Lookup};
-pub use settings::ZoneSettings;

@@ -4,11 +4,9 @@ ghost use Rattle.std.specs.Prelude.{◌≡◌, true, [], ◌∷◌, find, option
 ghost use Rattle.std.specs.List.{AllByRecursion};
 ghost use Rattle.zst_record.specs.dnw_name.DomainName.{name_eq, lowercase_name};
 ghost use Rattle.zst_record.specs.dnw_codes.RecordType.{record_type_number, same_record_type};
-ghost use Rattle.zst_record.specs.Records.{ReadsBackAlone};
-ghost use Rattle.zst_zone.specs.Zones.{rrset_at, exists_in, Adds, AreInOrder};
-ghost use Rattle.zst_record.specs.Records.{owner_of, set_with};
-ghost use Rattle.zst_zone.specs.ZoneMaps.{with_record, place_from};
-ghost use Rattle.zst_zone.specs.Lookups.{set_found, name_found};
+ghost use Rattle.zst_handler.specs.Zones.{rrset_at, exists_in, Adds, AreInOrder};
+ghost use Rattle.zst_record.specs.RecordSets.{set_with};
+ghost use Rattle.zst_zone.specs.ZoneMaps.{exists_alike, with_record, place_from};
 
 use std::alloc::{AllocError, Global};
 use std::cmp::Ordering;
@@ -16,19 +14,8 @@ use std::collections::BTreeMap;
 use std::collections::btree_map::Entry;
 use std::marker::Model;
 use std::mem;
+use zst_handler::{Record, RecordSet, RecordType};
 use zst_key::NameKey;
-use zst_record::{Record, RecordSet, RecordType};
-
-/// What a map holds for a name and a type.
-#[derive(Clone, Copy)]
-pub enum Found<'z> {
-    /// The set of that owner and type.
-    Set(&'z RecordSet),
-    /// The name exists, without a set of the type.
-    Exists,
-    /// The name does not exist.
-    Nothing,
-}
 
 /// The sets of a zone, by owner in canonical order (RFC 4034 section 6.1), then by type.
 #[derive(Drop)]
@@ -39,7 +26,7 @@ pub struct ZoneMap {
 
 impl Model for ZoneMap {
     ghost use Rattle.std.specs.Prelude.{List};
-    ghost use Rattle.zst_record.specs.Records.{RRset};
+    ghost use Rattle.zst_record.specs.RecordSets.{RRset};
 
     ghost Value = { List RRset };
 
@@ -82,32 +69,34 @@ impl ZoneMap {
         }
     }
 
-    /// The set of a type at the name of a key, which ends at the root; else whether the name exists: whether an owner
-    /// equals it or lies below it (RFC 4592 section 2.2.2). The first key that is not before this one tells both.
-    pub fn find(&self, key: &NameKey, record_type: RecordType) -> Found<'_>
-        ensures set { set_found result ≡ rrset_at self.now key.now record_type }
-        ensures name { key.now.fqdn ≡ true → name_found result ≡ exists_in self.now key.now }
+    /// Whether the name of a key exists: whether an owner equals it or lies below it (RFC 4592 section 2.2.2), whether or
+    /// not they end at the root.
+    pub fn exists(&self, key: &NameKey) -> Result<bool, AllocError>
+        ensures { IfOk result (λ there. there ≡ exists_in self.now key.now) }
     {
-        let Some((owner, sets)) = self.nodes.range(key..).next() else {
-            return Found::Nothing;
-        };
-        if !owner.is_below(key) {
-            return Found::Nothing;
+        if self.exists_alike(key) {
+            return Ok(true);
         }
-        if key != owner {
-            return Found::Exists;
-        }
-        match find_set(sets, record_type) {
-            Some(set) => Found::Set(set),
-            None => Found::Exists,
+        let mut other = key.clone()?;
+        other.to_other_flag();
+        Ok(self.exists_alike(&other))
+    }
+
+    // Whether an owner equals the name of a key or lies below it, where both end at the root or neither does. The first
+    // key that is not before this one tells.
+    fn exists_alike(&self, key: &NameKey) -> bool
+        ensures { result ≡ exists_alike self.now key.now }
+    {
+        match self.nodes.range(key..).next() {
+            Some((owner, _)) => owner.is_below(key),
+            None => false,
         }
     }
 
     /// Adds a record, whose owner has this key, to the set of its owner and type, in place of the one with equal data;
     /// where there is no such set, one is made. The map is searched once.
     pub fn add(&mut self, alloc: Global, key: NameKey, next: Record) -> Result<(), AllocError>
-        requires keyed { key ≡ lowercase_name next.name }
-        requires alone { ReadsBackAlone next }
+        requires { key ≡ lowercase_name next.name }
         ensures ok { OnOk result (Adds self.old next self.new) }
         ensures ordered { OnOk result (AreInOrder self.new) }
         ensures err { OnErr result (self.new ≡ self.old) }
@@ -128,7 +117,6 @@ impl ZoneMap {
 
 /// The sets of an owner that has only one record.
 fn node_of(alloc: Global, next: Record) -> Result<Vec<RecordSet>, AllocError>
-    requires { ReadsBackAlone next }
     ensures { IfOk result (λ node. node.items ≡ with_record [] next) }
 {
     let mut node = Vec::with_capacity(alloc, 1)?;
@@ -138,8 +126,7 @@ fn node_of(alloc: Global, next: Record) -> Result<Vec<RecordSet>, AllocError>
 
 /// Adds a record to the sets of its owner.
 fn add_to_node(alloc: Global, sets: &mut Vec<RecordSet>, next: Record) -> Result<(), AllocError>
-    requires alone { ReadsBackAlone next }
-    requires owned { AllByRecursion (λ set. name_eq next.name (owner_of set) ≡ true) sets.old.items }
+    requires { AllByRecursion (λ set. name_eq next.name set.name ≡ true) sets.old.items }
     ensures ok { OnOk result (sets.new.items ≡ with_record sets.old.items next) }
     ensures err { OnErr result (sets.new.items ≡ sets.old.items) }
 {

@@ -1,3 +1,4 @@
 pub mod Fronts
+pub mod Lending
 pub mod Sections
 pub mod Written

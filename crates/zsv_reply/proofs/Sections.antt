@@ -1,15 +1,14 @@
 -- The sections of a reply, written one behind the other, and the header that is filled in last.
-use Rattle.std.proofs.Common.{◌≡◌, ℕ, ◌+◌, ◌≤◌, ◌||◌, false, List, ◌++◌, length, drop, nat_lt, sym, ap, subst, ◌∙◌, arith}
+use Rattle.std.proofs.Common.{◌≡◌, ℕ, ◌+◌, ◌≤◌, ◌||◌, false, List, ◌++◌, length, drop, sym, ap, subst, ◌∙◌, arith}
 use Rattle.zst_record.specs.dnw_decoder.Octets.{Stands}
 use Rattle.zst_record.specs.dnw_encoder.Effects.{StaysTrue, Writes, WritesOctets, Fills, Sound, place_of}
 use Rattle.zst_record.proofs.dnw_encoder_lemmas.Laws.{holds_now, holds_same, holds_written, puts_stands, writes_same, writes_then}
 use Rattle.zst_record.specs.dnw_encoder.Members.{In}
 use Rattle.zst_record.specs.dnw_encoder.State.{State}
-use Rattle.zst_record.specs.declared.records.Record.{Record}
 use Rattle.zsv_message.specs.declared.header.Header.{Header}
-use Rattle.zsv_message.specs.declared.header.Metadata.{Metadata}
 use Rattle.zsv_message.specs.Headers.{header_of, header_octets, reserved_bit}
-use Rattle.zsv_reply.specs.Replies.{Front, header_of_reply}
+use Rattle.zsv_reply.specs.declared.encode.Kept.{Kept}
+use Rattle.zsv_reply.specs.Replies.{Front, ReplyParts, header_of_reply}
 use Rattle.zsv_reply.specs.Writing.{EmitsFront, IsWritten}
 use Rattle.zsv_message.proofs.Flags.{reserved_zero}
 
@@ -35,42 +34,52 @@ reserved_at_last h last filled sound f =
     ap reserved_bit at.there ∙ reserved_zero h (drop (0 + length (header_octets h)) filled.octets)
 
 -- The steps of a reply: the place of its header, the questions, a front of each list, the header.
-pub record Steps (h : Header) (m n : ℕ) (question_octets : List ℕ) (answers authorities : List Record) (opened asked answered told filled : State) : Type 0 where
+pub record Steps (h : Header) (parts : ReplyParts) (answers authorities additionals : Kept) (question_octets : List ℕ) (opened asked answered vouched told filled : State) : Type 0 where
   pub sound : Sound opened
   pub twelve : opened.offset ≡ 12
   pub question : WritesOctets question_octets opened asked
   pub asks : Writes opened asked
-  pub answers_front : EmitsFront answers m asked answered
+  pub answers_front : EmitsFront parts.answers answers asked answered
   pub answers_writes : Writes asked answered
-  pub authorities_front : EmitsFront authorities n answered told
-  pub authorities_writes : Writes answered told
+  pub authorities_front : EmitsFront parts.authorities authorities answered vouched
+  pub authorities_writes : Writes answered vouched
+  pub additionals_front : EmitsFront parts.additionals additionals vouched told
+  pub additionals_writes : Writes vouched told
   pub header : Fills 0 (header_octets h) told filled
   pub back : (rest : List ℕ) → header_of (header_octets h ++ rest) ≡ h
 
 -- They write the reply.
-pub steps_write : (metadata : Metadata) (questions limit m n : ℕ) (h : Header) (question_octets : List ℕ) (answers authorities : List Record) (opened asked answered told filled : State) → Steps h m n question_octets answers authorities opened asked answered told filled →
-    opened.maximum ≡ limit → 12 + length question_octets ≤ limit → h ≡ header_of_reply metadata (nat_lt m (length answers) || nat_lt n (length authorities)) questions m n →
-    IsWritten filled.octets metadata answers authorities questions question_octets limit
-steps_write metadata questions limit m n h question_octets answers authorities opened asked answered told filled s maximum room is =
+pub steps_write : (h : Header) (parts : ReplyParts) (answers authorities additionals : Kept) (question_octets : List ℕ) (opened asked answered vouched told filled : State) (questions limit : ℕ) → Steps h parts answers authorities additionals question_octets opened asked answered vouched told filled →
+    opened.maximum ≡ limit → 12 + length question_octets ≤ limit →
+    h ≡ header_of_reply parts.metadata (answers.is_cut || authorities.is_cut || additionals.is_cut) questions answers.count authorities.count additionals.count →
+    IsWritten filled.octets parts questions question_octets limit
+steps_write h parts answers authorities additionals question_octets opened asked answered vouched told filled questions limit s maximum room is =
     let one = s.answers_front in
-    let other = s.authorities_front in
-    let both = writes_then asked answered told s.answers_writes s.authorities_writes in
-    let sound = both.sound (s.asks.sound s.sound) in
+    let two = s.authorities_front in
+    let three = s.additionals_front in
+    let last_two = writes_then answered vouched told s.authorities_writes s.additionals_writes in
+    let all = writes_then asked answered told s.answers_writes last_two in
+    let sound = all.sound (s.asks.sound s.sound) in
     let asked_maximum : asked.maximum ≡ limit = s.question.modes.maximum ∙ maximum in
     let answered_maximum : answered.maximum ≡ limit = s.answers_writes.modes.maximum ∙ asked_maximum in
+    let vouched_maximum : vouched.maximum ≡ limit = s.authorities_writes.modes.maximum ∙ answered_maximum in
     let first : asked.offset ≡ 12 + length question_octets = omega (arith, s.question.offset, s.twelve) in
     let last : length filled.octets ≡ told.offset = sym (s.header.sound sound).at_end ∙ s.header.offset in
-    let question = stands_at_last asked.offset _ _ asked told filled both (omega arith) s.header (puts_stands question_octets opened asked s.sound s.question) in
-    let answered_front = stands_at_last answered.offset _ _ answered told filled s.authorities_writes (omega arith) s.header one.stays in
-    let told_front = stands_at_last told.offset _ _ told told filled (writes_same told) (omega arith) s.header other.stays in
+    let question = stands_at_last asked.offset _ _ asked told filled all (omega arith) s.header (puts_stands question_octets opened asked s.sound s.question) in
+    let answers_there = stands_at_last answered.offset _ _ answered told filled last_two (omega arith) s.header one.stays in
+    let authorities_there = stands_at_last vouched.offset _ _ vouched told filled s.additionals_writes (omega arith) s.header two.stays in
+    let additionals_there = stands_at_last told.offset _ _ told told filled (writes_same told) (omega arith) s.header three.stays in
     record {
       kept = one.kept;
-      kept_authorities = other.kept;
+      kept_authorities = two.kept;
+      kept_additionals = three.kept;
       answers_end = answered.offset;
+      authorities_end = vouched.offset;
       asked = rw (sym first) (subst (λ (p : ℕ). Stands filled.octets p question_octets asked.offset) s.twelve question);
-      answers_front = rw (sym first, sym asked_maximum) answered_front;
-      authorities_front = rw last (subst (λ (k : ℕ). Front filled.octets k answered.offset authorities other.kept told.offset) answered_maximum told_front);
-      header = header_at_last h told filled sound s.header s.back ∙ is ∙ (λ i. header_of_reply metadata (nat_lt (sym one.counted i) (length answers) || nat_lt (sym other.counted i) (length authorities)) questions (sym one.counted i) (sym other.counted i));
+      answers_front = rw (sym first, sym asked_maximum) answers_there;
+      authorities_front = subst (λ (k : ℕ). Front filled.octets k answered.offset parts.authorities two.kept vouched.offset) answered_maximum authorities_there;
+      additionals_front = rw last (subst (λ (k : ℕ). Front filled.octets k vouched.offset parts.additionals three.kept told.offset) vouched_maximum additionals_there);
+      header = header_at_last h told filled sound s.header s.back ∙ is ∙ (λ i. header_of_reply parts.metadata (sym one.cut i || sym two.cut i || sym three.cut i) questions (sym one.counted i) (sym two.counted i) (sym three.counted i));
       reserved = reserved_at_last h told filled sound s.header;
-      within = omega (arith, last, other.fits (omega (arith, one.fits (omega (arith, first, asked_maximum, room)), answered_maximum, asked_maximum)), answered_maximum);
+      within = omega (arith, last, three.fits (omega (arith, two.fits (omega (arith, one.fits (omega (arith, first, asked_maximum, room)), answered_maximum, asked_maximum)), vouched_maximum, answered_maximum)), vouched_maximum);
     }

@@ -1,3 +1,4 @@
+pub mod Lending
 pub mod Replies
 pub mod Writing
 pub use Rattle.zst_record.specs.drd_rdata

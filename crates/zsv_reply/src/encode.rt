@@ -1,137 +1,209 @@
 //! A reply in octets, cut at its limit (RFC 1035 section 4.1, RFC 2181 section 9).
 
-ghost use Rattle.std.specs.Prelude.{◌≡◌, ◌+◌, ◌^◌, ◌<◌, ◌≤◌, ◌||◌, ◌++◌, ℕ, List, false, nat_lt, length, IfOk, IfErr, OnOk};
+ghost use Rattle.std.specs.Prelude.{◌≡◌, ◌+◌, ◌^◌, ◌<◌, ◌≤◌, ◌||◌, ◌++◌, ℕ, List, false, length, IfOk, IfErr, OnOk};
+ghost use Rattle.std.specs.Iterator.{AlwaysYields};
 ghost use Rattle.std.specs.List.{AllByRecursion};
+ghost use Rattle.zst_record.specs.declared.records.Record.{Record};
 ghost use Rattle.zst_record.specs.dnw_codes.ProtoError.{IsMemory};
+ghost use Rattle.zst_record.specs.dnw_codes.declared.error.ProtoError.{ProtoError};
 ghost use Rattle.zst_record.specs.dnw_encoder.Effects.{Writes};
 ghost use Rattle.zst_record.specs.dnw_encoder.Encoders.{state};
+ghost use Rattle.zst_record.specs.dnw_encoder.State.{State};
 ghost use Rattle.zst_record.specs.drd_rdata.Writing.{WritesInFull};
+ghost use Rattle.zst_record.specs.Lending.{seen};
 ghost use Rattle.zst_record.specs.Records.{ReadsBackAlone};
+ghost use Rattle.zst_record.specs.Writing.{EmitsRecord, RefusesRecord};
 ghost use Rattle.zsv_message.specs.Headers.{header_of, header_octets, reserved_bit, FitsHeader};
-ghost use Rattle.zsv_reply.specs.Replies.{header_of_reply};
-ghost use Rattle.zsv_reply.specs.Writing.{written_count, EmitsFront, IsWritten};
+ghost use Rattle.zsv_reply.specs.Lending.{Holds};
+ghost use Rattle.zsv_reply.specs.Replies.{ReplyParts, header_of_reply};
+ghost use Rattle.zsv_reply.specs.Writing.{written_count, AllReadBack, EmitsFront, IsWritten};
 
 use std::alloc::{AllocError, Global};
-use zst_record::{BinEncoder, NameEncoding, ProtoError, Record};
+use zst_record::{BinEncodable, BinEncoder, NameEncoding, ProtoError, Record, RecordRef};
 use zsv_message::{Header, HeaderCounts, Metadata};
 
-/// What a reply holds in full.
-#[derive(Clone, Copy)]
-pub struct MessageResponse<'a> {
+/// What lends a record, as `&Record` does: it is written as the record is. An iterator of `&Record` is bounded by this, as
+/// `I::Item: LendsRecord`.
+// In place of `Item = &'r Record`: a bound that names a lifetime gets no proof beside `ProtoError`, which holds a
+// `&'static str`.
+pub trait LendsRecord: BinEncodable + Drop {
+    /// The record.
+    ghost lent: { Self → Record };
+
+    /// It is written, and refused, as the record is.
+    ghost emits_lent: { (lender : Self) (old new : State) → Self.emits lender old new → EmitsRecord (lent lender) old new };
+
+    ghost refuses_lent: { (lender : Self) (old : State) (e : ProtoError) (new : State) → Self.refuses lender old e new
+        → RefusesRecord (lent lender) old e };
+}
+
+impl LendsRecord for &Record {
+    ghost lent = { λ lender. lender.now };
+
+    ghost emits_lent = { λ lender old new emits. emits };
+
+    ghost refuses_lent = { λ lender old e new refuses. refuses };
+}
+
+impl LendsRecord for RecordRef<'_> {
+    ghost lent = { λ lender. seen lender };
+
+    ghost emits_lent = { λ lender old new emits. emits };
+
+    ghost refuses_lent = { λ lender old e new refuses. refuses };
+}
+
+/// What a reply holds in full: what its header says, and for each section of records (RFC 1035 section 4.1) an iterator
+/// that lends them.
+#[derive(Drop)]
+pub struct MessageResponse<A, N, S> {
     /// What the header says beside the counts; truncation is set when the reply is written.
     pub metadata: Metadata,
     /// The records that answer.
-    pub answers: &'a [Record],
+    pub answers: A,
     /// The records of authority.
-    pub authorities: &'a [Record],
+    pub authorities: N,
+    /// The additional records, as the addresses of name servers.
+    pub additionals: S,
 }
 
-// How many records were written: all, or those before one that didn't fit.
-fn count_written(written: Result<usize, ProtoError>) -> Result<usize, ProtoError>
+// How many records of a list were written, and whether one was left out.
+#[derive(Clone, Copy)]
+struct Kept {
+    count: u16,
+    is_cut: bool,
+}
+
+// How many records were written: all, or those before one that didn't fit; and whether there was such a one.
+fn count_written(written: Result<usize, ProtoError>) -> Result<(usize, bool), ProtoError>
     ensures { result ≡ written_count written }
 {
     match written {
-        Err(ProtoError::NotAllRecordsWritten { count }) => Ok(count),
-        other => other,
+        Ok(count) => Ok((count, false)),
+        Err(ProtoError::NotAllRecordsWritten { count }) => Ok((count, true)),
+        Err(other) => Err(other),
     }
 }
 
-// Writes as many records of a list as fit, and says how many.
-fn emit_front(encoder: &mut BinEncoder<'_>, records: &[Record]) -> Result<u16, ProtoError>
+// Writes as many records of a list as fit.
+fn emit_front<I: Iterator>(encoder: &mut BinEncoder<'_>, records: I) -> Result<Kept, ProtoError>
+where
+    I::Item: LendsRecord,
+    requires can_next { I.can_next records }
     requires in_full { WritesInFull (state encoder.old) }
     requires small { (state encoder.old).maximum < 2 ^ 16 }
     ensures same_reference { encoder.new.buffer.ghost_name ≡ encoder.old.buffer.ghost_name }
     ensures writes { Writes (state encoder.old) (state encoder.new) }
-    ensures ok { IfOk result (λ count. AllByRecursion ReadsBackAlone records.now → EmitsFront records.now count (state encoder.old) (state encoder.new)) }
-    ensures cause { IfErr result (λ e. AllByRecursion ReadsBackAlone records.now → IsMemory e) }
+    ensures ok { IfOk result
+        (λ kept. (lent : List Record) → AlwaysYields I.next_gives I.Item.lent records lent → AllByRecursion ReadsBackAlone lent
+        → EmitsFront lent kept (state encoder.old) (state encoder.new)) }
+    ensures cause { IfErr result
+        (λ e. (lent : List Record) → AlwaysYields I.next_gives I.Item.lent records lent → AllByRecursion ReadsBackAlone lent
+        → IsMemory e) }
 {
-    let written = count_written(encoder.emit_all(records.iter()))?;
+    let (written, is_cut) = count_written(encoder.emit_all(records))?;
     match u16::try_from(written) {
-        Ok(count) => Ok(count),
+        Ok(count) => Ok(Kept { count, is_cut }),
         Err(_) => Err(ProtoError::Message("more records than 16 bits count")),
     }
 }
 
-// The header over so many questions and records. It says whether records were left out.
+// Whether a record of some list was left out.
+fn is_truncated(answers: Kept, authorities: Kept, additionals: Kept) -> bool
+    ensures { result ≡ (answers.is_cut || authorities.is_cut || additionals.is_cut) }
+{
+    answers.is_cut || authorities.is_cut || additionals.is_cut
+}
+
+// The header over so many questions and what is kept of each list. It says whether records were left out.
 fn header_over(
     metadata: Metadata,
-    truncation: bool,
     queries: u16,
-    answers: u16,
-    authorities: u16,
+    answers: Kept,
+    authorities: Kept,
+    additionals: Kept,
 ) -> Header
-    ensures value { result ≡ header_of_reply metadata truncation queries answers authorities }
+    ensures value { result ≡ header_of_reply metadata (answers.is_cut || authorities.is_cut || additionals.is_cut) queries
+        answers.count authorities.count additionals.count }
     ensures back { FitsHeader metadata → (rest : List ℕ) → header_of (header_octets result ++ rest) ≡ result }
 {
     let mut metadata = metadata;
-    metadata.truncation = truncation;
+    metadata.truncation = is_truncated(answers, authorities, additionals);
     let counts = HeaderCounts {
         queries,
-        answers,
-        authorities,
-        additionals: 0,
+        answers: answers.count,
+        authorities: authorities.count,
+        additionals: additionals.count,
     };
     Header { metadata, counts }
 }
 
-impl MessageResponse<'_> {
-    // Whether a list is longer than what is kept of it.
-    fn leaves_out(&self, answers: u16, authorities: u16) -> bool
-        ensures { result ≡ (nat_lt answers (length self.now.answers.now) || nat_lt authorities (length self.now.authorities.now)) }
-    {
-        usize::from(answers) < self.answers.len()
-            || usize::from(authorities) < self.authorities.len()
-    }
-
+impl<A, N, S> MessageResponse<A, N, S>
+where
+    A: Iterator,
+    A::Item: LendsRecord,
+    N: Iterator,
+    N::Item: LendsRecord,
+    S: Iterator,
+    S::Item: LendsRecord,
+{
     // Writes the reply at the front of a message. Its header stands first and is known last.
     fn emit(
-        &self,
+        self,
         encoder: &mut BinEncoder<'_>,
         questions: u16,
         question_octets: &[u8],
     ) -> Result<(), ProtoError>
-        requires metadata { FitsHeader self.now.metadata }
+        requires answers { A.can_next self.answers }
+        requires authorities { N.can_next self.authorities }
+        requires additionals { S.can_next self.additionals }
+        requires metadata { FitsHeader self.metadata }
         requires front { (state encoder.old).offset ≡ 0 }
         requires in_full { WritesInFull (state encoder.old) }
         requires small { (state encoder.old).maximum < 2 ^ 16 }
         requires room { 12 + length question_octets.now ≤ (state encoder.old).maximum }
         ensures same_reference { encoder.new.buffer.ghost_name ≡ encoder.old.buffer.ghost_name }
         ensures ok { OnOk result
-            (AllByRecursion ReadsBackAlone self.now.answers.now → AllByRecursion ReadsBackAlone self.now.authorities.now
-            → IsWritten (state encoder.new).octets self.now.metadata self.now.answers.now self.now.authorities.now
-            questions question_octets.now (state encoder.old).maximum) }
+            ((parts : ReplyParts)
+            → Holds A.next_gives A.Item.lent N.next_gives N.Item.lent S.next_gives S.Item.lent self parts
+            → AllReadBack parts → IsWritten (state encoder.new).octets parts questions question_octets.now (state encoder.old).maximum) }
         ensures cause { IfErr result
-            (λ e. AllByRecursion ReadsBackAlone self.now.answers.now
-            → AllByRecursion ReadsBackAlone self.now.authorities.now → IsMemory e) }
+            (λ e. (parts : ReplyParts)
+            → Holds A.next_gives A.Item.lent N.next_gives N.Item.lent S.next_gives S.Item.lent self parts
+            → AllReadBack parts → IsMemory e) }
     {
         let place = encoder.place::<Header>()?;
         encoder.emit_vec(question_octets)?;
         let answers = emit_front(encoder, self.answers)?;
         let authorities = emit_front(encoder, self.authorities)?;
-        let truncated = self.leaves_out(answers, authorities);
-        let header = header_over(self.metadata, truncated, questions, answers, authorities);
+        let additionals = emit_front(encoder, self.additionals)?;
+        let header = header_over(self.metadata, questions, answers, authorities, additionals);
         place.replace(encoder, header)
     }
 
-    /// The reply: the header, the questions as they were sent, and what fits of each list. Where all records read back
-    /// alone, only memory may be wanting.
+    /// The reply, of at most `limit` octets: the header, the questions as they were sent, and what fits of each list. The
+    /// header counts what is written and says whether a record was left out (RFC 2181 section 9, RFC 9471 section 3.1).
+    /// Where all records read back alone, only memory may be wanting.
     pub fn encode(
-        &self,
+        self,
         alloc: Global,
         questions: u16,
         question_octets: &[u8],
         limit: u16,
     ) -> Result<Vec<u8>, ProtoError>
-        requires metadata { FitsHeader self.now.metadata }
+        requires answers { A.can_next self.answers }
+        requires authorities { N.can_next self.authorities }
+        requires additionals { S.can_next self.additionals }
+        requires metadata { FitsHeader self.metadata }
         requires room { 12 + length question_octets.now ≤ limit }
         ensures written { IfOk result
-            (λ reply. AllByRecursion ReadsBackAlone self.now.answers.now
-            → AllByRecursion ReadsBackAlone self.now.authorities.now
-            → IsWritten reply.items self.now.metadata self.now.answers.now self.now.authorities.now questions
-            question_octets.now limit) }
+            (λ reply. (parts : ReplyParts)
+            → Holds A.next_gives A.Item.lent N.next_gives N.Item.lent S.next_gives S.Item.lent self parts
+            → AllReadBack parts → IsWritten reply.items parts questions question_octets.now limit) }
         ensures cause { IfErr result
-            (λ e. AllByRecursion ReadsBackAlone self.now.answers.now
-            → AllByRecursion ReadsBackAlone self.now.authorities.now → IsMemory e) }
+            (λ e. (parts : ReplyParts)
+            → Holds A.next_gives A.Item.lent N.next_gives N.Item.lent S.next_gives S.Item.lent self parts
+            → AllReadBack parts → IsMemory e) }
     {
         let mut reply = match Vec::with_capacity(alloc, 512) {
             Ok(reply) => reply,

@@ -7,4 +7,4 @@ pub use zst_record::{A, DNSClass, Label, NS, Name, RData, Record, RecordSet, Rec
 
 mod encode;
 
-pub use encode::{MessageResponse, encode_header};
+pub use encode::{LendsRecord, MessageResponse, encode_header};

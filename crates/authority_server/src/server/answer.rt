@@ -1,21 +1,58 @@
 //! What a zone answers to a request (RFC 1034 section 4.3.2).
 
-ghost use Rattle.std.specs.Prelude.{◌≡◌, ◌≤◌, true, [], Ok, IfOk, IfErr, option_copied};
+ghost use Rattle.std.specs.Prelude.{◌≡◌, ◌+◌, ◌≤◌, true, [], length, Ok, IfOk, IfErr, IfSome, option_copied};
 ghost use Rattle.std.specs.List.{AllByRecursion};
 ghost use Rattle.zst_zone.specs.dnw_codes.ProtoError.{IsMemory};
+ghost use Rattle.zst_zone.specs.dnw_name.DomainName.{lowercase_name};
+ghost use Rattle.zst_zone.specs.dnw_codes.declared.record_type.RecordType.{RecordType};
+ghost use Rattle.zst_zone.specs.zst_handler.Zones.{SetReadsBack, ZoneReadsBack};
 ghost use Rattle.zsv_message.specs.Headers.{FitsHeader};
 ghost use Rattle.zsv_message.specs.zst_codes.ResponseCode.{response_code_of, response_code_number};
 ghost use Rattle.zsv_reply.specs.zst_record.Records.{ReadsBackAlone};
-ghost use Rattle.zst_zone.specs.Lookups.{outcome};
 ghost use Rattle.zsv_reply.specs.Replies.{bare_failure, IsReply};
+ghost use Rattle.zsv_reply.specs.Writing.{IsWritten};
 ghost use Rattle.zsv_message.specs.Requests.{IsRequest};
+ghost use Rattle.authority_server.specs.Lookups.{lookup_result};
 ghost use Rattle.authority_server.specs.Serving.{reply_metadata, error_parts, records_of, apex, beside_answer, outcome_parts, question_parts, query_parts, operation_parts, reply_parts};
-ghost use Rattle.authority_server.specs.Servers.{parts_of, IsSound, IsKnown, AsksFullNames};
+ghost use Rattle.authority_server.specs.Servers.{denied, parts_of, IsSound, IsKnown};
 
 use std::alloc::{AllocError, Global};
-use zst_zone::{InMemoryZoneHandler, Lookup, NameKey, ProtoError};
+use zst_zone::{InMemoryZoneHandler, LookupError, NameKey, ProtoError};
 use zsv_message::{MessageRequest, MessageType, Metadata, OpCode, Query, ResponseCode};
 use zsv_reply::{MessageResponse, Record, RecordSet, RecordType, encode_header};
+
+// What a full reply holds; the zone lends its records.
+#[derive(Clone, Copy)]
+struct Response<'z> {
+    metadata: Metadata,
+    answers: &'z [Record],
+    authorities: &'z [Record],
+}
+
+impl Response<'_> {
+    // The octets of the reply, of at most `limit`. Only memory may be wanting.
+    fn encode(
+        self,
+        alloc: Global,
+        questions: u16,
+        question_octets: &[u8],
+        limit: u16,
+    ) -> Result<Vec<u8>, ProtoError>
+        requires sound { IsSound self }
+        requires room { 12 + length question_octets.now ≤ limit }
+        ensures written { IfOk result (λ reply. IsWritten reply.items (parts_of self.entry) questions question_octets.now limit) }
+        ensures cause { IfErr result IsMemory }
+    {
+        let none: &[Record] = &[];
+        let response = MessageResponse {
+            metadata: self.metadata,
+            answers: self.answers.iter(),
+            authorities: self.authorities.iter(),
+            additionals: none.iter(),
+        };
+        response.encode(alloc, questions, question_octets, limit)
+    }
+}
 
 // The header of a reply: it repeats the identifier, the operation, RD and CD.
 fn reply_header(request: Metadata, authoritative: bool, response_code: ResponseCode) -> Metadata
@@ -37,30 +74,32 @@ fn reply_header(request: Metadata, authoritative: bool, response_code: ResponseC
 }
 
 // A reply without records.
-fn error_response(request: Metadata, response_code: ResponseCode) -> MessageResponse<'static>
+fn error_response(request: Metadata, response_code: ResponseCode) -> Response<'static>
     ensures value { parts_of result ≡ error_parts request response_code }
     ensures sound { FitsHeader request → IsKnown response_code → IsSound result }
 {
-    MessageResponse {
+    Response {
         metadata: reply_header(request, false, response_code),
         answers: &[],
         authorities: &[],
     }
 }
 
-// The records of a set, if there is one.
+// The records of a set that the zone stores, if there is one.
 fn records_in(set: Option<&RecordSet>) -> &[Record]
+    requires { IfSome (option_copied set) SetReadsBack }
     ensures value { result.now ≡ records_of (option_copied set.entry) }
     ensures alone { AllByRecursion ReadsBackAlone result.now }
 {
     match set {
-        Some(set) => set.records(),
+        Some(set) => set.as_slice(),
         None => &[],
     }
 }
 
 // With an answer for the zone's start come its name servers.
 fn beside<K>(zone: &InMemoryZoneHandler<K>, record_type: RecordType) -> &[Record]
+    requires { ZoneReadsBack zone.now }
     ensures value { result.now ≡ beside_answer zone.now record_type }
     ensures alone { AllByRecursion ReadsBackAlone result.now }
 {
@@ -76,38 +115,36 @@ fn denial_response<K>(
     zone: &InMemoryZoneHandler<K>,
     request: Metadata,
     response_code: ResponseCode,
-) -> MessageResponse<'_>
+) -> Response<'_>
+    requires { ZoneReadsBack zone.now }
     ensures metadata { result.metadata ≡ reply_metadata request true response_code }
     ensures answers { result.answers.now ≡ [] }
     ensures authorities { result.authorities.now ≡ apex zone.now RecordType.SOA }
     ensures sound { FitsHeader request → IsKnown response_code → IsSound result }
 {
-    MessageResponse {
+    Response {
         metadata: reply_header(request, true, response_code),
         answers: &[],
         authorities: records_in(zone.apex(RecordType::SOA)),
     }
 }
 
-// The zone's own answer: the records; or the zone's start, with or without a name error.
-fn outcome_response<'z, K>(
+// Why there is no set: the zone's start, with or without a name error; or that the name is outside the zone.
+fn denied_response<'z, K>(
     zone: &'z InMemoryZoneHandler<K>,
     request: Metadata,
-    record_type: RecordType,
-    found: Lookup<'z>,
-) -> MessageResponse<'z>
-    ensures value { parts_of result ≡ outcome_parts zone.now request record_type (outcome found.entry) }
+    why: &LookupError,
+) -> Response<'z>
+    requires { ZoneReadsBack zone.now }
+    ensures value { (record_type : RecordType) → parts_of result ≡ outcome_parts zone.now request record_type (denied why.now) }
     ensures sound { FitsHeader request → IsSound result }
 {
-    match found {
-        Lookup::Answer(set) => MessageResponse {
-            metadata: reply_header(request, true, ResponseCode::NoError),
-            answers: records_in(Some(set)),
-            authorities: beside(zone, record_type),
-        },
-        Lookup::NameExists => denial_response(zone, request, ResponseCode::NoError),
-        Lookup::NxDomain => denial_response(zone, request, ResponseCode::NXDomain),
-        Lookup::Refused => MessageResponse {
+    match why {
+        LookupError::NameExists => denial_response(zone, request, ResponseCode::NoError),
+        LookupError::ResponseCode(ResponseCode::NXDomain) => {
+            denial_response(zone, request, ResponseCode::NXDomain)
+        }
+        _ => Response {
             metadata: reply_header(request, true, ResponseCode::Refused),
             answers: &[],
             authorities: &[],
@@ -115,26 +152,62 @@ fn outcome_response<'z, K>(
     }
 }
 
-// One question: refused outside the zone; transfers are not served.
-fn question_response<'z, K>(
+// The zone's own answer: the records of the set of the type, or why there is none.
+fn outcome_response<'z, K>(
     zone: &'z InMemoryZoneHandler<K>,
-    alloc: Global,
     request: Metadata,
+    key: &NameKey,
+    record_type: RecordType,
+) -> Result<Response<'z>, AllocError>
+    requires { ZoneReadsBack zone.now }
+    ensures value { IfOk result (λ r. parts_of r ≡ outcome_parts zone.now request record_type (lookup_result zone.now key.now record_type)) }
+    ensures sound { FitsHeader request → IfOk result IsSound }
+{
+    if let Some(set) = zone.get_at(key, record_type) {
+        return Ok(Response {
+            metadata: reply_header(request, true, ResponseCode::NoError),
+            answers: set.as_slice(),
+            authorities: beside(zone, record_type),
+        });
+    }
+    let why = zone.denial(key)?;
+    Ok(denied_response(zone, request, &why))
+}
+
+// One question, whose name has this key: refused outside the zone; transfers are not served.
+fn keyed_response<'z, K>(
+    zone: &'z InMemoryZoneHandler<K>,
+    request: Metadata,
+    key: &NameKey,
     question: &Query,
-) -> Result<MessageResponse<'z>, AllocError>
-    requires { question.now.name.fqdn ≡ true }
+) -> Result<Response<'z>, AllocError>
+    requires back { ZoneReadsBack zone.now }
+    requires keyed { key.now ≡ lowercase_name question.now.name }
     ensures value { IfOk result (λ r. parts_of r ≡ question_parts zone.now request question.now) }
     ensures sound { FitsHeader request → IfOk result IsSound }
 {
-    let key = NameKey::of(alloc, &question.name)?;
-    if !zone.is_in_zone(&key) {
+    if !zone.is_in_zone(key) {
         return Ok(error_response(request, ResponseCode::Refused));
     }
     if question.query_type == RecordType::AXFR {
         return Ok(error_response(request, ResponseCode::ServFail));
     }
-    let found = zone.lookup_at(&key, question.query_type);
-    Ok(outcome_response(zone, request, question.query_type, found))
+    outcome_response(zone, request, key, question.query_type)
+}
+
+// One question, with one key for its name.
+fn question_response<'z, K>(
+    zone: &'z InMemoryZoneHandler<K>,
+    alloc: Global,
+    request: Metadata,
+    question: &Query,
+) -> Result<Response<'z>, AllocError>
+    requires { ZoneReadsBack zone.now }
+    ensures value { IfOk result (λ r. parts_of r ≡ question_parts zone.now request question.now) }
+    ensures sound { FitsHeader request → IfOk result IsSound }
+{
+    let key = NameKey::of(alloc, &question.name)?;
+    keyed_response(zone, request, &key, question)
 }
 
 // A query asks one question.
@@ -142,8 +215,8 @@ fn query_response<'z, K>(
     zone: &'z InMemoryZoneHandler<K>,
     alloc: Global,
     request: &MessageRequest<'_>,
-) -> Result<MessageResponse<'z>, AllocError>
-    requires { AsksFullNames request.now }
+) -> Result<Response<'z>, AllocError>
+    requires { ZoneReadsBack zone.now }
     ensures value { IfOk result (λ r. parts_of r ≡ query_parts zone.now request.now.metadata request.now.questions) }
     ensures sound { FitsHeader request.now.metadata → IfOk result IsSound }
 {
@@ -158,8 +231,8 @@ fn response_to<'z, K>(
     zone: &'z InMemoryZoneHandler<K>,
     alloc: Global,
     request: &MessageRequest<'_>,
-) -> Result<MessageResponse<'z>, AllocError>
-    requires { AsksFullNames request.now }
+) -> Result<Response<'z>, AllocError>
+    requires { ZoneReadsBack zone.now }
     ensures value { IfOk result (λ r. parts_of r ≡ reply_parts zone.now request.now) }
     ensures sound { FitsHeader request.now.metadata → IfOk result IsSound }
 {
@@ -210,6 +283,7 @@ pub fn reply_to<K>(
     request: &MessageRequest<'_>,
     limit: u16,
 ) -> Result<Vec<u8>, AllocError>
+    requires back { ZoneReadsBack zone.now }
     requires message { IsRequest message.now request.now }
     requires lower { 12 ≤ limit }
     ensures { IfOk result (λ reply. IsReply message.now reply.items (reply_parts zone.now request.now) request.now limit) }

@@ -20,7 +20,7 @@ returns-in-Ok g c = record {
     zone = c.in_ok-zone.zone;
     right_words = c.in_ok-command.ensures;
     readable = ap option_copied c.in-Some.is;
-    loaded = c.in_ok-zone.ensures.0;
+    loaded = c.in_ok-zone.ensures.text.0;
   };
   source = _;
   from_here = c.loopback-source.ensures;
@@ -45,7 +45,7 @@ returns g c = inr (
       zone = c.in_ok-zone.zone;
       right_words = c.in_ok-command.ensures;
       readable = ap option_copied c.in-Some.is;
-      loaded = c.in_ok-zone.ensures.0;
+      loaded = c.in_ok-zone.ensures.text.0;
     };
     source = _;
     from_here = c.loopback-source.ensures;

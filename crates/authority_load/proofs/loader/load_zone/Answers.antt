@@ -4,9 +4,9 @@ use Rattle.std.proofs.Math.Seq.{take-length}
 use Rattle.std.proofs.lemmas.List.{length_push}
 use Rattle.std.proofs.lemmas.Iterator.Splits.{YieldsList-from_lines}
 use Rattle.std.proofs.lemmas.Iterator.Consumers.{YieldsList-turn, YieldsList-end}
-use Rattle.zst_zone.specs.Zones.{empty_zone}
+use Rattle.zst_zone.specs.zst_handler.Zones.{empty_zone}
 use Rattle.authority_load.specs.ZoneText.{Loads}
-use Rattle.authority_load.proofs.Loads.{loads_more, loads_keep, refused_at}
+use Rattle.authority_load.proofs.Loads.{loads_more, loads_keep, loads_read_back, refused_at}
 use Rattle.authority_load.proofs.loader.load_zone.Goals as goal
 
 pub returns-in-Err-load_line-clause-answers : goal.returns-in-Err-load_line-clause-answers
@@ -32,3 +32,6 @@ returns-clause-answers g c =
 
 pub returns-clause-settings : goal.returns-clause-settings
 returns-clause-settings g c = loads_keep (empty_zone c.args.origin c.args.settings) (take (length c.loop-line.yielded) (lines c.args.text.now)) c.loop-line.zone c.loop-line.invariant.loads
+
+pub returns-clause-reads_back : goal.returns-clause-reads_back
+returns-clause-reads_back g c = loads_read_back (empty_zone c.args.origin c.args.settings) (take (length c.loop-line.yielded) (lines c.args.text.now)) c.loop-line.zone c.loop-line.invariant.loads tt

@@ -1,6 +1,6 @@
 use Rattle.std.proofs.Common.{◌≡◌, length, take}
 use Rattle.std.specs.Str.Lines.{lines}
-use Rattle.zst_zone.specs.Zones.{empty_zone}
+use Rattle.zst_zone.specs.zst_handler.Zones.{empty_zone}
 use Rattle.authority_load.specs.ZoneText.{Loads}
 use Rattle.authority_load.proofs.loader.load_zone.Given as goal
 

@@ -2,8 +2,8 @@ use Rattle.std.proofs.Common.{◌≡◌, ◌∙◌, refl, sym, ap, subst, rules}
 use Rattle.std.specs.Prelude.{List, Result, Ok, Err, OnOk, OnErr, Some, None}
 use Rattle.std.specs.BTreeMap.{BTreeMap}
 use Rattle.std.specs.Map.{keys_of}
-use Rattle.zst_record.specs.Records.{RRset}
-use Rattle.zst_zone.specs.Zones.{Adds}
+use Rattle.zst_record.specs.RecordSets.{RRset}
+use Rattle.zst_handler.specs.Zones.{Adds}
 use Rattle.zst_zone.specs.ZoneMaps.{sets_of}
 use Rattle.zst_record.specs.dnw_name.DomainName.{DomainName, lowercase_name}
 use Rattle.zst_record.specs.declared.records.Record.{Record}
@@ -20,9 +20,9 @@ use Rattle.zst_zone.proofs.map.ZoneMap.add.Goals as goal
 keyed : (key : DomainName) (r : Record) → key ≡ lowercase_name r.name → name_key key ≡ name_key r.name
 keyed key r e = ap name_key e ∙ key-lower r.name
 
-pub add_to_node-requires-clause-owned : goal.add_to_node-requires-clause-owned
-add_to_node-requires-clause-owned c =
-    same_owner (name_key c.args.key) c.into_mut.result.now.items c.args.next (keyed c.args.key c.args.next c.requires.keyed)
+pub add_to_node-requires : goal.add_to_node-requires
+add_to_node-requires c =
+    same_owner (name_key c.args.key) c.into_mut.result.now.items c.args.next (keyed c.args.key c.args.next c.requires)
     (node_found name_key sets (name_key c.args.key) c.self.inside.nodes.entries c.into_mut.result.now c.self.invariant.nodes (sym (looked_by_key c.args.key c.self.inside.nodes.entries) ∙ sym (rw c.in-Ok-Occupied.field-0-is at c.in-Ok-Occupied.ensures.value) ∙ c.into_mut.ensures.value)).owned
 
 pub invariant_of-self : goal.invariant_of-self
@@ -34,7 +34,7 @@ invariant_of-self c =
     (sorted_by_key _ (rw end ((rw c.in-Ok-Occupied.field-0-is at c.in-Ok-Occupied.ensures.update).2 w)))
     (node_tried (name_key c.args.key) c.into_mut.result.now.items w.items c.args.next c.add_to_node.result
     (node_found name_key sets (name_key c.args.key) c.self.inside.nodes.entries c.into_mut.result.now c.self.invariant.nodes (sym (looked_by_key c.args.key c.self.inside.nodes.entries) ∙ sym (rw c.in-Ok-Occupied.field-0-is at c.in-Ok-Occupied.ensures.value) ∙ c.into_mut.ensures.value))
-    (keyed c.args.key c.args.next c.requires.keyed) c.requires.alone c.add_to_node.ensures.ok c.add_to_node.ensures.err)
+    (keyed c.args.key c.args.next c.requires) c.add_to_node.ensures.ok c.add_to_node.ensures.err)
 
 pub invariant_of-self-in-Ok-Vacant : goal.invariant_of-self-in-Ok-Vacant
 invariant_of-self-in-Ok-Vacant c =
@@ -45,7 +45,7 @@ invariant_of-self-in-Ok-Vacant c =
     zone_inserted name_key sets c.args.key c.self.inside.nodes.entries _ w c.self.invariant
     (ap (λ (m : BTreeMap NameKey Node). m.entries) end ∙ (rw c.in-Ok-Vacant.field-0-is at c.in-Ok-Vacant.ensures.update).1 w ∙ inserted_by_key c.args.key w c.self.inside.nodes.entries)
     (sorted_by_key _ (rw end ((rw c.in-Ok-Vacant.field-0-is at c.in-Ok-Vacant.ensures.update).2 w)))
-    (node_alone (name_key c.args.key) w.items c.args.next (keyed c.args.key c.args.next c.requires.keyed) c.requires.alone (search (made, rules)))
+    (node_alone (name_key c.args.key) w.items c.args.next (keyed c.args.key c.args.next c.requires) (search (made, rules)))
 
 on_ok : {T E : Type 0} {P Q : Type 0} (r : Result T E) → (P → Q) → OnOk r P → OnOk r Q
 on_ok (Ok x) f h = f h
@@ -62,7 +62,7 @@ returns-in-Ok-Occupied-clause-ok c =
     on_ok c.add_to_node.result
     (λ e. subst (λ (z : List RRset). Adds z c.args.next (sets_of name_key sets c.self-in-Ok-Occupied-1.given.0.entries)) c.self.view_is
     (adds_inserted name_key sets c.args.key c.self.inside.nodes.entries _ w (Some c.into_mut.result.now) c.args.next
-    c.self.invariant (invariant_of-self c) (keyed c.args.key c.args.next c.requires.keyed) (sym c.into_mut.ensures.value ∙ (rw c.in-Ok-Occupied.field-0-is at c.in-Ok-Occupied.ensures.value) ∙ looked_by_key c.args.key c.self.inside.nodes.entries)
+    c.self.invariant (invariant_of-self c) (keyed c.args.key c.args.next c.requires) (sym c.into_mut.ensures.value ∙ (rw c.in-Ok-Occupied.field-0-is at c.in-Ok-Occupied.ensures.value) ∙ looked_by_key c.args.key c.self.inside.nodes.entries)
     (ap (λ (m : BTreeMap NameKey Node). m.entries) end ∙ (rw c.in-Ok-Occupied.field-0-is at c.in-Ok-Occupied.ensures.update).1 w ∙ inserted_by_key c.args.key w c.self.inside.nodes.entries) e))
     c.add_to_node.ensures.ok
 
@@ -86,7 +86,7 @@ returns-in-Ok-Vacant-clause-ok c =
     let made = rw none at c.in_ok-or_try_insert_with-in-Ok-Vacant.ensures.value in
     subst (λ (z : List RRset). Adds z c.args.next (sets_of name_key sets c.self-in_ok-or_try_insert_with-in-Ok-Vacant-2-1.given.0.entries)) c.self.view_is
     (adds_inserted name_key sets c.args.key c.self.inside.nodes.entries _ w None c.args.next
-    c.self.invariant (invariant_of-self-in-Ok-Vacant c) (keyed c.args.key c.args.next c.requires.keyed) (sym (rw c.in-Ok-Vacant.field-0-is at c.in-Ok-Vacant.ensures.found) ∙ looked_by_key c.args.key c.self.inside.nodes.entries)
+    c.self.invariant (invariant_of-self-in-Ok-Vacant c) (keyed c.args.key c.args.next c.requires) (sym (rw c.in-Ok-Vacant.field-0-is at c.in-Ok-Vacant.ensures.found) ∙ looked_by_key c.args.key c.self.inside.nodes.entries)
     (ap (λ (m : BTreeMap NameKey Node). m.entries) end ∙ (rw c.in-Ok-Vacant.field-0-is at c.in-Ok-Vacant.ensures.update).1 w ∙ inserted_by_key c.args.key w c.self.inside.nodes.entries)
     (search (made, rules)))
 

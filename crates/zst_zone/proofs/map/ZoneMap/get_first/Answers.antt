@@ -1,5 +1,5 @@
 use Rattle.std.proofs.Common.{◌≡◌, ◌∙◌, ap, sym, ℕ, List}
-use Rattle.std.specs.Prelude.{find, Some, true}
+use Rattle.std.specs.Prelude.{find, Some}
 use Rattle.std.specs.Map.{lookup}
 use Rattle.std.proofs.lemmas.Slice.Eq.{bytes_eq-Decides}
 use Rattle.zst_key.specs.NameKeys.{name_key}

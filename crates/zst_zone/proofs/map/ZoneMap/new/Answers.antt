@@ -1,7 +1,7 @@
-use Rattle.std.proofs.Common.{◌≡◌, sym, subst, List, []}
+use Rattle.std.proofs.Common.{sym, subst}
 use Rattle.zst_key.specs.NameKeys.{name_key}
 use Rattle.zst_zone.specs.ZoneMaps.{IsZone}
-use Rattle.zst_zone.proofs.ZoneMapsBy.{Entries, sets, none_kept}
+use Rattle.zst_zone.proofs.ZoneMapsBy.{sets, none_kept}
 use Rattle.zst_zone.proofs.map.ZoneMap.new.Goals as goal
 
 -- no entries are a zone's

@@ -1,0 +1,2 @@
+pub mod ShownRecords
+pub mod WorkedRows

@@ -1,0 +1,113 @@
+-- Answers, as their records come one after the other.
+use Rattle.std.specs.Prelude.{◌≡◌, ℕ, Bool, true, false, List, [], ◌∷◌, ◌++◌, map, drop, Option, Some, None, Ok, Err, if◌then◌else◌}
+use Rattle.std.specs.List.{flat_map}
+use Rattle.zst_record.specs.declared.records.Record.{Record}
+use Rattle.zst_record.specs.RecordSets.{RRset, flattened_record, flattened_set, renamed, renamed_record}
+use Rattle.zst_handler.specs.declared.answer_set.AnswerSet.{AnswerSet}
+use Rattle.zst_handler.specs.declared.answer_set.Guise.{Guise}
+use Rattle.zst_handler.specs.declared.answer_set.Guise.TheVariants as guises
+use Rattle.zst_handler.specs.declared.auth_lookup.AuthLookup.{AuthLookup}
+use Rattle.zst_handler.specs.declared.auth_lookup.AuthLookup.TheVariants as auths
+use Rattle.zst_handler.specs.declared.lookup_options.LookupOptions.{LookupOptions}
+use Rattle.zst_handler.specs.declared.lookup_records.LookupRecords.{LookupRecords}
+use Rattle.zst_handler.specs.declared.lookup_records.LookupRecords.TheVariants as lookups
+use Rattle.zst_handler.specs.Lookups.{Answer, IsLookup, Outcome, answered, name_error, name_exists, out_of_zone}
+use Rattle.zst_handler.specs.Zones.{Zone}
+use Rattle.zst_record.specs.dnw_codes.declared.record_type.RecordType.{RecordType}
+use Rattle.zst_record.specs.dnw_name.DomainName.{DomainName}
+use Rattle.zst_codes.specs.declared.lookup_control_flow.LookupControlFlow.{LookupControlFlow}
+use Rattle.zst_codes.specs.declared.lookup_control_flow.LookupControlFlow.TheVariants as flows
+use Rattle.zst_codes.specs.declared.lookup_error.LookupError.{LookupError}
+use Rattle.zst_codes.specs.declared.lookup_error.LookupError.TheVariants as errors
+use Rattle.zst_codes.specs.declared.response_code.ResponseCode.TheVariants as codes
+
+-- The set as it answers: the zone's own, or under another name.
+abbrev pub under : RRset → Option DomainName → Option ℕ → RRset
+under set None behind = set
+under set (Some owner) None = renamed owner set
+under set (Some owner) (Some ttl) = flattened_set owner ttl set
+
+abbrev pub set_in : AnswerSet → RRset
+set_in answer = under answer.set.now answer.owner answer.behind
+
+-- A record as it is shown.
+abbrev pub shown_as : Guise → Record → Record
+shown_as guises.Own r = r
+shown_as (guises.Renamed name) r = renamed_record name.now r
+shown_as (guises.Flattened name ttl) r = flattened_record name.now ttl r
+
+-- The records of a set, and behind them its signatures where these are asked for.
+abbrev pub shown : Bool → RRset → List Record
+shown dnssec_ok set = if dnssec_ok then set.records ++ set.signatures else set.records
+
+-- The records of sets, one set behind the other.
+abbrev pub sets_shown : Bool → List RRset → List Record
+sets_shown dnssec_ok ss = flat_map (shown dnssec_ok) ss
+
+abbrev pub all_shown : Bool → List AnswerSet → List Record
+all_shown dnssec_ok ss = flat_map (λ set. shown dnssec_ok (set_in set)) ss
+
+-- What is left of an answer: of one set, as it is shown, and the sets behind so many.
+abbrev pub left_over : Guise → List Record → Bool → List AnswerSet → ℕ → List Record
+left_over guise current dnssec_ok ss n =
+    map (shown_as guise) current ++ all_shown dnssec_ok (drop n ss)
+
+abbrev pub none_in : List Record → Bool
+none_in [] = true
+none_in (r ∷ rs) = false
+
+-- The records of an answer.
+abbrev pub records_in : LookupRecords → List Record
+records_in lookups.Empty = []
+records_in (lookups.Records options set) = shown options.dnssec_ok (set_in set)
+records_in (lookups.ManyRecords options many) = all_shown options.dnssec_ok many.items
+records_in (lookups.Section records) = records.items
+
+abbrev pub records_if : Option LookupRecords → List Record
+records_if None = []
+records_if (Some records) = records_in records
+
+-- The records that answer.
+abbrev pub answers_in : AuthLookup → List Record
+answers_in auths.Empty = []
+answers_in (auths.Records answers additionals) = records_in answers
+answers_in (auths.Response answers authorities additionals) = answers.items
+
+-- The records that go with them.
+abbrev pub additionals_in : AuthLookup → List Record
+additionals_in auths.Empty = []
+additionals_in (auths.Records answers additionals) = records_if additionals
+additionals_in (auths.Response answers authorities additionals) = additionals.items
+
+-- The records of authority that come with them.
+abbrev pub authorities_in : AuthLookup → List Record
+authorities_in auths.Empty = []
+authorities_in (auths.Records answers additionals) = []
+authorities_in (auths.Response answers authorities additionals) = authorities.items
+
+-- An answer, record by record.
+pub record ShowsAnswer (options : LookupOptions) (answer : Answer) (found : AuthLookup) :
+    Type 0 where
+  pub answers : answers_in found ≡ sets_shown options.dnssec_ok answer.answers
+  pub additionals : additionals_in found ≡ sets_shown options.dnssec_ok answer.additionals
+  pub authorities : authorities_in found ≡ []
+
+-- ---- what a stored zone's handler answers
+-- Why nothing is found.
+abbrev pub denial_error : Outcome → LookupError
+denial_error (answered answer) = errors.NameExists
+denial_error name_exists = errors.NameExists
+denial_error name_error = errors.ResponseCode codes.NXDomain
+denial_error out_of_zone = errors.ResponseCode codes.Refused
+
+-- The outcome of a lookup as the handler tells it: handlers behind it may change it.
+abbrev pub Tells : LookupOptions → Outcome → LookupControlFlow AuthLookup LookupError → Type 0
+Tells options (answered answer) flow =
+    (found : AuthLookup) × (flow ≡ flows.Continue (Ok found)) × ShowsAnswer options answer found
+Tells options denied flow = flow ≡ flows.Continue (Err (denial_error denied))
+
+pub record LookupAnswers (zone : Zone) (name : DomainName) (record_type : RecordType)
+    (options : LookupOptions) (flow : LookupControlFlow AuthLookup LookupError) : Type 0 where
+  pub outcome : Outcome
+  pub is : IsLookup zone name record_type outcome
+  pub told : Tells options outcome flow

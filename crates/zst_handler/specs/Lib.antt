@@ -1,0 +1,12 @@
+pub mod Answers
+pub mod Chains
+pub mod Found
+pub mod Lookups
+pub mod Zones
+pub use Rattle.zst_record.specs.dnw_codes
+pub use Rattle.zst_record.specs.dnw_name
+pub use Rattle.zst_record.specs.drd_names
+pub use Rattle.zst_record.specs.drd_rdata
+pub use Rattle.zst_record.specs.drd_words
+pub mod zst_codes
+pub mod zst_record
