@@ -1,10 +1,12 @@
 #!/usr/bin/env python3
 """Compares what the program answers with what the rules say, over random small zones and questions.
 
-    ./compare.py [--seed N] [--pairs N] [--program COMMAND] [--stage first|full] [--types WORDS] [--any-case] [--show N]
+    ./compare.py [--seed N] [--pairs N] [--program COMMAND | --unproved] [--stage first|full] [--types WORDS] [--any-case]
+                 [--show N]
 
-Each zone is written as a zone file, and its questions are sent to one run of COMMAND ORIGIN ZONEFILE 0. Compared are the header,
-the questions as octets, and each section's records in order. The status is 1 if a reply differs. README.md says more."""
+Each zone is written as a zone file, and its questions are sent to one run of COMMAND ORIGIN ZONEFILE 0; or, with --unproved, all
+are asked of the libraries, which needs no proof. Compared are the header, the questions as octets, and each section's records in
+order. The status is 1 if a reply differs. README.md says more."""
 
 import argparse
 import collections
@@ -15,9 +17,11 @@ import subprocess
 import sys
 import tempfile
 import time
+from typing import NamedTuple
 
 sys.dont_write_bytecode = True
 import lookup
+import unproved
 import wire
 import zones
 
@@ -26,23 +30,39 @@ QUESTIONS_A_ZONE = 125
 WORDS = {word: type for type, word in wire.TYPE_WORDS.items()}
 
 
+class Asked(NamedTuple):
+    """A zone, as the lines of its file, and what it is asked."""
+    origin: tuple
+    lines: list
+    requests: list
+
+
 def zone_text(lines):
     return "".join(wire.record_text(record) + "\n" for record in lines)
 
 
-def served(command, origin, lines, messages):
-    """The frames that one run of the program answers."""
+def served(command, asked):
+    """The replies of one run of the program."""
     with tempfile.NamedTemporaryFile("w", suffix=".zone") as file:
-        file.write(zone_text(lines))
+        file.write(zone_text(asked.lines))
         file.flush()
-        words = [*command, wire.name_text(origin), file.name, "0"]
-        ran = subprocess.run(words, input=b"".join(map(wire.framed, messages)), capture_output=True)
+        words = [*command, wire.name_text(asked.origin), file.name, "0"]
+        sent = b"".join(wire.framed(wire.request_octets(request)) for request in asked.requests)
+        ran = subprocess.run(words, input=sent, capture_output=True)
     if ran.returncode != 0:
         raise wire.Malformed(f"the program ended with status {ran.returncode}: {ran.stderr.decode(errors='replace').strip()}")
     replies = wire.unframed(ran.stdout)
-    if len(replies) != len(messages):
-        raise wire.Malformed(f"{len(messages)} questions, {len(replies)} replies")
+    if len(replies) != len(asked.requests):
+        raise wire.Malformed(f"{len(asked.requests)} questions, {len(replies)} replies")
     return replies
+
+
+def answered(command, asked):
+    """The replies of one run, or in the place of each why there are none."""
+    try:
+        return served(command, asked)
+    except wire.Malformed as error:
+        return [error] * len(asked.requests)
 
 
 def without_case(reply):
@@ -56,6 +76,8 @@ def without_case(reply):
 
 def difference(request, expected, octets, any_case):
     """What differs, in lines, or none."""
+    if isinstance(octets, wire.Malformed):
+        return [str(octets)]
     try:
         reply = wire.read_reply(octets)
     except wire.Malformed as error:
@@ -85,44 +107,97 @@ def kind_of(zone, request, reply):
     first = reply.answers[0]
     if first.type == lookup.CNAME != type:
         return "alias"
+    if type in (lookup.A, lookup.AAAA) and lookup.ANAME in [record.type for record in [first, *reply.additionals]]:
+        return "alias for addresses"
     if first.type == lookup.NS and lookup.nearest_cut(zone, name, type) is not None:
         return "NS of a cut"
     return "set" if lookup.set_of(zone, name, type) else "wildcard"
 
 
-def differences(words, origin, lines, requests):
-    """For each request, the lines that say what differs, and the reply expected."""
-    zone = lookup.stored(lines)
+def expected(words, asked):
+    zone = lookup.stored(asked.lines)
     look = lookup.exact_lookup if words.stage == "first" else lookup.lookup
-    expected = [lookup.reply(zone, origin, request, look) for request in requests]
-    try:
-        replies = served(words.program, origin, lines, [wire.request_octets(request) for request in requests])
-    except wire.Malformed as error:
-        return [([str(error)], reply) for reply in expected]
-    return [(difference(request, reply, octets, words.any_case), reply)
-            for request, reply, octets in zip(requests, expected, replies)]
+    return [lookup.reply(zone, asked.origin, request, look) for request in asked.requests]
 
 
-def shrunk(words, origin, lines, request):
+def differences(words, every_asked):
+    """For each zone and each request, the lines that say what differs, and the reply expected."""
+    wanted = [expected(words, asked) for asked in every_asked]
+    if words.unproved:
+        had = unproved.served(every_asked, [sum(map(wire.reply_length, replies)) for replies in wanted])
+    else:
+        had = [answered(words.program, asked) for asked in every_asked]
+    return [[(difference(request, reply, octets, words.any_case), reply)
+             for request, reply, octets in zip(asked.requests, replies, every_octets, strict=True)]
+            for asked, replies, every_octets in zip(every_asked, wanted, had, strict=True)]
+
+
+def without_some(lines):
+    """The lines without 1, 2, 4 or more that stand together; those with the fewest left come first."""
+    counts = [1 << at for at in reversed(range(len(lines).bit_length()))]
+    return [lines[:at] + lines[at + count:] for count in counts for at in range(0, len(lines) - count + 1)]
+
+
+def shrunk(words, asked):
     """The zone without the lines that the difference doesn't need; the SOA at its origin stays."""
-    for at in reversed(range(len(lines))):
-        fewer = lines[:at] + lines[at + 1:]
-        is_start = lines[at].type == lookup.SOA and lookup.same(lines[at].owner, origin)
-        if not is_start and differences(words, origin, fewer, [request])[0][0]:
-            lines = fewer
-    return lines
+    start = [line for line in asked.lines if line.type == lookup.SOA and lookup.same(line.owner, asked.origin)]
+    while True:
+        smaller = [asked._replace(lines=lines) for lines in without_some(asked.lines) if all(it in lines for it in start)]
+        found = [it for it, ((lines, _),) in zip(smaller, differences(words, smaller)) if lines]
+        if not found:
+            return asked
+        asked = found[0]
 
 
-def show(words, origin, lines, request):
-    """Prints a difference over the smallest zone that has it, or over the whole zone where it needs the questions before it."""
-    if differences(words, origin, lines, [request])[0][0]:
-        lines = shrunk(words, origin, lines, request)
-    difference, _ = differences(words, origin, lines, [request])[0]
-    print(f"zone {wire.name_text(origin)}", *(f"    {line}" for line in zone_text(lines).splitlines()), sep="\n")
+def show(words, asked):
+    """Prints a difference of one request over the smallest zone that has it, or over the whole zone where it needs the requests
+    before it."""
+    request, = asked.requests
+    if differences(words, [asked])[0][0][0]:
+        asked = shrunk(words, asked)
+    lines = differences(words, [asked])[0][0][0]
+    print(f"zone {wire.name_text(asked.origin)}", *(f"    {line}" for line in zone_text(asked.lines).splitlines()), sep="\n")
     for name, type, class_ in request.questions:
         print(f"asked: {wire.name_text(name)} class {class_} {wire.type_text(type)}; flags {request.flags:04x}")
     print(f"  {wire.request_octets(request).hex()}", "expected (-) and answered (+):", sep="\n")
-    print(*(f"  {line}" for line in difference or ["no difference where it is asked alone"]), "", sep="\n")
+    print(*(f"  {line}" for line in lines or ["no difference where it is asked alone"]), "", sep="\n")
+
+
+def drawn(words):
+    """Zones and requests, so many in all."""
+    dice, every_asked, pairs = random.Random(words.seed), [], 0
+    while pairs < words.pairs:
+        maker = zones.ZoneMaker(dice, words.types)
+        origin = maker.origin()
+        lines = maker.make(origin)
+        requests = zones.requests(dice, lookup.stored(lines), origin, QUESTIONS_A_ZONE)[:words.pairs - pairs]
+        every_asked.append(Asked(origin, lines, requests))
+        pairs += len(requests)
+    return every_asked
+
+
+def compared(words, every_asked):
+    """How many pairs of each kind there are, and the differing ones, each request by itself."""
+    kinds, differing = collections.Counter(), []
+    for asked, found in zip(every_asked, differences(words, every_asked)):
+        zone = lookup.stored(asked.lines)
+        for request, (lines, reply) in zip(asked.requests, found):
+            kinds[kind_of(zone, request, reply)] += 1
+            if lines:
+                differing.append(asked._replace(requests=[request]))
+    return kinds, differing
+
+
+def run(words):
+    began, every_asked = time.time(), drawn(words)
+    kinds, differing = compared(words, every_asked)
+    for asked in differing[:words.show]:
+        show(words, asked)
+    if words.stage == "full":
+        print("expected:", ", ".join(f"{kind} {number}" for kind, number in kinds.most_common()))
+    print(f"seed {words.seed}, stage {words.stage}: {kinds.total()} pairs in {len(every_asked)} zones compared in "
+          f"{time.time() - began:.0f} seconds, {len(differing)} differ")
+    return 1 if differing else 0
 
 
 def main():
@@ -130,32 +205,16 @@ def main():
     parser.add_argument("--seed", type=int, default=1)
     parser.add_argument("--pairs", type=int, default=100_000)
     parser.add_argument("--program", type=shlex.split, default=[f"{TOP}/authority"])
+    parser.add_argument("--unproved", action="store_true", help="ask the libraries, by tests/rows/vectors")
     parser.add_argument("--stage", choices=["first", "full"], default="full")
     parser.add_argument("--types", type=lambda text: [WORDS[word] for word in text.split(",")], default="A,NS,SOA")
     parser.add_argument("--any-case", action="store_true", help="names in records are compared up to case")
     parser.add_argument("--show", type=int, default=3, help="how many differences are printed")
     words = parser.parse_args()
-    dice, began = random.Random(words.seed), time.time()
-    compared = differing = zone_count = 0
-    kinds = collections.Counter()
-    while compared < words.pairs:
-        maker = zones.ZoneMaker(dice, words.types)
-        origin = maker.origin()
-        lines = maker.make(origin)
-        zone = lookup.stored(lines)
-        requests = zones.requests(dice, zone, origin, QUESTIONS_A_ZONE)[:words.pairs - compared]
-        for request, (lines_of_it, expected) in zip(requests, differences(words, origin, lines, requests)):
-            kinds[kind_of(zone, request, expected)] += 1
-            if lines_of_it:
-                differing += 1
-                if differing <= words.show:
-                    show(words, origin, lines, request)
-        compared, zone_count = compared + len(requests), zone_count + 1
-    if words.stage == "full":
-        print("expected:", ", ".join(f"{kind} {number}" for kind, number in kinds.most_common()))
-    print(f"seed {words.seed}, stage {words.stage}: {compared} pairs in {zone_count} zones compared in "
-          f"{time.time() - began:.0f} seconds, {differing} differ")
-    sys.exit(1 if differing else 0)
+    try:
+        sys.exit(run(words))
+    except wire.Malformed as error:
+        sys.exit(f"compare: {error}")
 
 
 main()

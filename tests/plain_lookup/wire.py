@@ -1,10 +1,10 @@
-"""Messages as octets: requests are written, replies are read (RFC 1035, section 4.1), pointers too."""
+"""Messages as octets: both kinds are written, with names in full, and read, with pointers (RFC 1035, section 4.1)."""
 
 import struct
 
-from lookup import A, AAAA, ANAME, CNAME, MX, NS, SOA, SRV, Record, Reply
+from lookup import A, AAAA, ANAME, CNAME, MX, NS, SOA, SRV, Record, Reply, Request
 
-PTR = 12
+PTR, TC = 12, 0x0200
 NAMES = {CNAME, NS, PTR, ANAME}
 TYPE_WORDS = {A: "A", NS: "NS", CNAME: "CNAME", SOA: "SOA", PTR: "PTR", MX: "MX", 16: "TXT", AAAA: "AAAA", SRV: "SRV",
               43: "DS", 255: "ANY", ANAME: "ANAME"}
@@ -27,6 +27,38 @@ def question_octets(questions):
 def request_octets(request):
     header = struct.pack(">6H", request.id, request.flags, len(request.questions), 0, 0, 0)
     return header + question_octets(request.questions)
+
+
+def data_octets(type, data):
+    if isinstance(data, bytes):
+        return data
+    if type in NAMES:
+        return name_octets(data)
+    number = ">I" if type == SOA else ">H"
+    return b"".join(struct.pack(number, part) if isinstance(part, int) else name_octets(part) for part in data)
+
+
+def record_octets(record):
+    data = data_octets(record.type, record.data)
+    return name_octets(record.owner) + struct.pack(">HHIH", record.type, 1, record.ttl, len(data)) + data
+
+
+def reply_octets(reply, limit):
+    """A section ends before the first record that doesn't fit; the next one is tried still, and TC says that some are left out
+    (RFC 2181, section 9)."""
+    octets, counts, flags = question_octets(reply.questions), [len(reply.questions)], reply.flags
+    for section in (reply.answers, reply.authorities, reply.additionals):
+        counts.append(0)
+        for record in map(record_octets, section):
+            if 12 + len(octets) + len(record) > limit:
+                flags |= TC
+                break
+            octets, counts[-1] = octets + record, counts[-1] + 1
+    return struct.pack(">6H", reply.id, flags, *counts) + octets
+
+
+def reply_length(reply):
+    return len(reply_octets(reply, 65535))
 
 
 def framed(message):
@@ -98,15 +130,27 @@ def record_at(octets, place):
     return Record(owner, type, ttl, data_at(octets, at + 10, at + 10 + length, type)), at + 10 + length
 
 
+def questions_at(octets, at, count):
+    questions = []
+    for _ in range(count):
+        name, at = name_at(octets, at)
+        questions.append((name, *struct.unpack_from(">HH", octets, at)))
+        at += 4
+    return questions, at
+
+
+def read_request(octets):
+    """The request that the octets are, of questions alone."""
+    id, flags, count, *_ = struct.unpack_from(">6H", octets)
+    return Request(id, flags, questions_at(octets, 12, count)[0])
+
+
 def read_reply(octets):
     """The reply that the octets are; nothing stands behind it."""
     try:
         id, flags, *counts = struct.unpack_from(">6H", octets)
-        questions, lists, at = [], ([], [], []), 12
-        for _ in range(counts[0]):
-            name, at = name_at(octets, at)
-            questions.append((name, *struct.unpack_from(">HH", octets, at)))
-            at += 4
+        lists = ([], [], [])
+        questions, at = questions_at(octets, 12, counts[0])
         for records, count in zip(lists, counts[1:]):
             for _ in range(count):
                 record, at = record_at(octets, at)

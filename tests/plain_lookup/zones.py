@@ -88,15 +88,15 @@ class ZoneMaker:
         name = under(dice, dice.choice([self.start, *self.names]))
         self.names.append(name)
         kind = dice.random()
-        if kind < 0.30 and not (self.served_elsewhere and STAR in name[:1]):
+        if kind < 0.18 and not (self.served_elsewhere and STAR in name[:1]):
             self.add(name, NS)
             for _ in range(dice.choice([0, 1, 1, 2])):
                 self.add_glue(name)
-        elif kind < 0.35 and not self.served_elsewhere:
+        elif kind < 0.22 and not self.served_elsewhere:
             self.add(name, SOA)
             if self.chance(0.7):
                 self.add(name, NS)
-        elif kind < 0.55 and CNAME in self.types:
+        elif kind < 0.42 and CNAME in self.types:
             self.add_chain(name, dice.choice([1] * 6 + [2, 3, 7, 8, 9, 12]))
         else:
             for type in dice.sample([it for it in self.types if it not in (NS, CNAME, SOA)], k=1):
@@ -153,9 +153,11 @@ class ZoneMaker:
         return self.host(owner)
 
     def host(self, owner):
-        """A name of the zone, or below the owner, or outside."""
-        chance = self.dice.random()
-        if chance < 0.4:
+        """A name that has addresses, or another of the zone, or one below the owner, or outside."""
+        chance, hosts = self.dice.random(), [record.owner for record in self.lines if record.type in (A, AAAA)]
+        if chance < 0.4 and hosts:
+            name = self.dice.choice(hosts)
+        elif chance < 0.55:
             name = self.dice.choice(self.names)
         elif chance < 0.75:
             name = under(self.dice, owner)
@@ -202,13 +204,25 @@ def asked_name(dice, zone, origin):
     return under(dice, (), odd=0.3)
 
 
+def stored_question(dice, zone):
+    """A name and a type that a record answers, or an alias on the way to one."""
+    record = dice.choice(zone)
+    types = {ANAME: [A, AAAA, ANAME], CNAME: [A, AAAA, MX, NS]}.get(record.type, [record.type])
+    is_star = record.owner[:1] == (STAR,) and dice.random() < 0.7
+    return under(dice, record.owner[1:]) if is_star else record.owner, dice.choice(types)
+
+
 def question(dice, zone, origin, odd_types=0.02):
     chance = dice.random()
-    if chance < odd_types:
-        type = dice.choice(ODD_TYPES)
+    if zone and chance > 0.8:
+        name, type = stored_question(dice, zone)
     else:
-        type = dice.choice(zone).type if zone and chance > 0.6 else dice.choice(TYPES)
-    return cased(dice, asked_name(dice, zone, origin)), type, 1
+        name, type = asked_name(dice, zone, origin), dice.choice(TYPES)
+        if chance < odd_types:
+            type = dice.choice(ODD_TYPES)
+        elif zone and chance > 0.5:
+            type = dice.choice(zone).type
+    return cased(dice, name), type, 1
 
 
 def request(dice, zone, origin):

@@ -2,8 +2,9 @@
 #![tactic(auto)]
 
 pub use authority_load::{
-    AxfrPolicy, InMemoryZoneHandler, LoadCause, LoadError, Lookup, LowerName, NxProofKind,
-    ProtoError, RrKey, Salt, ZoneSettings, ZoneType, load_zone,
+    AuthLookup, AxfrPolicy, InMemoryZoneHandler, LoadCause, LoadError, LookupControlFlow,
+    LookupError, LookupOptions, LowerName, NxProofKind, ProtoError, ResponseCode, RrKey, Salt,
+    ZoneSettings, ZoneType, load_zone,
 };
 pub use authority_server::{
     A, Arrival, Authority, DNSClass, Faults, Label, NS, Name, NoSuite, Protocol, RData, Record,

@@ -5,8 +5,8 @@
 #![tactic(auto)]
 
 pub use zst_zone::{
-    AxfrPolicy, InMemoryZoneHandler, Lookup, LowerName, NxProofKind, ProtoError, RrKey, Salt,
-    ZoneSettings, ZoneType,
+    AuthLookup, AxfrPolicy, InMemoryZoneHandler, LookupControlFlow, LookupError, LookupOptions,
+    LowerName, NxProofKind, ProtoError, ResponseCode, RrKey, Salt, ZoneSettings, ZoneType,
 };
 
 mod line;

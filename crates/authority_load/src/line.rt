@@ -1,16 +1,19 @@
 //! The record of a line.
 
-ghost use Rattle.std.specs.Prelude.{◌≡◌, ◌<◌, ◌∷◌, ◌⊎◌, length, IfOk, MatchOption, false, true, is_some};
+ghost use Rattle.std.specs.Prelude.{◌≡◌, ◌<◌, ◌∷◌, ◌⊎◌, ℕ, List, length, IfOk, MatchOption, false, true, is_some};
+ghost use Rattle.zst_zone.specs.dnw_codes.declared.dns_class.DNSClass.TheVariants as classes;
 ghost use Rattle.zst_zone.specs.dnw_codes.declared.record_type.RecordType.TheVariants as types;
-ghost use Rattle.zst_zone.specs.dnw_name.DomainName.{lowercase_name};
+ghost use Rattle.zst_zone.specs.dnw_name.DomainName.{DomainName, lowercase_name};
 ghost use Rattle.zst_zone.specs.zst_handler.Zones.{rrset_at};
-ghost use Rattle.authority_load.specs.ZoneText.{data_text, has_full_names, words_of, type_of_text, is_internet, is_start, with_cause, HeaderGives, LineGives};
+ghost use Rattle.zst_zone.specs.zst_record.Records.{record_with};
+ghost use Rattle.authority_load.specs.ZoneText.{data_text, has_full_names, words_of, type_of_text, is_internet, is_start, with_cause, HeaderGives, IsHeading, IsOwnerText, LineGives};
 
 use crate::loader::LoadCause;
 use crate::number::parse_u32;
 use crate::text::{TextError, parse_owner, parse_rdata};
 use crate::words::first_word;
 use std::alloc::Global;
+use std::mem;
 use zst_zone::{DNSClass, InMemoryZoneHandler, Name, NameKey, RData, Record, RecordType};
 
 /// The first four words of a line, and the text of the data behind them.
@@ -53,24 +56,43 @@ pub fn record_of<K>(
         Ok(key) => key,
         Err(_) => return Err(LoadCause::OutOfMemory),
     };
-    if !zone.is_in_zone(&key) {
+    let rdata = data_at(alloc, zone, &key, &header)?;
+    Ok(KeyedRecord {
+        key,
+        next: Record {
+            name: header.name,
+            dns_class: DNSClass::IN,
+            ttl: header.ttl,
+            rdata,
+        },
+    })
+}
+
+/// The data of a line that may be added to the zone at its owner's key, or the first cause why they may not.
+fn data_at<K>(
+    alloc: Global,
+    zone: &InMemoryZoneHandler<K>,
+    key: &NameKey,
+    header: &Header<'_>,
+) -> Result<RData, LoadCause>
+    requires { key.now ≡ lowercase_name header.now.name }
+    ensures { (line : List ℕ)
+        → IsHeading line (record { name = header.now.name; ttl = header.now.ttl; record_type = header.now.record_type; rdata = header.now.rdata.now })
+        → LineGives zone.now line (λ value. record_with header.now.name classes.IN header.now.ttl value) result }
+{
+    if !zone.is_in_zone(key) {
         return Err(LoadCause::OutsideZone);
     }
     let rdata = or_cause(
         parse_rdata(alloc, header.record_type, header.rdata),
         LoadCause::Data,
     )?;
-    match fault_of(zone, header.record_type, &key, &rdata) {
-        Some(cause) => Err(cause),
-        None => Ok(KeyedRecord {
-            key,
-            next: Record {
-                name: header.name,
-                dns_class: DNSClass::IN,
-                ttl: header.ttl,
-                rdata,
-            },
-        }),
+    match fault_of(zone, header.record_type, key, &rdata) {
+        Some(cause) => {
+            mem::drop(rdata);
+            Err(cause)
+        }
+        None => Ok(rdata),
     }
 }
 
@@ -104,19 +126,30 @@ fn header_of(alloc: Global, line: &str) -> Result<Header<'_>, LoadCause>
         return Err(LoadCause::FieldCount);
     };
     let name = or_cause(parse_owner(alloc, fields.owner), LoadCause::Owner)?;
-    let ttl = or_cause(parse_u32(fields.ttl), LoadCause::Ttl)?;
-    if !is_internet_word(fields.dns_class) {
-        return Err(LoadCause::Class);
-    }
-    let Some(record_type) = parse_type(fields.record_type) else {
-        return Err(LoadCause::UnknownType);
-    };
+    let (ttl, record_type) = ttl_and_type(&fields)?;
     Ok(Header {
         name,
         ttl,
         record_type,
         rdata: fields.rdata,
     })
+}
+
+/// What the words behind the owner say, on a line that has an owner.
+fn ttl_and_type(fields: &Fields<'_>) -> Result<(u32, RecordType), LoadCause>
+    ensures { (line : List ℕ) (name : DomainName)
+        → words_of line ≡ fields.now.owner.now ∷ fields.now.ttl.now ∷ fields.now.dns_class.now ∷ fields.now.record_type.now ∷ words_of fields.now.rdata.now
+        → IsOwnerText fields.now.owner.now name
+        → HeaderGives line (λ told. record { name = name; ttl = told.0; record_type = told.1; rdata = data_text line }) result }
+{
+    let ttl = or_cause(parse_u32(fields.ttl), LoadCause::Ttl)?;
+    if !is_internet_word(fields.dns_class) {
+        return Err(LoadCause::Class);
+    }
+    match parse_type(fields.record_type) {
+        Some(record_type) => Ok((ttl, record_type)),
+        None => Err(LoadCause::UnknownType),
+    }
 }
 
 /// The first four words of a line, where there are four, and what stands behind them.

@@ -1,12 +1,13 @@
 //! Lines of a zone's text, one after the other.
 
-ghost use Rattle.std.specs.Prelude.{◌≡◌, IfOk};
+ghost use Rattle.std.specs.Prelude.{◌≡◌, IfErr, IfOk, OnOk};
 ghost use Rattle.zst_zone.specs.zst_handler.Zones.{ZoneReadsBack, empty_zone};
-ghost use Rattle.authority_load.specs.ZoneText.{LoadAnswers, LineLoads};
+ghost use Rattle.authority_load.specs.ZoneText.{IsRefusedAt, IsZoneText, LineLoads, LoadAnswers};
 
 use crate::line::{KeyedRecord, record_of};
 use crate::words::is_skipped;
 use std::alloc::Global;
+use std::mem;
 use thiserror::Error;
 use zst_zone::{InMemoryZoneHandler, Name, ZoneSettings};
 
@@ -71,10 +72,28 @@ pub fn load_zone<K>(
             cause: LoadCause::OutOfMemory,
         }),
     };
+    match load_lines(alloc, &mut zone, text) {
+        Ok(()) => Ok(zone),
+        Err(error) => {
+            mem::drop(zone);
+            Err(error)
+        }
+    }
+}
+
+/// Adds the records of a text's lines to the zone, up to the first line that is refused.
+fn load_lines<K>(
+    alloc: Global,
+    zone: &mut InMemoryZoneHandler<K>,
+    text: &str,
+) -> Result<(), LoadError>
+    ensures loads { OnOk result (IsZoneText zone.old text.now zone.new) }
+    ensures refused { IfErr result (λ error. IsRefusedAt zone.old text.now error.line error.cause) }
+{
     let mut number = 0usize;
     for line in text.lines() {
         number += 1;
-        match load_line(alloc, &mut zone, line) {
+        match load_line(alloc, zone, line) {
             Ok(()) => {}
             Err(cause) => return Err(LoadError {
                 line: number,
@@ -82,7 +101,7 @@ pub fn load_zone<K>(
             }),
         }
     }
-    Ok(zone)
+    Ok(())
 }
 
 /// Adds the record of a line to the zone, if the line has one.

@@ -1,7 +1,10 @@
 pub mod Asked
 pub mod Encoded
-pub mod Found
 pub mod ServedRuns
+pub mod ShownBack
+pub mod Sound
 pub mod StreamFaults
 pub mod StreamRuns
+pub mod TotalLookup
+pub mod TotalReply
 pub mod WorkedRows

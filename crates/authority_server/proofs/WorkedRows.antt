@@ -1,6 +1,9 @@
--- The definitions computed on worked rows: a zone with a start of authority and one address, and what it is asked.
-use Rattle.std.proofs.Common.{◌≡◌, ℕ, Bool, true, false, List, [], ◌∷◌, ◌++◌, refl, arith}
-use Rattle.std.specs.Prelude.{codes, pos, None}
+-- The definitions computed on worked rows: a zone with a start of authority, a cut and one address, and what it is asked.
+use Rattle.std.proofs.Common.{◌≡◌, ℕ, Bool, true, false, List, [], ◌∷◌, ◌++◌, refl, sym, ◌∙◌, subst, arith}
+use Rattle.std.specs.Prelude.{codes, pos, Option, Some, None}
+use Rattle.std.proofs.lemmas.Bool.{false≢true, true≢false}
+use Rattle.zst_zone.specs.dnw_codes.declared.record_type.RecordType.{RecordType}
+use Rattle.zst_zone.specs.dnw_codes.RecordType.{same_record_type}
 use Rattle.zst_zone.specs.dnw_codes.declared.record_type.RecordType.TheVariants as types
 use Rattle.zst_zone.specs.dnw_codes.declared.dns_class.DNSClass.TheVariants as classes
 use Rattle.zsv_reply.specs.drd_rdata.declared.rdata.RData.TheVariants as rdata
@@ -23,15 +26,21 @@ use Rattle.zsv_reply.specs.zst_record.Records.{plain}
 use Rattle.zsv_message.specs.dnw_decoder.Spelling.{NameAt, at_end, at_label}
 use Rattle.zsv_message.specs.Requests.{Request, QuestionAt}
 use Rattle.zsv_reply.specs.zst_record.RecordSets.{RRset}
+use Rattle.zsv_reply.specs.Replies.{ReplyParts}
+use Rattle.zst_zone.specs.zst_handler.Chains.{IsAliasChain, NoneTwice, asked_names, leads}
+use Rattle.zst_zone.specs.zst_handler.Found.{found}
+use Rattle.zst_zone.specs.zst_handler.Lookups.{IsLookup, LookupFrom, Outcome, additionals, answered, is_flattened, name_exists, name_error, out_of_zone}
 use Rattle.zst_zone.specs.zst_handler.Zones.{Zone, AreInOrder, set_cmp}
-use Rattle.authority_server.specs.Lookups.{lookup_result, answered, name_exists, name_error, out_of_zone}
-use Rattle.authority_server.specs.Serving.{reply_parts}
+use Rattle.authority_server.specs.Serving.{AtOrigin, OutcomeParts, PartsOf, QuestionParts}
 
 abbrev example : DomainName
 example = record { fqdn = true; labels = codes "example" ∷ codes "com" ∷ [] }
 
 abbrev below : List ℕ → DomainName
 below first = record { fqdn = true; labels = first ∷ codes "example" ∷ codes "com" ∷ [] }
+
+abbrev two_below : List ℕ → List ℕ → DomainName
+two_below first second = record { fqdn = true; labels = first ∷ second ∷ codes "example" ∷ codes "com" ∷ [] }
 
 abbrev elsewhere : DomainName
 elsewhere = record { fqdn = true; labels = codes "example" ∷ codes "org" ∷ [] }
@@ -47,11 +56,23 @@ start = record {
 abbrev address : Record
 address = record { name = below (codes "www"); dns_class = classes.IN; ttl = 3600; rdata = rdata.A (record { 0 = record { octets = 192 ∷ 0 ∷ 2 ∷ 1 ∷ [] } }) }
 
+abbrev server : Record
+server = record { name = below (codes "sub"); dns_class = classes.IN; ttl = 3600; rdata = rdata.NS (record { 0 = two_below (codes "ns") (codes "sub") }) }
+
+abbrev glue : Record
+glue = record { name = two_below (codes "ns") (codes "sub"); dns_class = classes.IN; ttl = 3600; rdata = rdata.A (record { 0 = record { octets = 192 ∷ 0 ∷ 2 ∷ 2 ∷ [] } }) }
+
 abbrev set_of_start : RRset
 set_of_start = record { name = example; dns_class = classes.IN; record_type = types.SOA; records = start ∷ []; signatures = [] }
 
 abbrev set_of_address : RRset
 set_of_address = record { name = below (codes "www"); dns_class = classes.IN; record_type = types.A; records = address ∷ []; signatures = [] }
+
+abbrev set_of_servers : RRset
+set_of_servers = record { name = below (codes "sub"); dns_class = classes.IN; record_type = types.NS; records = server ∷ []; signatures = [] }
+
+abbrev set_of_glue : RRset
+set_of_glue = record { name = two_below (codes "ns") (codes "sub"); dns_class = classes.IN; record_type = types.A; records = glue ∷ []; signatures = [] }
 
 abbrev zone : Zone
 zone = record {
@@ -59,7 +80,7 @@ zone = record {
   zone_type = kinds.Primary;
   axfr_policy = policies.AllowAll;
   nx_proof_kind = None;
-  sets = set_of_start ∷ set_of_address ∷ [];
+  sets = set_of_start ∷ set_of_servers ∷ set_of_glue ∷ set_of_address ∷ [];
 }
 
 -- Twelve octets of header, and a question for the address of www.example.com.
@@ -114,23 +135,47 @@ elsewhere_not_below = refl
 
 -- Its sets stand in order, and so do no others.
 sets_in_order : AreInOrder zone.sets
-sets_in_order = ((refl, tt), (tt, tt))
+sets_in_order = ((refl, (refl, (refl, tt))), ((refl, (refl, tt)), ((refl, tt), (tt, tt))))
 
 address_behind_start : set_cmp set_of_address set_of_start ≡ Greater
 address_behind_start = refl
 
+-- A set that is found and leads nowhere answers alone.
+abbrev one_set : RRset → List RRset → Outcome
+one_set set more = answered (record { answers = set ∷ []; additionals = more })
+
+module _ (name : DomainName) (t : RecordType) (set : RRset) (more : List RRset) (at : found zone.sets name t ≡ Some set) (last : leads t set ≡ None) where
+  chain_of_one : IsAliasChain zone.sets name t (set ∷ [])
+  chain_of_one = record {
+    links = (at, tt);
+    once = (refl, subst (λ (next : Option DomainName). NoneTwice (name ∷ []) (asked_names t next [])) (sym last) tt);
+    short = omega arith;
+    ends = λ next e. let h : ⊥ = cc in absurd h;
+  }
+
+  lookup_of_one : same_record_type t types.ANY ≡ false → is_flattened t set ≡ false → additionals zone.sets set ≡ more → IsLookup zone name t (one_set set more)
+  lookup_of_one one whole beside = record {
+    any = λ e. absurd (true≢false (sym e ∙ one));
+    one = λ _. subst (λ (first : Option RRset). LookupFrom zone name t first (one_set set more)) (sym at)
+        (record { answers = set ∷ []; additionals = more }, refl, (λ e. absurd (true≢false (sym e ∙ whole)), λ _. (chain_of_one, sym beside)));
+  }
+
 -- The zone's answers.
-an_address : lookup_result zone (below (codes "wWw")) types.A ≡ answered (address ∷ [])
-an_address = refl
+an_address : IsLookup zone (below (codes "wWw")) types.A (one_set set_of_address [])
+an_address = lookup_of_one (below (codes "wWw")) types.A set_of_address [] refl refl refl refl refl
 
-a_missing_type : lookup_result zone (below (codes "www")) types.AAAA ≡ name_exists
-a_missing_type = refl
+a_missing_type : IsLookup zone (below (codes "www")) types.AAAA name_exists
+a_missing_type = record { any = λ e. absurd (false≢true e); one = λ _. refl }
 
-a_missing_name : lookup_result zone (below (codes "z")) types.A ≡ name_error
-a_missing_name = refl
+a_missing_name : IsLookup zone (below (codes "z")) types.A name_error
+a_missing_name = record { any = λ e. absurd (false≢true e); one = λ _. refl }
 
-outside : lookup_result zone elsewhere types.A ≡ out_of_zone
-outside = refl
+outside : IsLookup zone elsewhere types.A out_of_zone
+outside = record { any = λ e. absurd (false≢true e); one = λ _. refl }
+
+-- Below a cut its name servers answer, with the address of the first one.
+below_a_cut : IsLookup zone (two_below (codes "www") (codes "sub")) types.A (one_set set_of_servers (set_of_glue ∷ []))
+below_a_cut = lookup_of_one (two_below (codes "www") (codes "sub")) types.A set_of_servers (set_of_glue ∷ []) refl refl refl refl refl
 
 -- The address record takes 31 octets, four of them data.
 address_octets : name_octets address.name ++ (octets_16 1 ++ octets_16 1 ++ octets_32 address.ttl ++ octets_16 4) ++ written_octets address.rdata ≡ name_octets (below (codes "www")) ++ (0 ∷ 1 ∷ 0 ∷ 1 ∷ 0 ∷ 0 ∷ 14 ∷ 16 ∷ 0 ∷ 4 ∷ 192 ∷ 0 ∷ 2 ∷ 1 ∷ [])
@@ -187,17 +232,34 @@ answer_metadata authoritative code = record {
 }
 
 -- What full replies hold.
-address_parts : reply_parts zone (asks plain_metadata (one (below (codes "www")) ∷ [])) ≡ record { metadata = answer_metadata true responses.NoError; answers = address ∷ []; authorities = []; additionals = [] }
-address_parts = refl
+abbrev Gives : List Query → ReplyParts → Type 0
+Gives qs parts = PartsOf zone (asks plain_metadata qs) parts
 
-missing_parts : reply_parts zone (asks plain_metadata (one (below (codes "z")) ∷ [])) ≡ record { metadata = answer_metadata true responses.NXDomain; answers = []; authorities = start ∷ []; additionals = [] }
-missing_parts = refl
+looked_up : (name : DomainName) (parts : ReplyParts) (outcome : Outcome) → is_at_or_below name example ≡ true → IsLookup zone name types.A outcome → OutcomeParts zone plain_metadata types.A outcome parts → QuestionParts zone plain_metadata (one name) parts
+looked_up name parts outcome inside is shown = record {
+  outside = λ e. absurd (true≢false (sym inside ∙ e));
+  transfer = λ here e. absurd (false≢true e);
+  looked_up = λ here e. (outcome, is, shown);
+}
 
-outside_parts : reply_parts zone (asks plain_metadata (one elsewhere ∷ [])) ≡ record { metadata = answer_metadata false responses.Refused; answers = []; authorities = []; additionals = [] }
-outside_parts = refl
+address_parts : Gives (one (below (codes "www")) ∷ []) (record { metadata = answer_metadata true responses.NoError; answers = address ∷ []; authorities = []; additionals = [] })
+address_parts = looked_up (below (codes "www")) _ (one_set set_of_address []) refl (lookup_of_one (below (codes "www")) types.A set_of_address [] refl refl refl refl refl) ([], (λ e. absurd (false≢true e), λ _. refl), refl)
 
-no_question_parts : reply_parts zone (asks plain_metadata []) ≡ record { metadata = answer_metadata false responses.FormErr; answers = []; authorities = []; additionals = [] }
+at_start : AtOrigin zone types.SOA (start ∷ [])
+at_start = (one_set set_of_start [], lookup_of_one example types.SOA set_of_start [] refl refl refl refl refl, refl)
+
+missing_parts : Gives (one (below (codes "z")) ∷ []) (record { metadata = answer_metadata true responses.NXDomain; answers = []; authorities = start ∷ []; additionals = [] })
+missing_parts = looked_up (below (codes "z")) _ name_error refl a_missing_name (start ∷ [], at_start, refl)
+
+outside_parts : Gives (one elsewhere ∷ []) (record { metadata = answer_metadata false responses.Refused; answers = []; authorities = []; additionals = [] })
+outside_parts = record { outside = λ _. refl; transfer = λ here e. absurd (false≢true here); looked_up = λ here e. absurd (false≢true here) }
+
+no_question_parts : Gives [] (record { metadata = answer_metadata false responses.FormErr; answers = []; authorities = []; additionals = [] })
 no_question_parts = refl
+
+-- A referral's name servers are authority, with the address of the first one.
+referral_parts : Gives (one (two_below (codes "www") (codes "sub")) ∷ []) (record { metadata = answer_metadata true responses.NoError; answers = []; authorities = server ∷ []; additionals = glue ∷ [] })
+referral_parts = looked_up (two_below (codes "www") (codes "sub")) _ (one_set set_of_servers (set_of_glue ∷ [])) refl below_a_cut ([], (λ e. absurd (false≢true e), λ _. refl), refl)
 
 -- Names rise in the canonical order: the nine names of RFC 4034, section 6.1.
 abbrev named : List (List ℕ) → DomainName

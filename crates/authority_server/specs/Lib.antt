@@ -1,6 +1,5 @@
 pub mod Faults
 pub mod Frames
-pub mod Lookups
 pub mod Runs
 pub mod Servers
 pub mod Serving

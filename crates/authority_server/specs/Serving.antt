@@ -1,6 +1,6 @@
 -- What a server answers: RFC 1034, section 4.3.2; RFC 2308, section 3. One message, and a list of
 -- them.
-use Rattle.std.specs.Prelude.{◌≡◌, ℕ, Bool, true, false, List, [], ◌∷◌, Option, Some, None, if◌then◌else◌}
+use Rattle.std.specs.Prelude.{◌≡◌, ℕ, Bool, true, false, not, ◌&&◌, ◌||◌, List, [], ◌∷◌, ◌++◌, Option, Some, None, if◌then◌else◌}
 use Rattle.std.specs.declared.net.SocketAddr.{SocketAddr}
 use Rattle.zst_zone.specs.dnw_codes.declared.record_type.RecordType.{RecordType}
 use Rattle.zst_zone.specs.dnw_codes.declared.record_type.RecordType.TheVariants as types
@@ -18,10 +18,12 @@ use Rattle.authority_server.specs.declared.server.Protocol.TheVariants as protoc
 use Rattle.zst_zone.specs.dnw_name.DomainName.{is_at_or_below}
 use Rattle.zst_zone.specs.dnw_codes.RecordType.{same_record_type}
 use Rattle.zsv_reply.specs.zst_record.RecordSets.{RRset}
-use Rattle.zst_zone.specs.zst_handler.Zones.{Zone, rrset_at}
+use Rattle.zst_zone.specs.zst_handler.Answers.{sets_shown}
+use Rattle.zst_zone.specs.zst_handler.Lookups.{Answer, IsLookup, Outcome, answered, name_exists, name_error, out_of_zone}
+use Rattle.zst_zone.specs.zst_handler.Zones.{Zone}
+use Rattle.zsv_reply.specs.drd_rdata.Types.{type_of}
 use Rattle.zsv_message.specs.Requests.{Request, IsRequest}
 use Rattle.zsv_reply.specs.Replies.{ReplyParts, IsReply}
-use Rattle.authority_server.specs.Lookups.{Outcome, answered, name_exists, name_error, out_of_zone, lookup_result}
 
 -- The header of a reply repeats the identifier, the operation, RD and CD.
 abbrev pub reply_metadata : Metadata → Bool → ResponseCode → Metadata
@@ -47,78 +49,107 @@ error_parts m code = record {
   additionals = [];
 }
 
--- The records of a set, if there is one.
-abbrev pub records_of : Option RRset → List Record
-records_of None = []
-records_of (Some set) = set.records
+-- The records of sets, without signatures: no question asks for these yet.
+abbrev pub records_of : List RRset → List Record
+records_of sets = sets_shown false sets
 
--- The set of a type at the zone's origin.
-abbrev pub apex : Zone → RecordType → List Record
-apex zone record_type = records_of (rrset_at zone.sets zone.origin record_type)
+-- The records that a lookup answers with.
+abbrev pub answer_records : Outcome → List Record
+answer_records (answered answer) = records_of answer.answers
+answer_records denied = []
+
+-- What is answered at the zone's origin to a type.
+abbrev pub AtOrigin : Zone → RecordType → List Record → Type 0
+AtOrigin zone record_type records =
+    (outcome : Outcome) × IsLookup zone zone.origin record_type outcome
+    × (records ≡ answer_records outcome)
 
 -- With an answer to a question for the zone's start come its name servers.
-abbrev pub beside_answer : Zone → RecordType → List Record
-beside_answer zone record_type =
-    if same_record_type record_type types.SOA then apex zone types.NS else []
+abbrev pub BesideAnswer : Zone → RecordType → List Record → Type 0
+BesideAnswer zone record_type beside =
+    (same_record_type record_type types.SOA ≡ true → AtOrigin zone types.NS beside)
+    × (same_record_type record_type types.SOA ≡ false → beside ≡ [])
 
--- The zone's own answer: the records; or the zone's start, with or without a name error.
-abbrev pub outcome_parts : Zone → Metadata → RecordType → Outcome → ReplyParts
-outcome_parts zone m record_type (answered records) = record {
-  metadata = reply_metadata m true responses.NoError;
-  answers = records;
-  authorities = beside_answer zone record_type;
-  additionals = [];
+-- The first record is one of name servers.
+abbrev pub begins_with_ns : List Record → Bool
+begins_with_ns [] = false
+begins_with_ns (r ∷ rs) = same_record_type (type_of r.rdata) types.NS
+
+-- Name servers that weren't asked for are a referral (RFC 1034, section 4.3.2, step 3b).
+abbrev pub is_referral : RecordType → List Record → Bool
+is_referral record_type records =
+    begins_with_ns records
+    && not (same_record_type record_type types.NS || same_record_type record_type types.ANY)
+
+-- The records that answer; those of a referral stand as authority, before those beside.
+abbrev pub parts_with : Metadata → Bool → List Record → List Record → List Record → ReplyParts
+parts_with m referral records additionals beside = record {
+  metadata = m;
+  answers = if referral then [] else records;
+  authorities = (if referral then records else []) ++ beside;
+  additionals = additionals;
 }
-outcome_parts zone m record_type name_exists = record {
-  metadata = reply_metadata m true responses.NoError;
-  answers = [];
-  authorities = apex zone types.SOA;
-  additionals = [];
-}
-outcome_parts zone m record_type name_error = record {
-  metadata = reply_metadata m true responses.NXDomain;
-  answers = [];
-  authorities = apex zone types.SOA;
-  additionals = [];
-}
-outcome_parts zone m record_type out_of_zone = record {
-  metadata = reply_metadata m true responses.Refused;
-  answers = [];
-  authorities = [];
-  additionals = [];
-}
+
+abbrev pub answered_parts : Metadata → RecordType → Answer → List Record → ReplyParts
+answered_parts m record_type answer beside =
+    parts_with (reply_metadata m true responses.NoError)
+    (is_referral record_type (records_of answer.answers)) (records_of answer.answers)
+    (records_of answer.additionals) beside
+
+-- A denial has the zone's start as authority (RFC 2308, section 3).
+abbrev pub DeniedParts : Zone → Metadata → ResponseCode → ReplyParts → Type 0
+DeniedParts zone m code parts =
+    (start : List Record) × AtOrigin zone types.SOA start
+    × (parts ≡ parts_with (reply_metadata m true code) false [] [] start)
+
+-- The zone's own answer: what was found; or the zone's start, with or without a name error.
+abbrev pub OutcomeParts : Zone → Metadata → RecordType → Outcome → ReplyParts → Type 0
+OutcomeParts zone m record_type (answered answer) parts =
+    (beside : List Record) × BesideAnswer zone record_type beside
+    × (parts ≡ answered_parts m record_type answer beside)
+OutcomeParts zone m record_type name_exists parts = DeniedParts zone m responses.NoError parts
+OutcomeParts zone m record_type name_error parts = DeniedParts zone m responses.NXDomain parts
+OutcomeParts zone m record_type out_of_zone parts =
+    parts ≡ parts_with (reply_metadata m true responses.Refused) false [] [] []
 
 -- One question: refused outside the zone; transfers are not served.
-abbrev pub question_parts : Zone → Metadata → Query → ReplyParts
-question_parts zone m q =
-    if is_at_or_below q.name zone.origin
-    then if same_record_type q.query_type types.AXFR then error_parts m responses.ServFail
-    else outcome_parts zone m q.query_type (lookup_result zone q.name q.query_type)
-    else error_parts m responses.Refused
+pub record QuestionParts (zone : Zone) (m : Metadata) (q : Query) (parts : ReplyParts) :
+    Type 0 where
+  pub outside : is_at_or_below q.name zone.origin ≡ false → parts ≡ error_parts m responses.Refused
+  pub transfer : is_at_or_below q.name zone.origin ≡ true
+      → same_record_type q.query_type types.AXFR ≡ true
+      → parts ≡ error_parts m responses.ServFail
+  pub looked_up : is_at_or_below q.name zone.origin ≡ true
+      → same_record_type q.query_type types.AXFR ≡ false
+      → (outcome : Outcome) × IsLookup zone q.name q.query_type outcome
+      × OutcomeParts zone m q.query_type outcome parts
 
 -- A query asks one question.
-abbrev pub query_parts : Zone → Metadata → List Query → ReplyParts
-query_parts zone m [] = error_parts m responses.FormErr
-query_parts zone m (q ∷ []) = question_parts zone m q
-query_parts zone m (q ∷ r ∷ qs) = error_parts m responses.FormErr
+abbrev pub QueryParts : Zone → Metadata → List Query → ReplyParts → Type 0
+QueryParts zone m [] parts = parts ≡ error_parts m responses.FormErr
+QueryParts zone m (q ∷ []) parts = QuestionParts zone m q parts
+QueryParts zone m (q ∷ r ∷ qs) parts = parts ≡ error_parts m responses.FormErr
 
 -- Other operations are not implemented.
-abbrev pub operation_parts : Zone → Metadata → OpCode → List Query → ReplyParts
-operation_parts zone m operations.Query qs = query_parts zone m qs
-operation_parts zone m operations.Status qs = error_parts m responses.NotImp
-operation_parts zone m operations.Notify qs = error_parts m responses.NotImp
-operation_parts zone m operations.Update qs = error_parts m responses.NotImp
-operation_parts zone m (operations.Unknown n) qs = error_parts m responses.NotImp
+abbrev pub OperationParts : Zone → Metadata → OpCode → List Query → ReplyParts → Type 0
+OperationParts zone m operations.Query qs parts = QueryParts zone m qs parts
+OperationParts zone m other qs parts = parts ≡ error_parts m responses.NotImp
 
 -- A reply sent as a request is a format error.
-abbrev pub request_parts : Zone → Request → MessageType → ReplyParts
-request_parts zone request messages.Response = error_parts request.metadata responses.FormErr
-request_parts zone request messages.Query =
-    operation_parts zone request.metadata request.metadata.op_code request.questions
+abbrev pub RequestParts : Zone → Request → MessageType → ReplyParts → Type 0
+RequestParts zone request messages.Response parts =
+    parts ≡ error_parts request.metadata responses.FormErr
+RequestParts zone request messages.Query parts =
+    OperationParts zone request.metadata request.metadata.op_code request.questions parts
 
 -- What a full reply to a request holds.
-abbrev pub reply_parts : Zone → Request → ReplyParts
-reply_parts zone request = request_parts zone request request.metadata.message_type
+abbrev pub PartsOf : Zone → Request → ReplyParts → Type 0
+PartsOf zone request parts = RequestParts zone request request.metadata.message_type parts
+
+-- A reply to a request: of the parts that the zone gives, within a limit.
+abbrev pub Answers : Zone → List ℕ → Request → List ℕ → ℕ → Type 0
+Answers zone message request reply limit =
+    (parts : ReplyParts) × PartsOf zone request parts × IsReply message reply parts request limit
 
 -- What a server is: the zone that it serves.
 pub record World : Type 0 where
@@ -143,8 +174,7 @@ Serves old received None new =
     ((request : Request) → IsRequest received.message request → ⊥) × (new ≡ old)
 Serves old received (Some reply) new =
     (request : Request) × IsRequest received.message request
-    × IsReply received.message reply (reply_parts old.zone request) request
-    (limit_of received.transport) × (new ≡ old)
+    × Answers old.zone received.message request reply (limit_of received.transport) × (new ≡ old)
 
 -- A list of messages served, one after the other.
 abbrev pub ServesAll : World → List Received → List (Option (List ℕ)) → World → Type 0

@@ -14,6 +14,7 @@ use zst_zone::{InMemoryZoneHandler, ZoneType};
 use zsv_message::{MessageRequest, ReadError};
 
 pub mod answer;
+mod sections;
 
 /// How a message came.
 #[derive(Clone, Copy, Debug, PartialEq, Eq)]

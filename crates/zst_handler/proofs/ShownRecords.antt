@@ -1,11 +1,15 @@
 -- Records as they are shown.
 use Rattle.std.proofs.Common.{◌≡◌, ℕ, ◌+◌, ◌<◌, ◌≤◌, ◌++◌, List, [], ◌∷◌, length, drop, map, zero, suc, refl, ap, sym, ◌∙◌, arith, append-nil}
-use Rattle.std.specs.Prelude.{Bool, get_or}
+use Rattle.std.specs.Prelude.{Bool, true, false, cond, get_or, Option, Some, None}
+use Rattle.zst_record.specs.dnw_codes.declared.record_type.RecordType.{RecordType}
+use Rattle.zst_record.specs.dnw_name.DomainName.{DomainName}
+use Rattle.zst_record.specs.drd_rdata.Types.{type_of}
+use Rattle.zst_record.specs.RecordSets.{RRset, flattened_record, renamed_record}
 use Rattle.zst_record.specs.declared.records.Record.{Record}
 use Rattle.zst_handler.specs.declared.answer_set.AnswerSet.{AnswerSet}
 use Rattle.zst_handler.specs.declared.answer_set.Guise.{Guise}
 use Rattle.zst_handler.specs.declared.answer_set.Guise.TheVariants as guises
-use Rattle.zst_handler.specs.Answers.{all_shown, left_over, set_in, shown, shown_as}
+use Rattle.zst_handler.specs.Answers.{all_shown, first_of, first_type, left_over, set_in, shown, shown_as, under}
 
 pub own_shown : (rs : List Record) → map (shown_as guises.Own) rs ≡ rs
 own_shown [] = refl
@@ -37,3 +41,25 @@ none_left guise dnssec ss n long = ap (all_shown dnssec) (drop_all ss n long)
 
 pub alone_shown : (rs : List Record) (dnssec : Bool) → left_over guises.Own (rs ++ []) dnssec [] 0 ≡ rs
 alone_shown rs dnssec = append-nil (map (shown_as guises.Own) (rs ++ [])) ∙ own_shown (rs ++ []) ∙ append-nil rs
+
+-- ---- the first record
+headed : (dnssec : Bool) (rs signatures : List Record) (r : Record) (t : RecordType) → first_of rs ≡ Some r → type_of r.rdata ≡ t
+    → first_type (cond dnssec (rs ++ signatures) rs) ≡ Some t
+headed dnssec [] signatures r t e type = let h : ⊥ = cc in absurd h
+headed true (s ∷ rs) signatures r t e type = let same : s ≡ r = cc in ap (λ (q : Record). Some (type_of q.rdata)) same ∙ ap Some type
+headed false (s ∷ rs) signatures r t e type = let same : s ≡ r = cc in ap (λ (q : Record). Some (type_of q.rdata)) same ∙ ap Some type
+
+first_mapped : (f : Record → Record) (rs : List Record) (r : Record) → first_of rs ≡ Some r → first_of (map f rs) ≡ Some (f r)
+first_mapped f [] r e = let h : ⊥ = cc in absurd h
+first_mapped f (s ∷ rs) r e = let same : s ≡ r = cc in ap (λ (q : Record). Some (f q)) same
+
+-- The first record of a set has its type, whatever name it is shown under.
+pub first_shown : (dnssec : Bool) (set : RRset) (owner : Option DomainName) (behind : Option ℕ) (r : Record) → first_of set.records ≡ Some r
+    → first_type (shown dnssec (under set owner behind)) ≡ Some (type_of r.rdata)
+first_shown dnssec set None behind r e = headed dnssec set.records set.signatures r (type_of r.rdata) e refl
+first_shown dnssec set (Some owner) None r e =
+    headed dnssec (map (renamed_record owner) set.records) (map (renamed_record owner) set.signatures) (renamed_record owner r) (type_of r.rdata)
+    (first_mapped (renamed_record owner) set.records r e) refl
+first_shown dnssec set (Some owner) (Some ttl) r e =
+    headed dnssec (map (flattened_record owner ttl) set.records) [] (flattened_record owner ttl r) (type_of r.rdata)
+    (first_mapped (flattened_record owner ttl) set.records r e) refl

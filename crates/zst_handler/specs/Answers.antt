@@ -1,5 +1,7 @@
 -- Answers, as their records come one after the other.
-use Rattle.std.specs.Prelude.{◌≡◌, ℕ, Bool, true, false, List, [], ◌∷◌, ◌++◌, map, drop, Option, Some, None, Ok, Err, if◌then◌else◌}
+use Rattle.std.specs.Prelude.{◌≡◌, ℕ, Bool, true, false, List, [], ◌∷◌, ◌++◌, map, drop, Option, Some, None, Ok, Err, option_map, if◌then◌else◌}
+use Rattle.std.proofs.Common.{Box, Global}
+use Rattle.zst_record.specs.drd_rdata.Types.{type_of}
 use Rattle.std.specs.List.{flat_map}
 use Rattle.zst_record.specs.declared.records.Record.{Record}
 use Rattle.zst_record.specs.RecordSets.{RRset, flattened_record, flattened_set, renamed, renamed_record}
@@ -27,8 +29,19 @@ under set None behind = set
 under set (Some owner) None = renamed owner set
 under set (Some owner) (Some ttl) = flattened_set owner ttl set
 
+abbrev pub unboxed : Option (Box DomainName Global) → Option DomainName
+unboxed owner = option_map (λ name. name.value) owner
+
 abbrev pub set_in : AnswerSet → RRset
-set_in answer = under answer.set.now answer.owner answer.behind
+set_in answer = under answer.set.now (unboxed answer.owner) answer.behind
+
+abbrev pub first_of : List Record → Option Record
+first_of [] = None
+first_of (r ∷ rs) = Some r
+
+-- The type of the first record.
+abbrev pub first_type : List Record → Option RecordType
+first_type records = option_map (λ r. type_of r.rdata) (first_of records)
 
 -- A record as it is shown.
 abbrev pub shown_as : Guise → Record → Record

@@ -1,6 +1,6 @@
 -- A zone: a finite map from owner and type to the set of records stored there (RFC 1035, section
 -- 4.3.2).
-use Rattle.std.specs.Prelude.{◌≡◌, Bool, List, [], ◌∷◌, Option, Some, ◌&&◌, find, if◌then◌else◌}
+use Rattle.std.specs.Prelude.{◌≡◌, Bool, true, List, [], ◌∷◌, Option, Some, ◌&&◌, find, if◌then◌else◌}
 use Rattle.std.specs.List.{AllByRecursion, list_any}
 use Rattle.std.specs.Ordering.{nat_cmp, on, then_cmp}
 use Rattle.std.specs.declared.cmp.Ordering.{Ordering}
@@ -73,9 +73,10 @@ pub record AddsTo (old : Zone) (r : Record) (new : Zone) : Type 0 where
   pub ordered : AreInOrder new.sets
   pub rest : new ≡ record old { sets = new.sets }
 
--- Each record and each signature of each set can be read alone: what a server's replies hold can be
--- read by whom they reach.
+-- The owner of each set is fully qualified, and each of its records and signatures can be read
+-- alone: what a server's replies hold can be read by whom they reach.
 pub record SetReadsBack (set : RRset) : Type 0 where
+  pub owner : set.name.fqdn ≡ true
   pub records : AllByRecursion ReadsBackAlone set.records
   pub signatures : AllByRecursion ReadsBackAlone set.signatures
 

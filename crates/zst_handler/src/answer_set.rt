@@ -1,19 +1,20 @@
 //! A set of an answer.
 
-ghost use Rattle.std.specs.Prelude.{◌≡◌, map};
+ghost use Rattle.std.specs.Prelude.{◌≡◌, Some, IfOk, map, option_copied};
 ghost use Rattle.zst_record.specs.Lending.{seen};
 ghost use Rattle.zst_record.specs.RecordSets.{flattened_set, renamed};
-ghost use Rattle.zst_handler.specs.Answers.{set_in, shown, shown_as};
+ghost use Rattle.zst_handler.specs.Answers.{first_of, set_in, shown, shown_as, under};
 
 use crate::lookup_options::LookupOptions;
+use std::alloc::{AllocError, Global};
 use zst_record::{Name, Record, RecordRef, RecordSet, RrsetRecords};
 
 /// A set of an answer. The zone lends it, whatever name its records are shown under.
 #[derive(Drop)]
 pub struct AnswerSet<'z> {
     set: &'z RecordSet,
-    /// The name under which the records are shown, if it isn't their own.
-    owner: Option<Name>,
+    /// The name under which the records are shown, if it isn't their own. It is boxed, so that an answer is small to move.
+    owner: Option<Box<Name>>,
     /// Whether they are addresses behind an alias, and for how long they may be kept at most.
     behind: Option<u32>,
 }
@@ -42,26 +43,53 @@ impl<'z> AnswerSet<'z> {
     }
 
     /// The same records and signatures under another name, as a wildcard answers (RFC 4592 section 3.3.1).
-    pub fn renamed(set: &'z RecordSet, owner: Name) -> AnswerSet<'z>
-        ensures { set_in result ≡ renamed owner set.now }
+    pub fn renamed(
+        alloc: Global,
+        set: &'z RecordSet,
+        owner: Name,
+    ) -> Result<AnswerSet<'z>, AllocError>
+        ensures { IfOk result (λ answer. set_in answer ≡ renamed owner set.now) }
     {
-        AnswerSet {
-            set,
-            owner: Some(owner),
-            behind: None,
-        }
+        AnswerSet::under(alloc, set, owner, None)
     }
 
     /// The same records under another name, for no longer than a time to live, and without signatures, as an alias for
     /// addresses answers.
-    pub fn flattened(set: &'z RecordSet, owner: Name, ttl: u32) -> AnswerSet<'z>
-        ensures { set_in result ≡ flattened_set owner ttl set.now }
+    pub fn flattened(
+        alloc: Global,
+        set: &'z RecordSet,
+        owner: Name,
+        ttl: u32,
+    ) -> Result<AnswerSet<'z>, AllocError>
+        ensures { IfOk result (λ answer. set_in answer ≡ flattened_set owner ttl set.now) }
     {
-        AnswerSet {
-            set,
-            owner: Some(owner),
-            behind: Some(ttl),
+        AnswerSet::under(alloc, set, owner, Some(ttl))
+    }
+
+    // The set under another name, behind an alias or not.
+    fn under(
+        alloc: Global,
+        set: &'z RecordSet,
+        owner: Name,
+        behind: Option<u32>,
+    ) -> Result<AnswerSet<'z>, AllocError>
+        ensures { IfOk result (λ answer. set_in answer ≡ under set.now (Some owner) behind) }
+    {
+        match Box::new(alloc, owner) {
+            Ok(owner) => Ok(AnswerSet {
+                set,
+                owner: Some(owner),
+                behind,
+            }),
+            Err(_) => Err(AllocError),
         }
+    }
+
+    // The first record, under its own name.
+    pub(crate) fn first(&self) -> Option<&Record>
+        ensures { option_copied result ≡ first_of self.now.set.now.records }
+    {
+        self.set.as_slice().first()
     }
 
     // The records that are asked for, and how they are shown.

@@ -1,10 +1,10 @@
 //! What a handler answers to a name and a type.
 
 ghost use Rattle.std.specs.Prelude.{◌≡◌, ◌&&◌};
-ghost use Rattle.zst_handler.specs.Answers.{additionals_in, answers_in, authorities_in};
+ghost use Rattle.zst_handler.specs.Answers.{additionals_in, answers_in, first_type};
 
 use crate::lookup_records::{LookupRecords, LookupRecordsIter};
-use zst_record::Record;
+use zst_record::{Record, RecordType};
 
 /// What a handler answers to a name and a type.
 #[derive(Drop)]
@@ -38,6 +38,20 @@ impl AuthLookup<'_> {
             AuthLookup::Empty => LookupRecordsIter::of_records(&[]),
             AuthLookup::Records { answers, .. } => answers.iter(),
             AuthLookup::Response { answers, .. } => LookupRecordsIter::of_records(answers),
+        }
+    }
+
+    /// The type of the first record that answers.
+    pub fn first_type(&self) -> Option<RecordType>
+        ensures { result ≡ first_type (answers_in self.now) }
+    {
+        match self {
+            AuthLookup::Empty => None,
+            AuthLookup::Records { answers, .. } => answers.first_type(),
+            AuthLookup::Response { answers, .. } => {
+                let first = answers.first()?;
+                Some(first.record_type())
+            }
         }
     }
 

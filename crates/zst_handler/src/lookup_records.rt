@@ -3,12 +3,12 @@
 ghost use Rattle.std.specs.Prelude.{◌≡◌};
 ghost use Rattle.std.specs.Iterator.{YieldsFirstBy, item_count};
 ghost use Rattle.zst_record.specs.Lending.{seen};
-ghost use Rattle.zst_handler.specs.Answers.{all_shown, none_in, records_in, set_in, shown};
+ghost use Rattle.zst_handler.specs.Answers.{all_shown, first_type, none_in, records_in, set_in, shown};
 
 use crate::answer_set::{AnswerSet, Guise, dress};
 use crate::lookup_options::LookupOptions;
 use std::marker::Model;
-use zst_record::{Record, RecordRef, RrsetRecords};
+use zst_record::{Record, RecordRef, RecordType, RrsetRecords};
 
 /// The records that a lookup found, set by set.
 #[derive(Drop)]
@@ -43,6 +43,19 @@ impl<'z> LookupRecords<'z> {
         ensures { result ≡ none_in (records_in self.now) }
     {
         self.iter().next().is_none()
+    }
+
+    /// The type of the first record.
+    pub fn first_type(&self) -> Option<RecordType>
+        ensures { result ≡ first_type (records_in self.now) }
+    {
+        if let LookupRecords::Records(_, set) = self {
+            if let Some(first) = set.first() {
+                return Some(first.record_type());
+            }
+        }
+        let first = self.iter().next()?;
+        Some(first.rdata.record_type())
     }
 
     /// The records, in order, behind those of each set its signatures if they were asked for.

@@ -3,18 +3,18 @@ use Rattle.std.proofs.Common.{◌≡◌, refl, sym, ◌∙◌, subst}
 use Rattle.std.specs.Prelude.{Bool, true, false, not, ◌&&◌, List, [], ◌∷◌, Option, Some, None, cond, find}
 use Rattle.std.specs.List.{AllByRecursion}
 use Rattle.std.specs.declared.cmp.Ordering.TheVariants.{Less, Equal}
-use Rattle.zst_record.specs.dnw_codes.declared.record_type.RecordType.{RecordType}
-use Rattle.zst_record.specs.dnw_codes.DNSClass.{same_class}
-use Rattle.zst_record.specs.dnw_codes.RecordType.{same_record_type}
-use Rattle.zst_record.specs.dnw_name.DomainName.{DomainName, name_eq}
-use Rattle.zst_record.specs.drd_rdata.Order.{rdata_eq}
-use Rattle.zst_record.specs.drd_rdata.Types.{type_of}
-use Rattle.zst_record.specs.Records.{ReadsBackAlone}
-use Rattle.zst_record.specs.RecordSets.{RRset, put_record, set_with}
-use Rattle.zst_record.specs.declared.records.Record.{Record}
-use Rattle.zst_handler.specs.Zones.{AddsTo, AreInOrder, SetReadsBack, Zone, ZoneReadsBack, rrset_at}
-use Rattle.zst_zone.proofs.ZoneNodes.{is_set_at}
-use Rattle.zst_zone.proofs.ZoneOnce.{find_in, found_first, tied}
+use Rattle.zst_map.specs.dnw_codes.declared.record_type.RecordType.{RecordType}
+use Rattle.zst_map.specs.dnw_codes.DNSClass.{same_class}
+use Rattle.zst_map.specs.dnw_codes.RecordType.{same_record_type}
+use Rattle.zst_map.specs.dnw_name.DomainName.{DomainName, name_eq}
+use Rattle.zst_map.specs.drd_rdata.Order.{rdata_eq}
+use Rattle.zst_map.specs.drd_rdata.Types.{type_of}
+use Rattle.zst_map.specs.zst_record.Records.{ReadsBackAlone}
+use Rattle.zst_map.specs.zst_record.RecordSets.{RRset, first_of_put, put_record, set_with}
+use Rattle.zst_map.specs.zst_record.declared.records.Record.{Record}
+use Rattle.zst_map.specs.zst_handler.Zones.{AddsTo, AreInOrder, SetReadsBack, Zone, ZoneReadsBack, rrset_at}
+use Rattle.zst_map.proofs.ZoneNodes.{is_set_at}
+use Rattle.zst_map.proofs.ZoneOnce.{find_in, found_first, tied}
 
 -- ---- the sets of a list, each as it is found
 find_step : (P : RRset → Type 0) (b : Bool) (x s : RRset) (rest : Option RRset) → cond b (Some x) rest ≡ Some s → (b ≡ true → P x) → (rest ≡ Some s → P s) → P s
@@ -59,10 +59,25 @@ alone_or_put : (same : Bool) (rs : List Record) (r : Record) → AllByRecursion 
 alone_or_put true rs r all new = put_reads_back rs r all new
 alone_or_put false rs r all new = (new, tt)
 
+owner_put : (name : DomainName) (rs : List Record) (r : Record) → name.fqdn ≡ true → r.name.fqdn ≡ true → (first_of_put r.name name rs r).fqdn ≡ true
+owner_put name [] r old new = new
+owner_put name (s ∷ ss) r old new = by (rdata_eq s.rdata r.rdata)
+  where
+    by : (b : Bool) → (cond b r.name name).fqdn ≡ true
+    by true = new
+    by false = old
+
+owner_full : (same : Bool) (name : DomainName) (rs : List Record) (r : Record) → name.fqdn ≡ true → r.name.fqdn ≡ true → (cond (not same) r.name (first_of_put r.name name rs r)).fqdn ≡ true
+owner_full true name rs r old new = owner_put name rs r old new
+owner_full false name rs r old new = new
+
 with_reads_back : (o : Option RRset) (r : Record) → ((s : RRset) → o ≡ Some s → SetReadsBack s) → ReadsBackAlone r → SetReadsBack (set_with o r)
-with_reads_back None r old new = record { records = (new, tt); signatures = tt }
-with_reads_back (Some s) r old new =
-    record { records = alone_or_put (same_class r.dns_class s.dns_class) s.records r (old s refl).records new; signatures = tt }
+with_reads_back None r old new = record { owner = new.owner; records = (new, tt); signatures = tt }
+with_reads_back (Some s) r old new = record {
+  owner = owner_full (same_class r.dns_class s.dns_class) s.name s.records r (old s refl).owner new.owner;
+  records = alone_or_put (same_class r.dns_class s.dns_class) s.records r (old s refl).records new;
+  signatures = tt;
+}
 
 with_step : (b : Bool) (o : Option RRset) (r : Record) (s : RRset) → cond b (Some (set_with o r)) o ≡ Some s → ((u : RRset) → o ≡ Some u → SetReadsBack u) → ReadsBackAlone r → SetReadsBack s
 with_step true o r s e old new = let g : set_with o r ≡ s = cc in subst SetReadsBack g (with_reads_back o r old new)

@@ -1,33 +1,19 @@
 //! A zone kept in memory, and what it answers.
 
 ghost use Rattle.std.specs.Prelude.{◌≡◌, option_copied, IfOk, OnOk, OnErr};
-ghost use Rattle.zst_handler.specs.dnw_name.DomainName.{is_at_or_below, lowercase_name};
-ghost use Rattle.zst_handler.specs.Answers.{denial_error};
-ghost use Rattle.zst_handler.specs.Lookups.{denial};
-ghost use Rattle.zst_zone.specs.Lookups.{denied, outcome, stored_outcome};
-ghost use Rattle.zst_handler.specs.Zones.{rrset_at, empty_zone, AddsTo, AreInOrder};
+ghost use Rattle.zst_map.specs.dnw_name.DomainName.{is_at_or_below, lowercase_name};
+ghost use Rattle.zst_map.specs.zst_handler.Answers.{LookupAnswers, denial_error};
+ghost use Rattle.zst_map.specs.zst_handler.Lookups.{denial};
+ghost use Rattle.zst_map.specs.zst_handler.Zones.{rrset_at, empty_zone, AddsTo, AreInOrder};
 
-use crate::map::ZoneMap;
+use crate::lookup::lookup;
 use std::alloc::{AllocError, Global};
 use std::marker::{Model, PhantomData};
-use zst_handler::{
-    AxfrPolicy, LookupError, Name, NxProofKind, Record, RecordSet, RecordType, ResponseCode, RrKey,
-    ZoneSettings, ZoneType,
+use zst_map::{
+    AuthLookup, AxfrPolicy, LookupControlFlow, LookupError, LookupOptions, Name, NameKey,
+    NxProofKind, Record, RecordSet, RecordType, ResponseCode, RrKey, ZoneSets, ZoneSettings,
+    ZoneType,
 };
-use zst_key::NameKey;
-
-/// What a zone holds for a name and a type, or why there is nothing (RFC 2308 section 2).
-#[derive(Clone, Copy)]
-pub enum Lookup<'z> {
-    /// The set of that owner and type.
-    Answer(&'z RecordSet),
-    /// The name exists, without a set of the type.
-    NameExists,
-    /// The name is in the zone and does not exist.
-    NxDomain,
-    /// The name is outside the zone.
-    Refused,
-}
 
 /// A zone kept in memory. `K` is to sign it.
 #[derive(Drop)]
@@ -38,13 +24,13 @@ pub struct InMemoryZoneHandler<K> {
     zone_type: ZoneType,
     axfr_policy: AxfrPolicy,
     nx_proof_kind: Option<NxProofKind>,
-    sets: ZoneMap,
+    sets: ZoneSets,
     signer: PhantomData<K>,
 }
 
 impl<K> Model for InMemoryZoneHandler<K> {
-    ghost use Rattle.zst_handler.specs.Zones.{Zone};
-    ghost use Rattle.zst_zone.specs.ZoneMaps.{IsKept};
+    ghost use Rattle.zst_map.specs.zst_handler.Zones.{Zone};
+    ghost use Rattle.zst_zone.specs.Answering.{IsKept};
 
     ghost Value = { Zone };
 
@@ -69,7 +55,7 @@ impl<K> InMemoryZoneHandler<K> {
             zone_type: settings.zone_type,
             axfr_policy: settings.axfr_policy,
             nx_proof_kind: settings.nx_proof_kind,
-            sets: ZoneMap::new(alloc),
+            sets: ZoneSets::new(alloc),
             signer: PhantomData,
         })
     }
@@ -107,7 +93,7 @@ impl<K> InMemoryZoneHandler<K> {
     pub fn apex(&self, record_type: RecordType) -> Option<&RecordSet>
         ensures { option_copied result ≡ rrset_at self.now.sets self.now.origin record_type }
     {
-        self.sets.get_first(&self.origin_key, record_type)
+        self.sets.get(&self.origin_key, record_type)
     }
 
     /// Whether the name of a key is at or below the origin, whether or not they end at the root.
@@ -129,22 +115,53 @@ impl<K> InMemoryZoneHandler<K> {
     pub fn get_at(&self, key: &NameKey, record_type: RecordType) -> Option<&RecordSet>
         ensures { option_copied result ≡ rrset_at self.now.sets key.now record_type }
     {
-        self.sets.get_first(key, record_type)
+        self.sets.get(key, record_type)
     }
 
-    /// What the zone holds for a name and a type, or why there is nothing; it makes one key.
+    /// What the zone answers to a name and a type, or why it answers nothing (RFC 1034 section 4.3.2): the name servers of
+    /// a cut at or above the name; else the set of the name and the type, an alias and the sets to which it leads, or what
+    /// the nearest wildcard has. A question for any type is answered by all sets of the name. Beside name servers, mail
+    /// servers and services stand the addresses of the first one.
     pub fn lookup(
         &self,
         alloc: Global,
         name: &Name,
         record_type: RecordType,
-    ) -> Result<Lookup<'_>, AllocError>
-        ensures { IfOk result (λ found. outcome found ≡ stored_outcome self.now name.now record_type) }
+        options: LookupOptions,
+    ) -> Result<LookupControlFlow<AuthLookup<'_>>, AllocError>
+        ensures { IfOk result (λ flow. LookupAnswers self.now name.now record_type options flow) }
     {
         let key = NameKey::of(alloc, name)?;
-        match self.get_at(&key, record_type) {
-            Some(set) => Ok(Lookup::Answer(set)),
-            None => Ok(absence(self.denial(&key)?)),
+        self.lookup_at(alloc, name, &key, record_type, options)
+    }
+
+    /// What `lookup` answers to the zone's origin and a type. It makes no key for the origin.
+    pub fn lookup_origin(
+        &self,
+        alloc: Global,
+        record_type: RecordType,
+        options: LookupOptions,
+    ) -> Result<LookupControlFlow<AuthLookup<'_>>, AllocError>
+        ensures { IfOk result (λ flow. LookupAnswers self.now self.now.origin record_type options flow) }
+    {
+        self.lookup_at(alloc, &self.origin, &self.origin_key, record_type, options)
+    }
+
+    /// What `lookup` answers to a name, which has this key, and a type.
+    pub fn lookup_at(
+        &self,
+        alloc: Global,
+        name: &Name,
+        key: &NameKey,
+        record_type: RecordType,
+        options: LookupOptions,
+    ) -> Result<LookupControlFlow<AuthLookup<'_>>, AllocError>
+        requires { key.now ≡ lowercase_name name.now }
+        ensures { IfOk result (λ flow. LookupAnswers self.now name.now record_type options flow) }
+    {
+        match lookup(&self.sets, alloc, name, key, record_type, options)? {
+            Some(found) => Ok(LookupControlFlow::Continue(Ok(found))),
+            None => Ok(LookupControlFlow::Continue(Err(self.denial(key)?))),
         }
     }
 
@@ -180,16 +197,5 @@ impl<K> InMemoryZoneHandler<K> {
         ensures err { OnErr result (self.new ≡ self.old) }
     {
         self.sets.add(alloc, key, next)
-    }
-}
-
-// Why there is nothing.
-fn absence(denial: LookupError) -> Lookup<'static>
-    ensures { outcome result ≡ denied denial }
-{
-    match denial {
-        LookupError::NameExists => Lookup::NameExists,
-        LookupError::ResponseCode(ResponseCode::NXDomain) => Lookup::NxDomain,
-        _ => Lookup::Refused,
     }
 }

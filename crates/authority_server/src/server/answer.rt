@@ -1,54 +1,85 @@
 //! What a zone answers to a request (RFC 1034 section 4.3.2).
 
-ghost use Rattle.std.specs.Prelude.{◌≡◌, ◌+◌, ◌≤◌, true, [], length, Ok, IfOk, IfErr, IfSome, option_copied};
-ghost use Rattle.std.specs.List.{AllByRecursion};
+ghost use Rattle.std.specs.Prelude.{◌≡◌, ◌+◌, ◌≤◌, ◌++◌, [], length, Ok, Err, IfOk, IfErr, if◌then◌else◌};
 ghost use Rattle.zst_zone.specs.dnw_codes.ProtoError.{IsMemory};
 ghost use Rattle.zst_zone.specs.dnw_name.DomainName.{lowercase_name};
 ghost use Rattle.zst_zone.specs.dnw_codes.declared.record_type.RecordType.{RecordType};
-ghost use Rattle.zst_zone.specs.zst_handler.Zones.{SetReadsBack, ZoneReadsBack};
+ghost use Rattle.zst_zone.specs.zst_handler.Answers.{ShowsAnswer, Tells, answers_in};
+ghost use Rattle.zst_zone.specs.zst_handler.Lookups.{Answer, IsLookup, Outcome, answered};
+ghost use Rattle.zst_zone.specs.zst_handler.Zones.{ZoneReadsBack};
 ghost use Rattle.zsv_message.specs.Headers.{FitsHeader};
-ghost use Rattle.zsv_message.specs.zst_codes.ResponseCode.{response_code_of, response_code_number};
-ghost use Rattle.zsv_reply.specs.zst_record.Records.{ReadsBackAlone};
-ghost use Rattle.zsv_reply.specs.Replies.{bare_failure, IsReply};
+ghost use Rattle.zsv_reply.specs.Replies.{bare_failure};
 ghost use Rattle.zsv_reply.specs.Writing.{IsWritten};
 ghost use Rattle.zsv_message.specs.Requests.{IsRequest};
-ghost use Rattle.authority_server.specs.Lookups.{lookup_result};
-ghost use Rattle.authority_server.specs.Serving.{reply_metadata, error_parts, records_of, apex, beside_answer, outcome_parts, question_parts, query_parts, operation_parts, reply_parts};
-ghost use Rattle.authority_server.specs.Servers.{denied, parts_of, IsSound, IsKnown};
+ghost use Rattle.authority_server.specs.Serving.{reply_metadata, error_parts, AtOrigin, BesideAnswer, DeniedParts, OutcomeParts, QuestionParts, QueryParts, PartsOf, Answers, is_referral};
+ghost use Rattle.authority_server.specs.Servers.{parts_of, IsSound};
 
+use crate::server::sections::Authorities;
 use std::alloc::{AllocError, Global};
-use zst_zone::{InMemoryZoneHandler, LookupError, NameKey, ProtoError};
+use std::mem;
+use zst_zone::{
+    AuthLookup, InMemoryZoneHandler, LookupControlFlow, LookupError, LookupOptions,
+    LookupRecordsIter, NameKey, ProtoError,
+};
 use zsv_message::{MessageRequest, MessageType, Metadata, OpCode, Query, ResponseCode};
-use zsv_reply::{MessageResponse, Record, RecordSet, RecordType, encode_header};
+use zsv_reply::{MessageResponse, RecordType, encode_header};
+
+/// Questions without EDNS ask for no signatures.
+const WITHOUT_DNSSEC: LookupOptions = LookupOptions { dnssec_ok: false };
 
 // What a full reply holds; the zone lends its records.
-#[derive(Clone, Copy)]
+#[derive(Drop)]
 struct Response<'z> {
     metadata: Metadata,
-    answers: &'z [Record],
-    authorities: &'z [Record],
+    // What was found, and whether that is a referral, which stands as authority.
+    found: AuthLookup<'z>,
+    is_referral: bool,
+    // What stands as authority beside it, or where nothing was found.
+    beside: AuthLookup<'z>,
 }
 
 impl Response<'_> {
+    // The records that answer.
+    fn answers(&self) -> LookupRecordsIter<'_>
+        ensures { result ≡ (if self.now.is_referral then [] else answers_in self.now.found) }
+    {
+        if self.is_referral {
+            LookupRecordsIter::of_records(&[])
+        } else {
+            self.found.iter()
+        }
+    }
+
+    // The records of authority.
+    fn authorities(&self) -> Authorities<'_>
+        ensures { result ≡ (if self.now.is_referral then answers_in self.now.found else []) ++ answers_in self.now.beside }
+    {
+        let beside = self.beside.iter();
+        if self.is_referral {
+            Authorities::new(self.found.iter(), beside)
+        } else {
+            Authorities::new(LookupRecordsIter::of_records(&[]), beside)
+        }
+    }
+
     // The octets of the reply, of at most `limit`. Only memory may be wanting.
     fn encode(
-        self,
+        &self,
         alloc: Global,
         questions: u16,
         question_octets: &[u8],
         limit: u16,
     ) -> Result<Vec<u8>, ProtoError>
-        requires sound { IsSound self }
+        requires sound { IsSound (parts_of self.now) }
         requires room { 12 + length question_octets.now ≤ limit }
-        ensures written { IfOk result (λ reply. IsWritten reply.items (parts_of self.entry) questions question_octets.now limit) }
+        ensures written { IfOk result (λ reply. IsWritten reply.items (parts_of self.now) questions question_octets.now limit) }
         ensures cause { IfErr result IsMemory }
     {
-        let none: &[Record] = &[];
         let response = MessageResponse {
             metadata: self.metadata,
-            answers: self.answers.iter(),
-            authorities: self.authorities.iter(),
-            additionals: none.iter(),
+            answers: self.answers(),
+            authorities: self.authorities(),
+            additionals: self.found.additional_records(),
         };
         response.encode(alloc, questions, question_octets, limit)
     }
@@ -56,8 +87,7 @@ impl Response<'_> {
 
 // The header of a reply: it repeats the identifier, the operation, RD and CD.
 fn reply_header(request: Metadata, authoritative: bool, response_code: ResponseCode) -> Metadata
-    ensures value { result ≡ reply_metadata request authoritative response_code }
-    ensures fits { FitsHeader request → IsKnown response_code → FitsHeader result }
+    ensures { result ≡ reply_metadata request authoritative response_code }
 {
     Metadata {
         id: request.id,
@@ -75,139 +105,154 @@ fn reply_header(request: Metadata, authoritative: bool, response_code: ResponseC
 
 // A reply without records.
 fn error_response(request: Metadata, response_code: ResponseCode) -> Response<'static>
-    ensures value { parts_of result ≡ error_parts request response_code }
-    ensures sound { FitsHeader request → IsKnown response_code → IsSound result }
+    ensures { parts_of result ≡ error_parts request response_code }
 {
     Response {
         metadata: reply_header(request, false, response_code),
-        answers: &[],
-        authorities: &[],
+        found: AuthLookup::Empty,
+        is_referral: false,
+        beside: AuthLookup::Empty,
     }
 }
 
-// The records of a set that the zone stores, if there is one.
-fn records_in(set: Option<&RecordSet>) -> &[Record]
-    requires { IfSome (option_copied set) SetReadsBack }
-    ensures value { result.now ≡ records_of (option_copied set.entry) }
-    ensures alone { AllByRecursion ReadsBackAlone result.now }
+// What the zone answers at its origin to a type.
+fn at_origin<'z, K>(
+    zone: &'z InMemoryZoneHandler<K>,
+    alloc: Global,
+    record_type: RecordType,
+) -> Result<AuthLookup<'z>, AllocError>
+    ensures { IfOk result (λ found. AtOrigin zone.now record_type (answers_in found)) }
 {
-    match set {
-        Some(set) => set.as_slice(),
-        None => &[],
+    match zone.lookup_origin(alloc, record_type, WITHOUT_DNSSEC)? {
+        LookupControlFlow::Continue(Ok(found)) => Ok(found),
+        _ => Ok(AuthLookup::Empty),
     }
 }
 
 // With an answer for the zone's start come its name servers.
-fn beside<K>(zone: &InMemoryZoneHandler<K>, record_type: RecordType) -> &[Record]
-    requires { ZoneReadsBack zone.now }
-    ensures value { result.now ≡ beside_answer zone.now record_type }
-    ensures alone { AllByRecursion ReadsBackAlone result.now }
+fn beside_answer<'z, K>(
+    zone: &'z InMemoryZoneHandler<K>,
+    alloc: Global,
+    record_type: RecordType,
+) -> Result<AuthLookup<'z>, AllocError>
+    ensures { IfOk result (λ found. BesideAnswer zone.now record_type (answers_in found)) }
 {
     if record_type == RecordType::SOA {
-        records_in(zone.apex(RecordType::NS))
+        at_origin(zone, alloc, RecordType::NS)
     } else {
-        &[]
+        Ok(AuthLookup::Empty)
     }
+}
+
+// Whether what was found is a referral: name servers that weren't asked for.
+fn is_referral(record_type: RecordType, found: &AuthLookup<'_>) -> bool
+    ensures { result ≡ is_referral record_type (answers_in found.now) }
+{
+    found.first_type() == Some(RecordType::NS)
+        && !(record_type == RecordType::NS || record_type == RecordType::ANY)
+}
+
+// An answer: what was found, and the name servers beside the zone's start.
+fn answered_response<'z, K>(
+    zone: &'z InMemoryZoneHandler<K>,
+    alloc: Global,
+    request: Metadata,
+    record_type: RecordType,
+    found: AuthLookup<'z>,
+) -> Result<Response<'z>, AllocError>
+    ensures { (answer : Answer) → ShowsAnswer WITHOUT_DNSSEC answer found.entry
+        → IfOk result (λ r. OutcomeParts zone.now request record_type (answered answer) (parts_of r)) }
+{
+    let beside = beside_answer(zone, alloc, record_type)?;
+    Ok(Response {
+        metadata: reply_header(request, true, ResponseCode::NoError),
+        is_referral: is_referral(record_type, &found),
+        found,
+        beside,
+    })
 }
 
 // A denial: the zone's start.
-fn denial_response<K>(
-    zone: &InMemoryZoneHandler<K>,
+fn denial_response<'z, K>(
+    zone: &'z InMemoryZoneHandler<K>,
+    alloc: Global,
     request: Metadata,
     response_code: ResponseCode,
-) -> Response<'_>
-    requires { ZoneReadsBack zone.now }
-    ensures metadata { result.metadata ≡ reply_metadata request true response_code }
-    ensures answers { result.answers.now ≡ [] }
-    ensures authorities { result.authorities.now ≡ apex zone.now RecordType.SOA }
-    ensures sound { FitsHeader request → IsKnown response_code → IsSound result }
+) -> Result<Response<'z>, AllocError>
+    ensures { IfOk result (λ r. DeniedParts zone.now request response_code (parts_of r)) }
 {
-    Response {
+    let beside = at_origin(zone, alloc, RecordType::SOA)?;
+    Ok(Response {
         metadata: reply_header(request, true, response_code),
-        answers: &[],
-        authorities: records_in(zone.apex(RecordType::SOA)),
-    }
+        found: AuthLookup::Empty,
+        is_referral: false,
+        beside,
+    })
 }
 
-// Why there is no set: the zone's start, with or without a name error; or that the name is outside the zone.
+// Why nothing was found: the zone's start, with or without a name error; or that the name is outside the zone.
 fn denied_response<'z, K>(
     zone: &'z InMemoryZoneHandler<K>,
+    alloc: Global,
     request: Metadata,
     why: &LookupError,
-) -> Response<'z>
-    requires { ZoneReadsBack zone.now }
-    ensures value { (record_type : RecordType) → parts_of result ≡ outcome_parts zone.now request record_type (denied why.now) }
-    ensures sound { FitsHeader request → IsSound result }
+) -> Result<Response<'z>, AllocError>
+    ensures { (denied : Outcome) (record_type : RecordType) → Tells WITHOUT_DNSSEC denied (LookupControlFlow.Continue (Err why.now))
+        → IfOk result (λ r. OutcomeParts zone.now request record_type denied (parts_of r)) }
 {
     match why {
-        LookupError::NameExists => denial_response(zone, request, ResponseCode::NoError),
+        LookupError::NameExists => denial_response(zone, alloc, request, ResponseCode::NoError),
         LookupError::ResponseCode(ResponseCode::NXDomain) => {
-            denial_response(zone, request, ResponseCode::NXDomain)
+            denial_response(zone, alloc, request, ResponseCode::NXDomain)
         }
-        _ => Response {
+        _ => Ok(Response {
             metadata: reply_header(request, true, ResponseCode::Refused),
-            answers: &[],
-            authorities: &[],
-        },
+            found: AuthLookup::Empty,
+            is_referral: false,
+            beside: AuthLookup::Empty,
+        }),
     }
 }
 
-// The zone's own answer: the records of the set of the type, or why there is none.
+// The zone's own answer: what is found for the question, whose name has this key, or why there is nothing.
 fn outcome_response<'z, K>(
     zone: &'z InMemoryZoneHandler<K>,
-    request: Metadata,
-    key: &NameKey,
-    record_type: RecordType,
-) -> Result<Response<'z>, AllocError>
-    requires { ZoneReadsBack zone.now }
-    ensures value { IfOk result (λ r. parts_of r ≡ outcome_parts zone.now request record_type (lookup_result zone.now key.now record_type)) }
-    ensures sound { FitsHeader request → IfOk result IsSound }
-{
-    if let Some(set) = zone.get_at(key, record_type) {
-        return Ok(Response {
-            metadata: reply_header(request, true, ResponseCode::NoError),
-            answers: set.as_slice(),
-            authorities: beside(zone, record_type),
-        });
-    }
-    let why = zone.denial(key)?;
-    Ok(denied_response(zone, request, &why))
-}
-
-// One question, whose name has this key: refused outside the zone; transfers are not served.
-fn keyed_response<'z, K>(
-    zone: &'z InMemoryZoneHandler<K>,
+    alloc: Global,
     request: Metadata,
     key: &NameKey,
     question: &Query,
 ) -> Result<Response<'z>, AllocError>
-    requires back { ZoneReadsBack zone.now }
-    requires keyed { key.now ≡ lowercase_name question.now.name }
-    ensures value { IfOk result (λ r. parts_of r ≡ question_parts zone.now request question.now) }
-    ensures sound { FitsHeader request → IfOk result IsSound }
+    requires { key.now ≡ lowercase_name question.now.name }
+    ensures { IfOk result (λ r. (outcome : Outcome) × IsLookup zone.now question.now.name question.now.query_type outcome
+        × OutcomeParts zone.now request question.now.query_type outcome (parts_of r)) }
 {
-    if !zone.is_in_zone(key) {
-        return Ok(error_response(request, ResponseCode::Refused));
+    let record_type = question.query_type;
+    match zone.lookup_at(alloc, &question.name, key, record_type, WITHOUT_DNSSEC)? {
+        LookupControlFlow::Continue(Ok(found)) => {
+            answered_response(zone, alloc, request, record_type, found)
+        }
+        LookupControlFlow::Continue(Err(why)) => denied_response(zone, alloc, request, &why),
+        _ => Ok(error_response(request, ResponseCode::ServFail)),
     }
-    if question.query_type == RecordType::AXFR {
-        return Ok(error_response(request, ResponseCode::ServFail));
-    }
-    outcome_response(zone, request, key, question.query_type)
 }
 
-// One question, with one key for its name.
+// One question: refused outside the zone; transfers are not served. It makes one key for the name.
 fn question_response<'z, K>(
     zone: &'z InMemoryZoneHandler<K>,
     alloc: Global,
     request: Metadata,
     question: &Query,
 ) -> Result<Response<'z>, AllocError>
-    requires { ZoneReadsBack zone.now }
-    ensures value { IfOk result (λ r. parts_of r ≡ question_parts zone.now request question.now) }
-    ensures sound { FitsHeader request → IfOk result IsSound }
+    ensures { IfOk result (λ r. QuestionParts zone.now request question.now (parts_of r)) }
 {
     let key = NameKey::of(alloc, &question.name)?;
-    keyed_response(zone, request, &key, question)
+    if !zone.is_in_zone(&key) {
+        return Ok(error_response(request, ResponseCode::Refused));
+    }
+    if question.query_type == RecordType::AXFR {
+        return Ok(error_response(request, ResponseCode::ServFail));
+    }
+    outcome_response(zone, alloc, request, &key, question)
 }
 
 // A query asks one question.
@@ -216,9 +261,7 @@ fn query_response<'z, K>(
     alloc: Global,
     request: &MessageRequest<'_>,
 ) -> Result<Response<'z>, AllocError>
-    requires { ZoneReadsBack zone.now }
-    ensures value { IfOk result (λ r. parts_of r ≡ query_parts zone.now request.now.metadata request.now.questions) }
-    ensures sound { FitsHeader request.now.metadata → IfOk result IsSound }
+    ensures { IfOk result (λ r. QueryParts zone.now request.now.metadata request.now.questions (parts_of r)) }
 {
     match request.questions() {
         [question] => question_response(zone, alloc, request.metadata(), question),
@@ -232,9 +275,7 @@ fn response_to<'z, K>(
     alloc: Global,
     request: &MessageRequest<'_>,
 ) -> Result<Response<'z>, AllocError>
-    requires { ZoneReadsBack zone.now }
-    ensures value { IfOk result (λ r. parts_of r ≡ reply_parts zone.now request.now) }
-    ensures sound { FitsHeader request.now.metadata → IfOk result IsSound }
+    ensures { IfOk result (λ r. PartsOf zone.now request.now (parts_of r)) }
 {
     let metadata = request.metadata();
     match (metadata.message_type, metadata.op_code) {
@@ -286,7 +327,7 @@ pub fn reply_to<K>(
     requires back { ZoneReadsBack zone.now }
     requires message { IsRequest message.now request.now }
     requires lower { 12 ≤ limit }
-    ensures { IfOk result (λ reply. IsReply message.now reply.items (reply_parts zone.now request.now) request.now limit) }
+    ensures { IfOk result (λ reply. Answers zone.now message.now request.now reply.items limit) }
 {
     let question_octets = request.question_octets();
     let room = usize::from(limit - 12);
@@ -300,5 +341,6 @@ pub fn reply_to<K>(
         question_octets,
         limit,
     );
+    mem::drop(response);
     or_memory(encoded)
 }

@@ -1,24 +1,15 @@
-use Rattle.std.proofs.Common.{◌≡◌, ◌∙◌, refl, sym, ap, arith}
-use Rattle.zst_zone.specs.zst_handler.Zones.{SetReadsBack}
-use Rattle.zst_zone.proofs.ReadBack.{found_of}
-use Rattle.authority_server.specs.Lookups.{Outcome, lookup_from, lookup_result}
-use Rattle.authority_server.specs.Serving.{outcome_parts}
-use Rattle.authority_server.specs.Servers.{denied}
-use Rattle.authority_server.proofs.Found.{denial_told}
+use Rattle.std.proofs.Common.{◌∙◌, false, Result, ap, subst}
+use Rattle.std.proofs.lemmas.Result.{IfOk-weaker}
+use Rattle.zst_zone.specs.zst_codes.declared.lookup_control_flow.LookupControlFlow.{LookupControlFlow}
+use Rattle.zst_zone.specs.zst_codes.declared.lookup_control_flow.LookupControlFlow.TheVariants.{Continue}
+use Rattle.zst_zone.specs.zst_codes.declared.lookup_error.LookupError.{LookupError}
+use Rattle.zst_zone.specs.zst_handler.declared.auth_lookup.AuthLookup.{AuthLookup}
+use Rattle.zst_zone.specs.zst_handler.Answers.{Tells}
 use Rattle.authority_server.proofs.server.answer.outcome_response.Goals as goal
 
-pub returns-in-Some-clause-sound : goal.returns-in-Some-clause-sound
-returns-in-Some-clause-sound g c =
-    let back = found_of SetReadsBack c.args.key.now c.args.record_type c.args.zone.now.sets c.in-Some.set.now c.requires (sym c.in-Some.ensures) in
-    λ fits. record {
-      metadata = c.reply_header.ensures.fits fits (record { back = refl; small = omega arith });
-      answers = rw c.as_slice.ensures.value back.records;
-      authorities = c.beside.ensures.alone;
-    }
-
-pub returns-clause-value : goal.returns-clause-value
-returns-clause-value g c =
-    let why : denied c.in_ok-why.why ≡ lookup_result c.args.zone.now c.args.key.now c.args.record_type
-    = ap denied c.in_ok-why.ensures ∙ denial_told c.args.zone.now c.args.key.now ∙ ap (lookup_from c.args.zone.now c.args.key.now) c.in_default.ensures in
-    c.denied_response.ensures.value c.args.record_type
-    ∙ ap (λ (o : Outcome). outcome_parts c.args.zone.now c.args.request c.args.record_type o) why
+pub returns-in-Continue-Err : goal.returns-in-Continue-Err
+returns-in-Continue-Err g c =
+    let answers = c.in_ok-found.ensures in
+    let is = c.in-Continue-Err.is ∙ ap (λ (r : Result AuthLookup LookupError). Continue r) c.in-Continue-Err.field-0-is in
+    let told = subst (λ (flow : LookupControlFlow AuthLookup LookupError). Tells (record { dnssec_ok = false }) answers.outcome flow) is answers.told in
+    IfOk-weaker c.denied_response.result _ _ (λ r shown. (answers.outcome, answers.is, shown)) (c.denied_response.ensures answers.outcome c.args.question.now.query_type told)

@@ -1,0 +1,114 @@
+-- What a full reply holds in a zone whose sets read back can be written and read back.
+use Rattle.std.proofs.Common.{◌≡◌, refl, subst, sym, arith}
+use Rattle.std.specs.Prelude.{◌<◌, Bool, true, false, List, [], ◌∷◌}
+use Rattle.std.specs.List.{AllByRecursion}
+use Rattle.zst_zone.specs.dnw_codes.declared.record_type.RecordType.{RecordType}
+use Rattle.zst_zone.specs.dnw_codes.declared.record_type.RecordType.TheVariants as types
+use Rattle.zst_zone.specs.dnw_codes.RecordType.{same_record_type}
+use Rattle.zst_zone.specs.dnw_name.DomainName.{is_at_or_below}
+use Rattle.zst_zone.specs.zst_handler.Lookups.{Outcome, answered, name_error, name_exists, out_of_zone}
+use Rattle.zst_zone.specs.zst_handler.Zones.{Zone, ZoneReadsBack}
+use Rattle.zsv_message.specs.Headers.{FitsHeader}
+use Rattle.zsv_message.specs.Requests.{Request}
+use Rattle.zsv_message.specs.declared.header.Metadata.{Metadata}
+use Rattle.zsv_message.specs.declared.header.MessageType.{MessageType}
+use Rattle.zsv_message.specs.declared.header.MessageType.TheVariants as messages
+use Rattle.zsv_message.specs.declared.header.OpCode.{OpCode}
+use Rattle.zsv_message.specs.declared.header.OpCode.TheVariants as operations
+use Rattle.zsv_message.specs.declared.request.Query.{Query}
+use Rattle.zsv_message.specs.zst_codes.ResponseCode.{response_code_of, response_code_number}
+use Rattle.zsv_message.specs.zst_codes.declared.response_code.ResponseCode.{ResponseCode}
+use Rattle.zsv_message.specs.zst_codes.declared.response_code.ResponseCode.TheVariants as responses
+use Rattle.zsv_reply.specs.Replies.{ReplyParts}
+use Rattle.zsv_reply.specs.zst_record.Records.{ReadsBackAlone}
+use Rattle.zsv_reply.specs.zst_record.declared.records.Record.{Record}
+use Rattle.authority_server.specs.Servers.{IsSound}
+use Rattle.authority_server.specs.Serving.{AtOrigin, BesideAnswer, DeniedParts, OperationParts, OutcomeParts, PartsOf, QueryParts, QuestionParts, RequestParts, answer_records, error_parts, is_referral, parts_with, records_of, reply_metadata}
+use Rattle.authority_server.proofs.ShownBack.{OutcomeReadsBack, append_back, lookup_back, sets_shown_back}
+
+-- A response code with a name of its own in four bits.
+record IsKnown (code : ResponseCode) : Type 0 where
+  back : response_code_of (response_code_number code) ≡ code
+  small : response_code_number code < 16
+
+fits_reply : (m : Metadata) (authoritative : Bool) (code : ResponseCode) → FitsHeader m → IsKnown code → FitsHeader (reply_metadata m authoritative code)
+fits_reply m authoritative code fits known = record {
+  op_code = fits.op_code;
+  small_op_code = fits.small_op_code;
+  response_code = known.back;
+  small_response_code = known.small;
+}
+
+-- ---- parts of records that read back
+error_sound : (m : Metadata) (code : ResponseCode) (parts : ReplyParts) → FitsHeader m → IsKnown code → parts ≡ error_parts m code → IsSound parts
+error_sound m code parts fits known is =
+    subst IsSound (sym is) (record { metadata = fits_reply m false code fits known; reads_back = record { answers = tt; authorities = tt; additionals = tt } })
+
+with_sound : (m : Metadata) (referral : Bool) (records additionals beside : List Record) → FitsHeader m → AllByRecursion ReadsBackAlone records → AllByRecursion ReadsBackAlone additionals → AllByRecursion ReadsBackAlone beside
+    → IsSound (parts_with m referral records additionals beside)
+with_sound m true records additionals beside fits first more later =
+    record { metadata = fits; reads_back = record { answers = tt; authorities = append_back records beside first later; additionals = more } }
+with_sound m false records additionals beside fits first more later =
+    record { metadata = fits; reads_back = record { answers = first; authorities = later; additionals = more } }
+
+-- ---- the zone's own answers
+records_back : (outcome : Outcome) → OutcomeReadsBack outcome → AllByRecursion ReadsBackAlone (answer_records outcome)
+records_back (answered answer) back = sets_shown_back false answer.answers back.answers
+records_back name_exists back = tt
+records_back name_error back = tt
+records_back out_of_zone back = tt
+
+origin_back : (zone : Zone) (t : RecordType) (records : List Record) → ZoneReadsBack zone → AtOrigin zone t records → AllByRecursion ReadsBackAlone records
+origin_back zone t records back (outcome, is, shown) =
+    subst (AllByRecursion ReadsBackAlone) (sym shown) (records_back outcome (lookup_back zone zone.origin t outcome back is))
+
+beside_back : (zone : Zone) (t : RecordType) (beside : List Record) → ZoneReadsBack zone → BesideAnswer zone t beside → AllByRecursion ReadsBackAlone beside
+beside_back zone t beside back (start, other) = by (same_record_type t types.SOA) refl
+  where
+    by : (b : Bool) → same_record_type t types.SOA ≡ b → AllByRecursion ReadsBackAlone beside
+    by true e = origin_back zone types.NS beside back (start e)
+    by false e = subst (AllByRecursion ReadsBackAlone) (sym (other e)) tt
+
+denied_sound : (zone : Zone) (m : Metadata) (code : ResponseCode) (parts : ReplyParts) → ZoneReadsBack zone → FitsHeader m → IsKnown code → DeniedParts zone m code parts → IsSound parts
+denied_sound zone m code parts back fits known (start, at, is) =
+    subst IsSound (sym is) (with_sound (reply_metadata m true code) false [] [] start (fits_reply m true code fits known) tt tt (origin_back zone types.SOA start back at))
+
+outcome_sound : (zone : Zone) (m : Metadata) (t : RecordType) (outcome : Outcome) (parts : ReplyParts) → ZoneReadsBack zone → FitsHeader m → OutcomeReadsBack outcome → OutcomeParts zone m t outcome parts → IsSound parts
+outcome_sound zone m t (answered answer) parts back fits shown (beside, at, is) =
+    subst IsSound (sym is) (with_sound (reply_metadata m true responses.NoError) (is_referral t (records_of answer.answers)) (records_of answer.answers) (records_of answer.additionals) beside
+    (fits_reply m true responses.NoError fits (record { back = refl; small = omega arith })) (sets_shown_back false answer.answers shown.answers) (sets_shown_back false answer.additionals shown.additionals)
+    (beside_back zone t beside back at))
+outcome_sound zone m t name_exists parts back fits shown is = denied_sound zone m responses.NoError parts back fits (record { back = refl; small = omega arith }) is
+outcome_sound zone m t name_error parts back fits shown is = denied_sound zone m responses.NXDomain parts back fits (record { back = refl; small = omega arith }) is
+outcome_sound zone m t out_of_zone parts back fits shown is =
+    subst IsSound (sym is) (with_sound (reply_metadata m true responses.Refused) false [] [] [] (fits_reply m true responses.Refused fits (record { back = refl; small = omega arith })) tt tt tt)
+
+-- ---- questions and requests
+question_sound : (zone : Zone) (m : Metadata) (q : Query) (parts : ReplyParts) → ZoneReadsBack zone → FitsHeader m → QuestionParts zone m q parts → IsSound parts
+question_sound zone m q parts back fits is = by (is_at_or_below q.name zone.origin) refl
+  where
+    inside : (b : Bool) → is_at_or_below q.name zone.origin ≡ true → same_record_type q.query_type types.AXFR ≡ b → IsSound parts
+    inside true here e = error_sound m responses.ServFail parts fits (record { back = refl; small = omega arith }) (is.transfer here e)
+    inside false here e =
+        let (outcome, found, shown) = is.looked_up here e in
+        outcome_sound zone m q.query_type outcome parts back fits (lookup_back zone q.name q.query_type outcome back found) shown
+
+    by : (b : Bool) → is_at_or_below q.name zone.origin ≡ b → IsSound parts
+    by false e = error_sound m responses.Refused parts fits (record { back = refl; small = omega arith }) (is.outside e)
+    by true e = inside (same_record_type q.query_type types.AXFR) e refl
+
+query_sound : (zone : Zone) (m : Metadata) (qs : List Query) (parts : ReplyParts) → ZoneReadsBack zone → FitsHeader m → QueryParts zone m qs parts → IsSound parts
+query_sound zone m [] parts back fits is = error_sound m responses.FormErr parts fits (record { back = refl; small = omega arith }) is
+query_sound zone m (q ∷ []) parts back fits is = question_sound zone m q parts back fits is
+query_sound zone m (q ∷ r ∷ qs) parts back fits is = error_sound m responses.FormErr parts fits (record { back = refl; small = omega arith }) is
+
+operation_sound : (zone : Zone) (m : Metadata) (operation : OpCode) (qs : List Query) (parts : ReplyParts) → ZoneReadsBack zone → FitsHeader m → OperationParts zone m operation qs parts → IsSound parts
+operation_sound zone m operations.Query qs parts back fits is = query_sound zone m qs parts back fits is
+operation_sound zone m other qs parts back fits is = error_sound m responses.NotImp parts fits (record { back = refl; small = omega arith }) is
+
+request_sound : (zone : Zone) (request : Request) (kind : MessageType) (parts : ReplyParts) → ZoneReadsBack zone → FitsHeader request.metadata → RequestParts zone request kind parts → IsSound parts
+request_sound zone request messages.Response parts back fits is = error_sound request.metadata responses.FormErr parts fits (record { back = refl; small = omega arith }) is
+request_sound zone request messages.Query parts back fits is = operation_sound zone request.metadata request.metadata.op_code request.questions parts back fits is
+
+pub parts_sound : (zone : Zone) (request : Request) (parts : ReplyParts) → ZoneReadsBack zone → FitsHeader request.metadata → PartsOf zone request parts → IsSound parts
+parts_sound zone request parts back fits is = request_sound zone request request.metadata.message_type parts back fits is

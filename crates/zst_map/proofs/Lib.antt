@@ -1,0 +1,16 @@
+pub mod Indexed
+pub mod Keys
+pub mod NamedSets
+pub mod Names
+pub mod NearestOf
+pub mod Searched
+pub mod Stars
+pub mod ZoneEntries
+pub mod ZoneMapsBy
+pub mod ZoneNodes
+pub mod ZoneOnce
+pub mod ZoneOrder
+pub mod NodeSets
+pub use Rattle.zst_record.proofs.dnw_name_lemmas
+pub use Rattle.zst_record.proofs.drd_words_lemmas
+pub use Rattle.zst_record.proofs.drd_rdata_lemmas

@@ -1,0 +1,68 @@
+-- What the map's own calls say of a zone.
+use Rattle.std.proofs.Common.{◌≡◌, ◌∙◌, sym, ap, subst, Vec, Global}
+use Rattle.std.specs.Prelude.{Bool, true, List, [], ◌&&◌, Option}
+use Rattle.std.specs.Bool.{beq}
+use Rattle.std.specs.List.{filter}
+use Rattle.std.specs.List.Sorted.{IsStrictlySortedBy}
+use Rattle.std.specs.Map.{keys_of, lookup}
+use Rattle.std.specs.BTreeMap.{insert_entry, is_at}
+use Rattle.std.specs.Ordering.{is_le}
+use Rattle.std.specs.declared.cmp.Ordering.{Ordering}
+use Rattle.zst_record.specs.dnw_name.DomainName.{DomainName, is_at_or_below, name_cmp}
+use Rattle.zst_key.specs.NameKeys.{name_key}
+use Rattle.zst_key.specs.declared.key.NameKey.{NameKey}
+use Rattle.zst_key.proofs.KeyLemmas.{key-below}
+use Rattle.zst_key.proofs.KeyOrder.{keys-order}
+use Rattle.zst_record.specs.RecordSets.{RRset}
+use Rattle.zst_handler.specs.Lookups.{sets_of_name}
+use Rattle.zst_map.specs.ZoneMaps.{IsZone, exists_alike, sets_of}
+use Rattle.zst_map.proofs.Keys.{begins, begins-starts_with}
+use Rattle.zst_map.proofs.ZoneEntries.{at_key, key_cmp, node_sets}
+use Rattle.zst_map.proofs.NamedSets.{named_in}
+use Rattle.zst_map.proofs.ZoneNodes.{exists_from, first_begins, from_key}
+
+abbrev pub Node : Type 0
+Node = Vec RRset Global
+
+abbrev pub sets : Node → List RRset
+sets node = node.items
+
+abbrev pub Entries : Type 0
+Entries = List (NameKey × Node)
+
+-- No entries are a zone's.
+pub none_kept : IsZone name_key sets []
+unfolding IsStrictlySortedBy
+none_kept = record { nodes = tt; ordered = tt }
+
+-- The order of names is that of their keys.
+pub looked_by_key : (key : DomainName) (entries : Entries) → lookup (is_at (name_cmp key)) entries ≡ lookup (at_key name_key sets (name_key key)) entries
+looked_by_key key entries = ap (λ (R : DomainName → DomainName → Ordering). lookup (is_at (R key)) entries) (sym keys-order)
+
+pub from_by_key : (key : DomainName) (entries : Entries) → filter (λ (e : NameKey × Node). is_le (name_cmp key e.0) && true) entries ≡ from_key name_key sets (name_key key) entries
+from_by_key key entries = ap (λ (R : DomainName → DomainName → Ordering). filter (λ (e : NameKey × Node). is_le (R key e.0) && true) entries) (sym keys-order)
+
+pub inserted_by_key : (key : NameKey) (node : Node) (entries : Entries) → insert_entry name_cmp entries key node ≡ insert_entry (key_cmp name_key sets) entries key node
+inserted_by_key key node entries = ap (λ (R : DomainName → DomainName → Ordering). insert_entry R entries key node) (sym keys-order)
+
+pub sorted_by_key : (entries : Entries) → IsStrictlySortedBy name_cmp (keys_of entries) → IsStrictlySortedBy (key_cmp name_key sets) (keys_of entries)
+sorted_by_key entries = subst (λ (R : DomainName → DomainName → Ordering). IsStrictlySortedBy R (keys_of entries)) (sym keys-order)
+
+pub named_by : (entries : Entries) (zone : List RRset) (key : DomainName) (found : Option Node)
+    → IsZone name_key sets entries → sets_of name_key sets entries ≡ zone → found ≡ lookup (is_at (name_cmp key)) entries
+    → node_sets name_key sets found ≡ sets_of_name zone key
+named_by entries zone key found is view e =
+    ap (node_sets name_key sets) (e ∙ looked_by_key key entries)
+    ∙ sym (named_in name_key sets key entries is.nodes is.ordered)
+    ∙ ap (λ (z : List RRset). sets_of_name z key) view
+
+pub exists_by : (entries : Entries) (zone : List RRset) (key : DomainName) (result : Bool)
+    → IsZone name_key sets entries → sets_of name_key sets entries ≡ zone → result ≡ first_begins name_key sets (name_key key) (from_key name_key sets (name_key key) entries)
+    → result ≡ exists_alike zone key
+exists_by entries zone key result is view e =
+    e ∙ sym (exists_from name_key sets key entries is.nodes is.ordered)
+    ∙ ap (λ (z : List RRset). exists_alike z key) view
+
+-- The test of the code, as the key's octets say it.
+pub begins_by : (key owner : DomainName) (b : Bool) → b ≡ (beq owner.fqdn key.fqdn && is_at_or_below owner key) → begins (name_key key) (name_key owner) ≡ b
+begins_by key owner b e = begins-starts_with (name_key key) (name_key owner) ∙ key-below owner key ∙ sym e

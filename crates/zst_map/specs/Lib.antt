@@ -1,0 +1,12 @@
+pub mod Indexes
+pub mod Searches
+pub mod ZoneMaps
+pub use Rattle.zst_handler.specs.dnw_codes
+pub use Rattle.zst_handler.specs.dnw_name
+pub use Rattle.zst_handler.specs.drd_names
+pub use Rattle.zst_handler.specs.drd_rdata
+pub use Rattle.zst_handler.specs.drd_words
+pub use Rattle.zst_handler.specs.zst_codes
+pub mod zst_handler
+pub mod zst_key
+pub mod zst_record

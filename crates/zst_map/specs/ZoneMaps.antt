@@ -1,0 +1,64 @@
+-- How a zone's sets stand in its map: under each owner's key, the owner's sets by rising type.
+use Rattle.std.specs.Prelude.{◌≡◌, ℕ, ◌+◌, ◌<◌, ◌&&◌, Bool, List, [], ◌∷◌, length, if◌then◌else◌, nat_lt, ◌==◌, None, Some, Result, Ok, Err}
+use Rattle.std.specs.Bool.{beq}
+use Rattle.std.specs.List.{AllByRecursion, flat_map, list_any}
+use Rattle.std.specs.List.Sorted.{IsStrictlySortedBy}
+use Rattle.std.specs.Ordering.{nat_cmp}
+use Rattle.std.specs.Cmp.Lexicographic.{slice_cmp}
+use Rattle.std.specs.Map.{keys_of}
+use Rattle.zst_record.specs.dnw_name.DomainName.{DomainName, is_at_or_below}
+use Rattle.zst_record.specs.dnw_codes.RecordType.{record_type_number, same_record_type}
+use Rattle.zst_key.specs.NameKeys.{name_key}
+use Rattle.zst_record.specs.declared.records.Record.{Record}
+use Rattle.zst_record.specs.drd_rdata.Types.{type_of}
+use Rattle.zst_record.specs.RecordSets.{RRset, set_with}
+
+-- The set's owner has this key.
+pub record IsOwnedAt (key : List ℕ) (set : RRset) : Type 0 where
+  pub owner : name_key set.name ≡ key
+
+-- Whether an owner equals a name or lies below it, where both end at the root or neither does.
+abbrev pub exists_alike : List RRset → DomainName → Bool
+exists_alike sets name =
+    list_any (λ set. beq set.name.fqdn name.fqdn && is_at_or_below set.name name) sets
+
+-- Each type is above those before it.
+abbrev pub TypesRise : List RRset → Type 0
+TypesRise [] = Unit {0}
+TypesRise (set ∷ sets) =
+    AllByRecursion
+    (λ later. record_type_number set.record_type < record_type_number later.record_type) sets
+    × TypesRise sets
+
+-- What stands under a key: at least one set, the sets of the owner of that key, by rising type.
+pub record IsNode (key : List ℕ) (sets : List RRset) : Type 0 where
+  pub filled : 0 < length sets
+  pub owned : AllByRecursion (IsOwnedAt key) sets
+  pub rise : TypesRise sets
+
+-- The sets of one owner with one record more.
+abbrev pub with_record : List RRset → Record → List RRset
+with_record [] r = set_with None r ∷ []
+with_record (set ∷ sets) r =
+    if nat_lt (record_type_number set.record_type) (record_type_number (type_of r.rdata)) then set
+    ∷ with_record sets r
+    else if same_record_type set.record_type (type_of r.rdata) then set_with (Some set) r ∷ sets
+    else set_with None r ∷ set ∷ sets
+
+-- The place of the set of a type (Ok), or where it would go (Err), in sets that start at a place.
+abbrev pub place_from : ℕ → List RRset → ℕ → Result ℕ ℕ
+place_from i [] code = Err i
+place_from i (set ∷ sets) code =
+    if nat_lt (record_type_number set.record_type) code then place_from (i + 1) sets code
+    else if record_type_number set.record_type == code then Ok i else Err i
+
+module _ {K V : Type 0} (octets : K → List ℕ) (sets : V → List RRset) where
+  -- The zone's sets, by owner, then by type.
+  abbrev pub sets_of : List (K × V) → List RRset
+  sets_of entries = flat_map (λ entry. sets entry.1) entries
+
+  -- Each entry is a node, and the keys rise.
+  pub record IsZone (entries : List (K × V)) : Type 0 where
+    pub nodes : AllByRecursion (λ entry. IsNode (octets entry.0) (sets entry.1)) entries
+    pub ordered : IsStrictlySortedBy (λ a b. slice_cmp nat_cmp (octets a) (octets b))
+        (keys_of entries)

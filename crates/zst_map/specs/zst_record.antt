@@ -1,0 +1,3 @@
+pub use Rattle.zst_record.specs.Records
+pub use Rattle.zst_record.specs.declared
+pub use Rattle.zst_record.specs.RecordSets

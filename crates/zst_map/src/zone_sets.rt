@@ -1,0 +1,270 @@
+//! The sets of a zone, with the names at which a search for cuts and wildcards looks.
+
+ghost use Rattle.std.specs.Prelude.{◌≡◌, [], true, IfOk, OnOk, OnErr, IsSome, is_some, option_copied, option_map};
+ghost use Rattle.std.specs.BTreeMap.{get};
+ghost use Rattle.zst_key.specs.Ancestors.{nearest_in};
+ghost use Rattle.zst_record.specs.dnw_codes.RecordType.{same_record_type};
+ghost use Rattle.zst_record.specs.dnw_codes.declared.record_type.RecordType.TheVariants as kind;
+ghost use Rattle.zst_record.specs.drd_rdata.Types.{type_of};
+ghost use Rattle.zst_record.specs.dnw_name.DomainName.{DomainName, lowercase_name, name_cmp};
+ghost use Rattle.zst_handler.specs.Answers.{set_in};
+ghost use Rattle.zst_handler.specs.Found.{above, delegation, found};
+ghost use Rattle.zst_handler.specs.Lookups.{sets_of_name};
+ghost use Rattle.zst_handler.specs.Zones.{Adds, AreInOrder, exists_in, rrset_at};
+ghost use Rattle.zst_map.specs.Searches.{lent, looked_for, match_set, sought_in};
+
+use crate::index::Index;
+use crate::map::ZoneMap;
+use crate::node::{cut_of, find_set, here};
+use std::alloc::{AllocError, Global};
+use std::collections::BTreeMap;
+use std::marker::Model;
+use std::mem;
+use zst_handler::{AnswerSet, Name, Record, RecordSet, RecordType};
+use zst_key::{NameKey, nearest};
+
+/// The set that answers a name and a type.
+#[derive(Clone, Copy)]
+pub struct Match<'z> {
+    /// The set, under its own name.
+    pub set: &'z RecordSet,
+    /// Whether it is a wildcard's, to be had under the name asked for (RFC 4592 section 3.3.1).
+    pub is_wildcard: bool,
+}
+
+impl<'z> Match<'z> {
+    /// The set as it answers the name asked for: a wildcard's stands under that name in lower case.
+    pub fn answer(self, alloc: Global, name: &Name) -> Result<AnswerSet<'z>, AllocError>
+        ensures { IfOk result (λ answer. set_in answer ≡ match_set name.now self.entry) }
+    {
+        if !self.is_wildcard {
+            return Ok(AnswerSet::own(self.set));
+        }
+        let owner = name.to_lowercase()?;
+        AnswerSet::renamed(alloc, self.set, owner)
+    }
+}
+
+/// What is sought at a name and the names above it.
+#[derive(Clone, Copy)]
+pub(crate) enum Sought {
+    /// The name servers of a cut.
+    Cut,
+    /// What the wildcard below the name answers to a type.
+    Wildcard(RecordType),
+}
+
+/// The sets of a zone, by owner in canonical order (RFC 4034 section 6.1), then by type.
+#[derive(Drop)]
+pub struct ZoneSets {
+    sets: ZoneMap,
+    index: Index,
+}
+
+impl Model for ZoneSets {
+    ghost use Rattle.std.specs.Prelude.{List};
+    ghost use Rattle.zst_record.specs.RecordSets.{RRset};
+    ghost use Rattle.zst_map.specs.Indexes.{IsIndexed};
+
+    ghost Value = { List RRset };
+
+    ghost view = { λ zone. zone.sets };
+
+    ghost invariant = { λ zone. IsIndexed zone.index zone.sets };
+}
+
+impl ZoneSets {
+    /// No sets.
+    pub fn new(alloc: Global) -> ZoneSets
+        ensures { result ≡ [] }
+    {
+        ZoneSets {
+            sets: ZoneMap::new(alloc),
+            index: Index::new(alloc),
+        }
+    }
+
+    /// The set of a type at the name of a key.
+    pub fn get(&self, key: &NameKey, record_type: RecordType) -> Option<&RecordSet>
+        ensures { option_copied result ≡ rrset_at self.now key.now record_type }
+    {
+        find_set(self.sets.sets_at(key), record_type)
+    }
+
+    /// All sets at the name of a key, by rising type.
+    pub fn sets_at(&self, key: &NameKey) -> &[RecordSet]
+        ensures { result.now ≡ sets_of_name self.now key.now }
+    {
+        self.sets.sets_at(key)
+    }
+
+    /// Whether the name of a key exists: whether an owner equals it or lies below it (RFC 4592 section 2.2.2), whether or
+    /// not they end at the root.
+    pub fn exists(&self, key: &NameKey) -> Result<bool, AllocError>
+        ensures { IfOk result (λ there. there ≡ exists_in self.now key.now) }
+    {
+        if self.sets.exists_alike(key) {
+            return Ok(true);
+        }
+        if key.is_fqdn() && !self.index.has_relative {
+            return Ok(false);
+        }
+        let mut other = key.clone()?;
+        other.to_other_flag();
+        Ok(self.sets.exists_alike(&other))
+    }
+
+    /// Adds a record, whose owner has this key, to the set of its owner and type, in place of the one with equal data;
+    /// where there is no such set, one is made.
+    pub fn add(&mut self, alloc: Global, key: NameKey, next: Record) -> Result<(), AllocError>
+        requires { key ≡ lowercase_name next.name }
+        ensures ok { OnOk result (Adds self.old next self.new) }
+        ensures ordered { OnOk result (AreInOrder self.new) }
+        ensures err { OnErr result (self.new ≡ self.old) }
+    {
+        let owns_soa = self.owns_soa(&key, &next);
+        if self.index.mark(&key, &next, owns_soa).is_err() {
+            mem::drop(next);
+            mem::drop(key);
+            return Err(AllocError);
+        }
+        self.sets.add(alloc, key, next)
+    }
+
+    // Whether the owner of a record, which has this key, owns an SOA; that is looked up for name servers alone.
+    fn owns_soa(&self, key: &NameKey, next: &Record) -> bool
+        ensures { same_record_type (type_of next.now.rdata) kind.NS ≡ true → result ≡ is_some (rrset_at self.now key.now kind.SOA) }
+    {
+        next.record_type() == RecordType::NS && self.get(key, RecordType::SOA).is_some()
+    }
+
+    /// Which set answers the name of a key and a type: that of the cut at or above it; else what its own sets answer;
+    /// else what the nearest wildcard answers (RFC 1034 section 4.3.2 step 3). The map is searched once for the name, and
+    /// once for a cut that is found.
+    pub fn search(
+        &self,
+        key: &NameKey,
+        record_type: RecordType,
+    ) -> Result<Option<Match<'_>>, AllocError>
+        ensures { IfOk result (λ answer. option_map (match_set key.now) answer ≡ found self.now key.now record_type) }
+    {
+        if let Some(set) = self.delegation(key, record_type)? {
+            return Ok(Some(Match {
+                set,
+                is_wildcard: false,
+            }));
+        }
+        if let Some(set) = here(self.sets.sets_at(key), record_type) {
+            return Ok(Some(Match {
+                set,
+                is_wildcard: false,
+            }));
+        }
+        match self.wildcard(key, record_type)? {
+            Some(set) => Ok(Some(Match {
+                set,
+                is_wildcard: true,
+            })),
+            None => Ok(None),
+        }
+    }
+
+    // The name servers of the cut that the name of a key lies at or below; of those above it where the parent's side is
+    // asked (RFC 4035 section 3.1.4.1).
+    fn delegation(
+        &self,
+        key: &NameKey,
+        record_type: RecordType,
+    ) -> Result<Option<&RecordSet>, AllocError>
+        ensures { IfOk result (λ servers. option_copied servers ≡ delegation self.now key.now record_type) }
+    {
+        if !self.index.has_cuts {
+            return Ok(None);
+        }
+        let cut = if record_type == RecordType::DS {
+            self.above(key, Sought::Cut)?
+        } else {
+            self.nearest(key, Sought::Cut)?
+        };
+        Ok(cut.flatten())
+    }
+
+    // What the nearest wildcard above the name of a key answers to a type, under the wildcard's name.
+    fn wildcard(
+        &self,
+        key: &NameKey,
+        record_type: RecordType,
+    ) -> Result<Option<&RecordSet>, AllocError>
+        ensures { IfOk result (λ set. option_copied set ≡ looked_for (above (sought_in self.now (Sought.Wildcard record_type)) key.now)) }
+    {
+        if self.index.wildcards.is_empty() {
+            return Ok(None);
+        }
+        Ok(self.above(key, Sought::Wildcard(record_type))?.flatten())
+    }
+
+    // What is sought, at the name of a key or else at the nearest name above it.
+    fn nearest(
+        &self,
+        key: &NameKey,
+        sought: Sought,
+    ) -> Result<Option<Option<&RecordSet>>, AllocError>
+        ensures { IfOk result (λ at. lent at ≡ option_map (λ found. found.1) (nearest_in (sought_in self.now sought) key.now)) }
+    {
+        let Some((owner, _)) = nearest(self.names(sought), key)? else {
+            return Ok(None);
+        };
+        let found = self.sought_at(owner, sought)?;
+        if found.is_some() {
+            return Ok(found);
+        }
+        self.above(owner, sought)
+    }
+
+    // What is sought, at the nearest name above that of a key. Each turn of the loop goes up at least one label.
+    fn above(&self, key: &NameKey, sought: Sought) -> Result<Option<Option<&RecordSet>>, AllocError>
+        ensures { IfOk result (λ at. lent at ≡ option_map (λ found. found.1) (above (sought_in self.now sought) key.now)) }
+    {
+        let mut at = key.clone()?;
+        'levels: while !at.is_root() {
+            at.to_parent();
+            let Some((owner, _)) = nearest(self.names(sought), &at)? else {
+                return Ok(None);
+            };
+            let found = self.sought_at(owner, sought)?;
+            if found.is_some() {
+                return Ok(found);
+            }
+            at = owner.clone()?;
+        }
+        Ok(None)
+    }
+
+    // The names at which what is sought may be.
+    fn names(&self, sought: Sought) -> &BTreeMap<NameKey, ()>
+        ensures { (name : DomainName) → IsSome (sought_in self.now sought name) → IsSome (get name_cmp result.now name) }
+    {
+        match sought {
+            Sought::Cut => &self.index.name_servers,
+            Sought::Wildcard(_) => &self.index.wildcards,
+        }
+    }
+
+    // What is sought, at the name of a key.
+    fn sought_at(
+        &self,
+        key: &NameKey,
+        sought: Sought,
+    ) -> Result<Option<Option<&RecordSet>>, AllocError>
+        ensures { IfOk result (λ at. lent at ≡ sought_in self.now sought key.now) }
+    {
+        match sought {
+            Sought::Cut => Ok(cut_of(self.sets.sets_at(key))),
+            Sought::Wildcard(record_type) => {
+                let mut star = key.clone()?;
+                star.to_star()?;
+                Ok(here(self.sets.sets_at(&star), record_type).map(Some))
+            }
+        }
+    }
+}

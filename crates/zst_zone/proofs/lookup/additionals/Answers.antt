@@ -1,0 +1,18 @@
+use Rattle.std.proofs.Common.{◌≡◌, ◌∙◌, ap, sym, subst, List, IfOk, option_copied, true}
+use Rattle.zst_map.specs.dnw_codes.declared.record_type.RecordType.TheVariants as kind
+use Rattle.zst_map.specs.zst_record.RecordSets.{RRset}
+use Rattle.zst_map.specs.zst_handler.Answers.{records_if, sets_shown}
+use Rattle.zst_map.specs.zst_handler.Lookups.{has_additionals}
+use Rattle.zst_zone.proofs.Answered.{more-addresses}
+use Rattle.zst_zone.proofs.LowerNames.{rrset-keyed}
+use Rattle.zst_zone.proofs.lookup.additionals.Goals as goal
+
+pub returns : goal.returns
+returns c =
+    let has : has_additionals c.args.first.now.record_type ≡ true
+    = ap has_additionals (sym c.record_type.ensures) ∙ sym c.has_additionals.ensures ∙ c.if-not-has_additionals.false in
+    subst (λ (sets : List RRset). IfOk c.both.result (λ found. records_if found ≡ sets_shown c.args.options.dnssec_ok sets))
+    (more-addresses c.args.sets.now c.args.first.now c.in-Some.target.now (option_copied c.get.result) (option_copied c.get-2.result) has c.in-Some.ensures
+    (c.get.ensures ∙ rrset-keyed c.args.sets.now c.in_ok-key.key c.in-Some.target.now kind.A c.in_ok-key.ensures.key)
+    (c.get-2.ensures ∙ rrset-keyed c.args.sets.now c.in_ok-key.key c.in-Some.target.now kind.AAAA c.in_ok-key.ensures.key))
+    c.both.ensures

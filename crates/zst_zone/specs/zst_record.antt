@@ -1,2 +1,0 @@
-pub use Rattle.zst_record.specs.Records
-pub use Rattle.zst_record.specs.declared
