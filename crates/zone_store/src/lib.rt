@@ -7,8 +7,8 @@
 pub use zst_codes::{LookupControlFlow, LookupError, Nsec3QueryInfo, ResponseCode, TsigVerdict};
 pub use zst_edns::{Edns, EdnsFlags};
 pub use zst_zone::{
-    AnswerSet, AuthLookup, AxfrPolicy, DNSClass, InMemoryZoneHandler, LookupOptions,
-    LookupRecords, LookupRecordsIter, LowerName, Name, NameKey, Nsec3HashAlgorithm, NxProofKind,
-    ProtoError, RData, Record, RecordRef, RecordSet, RecordType, RrKey, RrsetRecords, Salt,
-    SaltLenError, ZoneSettings, ZoneType,
+    AnswerSet, AuthLookup, AxfrPolicy, DNSClass, InMemoryZoneHandler, LookupOptions, LookupRecords,
+    LookupRecordsIter, LowerName, Name, NameKey, Nsec3HashAlgorithm, NxProofKind, ProtoError,
+    RData, Record, RecordRef, RecordSet, RecordType, RrKey, RrsetRecords, Salt, SaltLenError,
+    ZoneSettings, ZoneType,
 };
