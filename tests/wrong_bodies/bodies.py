@@ -7,6 +7,7 @@ TOP = os.path.dirname(os.path.dirname(os.path.dirname(os.path.realpath(__file__)
 
 HEAD = re.compile(r"^( *)(?:pub(?:\([a-z]+\))? )?(?:const |unsafe )*fn (\w+)")
 OPENS = re.compile(r"^(?:impl\b|(?:pub(?:\([a-z]+\))? )?trait\b)")
+CONSTANT = re.compile(r"^(?:pub(?:\([a-z]+\))? )?(?:const|static) (?!unsafe fn|fn)")
 
 
 def crate_names():
@@ -178,6 +179,9 @@ class Body:
             text = texts[path]
             if not old or text.count(old) != 1:
                 self.fault = f"an old text stands {text.count(old) if old else 0} times in {path}: {str(old).strip()[:60]}"
+                return
+            if CONSTANT.match(old):
+                self.fault = f"no function is judged by a constant, so change one that reads it: {old.strip()[:60]}"
                 return
             function = enclosing(functions_of(path, text), text[: text.index(old)].count("\n"))
             if function:
