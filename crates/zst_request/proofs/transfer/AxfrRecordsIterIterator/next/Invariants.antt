@@ -1,0 +1,11 @@
+use Rattle.std.proofs.Common.{◌≡◌, ◌-◌, length}
+use Rattle.zst_request.specs.AxfrRecords.{axfr_left}
+use Rattle.zst_request.proofs.transfer.AxfrRecordsIterIterator.next.Given as goal
+
+abbrev pub invariant-sets : goal.invariant-sets
+invariant-sets l =
+    axfr_left l.self-inside.current l.self-inside.dnssec_ok l.self-inside.rrsets.now l.self-inside.shown
+    ≡ axfr_left l.initial.self-inside.current l.initial.self-inside.dnssec_ok l.initial.self-inside.rrsets.now l.initial.self-inside.shown
+
+abbrev pub decreases-sets : goal.decreases-sets
+decreases-sets l = length l.self-inside.rrsets.now - l.self-inside.shown

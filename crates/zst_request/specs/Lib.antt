@@ -1,0 +1,13 @@
+pub mod AxfrRecords
+pub mod Blocking
+pub mod Handling
+pub mod Transfers
+pub mod Views
+pub use Rattle.zst_handler.specs.dnw_codes
+pub use Rattle.zst_handler.specs.dnw_name
+pub use Rattle.zst_handler.specs.drd_names
+pub use Rattle.zst_handler.specs.drd_rdata
+pub use Rattle.zst_handler.specs.drd_words
+pub use Rattle.zst_handler.specs.zst_codes
+pub mod zst_handler
+pub use Rattle.zst_handler.specs.zst_record
