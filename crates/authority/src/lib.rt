@@ -4,11 +4,11 @@
 pub use authority_load::{
     AuthLookup, AxfrPolicy, InMemoryZoneHandler, LoadCause, LoadError, LookupControlFlow,
     LookupError, LookupOptions, LowerName, NxProofKind, ProtoError, ResponseCode, RrKey, Salt,
-    ZoneSettings, ZoneType, load_zone,
+    ZoneError, ZoneSettings, ZoneType, load_zone,
 };
 pub use authority_server::{
     A, Arrival, Authority, DNSClass, Faults, Label, NS, Name, NoSuite, Protocol, RData, Record,
-    RecordSet, RecordType, SOA, ServeError, StreamError,
+    RecordSet, RecordType, SOA, ServeError, StreamError, record_reads_back, zone_reads_back,
 };
 
 pub mod program;

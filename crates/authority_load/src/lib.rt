@@ -6,7 +6,8 @@
 
 pub use zst_zone::{
     AuthLookup, AxfrPolicy, InMemoryZoneHandler, LookupControlFlow, LookupError, LookupOptions,
-    LowerName, NxProofKind, ProtoError, ResponseCode, RrKey, Salt, ZoneSettings, ZoneType,
+    LowerName, NxProofKind, ProtoError, ResponseCode, RrKey, Salt, ZoneError, ZoneSettings,
+    ZoneType,
 };
 
 mod line;

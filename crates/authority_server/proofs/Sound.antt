@@ -7,7 +7,7 @@ use Rattle.zst_zone.specs.dnw_codes.declared.record_type.RecordType.TheVariants 
 use Rattle.zst_zone.specs.dnw_codes.RecordType.{same_record_type}
 use Rattle.zst_zone.specs.dnw_name.DomainName.{is_at_or_below}
 use Rattle.zst_zone.specs.zst_handler.Lookups.{Outcome, answered, name_error, name_exists, out_of_zone}
-use Rattle.zst_zone.specs.zst_handler.Zones.{Zone, ZoneReadsBack}
+use Rattle.zst_zone.specs.zst_handler.Zones.{Zone}
 use Rattle.zsv_message.specs.Headers.{FitsHeader}
 use Rattle.zsv_message.specs.Requests.{Request}
 use Rattle.zsv_message.specs.declared.header.Metadata.{Metadata}
@@ -24,7 +24,7 @@ use Rattle.zsv_reply.specs.zst_record.Records.{ReadsBackAlone}
 use Rattle.zsv_reply.specs.zst_record.declared.records.Record.{Record}
 use Rattle.authority_server.specs.Servers.{IsSound}
 use Rattle.authority_server.specs.Serving.{AtOrigin, BesideAnswer, DeniedParts, OperationParts, OutcomeParts, PartsOf, QueryParts, QuestionParts, RequestParts, answer_records, error_parts, is_referral, parts_with, records_of, reply_metadata}
-use Rattle.authority_server.proofs.ShownBack.{OutcomeReadsBack, append_back, lookup_back, sets_shown_back}
+use Rattle.authority_server.proofs.ShownBack.{OutcomeReadsBack, ZoneIsSound, append_back, lookup_back, sets_shown_back}
 
 -- A response code with a name of its own in four bits.
 record IsKnown (code : ResponseCode) : Type 0 where
@@ -58,22 +58,22 @@ records_back name_exists back = tt
 records_back name_error back = tt
 records_back out_of_zone back = tt
 
-origin_back : (zone : Zone) (t : RecordType) (records : List Record) → ZoneReadsBack zone → AtOrigin zone t records → AllByRecursion ReadsBackAlone records
+origin_back : (zone : Zone) (t : RecordType) (records : List Record) → ZoneIsSound zone → AtOrigin zone t records → AllByRecursion ReadsBackAlone records
 origin_back zone t records back (outcome, is, shown) =
     subst (AllByRecursion ReadsBackAlone) (sym shown) (records_back outcome (lookup_back zone zone.origin t outcome back is))
 
-beside_back : (zone : Zone) (t : RecordType) (beside : List Record) → ZoneReadsBack zone → BesideAnswer zone t beside → AllByRecursion ReadsBackAlone beside
+beside_back : (zone : Zone) (t : RecordType) (beside : List Record) → ZoneIsSound zone → BesideAnswer zone t beside → AllByRecursion ReadsBackAlone beside
 beside_back zone t beside back (start, other) = by (same_record_type t types.SOA) refl
   where
     by : (b : Bool) → same_record_type t types.SOA ≡ b → AllByRecursion ReadsBackAlone beside
     by true e = origin_back zone types.NS beside back (start e)
     by false e = subst (AllByRecursion ReadsBackAlone) (sym (other e)) tt
 
-denied_sound : (zone : Zone) (m : Metadata) (code : ResponseCode) (parts : ReplyParts) → ZoneReadsBack zone → FitsHeader m → IsKnown code → DeniedParts zone m code parts → IsSound parts
+denied_sound : (zone : Zone) (m : Metadata) (code : ResponseCode) (parts : ReplyParts) → ZoneIsSound zone → FitsHeader m → IsKnown code → DeniedParts zone m code parts → IsSound parts
 denied_sound zone m code parts back fits known (start, at, is) =
     subst IsSound (sym is) (with_sound (reply_metadata m true code) false [] [] start (fits_reply m true code fits known) tt tt (origin_back zone types.SOA start back at))
 
-outcome_sound : (zone : Zone) (m : Metadata) (t : RecordType) (outcome : Outcome) (parts : ReplyParts) → ZoneReadsBack zone → FitsHeader m → OutcomeReadsBack outcome → OutcomeParts zone m t outcome parts → IsSound parts
+outcome_sound : (zone : Zone) (m : Metadata) (t : RecordType) (outcome : Outcome) (parts : ReplyParts) → ZoneIsSound zone → FitsHeader m → OutcomeReadsBack outcome → OutcomeParts zone m t outcome parts → IsSound parts
 outcome_sound zone m t (answered answer) parts back fits shown (beside, at, is) =
     subst IsSound (sym is) (with_sound (reply_metadata m true responses.NoError) (is_referral t (records_of answer.answers)) (records_of answer.answers) (records_of answer.additionals) beside
     (fits_reply m true responses.NoError fits (record { back = refl; small = omega arith })) (sets_shown_back false answer.answers shown.answers) (sets_shown_back false answer.additionals shown.additionals)
@@ -84,7 +84,7 @@ outcome_sound zone m t out_of_zone parts back fits shown is =
     subst IsSound (sym is) (with_sound (reply_metadata m true responses.Refused) false [] [] [] (fits_reply m true responses.Refused fits (record { back = refl; small = omega arith })) tt tt tt)
 
 -- ---- questions and requests
-question_sound : (zone : Zone) (m : Metadata) (q : Query) (parts : ReplyParts) → ZoneReadsBack zone → FitsHeader m → QuestionParts zone m q parts → IsSound parts
+question_sound : (zone : Zone) (m : Metadata) (q : Query) (parts : ReplyParts) → ZoneIsSound zone → FitsHeader m → QuestionParts zone m q parts → IsSound parts
 question_sound zone m q parts back fits is = by (is_at_or_below q.name zone.origin) refl
   where
     inside : (b : Bool) → is_at_or_below q.name zone.origin ≡ true → same_record_type q.query_type types.AXFR ≡ b → IsSound parts
@@ -97,18 +97,18 @@ question_sound zone m q parts back fits is = by (is_at_or_below q.name zone.orig
     by false e = error_sound m responses.Refused parts fits (record { back = refl; small = omega arith }) (is.outside e)
     by true e = inside (same_record_type q.query_type types.AXFR) e refl
 
-query_sound : (zone : Zone) (m : Metadata) (qs : List Query) (parts : ReplyParts) → ZoneReadsBack zone → FitsHeader m → QueryParts zone m qs parts → IsSound parts
+query_sound : (zone : Zone) (m : Metadata) (qs : List Query) (parts : ReplyParts) → ZoneIsSound zone → FitsHeader m → QueryParts zone m qs parts → IsSound parts
 query_sound zone m [] parts back fits is = error_sound m responses.FormErr parts fits (record { back = refl; small = omega arith }) is
 query_sound zone m (q ∷ []) parts back fits is = question_sound zone m q parts back fits is
 query_sound zone m (q ∷ r ∷ qs) parts back fits is = error_sound m responses.FormErr parts fits (record { back = refl; small = omega arith }) is
 
-operation_sound : (zone : Zone) (m : Metadata) (operation : OpCode) (qs : List Query) (parts : ReplyParts) → ZoneReadsBack zone → FitsHeader m → OperationParts zone m operation qs parts → IsSound parts
+operation_sound : (zone : Zone) (m : Metadata) (operation : OpCode) (qs : List Query) (parts : ReplyParts) → ZoneIsSound zone → FitsHeader m → OperationParts zone m operation qs parts → IsSound parts
 operation_sound zone m operations.Query qs parts back fits is = query_sound zone m qs parts back fits is
 operation_sound zone m other qs parts back fits is = error_sound m responses.NotImp parts fits (record { back = refl; small = omega arith }) is
 
-request_sound : (zone : Zone) (request : Request) (kind : MessageType) (parts : ReplyParts) → ZoneReadsBack zone → FitsHeader request.metadata → RequestParts zone request kind parts → IsSound parts
+request_sound : (zone : Zone) (request : Request) (kind : MessageType) (parts : ReplyParts) → ZoneIsSound zone → FitsHeader request.metadata → RequestParts zone request kind parts → IsSound parts
 request_sound zone request messages.Response parts back fits is = error_sound request.metadata responses.FormErr parts fits (record { back = refl; small = omega arith }) is
 request_sound zone request messages.Query parts back fits is = operation_sound zone request.metadata request.metadata.op_code request.questions parts back fits is
 
-pub parts_sound : (zone : Zone) (request : Request) (parts : ReplyParts) → ZoneReadsBack zone → FitsHeader request.metadata → PartsOf zone request parts → IsSound parts
+pub parts_sound : (zone : Zone) (request : Request) (parts : ReplyParts) → ZoneIsSound zone → FitsHeader request.metadata → PartsOf zone request parts → IsSound parts
 parts_sound zone request parts back fits is = request_sound zone request request.metadata.message_type parts back fits is

@@ -7,7 +7,7 @@ use Rattle.zsv_message.specs.Headers.{FitsHeader}
 use Rattle.zsv_reply.specs.Replies.{ReplyParts}
 use Rattle.zsv_reply.specs.Writing.{AllReadBack}
 use Rattle.zst_zone.specs.zst_handler.Answers.{additionals_in, answers_in}
-use Rattle.zst_zone.specs.zst_handler.Zones.{Zone, ZoneReadsBack}
+use Rattle.zst_zone.specs.zst_handler.Zones.{AreStored, Zone, ZoneReadsBack}
 use Rattle.authority_server.specs.Serving.{parts_with}
 
 abbrev pub serves_kind : ZoneType → Bool
@@ -31,3 +31,8 @@ pub record IsSound (parts : ReplyParts) : Type 0 where
 pub record IsServed (zone : Zone) : Type 0 where
   pub kept_here : serves_kind zone.zone_type ≡ true
   pub reads_back : ZoneReadsBack zone
+
+-- A zone as its server keeps it: it is served, and its sets are filled, as every zone's are.
+pub record IsKept (zone : Zone) : Type 0 where
+  pub served : IsServed zone
+  pub stored : AreStored zone.sets

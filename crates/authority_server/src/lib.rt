@@ -6,10 +6,12 @@
 
 pub use zsv_reply::{A, DNSClass, Label, NS, Name, RData, Record, RecordSet, RecordType, SOA};
 
+mod back;
 mod faults;
 mod server;
 mod stream;
 
+pub use back::{record_reads_back, zone_reads_back};
 pub use faults::Faults;
 pub use server::{Arrival, Authority, NoSuite, Protocol, ServeError};
 pub use stream::StreamError;

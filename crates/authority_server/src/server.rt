@@ -75,13 +75,13 @@ pub struct Authority<S, K> {
 
 impl<S, K> Model for Authority<S, K> {
     ghost use Rattle.authority_server.specs.Serving.{World};
-    ghost use Rattle.authority_server.specs.Servers.{IsServed};
+    ghost use Rattle.authority_server.specs.Servers.{IsKept};
 
     ghost Value = { World };
 
     ghost view = { λ server. record { zone = server.zone } };
 
-    ghost invariant = { λ server. IsServed server.zone };
+    ghost invariant = { λ server. IsKept server.zone };
 }
 
 impl<S, K> Authority<S, K> {
@@ -92,6 +92,8 @@ impl<S, K> Authority<S, K> {
         requires { IsServed zone }
         ensures { result ≡ record { zone = zone } }
     {
+        // What every zone keeps of its sets is told by its origin.
+        let _origin = zone.origin();
         Authority { alloc, suite, zone }
     }
 

@@ -1,4 +1,5 @@
-//! Zones as they are stored: records and their sets, keys of owners, a zone in memory, and what handlers answer.
+//! Zones as they are stored: records and their sets, keys of owners, a zone in memory, the trait of handlers and what they
+//! answer.
 //!
 //! This is the face of the crates below, and holds nothing of its own: response codes, answers of handlers and how a
 //! zone may be used from `zst_codes`, EDNS from `zst_edns`, records and zones from `zst_zone` and what it passes on.
@@ -7,8 +8,10 @@
 pub use zst_codes::{LookupControlFlow, LookupError, Nsec3QueryInfo, ResponseCode, TsigVerdict};
 pub use zst_edns::{Edns, EdnsFlags};
 pub use zst_zone::{
-    AnswerSet, AuthLookup, AxfrPolicy, DNSClass, InMemoryZoneHandler, LookupOptions, LookupRecords,
-    LookupRecordsIter, LowerName, Name, NameKey, Nsec3HashAlgorithm, NxProofKind, ProtoError,
-    RData, Record, RecordRef, RecordSet, RecordType, RrKey, RrsetRecords, Salt, SaltLenError,
-    ZoneSettings, ZoneType,
+    AnswerSet, AuthLookup, AxfrPolicy, AxfrRecords, AxfrRecordsIter, BlocklistConsultAction,
+    DNSClass, InMemoryZoneHandler, LookupOptions, LookupRecords, LookupRecordsIter, LowerName,
+    Name, NameKey, Nsec3HashAlgorithm, NxProofKind, ProtoError, RData, Record, RecordRef,
+    RecordSet, RecordType, RequestTsig, RrKey, RrsetRecords, Salt, SaltLenError,
+    TSigResponseContext, ZoneError, ZoneHandler, ZoneRequest, ZoneSets, ZoneSetsIter, ZoneSettings,
+    ZoneTransfer, ZoneTransferIter, ZoneType,
 };

@@ -2,6 +2,7 @@ pub mod Answers
 pub mod Chains
 pub mod Found
 pub mod Lookups
+pub mod Updates
 pub mod Zones
 pub use Rattle.zst_record.specs.dnw_codes
 pub use Rattle.zst_record.specs.dnw_name

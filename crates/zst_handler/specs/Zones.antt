@@ -1,6 +1,6 @@
 -- A zone: a finite map from owner and type to the set of records stored there (RFC 1035, section
 -- 4.3.2).
-use Rattle.std.specs.Prelude.{◌≡◌, Bool, true, List, [], ◌∷◌, Option, Some, ◌&&◌, find, if◌then◌else◌}
+use Rattle.std.specs.Prelude.{◌≡◌, Bool, false, List, [], ◌∷◌, Option, Some, ◌&&◌, find, if◌then◌else◌}
 use Rattle.std.specs.List.{AllByRecursion, list_any}
 use Rattle.std.specs.Ordering.{nat_cmp, on, then_cmp}
 use Rattle.std.specs.declared.cmp.Ordering.{Ordering}
@@ -15,7 +15,7 @@ use Rattle.zst_record.specs.dnw_name.DomainName.{DomainName, name_cmp, name_eq, 
 use Rattle.zst_record.specs.dnw_codes.RecordType.{record_type_number, same_record_type}
 use Rattle.zst_record.specs.drd_rdata.Types.{type_of}
 use Rattle.zst_record.specs.Records.{ReadsBackAlone}
-use Rattle.zst_record.specs.RecordSets.{RRset, set_with}
+use Rattle.zst_record.specs.RecordSets.{IsRRset, RRset, none_left, set_with}
 
 -- The set of a type at a name.
 abbrev pub rrset_at : List RRset → DomainName → RecordType → Option RRset
@@ -73,10 +73,17 @@ pub record AddsTo (old : Zone) (r : Record) (new : Zone) : Type 0 where
   pub ordered : AreInOrder new.sets
   pub rest : new ≡ record old { sets = new.sets }
 
--- The owner of each set is fully qualified, and each of its records and signatures can be read
--- alone: what a server's replies hold can be read by whom they reach.
+-- A set as a zone stores it: it has records, and what it has is of its owner, class and type.
+pub record IsStored (set : RRset) : Type 0 where
+  pub filled : none_left set.records ≡ false
+  pub is : IsRRset set
+
+abbrev pub AreStored : List RRset → Type 0
+AreStored sets = AllByRecursion IsStored sets
+
+-- Each record of a set and each of its signatures can be read alone: what a server's replies hold
+-- can be read by whom they reach.
 pub record SetReadsBack (set : RRset) : Type 0 where
-  pub owner : set.name.fqdn ≡ true
   pub records : AllByRecursion ReadsBackAlone set.records
   pub signatures : AllByRecursion ReadsBackAlone set.signatures
 

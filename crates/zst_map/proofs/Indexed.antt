@@ -1,19 +1,18 @@
--- With a record, and its owner marked, the owners of all sets are still marked.
+-- With a set that is put, and its owner marked, the owners of all sets are still marked; without one they are, too.
 use Rattle.std.proofs.Common.{◌≡◌, refl, ap, sym, ◌∙◌}
 use Rattle.std.specs.Prelude.{Bool, true, false, not, ◌&&◌, ◌||◌, List, [], ◌∷◌, Option, Some, None, cond, is_some, IsSome, find}
 use Rattle.std.specs.Bool.{beq}
 use Rattle.std.specs.BTreeMap.{BTreeMap, get}
 use Rattle.std.proofs.lemmas.Bool.{and_parts, true≢false}
 use Rattle.zst_record.specs.dnw_codes.declared.record_type.RecordType.{RecordType}
-use Rattle.zst_record.specs.dnw_codes.declared.record_type.RecordType.TheVariants as kind
-use Rattle.zst_record.specs.dnw_codes.RecordType.{record_type_number, same_record_type}
-use Rattle.zst_record.specs.dnw_name.DomainName.{DomainName, is_at_or_below, is_wildcard, lowercase_name, name_cmp, name_eq}
-use Rattle.zst_record.specs.drd_rdata.Types.{type_of}
-use Rattle.zst_record.specs.declared.records.Record.{Record}
-use Rattle.zst_record.specs.RecordSets.{RRset, set_with}
+use Rattle.zst_record.specs.dnw_codes.declared.record_type.RecordType.TheVariants as types
+use Rattle.zst_record.specs.dnw_codes.RecordType.{same_record_type}
+use Rattle.zst_record.specs.dnw_name.DomainName.{DomainName, is_wildcard, lowercase_name, name_cmp, name_eq}
+use Rattle.zst_record.specs.RecordSets.{RRset}
 use Rattle.zst_record.specs.RecordLaws.{name_eq_equiv}
 use Rattle.zst_key.specs.Ancestors.{other_flag, parent, star}
-use Rattle.zst_handler.specs.Zones.{Adds, rrset_at}
+use Rattle.zst_handler.specs.Updates.{Replaces}
+use Rattle.zst_handler.specs.Zones.{rrset_at}
 use Rattle.zst_map.specs.Indexes.{Grows, HasName, HasOwnerOf, IsIndexed}
 use Rattle.zst_map.specs.ZoneMaps.{exists_alike}
 use Rattle.zst_map.specs.declared.index.Index.{Index}
@@ -22,17 +21,17 @@ use Rattle.zst_map.proofs.Stars.{star_key, star_parts}
 use Rattle.zst_map.proofs.ZoneNodes.{is_set_at}
 use Rattle.zst_map.proofs.ZoneOnce.{found_first}
 
--- A set is there beside an added record: of the record's owner and type, or from before.
-added : (b : Bool) (x : RRset) (o : Option RRset) (P : Type 0) → IsSome (cond b (Some x) o) → (b ≡ true → P) → (IsSome o → P) → P
+-- A set is there beside one that was put: of its owner and type, or from before.
+added : (b : Bool) (x o : Option RRset) (P : Type 0) → IsSome (cond b x o) → (b ≡ true → P) → (IsSome o → P) → P
 added true x o P some new old = new refl
 added false x o P some new old = old some
 
-split : (old new : List RRset) (r : Record) (name : DomainName) (t : RecordType) (P : Type 0) → Adds old r new → IsSome (rrset_at new name t)
-    → (name_eq name r.name ≡ true → same_record_type (type_of r.rdata) t ≡ true → P) → (IsSome (rrset_at old name t) → P) → P
-split old new r name t P adds some mine before =
-    added (name_eq name r.name && same_record_type (type_of r.rdata) t) (set_with (rrset_at old name t) r) (rrset_at old name t) P
-    (sym (ap is_some (adds name t)) ∙ some)
-    (λ e. let p = and_parts (name_eq name r.name) (same_record_type (type_of r.rdata) t) e in mine p.0 p.1) before
+split : (old new : List RRset) (owner : DomainName) (kind : RecordType) (set : Option RRset) (name : DomainName) (t : RecordType) (P : Type 0) → Replaces old owner kind set new → IsSome (rrset_at new name t)
+    → (name_eq name owner ≡ true → same_record_type kind t ≡ true → P) → (IsSome (rrset_at old name t) → P) → P
+split old new owner kind set name t P replaces some mine before =
+    added (name_eq name owner && same_record_type kind t) set (rrset_at old name t) P
+    (sym (ap is_some (replaces name t)) ∙ some)
+    (λ e. let p = and_parts (name_eq name owner) (same_record_type kind t) e in mine p.0 p.1) before
 
 flags_same : (a b : DomainName) → name_eq a b ≡ true → b.fqdn ≡ true → a.fqdn ≡ true
 flags_same a b e f = by a.fqdn b.fqdn (and_parts (beq a.fqdn b.fqdn) _ e).0 f
@@ -42,20 +41,20 @@ flags_same a b e f = by a.fqdn b.fqdn (and_parts (beq a.fqdn b.fqdn) _ e).0 f
     by false true e f = e
     by false false e f = f
 
--- A record's owner was put where it is wanted.
-pub marked : (r : Record) (key : DomainName) (owns_soa is_ns is_star is_full cuts relative : Bool) (servers wildcards : BTreeMap DomainName (Unit {0}))
-    → key ≡ lowercase_name r.name → is_ns ≡ same_record_type (type_of r.rdata) kind.NS → is_full ≡ key.fqdn → is_star ≡ is_wildcard r.name
+-- An owner was put where it is wanted.
+pub marked : (owner : DomainName) (kind : RecordType) (key : DomainName) (owns_soa is_ns is_star is_full cuts relative : Bool) (servers wildcards : BTreeMap DomainName (Unit {0}))
+    → key ≡ lowercase_name owner → is_ns ≡ same_record_type kind types.NS → is_full ≡ key.fqdn → is_star ≡ is_wildcard owner
     → (is_ns ≡ true → HasName servers key) → (is_star ≡ true → HasName wildcards (parent key))
-    → HasOwnerOf r owns_soa (record {
+    → HasOwnerOf owner kind owns_soa (record {
       name_servers = servers;
       wildcards = wildcards;
       has_cuts = cuts || (is_ns && not owns_soa);
       has_relative = relative || not is_full;
     })
-marked r key owns_soa is_ns is_star is_full cuts relative servers wildcards at ns full star at_servers at_star = record {
-  cut = λ type name e. at_servers (ns ∙ type) name (ap (name_eq name) at ∙ eq-lower name r.name ∙ e);
+marked owner kind key owns_soa is_ns is_star is_full cuts relative servers wildcards at ns full star at_servers at_star = record {
+  cut = λ type name e. at_servers (ns ∙ type) name (ap (name_eq name) at ∙ eq-lower name owner ∙ e);
   uncut = λ none type. owned cuts is_ns owns_soa none (ns ∙ type);
-  star_above = λ name e. at_star (star ∙ (star_parts name r.name e).is) name (star_key name r.name key at e);
+  star_above = λ name e. at_star (star ∙ (star_parts name owner e).is) name (star_key name owner key at e);
   absolute = λ none. sym (ap (λ (n : DomainName). n.fqdn) at) ∙ sym full ∙ complete relative is_full none;
 }
   where
@@ -79,13 +78,24 @@ still_indexed old new sets grows is = record {
   absolute = λ none name t some. is.absolute (grows.absolute none) name t some;
 }
 
--- A set that was there is there still.
-remains : (old new : List RRset) (r : Record) (name : DomainName) (t : RecordType) → Adds old r new → IsSome (rrset_at old name t) → IsSome (rrset_at new name t)
-remains old new r name t adds some = ap is_some (adds name t) ∙ by (name_eq name r.name && same_record_type (type_of r.rdata) t)
+-- A set that was there is there still, where one is put.
+remains : (old new : List RRset) (owner : DomainName) (kind : RecordType) (set : RRset) (name : DomainName) (t : RecordType) → Replaces old owner kind (Some set) new → IsSome (rrset_at old name t)
+    → IsSome (rrset_at new name t)
+remains old new owner kind set name t replaces some = ap is_some (replaces name t) ∙ by (name_eq name owner && same_record_type kind t)
   where
-    by : (b : Bool) → IsSome (cond b (Some (set_with (rrset_at old name t) r)) (rrset_at old name t))
+    by : (b : Bool) → IsSome (cond b (Some set) (rrset_at old name t))
     by true = refl
     by false = some
+
+-- A set of another type is there still.
+apart_remains : (old new : List RRset) (owner : DomainName) (kind : RecordType) (set : Option RRset) (name : DomainName) (t : RecordType) → Replaces old owner kind set new
+    → same_record_type kind t ≡ false → IsSome (rrset_at old name t) → IsSome (rrset_at new name t)
+apart_remains old new owner kind set name t replaces apart some = ap is_some (replaces name t) ∙ by (name_eq name owner) (same_record_type kind t) apart
+  where
+    by : (b c : Bool) → c ≡ false → IsSome (cond (b && c) set (rrset_at old name t))
+    by true false e = some
+    by false c e = some
+    by true true e = absurd (true≢false e)
 
 -- Names that are equal own the same.
 pub rrset_same : (sets : List RRset) (a b : DomainName) (t : RecordType) → name_eq a b ≡ true → rrset_at sets b t ≡ rrset_at sets a t
@@ -94,23 +104,44 @@ rrset_same (set ∷ sets) a b t e =
     ap (λ (w : Bool). cond (w && same_record_type set.record_type t) (Some set) (rrset_at sets b t)) (sym (name_eq_equiv.congr a b set.name e))
     ∙ ap (cond (name_eq a set.name && same_record_type set.record_type t) (Some set)) (rrset_same sets a b t e)
 
-pub with_record : (old new : Index) (before after : List RRset) (r : Record) (owns_soa : Bool) → Grows old new → HasOwnerOf r owns_soa new
-    → (same_record_type (type_of r.rdata) kind.NS ≡ true → owns_soa ≡ is_some (rrset_at before r.name kind.SOA))
-    → Adds before r after → IsIndexed old before → IsIndexed new after
-with_record old new before after r owns_soa grows has soa adds is =
+pub with_put : (old new : Index) (before after : List RRset) (owner : DomainName) (kind : RecordType) (set : RRset) (owns_soa : Bool) → Grows old new → HasOwnerOf owner kind owns_soa new
+    → (same_record_type kind types.NS ≡ true → owns_soa ≡ is_some (rrset_at before owner types.SOA))
+    → Replaces before owner kind (Some set) after → IsIndexed old before → IsIndexed new after
+with_put old new before after owner kind set owns_soa grows has soa replaces is =
     let kept = still_indexed old new before grows is in
     record {
-      uncut = λ none name some. split before after r name kind.NS (IsSome (rrset_at after name kind.SOA)) adds some
-          (λ owner type. remains before after r name kind.SOA adds
-          (ap is_some (sym (rrset_same before name r.name kind.SOA owner)) ∙ sym (soa type) ∙ has.uncut none type))
-          (λ there. remains before after r name kind.SOA adds (kept.uncut none name there));
-      cuts = λ name some. split before after r name kind.NS (IsSome (get name_cmp new.name_servers name)) adds some
-          (λ owner type. has.cut type name owner) (kept.cuts name);
-      stars = λ name t some. split before after r (star name) t (IsSome (get name_cmp new.wildcards name)) adds some
-          (λ owner type. has.star_above name owner) (kept.stars name t);
-      absolute = λ none name t some. split before after r name t (name.fqdn ≡ true) adds some
-          (λ owner type. flags_same name r.name owner (has.absolute none)) (kept.absolute none name t);
+      uncut = λ none name some. split before after owner kind (Some set) name types.NS (IsSome (rrset_at after name types.SOA)) replaces some
+          (λ same type. remains before after owner kind set name types.SOA replaces
+          (ap is_some (sym (rrset_same before name owner types.SOA same)) ∙ sym (soa type) ∙ has.uncut none type))
+          (λ there. remains before after owner kind set name types.SOA replaces (kept.uncut none name there));
+      cuts = λ name some. split before after owner kind (Some set) name types.NS (IsSome (get name_cmp new.name_servers name)) replaces some
+          (λ same type. has.cut type name same) (kept.cuts name);
+      stars = λ name t some. split before after owner kind (Some set) (star name) t (IsSome (get name_cmp new.wildcards name)) replaces some
+          (λ same type. has.star_above name same) (kept.stars name t);
+      absolute = λ none name t some. split before after owner kind (Some set) name t (name.fqdn ≡ true) replaces some
+          (λ same type. flags_same name owner same (has.absolute none)) (kept.absolute none name t);
     }
+
+-- A set that is there in place of none was there before.
+never : {X : Type 0} (b : Bool) (o : Option X) → IsSome (cond b None o) → IsSome o
+never true o some = absurd (true≢false (sym some))
+never false o some = some
+
+pub with_removed : (old new : Index) (before after : List RRset) (owner : DomainName) (kind : RecordType) → Grows old new → (same_record_type kind types.SOA ≡ true → new.has_cuts ≡ true)
+    → Replaces before owner kind None after → IsIndexed old before → IsIndexed new after
+with_removed old new before after owner kind grows soa replaces is =
+    let kept = still_indexed old new before grows is in
+    let was = λ (name : DomainName) (t : RecordType) (some : IsSome (rrset_at after name t)). never (name_eq name owner && same_record_type kind t) (rrset_at before name t) (sym (ap is_some (replaces name t)) ∙ some) in
+    record {
+      uncut = λ none name some. apart_remains before after owner kind None name types.SOA replaces (other (same_record_type kind types.SOA) soa none) (kept.uncut none name (was name types.NS some));
+      cuts = λ name some. kept.cuts name (was name types.NS some);
+      stars = λ name t some. kept.stars name t (was (star name) t some);
+      absolute = λ none name t some. kept.absolute none name t (was name t some);
+    }
+  where
+    other : (b : Bool) → (b ≡ true → new.has_cuts ≡ true) → new.has_cuts ≡ false → b ≡ false
+    other true soa none = absurd (true≢false (sym (soa refl) ∙ none))
+    other false soa none = refl
 
 -- ---- where all owners are fully qualified, none is below a relative name
 behind : (b : Bool) (x : RRset) (o : Option RRset) → IsSome o → IsSome (cond b (Some x) o)

@@ -3,14 +3,17 @@ pub mod Keys
 pub mod NamedSets
 pub mod Names
 pub mod NearestOf
+pub mod Removals
 pub mod Searched
 pub mod Stars
+pub mod Upserted
 pub mod ZoneEntries
 pub mod ZoneMapsBy
 pub mod ZoneNodes
 pub mod ZoneOnce
 pub mod ZoneOrder
 pub mod NodeSets
+pub use Rattle.zst_record.proofs.PutRecords
 pub use Rattle.zst_record.proofs.dnw_name_lemmas
 pub use Rattle.zst_record.proofs.drd_words_lemmas
 pub use Rattle.zst_record.proofs.drd_rdata_lemmas

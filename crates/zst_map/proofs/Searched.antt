@@ -15,7 +15,7 @@ use Rattle.zst_key.specs.Ancestors.{nearest_from, nearest_in, or_else, parent, s
 use Rattle.zst_handler.specs.Found.{above, cut_at, cut_found, delegation, found, found_set, here, is_address, nearest_above, wildcard_answer}
 use Rattle.zst_handler.specs.Lookups.{sets_of_name}
 use Rattle.zst_handler.specs.Zones.{rrset_at}
-use Rattle.zst_map.specs.Searches.{lent, looked_for, match_set, sought_in}
+use Rattle.zst_map.specs.Searches.{lent, looked_for, sought_in}
 use Rattle.zst_map.specs.declared.zone_sets.Sought.TheVariants as seeks
 use Rattle.zst_map.proofs.NamedSets.{type_among}
 use Rattle.zst_map.proofs.NearestOf.{nearest_above_it, nearest_here}

@@ -1,9 +1,9 @@
--- A zone's entries with one record more.
+-- A zone's entries with a change of one owner.
 use Rattle.std.proofs.Common.{◌≡◌, ℕ, refl, ap, sym, ◌∙◌, subst, length, arith}
 use Rattle.std.specs.Prelude.{Bool, true, false, ◌&&◌, List, [], ◌∷◌, ◌++◌, Option, Some, None, cond, find}
 use Rattle.std.specs.List.{AllByRecursion}
 use Rattle.std.specs.List.Sorted.{IsStrictlySortedBy}
-use Rattle.std.specs.Map.{keys_of, lookup}
+use Rattle.std.specs.Map.{keys_of, lookup, remove_entry, set_value}
 use Rattle.std.specs.BTreeMap.{is_at, insert_entry}
 use Rattle.std.specs.Ordering.{nat_cmp, is_eq, match_ordering}
 use Rattle.std.specs.declared.cmp.Ordering.{Ordering}
@@ -13,20 +13,20 @@ use Rattle.std.specs.Str.{bytes_eq}
 use Rattle.std.proofs.lemmas.Map.Text.{is_eq-slice_cmp}
 use Rattle.std.proofs.lemmas.Slice.Eq.{bytes_eq-Decides}
 use Rattle.zst_record.specs.dnw_codes.declared.record_type.RecordType.{RecordType}
-use Rattle.zst_record.specs.declared.records.Record.{Record}
 use Rattle.zst_record.specs.dnw_name.DomainName.{DomainName, name_eq}
 use Rattle.zst_record.specs.dnw_codes.RecordType.{same_record_type}
 use Rattle.zst_key.specs.NameKeys.{name_key}
-use Rattle.zst_record.specs.drd_rdata.Types.{type_of}
 use Rattle.zst_record.specs.RecordSets.{RRset}
-use Rattle.zst_handler.specs.Zones.{rrset_at, Adds}
-use Rattle.zst_record.specs.RecordSets.{set_with}
-use Rattle.zst_map.specs.ZoneMaps.{IsNode, IsZone, TypesRise, sets_of, with_record}
+use Rattle.zst_handler.specs.Updates.{Replaces}
+use Rattle.zst_handler.specs.Zones.{rrset_at}
+use Rattle.zst_map.specs.Changes.{made, owner_of, set_of_type, type_in, with_change}
+use Rattle.zst_map.specs.declared.change.Change.{Change}
+use Rattle.zst_map.specs.ZoneMaps.{IsNode, IsZone, sets_of}
 use Rattle.zst_map.proofs.Keys.{same_key}
 use Rattle.zst_map.proofs.ZoneNodes.{is_of_type, set_in, stored_in}
-use Rattle.zst_map.proofs.NodeSets.{find_with}
+use Rattle.zst_map.proofs.NodeSets.{find_change}
 
-same_octets : (q k : List ℕ) → bytes_eq q k ≡ true → q ≡ k
+pub same_octets : (q k : List ℕ) → bytes_eq q k ≡ true → q ≡ k
 same_octets q k = (bytes_eq-Decides q k).0
 
 module _ {K V : Type 0} (octets : K → List ℕ) (sets : V → List RRset) where
@@ -109,39 +109,52 @@ module _ {K V : Type 0} (octets : K → List ℕ) (sets : V → List RRset) wher
   find_in_node None t = refl
   find_in_node (Some v) t = refl
 
-  rises : (k : List ℕ) (es : List (K × V)) → AreNodes es → TypesRise (node_sets (lookup (at_key k) es))
-  rises k es nodes = by (lookup (at_key k) es) refl
-    where
-      by : (o : Option V) → lookup (at_key k) es ≡ o → TypesRise (node_sets o)
-      by None e = tt
-      by (Some v) e = (node_found k es v nodes e).rise
-
-  pub adds : (old new : List (K × V)) (r : Record) (w : V) → IsZone octets sets old → IsZone octets sets new
-      → ((q : List ℕ) → lookup (at_key q) new ≡ cond (bytes_eq q (name_key r.name)) (Some w) (lookup (at_key q) old))
-      → sets w ≡ with_record (node_sets (lookup (at_key (name_key r.name)) old)) r
-      → Adds (sets_of octets sets old) r (sets_of octets sets new)
-  adds old new r w was is looked holds =
+  -- the set of one type is another one under a key, or none
+  pub replaced : (old new : List (K × V)) (owner : DomainName) (kind : RecordType) (found : Option RRset) (o : Option V) → IsZone octets sets old → IsZone octets sets new
+      → ((name : DomainName) → lookup (at_key (name_key name)) new ≡ cond (bytes_eq (name_key name) (name_key owner)) o (lookup (at_key (name_key name)) old))
+      → ((t : RecordType) → find (is_of_type t) (node_sets o) ≡ cond (same_record_type kind t) found (find (is_of_type t) (node_sets (lookup (at_key (name_key owner)) old))))
+      → Replaces (sets_of octets sets old) owner kind found (sets_of octets sets new)
+  replaced old new owner kind found o was is looked holds =
       λ name t. stored_in octets sets name t new is.nodes is.ordered
-      ∙ ap (λ (o : Option V). set_in octets sets o t) (looked (name_key name))
-      ∙ by name t (bytes_eq (name_key name) (name_key r.name)) refl
+      ∙ ap (λ (v : Option V). set_in octets sets v t) (looked name)
+      ∙ by name t (bytes_eq (name_key name) (name_key owner)) refl
     where
-      by : (name : DomainName) (t : RecordType) (b : Bool) → bytes_eq (name_key name) (name_key r.name) ≡ b
-          → set_in octets sets (cond b (Some w) (lookup (at_key (name_key name)) old)) t
-          ≡ cond (name_eq name r.name && same_record_type (type_of r.rdata) t)
-          (Some (set_with (rrset_at (sets_of octets sets old) name t) r)) (rrset_at (sets_of octets sets old) name t)
+      by : (name : DomainName) (t : RecordType) (b : Bool) → bytes_eq (name_key name) (name_key owner) ≡ b
+          → set_in octets sets (cond b o (lookup (at_key (name_key name)) old)) t
+          ≡ cond (name_eq name owner && same_record_type kind t) found (rrset_at (sets_of octets sets old) name t)
       by name t true e =
-          let there : List RRset = node_sets (lookup (at_key (name_key r.name)) old) in
-          let named : name_eq name r.name ≡ true = sym (same_key name r.name) ∙ e in
+          let there : List RRset = node_sets (lookup (at_key (name_key owner)) old) in
+          let named : name_eq name owner ≡ true = sym (same_key name owner) ∙ e in
           let before : rrset_at (sets_of octets sets old) name t ≡ find (is_of_type t) there
           = stored_in octets sets name t old was.nodes was.ordered
-          ∙ ap (λ (q : List ℕ). set_in octets sets (lookup (at_key q) old) t) (same_octets (name_key name) (name_key r.name) e)
-          ∙ find_in_node (lookup (at_key (name_key r.name)) old) t in
-          let after : find (is_of_type t) (sets w) ≡ cond (same_record_type (type_of r.rdata) t) (Some (set_with (find (is_of_type t) there) r)) (find (is_of_type t) there)
-          = ap (find (is_of_type t)) holds ∙ find_with t there r (rises (name_key r.name) old was.nodes) in
-          rw (named, before) after
+          ∙ ap (λ (q : List ℕ). set_in octets sets (lookup (at_key q) old) t) (same_octets (name_key name) (name_key owner) e)
+          ∙ find_in_node (lookup (at_key (name_key owner)) old) t in
+          rw (named, before) (find_in_node o t ∙ holds t)
       by name t false e =
-          let named : name_eq name r.name ≡ false = sym (same_key name r.name) ∙ e in
+          let named : name_eq name owner ≡ false = sym (same_key name owner) ∙ e in
           rw named (sym (stored_in octets sets name t old was.nodes was.ordered))
+
+  -- the set of a name and a type is the one under its key
+  pub stored_at : (es : List (K × V)) (name : DomainName) (t : RecordType) → IsZone octets sets es
+      → rrset_at (sets_of octets sets es) name t ≡ find (is_of_type t) (node_sets (lookup (at_key (name_key name)) es))
+  stored_at es name t is = stored_in octets sets name t es is.nodes is.ordered ∙ find_in_node (lookup (at_key (name_key name)) es) t
+
+  -- ---- with another value under a key, or none
+  pub nodes_set : (k : List ℕ) (w : V) (es : List (K × V)) → IsNode k (sets w) → AreNodes es → AreNodes (set_value (at_key k) es w)
+  nodes_set k w [] node nodes = tt
+  nodes_set k w (e ∷ es) node nodes = by (at_key k e.0) refl (nodes_set k w es node nodes.1)
+    where
+      by : (b : Bool) → at_key k e.0 ≡ b → AreNodes (set_value (at_key k) es w) → AreNodes (cond b ((e.0, w) ∷ es) (e ∷ set_value (at_key k) es w))
+      by true at more = (subst (λ (t : List ℕ). IsNode t (sets w)) (same_octets k (octets e.0) (sym (test k e.0) ∙ at)) node, nodes.1)
+      by false at more = (nodes.0, more)
+
+  pub nodes_removed : (k : List ℕ) (es : List (K × V)) → AreNodes es → AreNodes (remove_entry (at_key k) es)
+  nodes_removed k [] nodes = tt
+  nodes_removed k (e ∷ es) nodes = by (at_key k e.0) (nodes_removed k es nodes.1)
+    where
+      by : (b : Bool) → AreNodes (remove_entry (at_key k) es) → AreNodes (cond b es (e ∷ remove_entry (at_key k) es))
+      by true more = nodes.1
+      by false more = (nodes.0, more)
 
   -- ---- after a value is written under a key
   found_first : (a : Bool) (x v : V) (o : Option V) → cond a (Some x) o ≡ Some v → a ≡ true → x ≡ v
@@ -175,10 +188,16 @@ module _ {K V : Type 0} (octets : K → List ℕ) (sets : V → List RRset) wher
   zone_inserted k old new w was is sorted node =
       record { nodes = subst AreNodes (sym is) (nodes_inserted k w old node was.nodes); ordered = sorted }
 
-  pub adds_inserted : (k : K) (old new : List (K × V)) (w : V) (there : Option V) (r : Record) → IsZone octets sets old → IsZone octets sets new
-      → octets k ≡ name_key r.name → there ≡ lookup (at_key (octets k)) old → new ≡ insert_entry key_cmp old k w → sets w ≡ with_record (node_sets there) r
-      → Adds (sets_of octets sets old) r (sets_of octets sets new)
-  adds_inserted k old new w there r was now same found is holds =
-      adds old new r w was now
-      (λ q. ap (lookup (at_key q)) is ∙ lookup_inserted q k w old ∙ ap (λ (t : List ℕ). cond (bytes_eq q t) (Some w) (lookup (at_key q) old)) same)
-      (holds ∙ ap (λ (o : Option V). with_record (node_sets o) r) (found ∙ ap (λ (t : List ℕ). lookup (at_key t) old) same))
+  pub changes_inserted : (k : K) (old new : List (K × V)) (w : V) (there : Option V) (change : Change) → IsZone octets sets old → IsZone octets sets new
+      → octets k ≡ name_key (owner_of change) → there ≡ lookup (at_key (octets k)) old → new ≡ insert_entry key_cmp old k w → sets w ≡ with_change (node_sets there) change
+      → Replaces (sets_of octets sets old) (owner_of change) (type_in change) (Some (made change (rrset_at (sets_of octets sets old) (owner_of change) (type_in change)))) (sets_of octets sets new)
+  changes_inserted k old new w there change was now same found is holds =
+      let node : node_sets there ≡ node_sets (lookup (at_key (name_key (owner_of change))) old)
+      = ap node_sets (found ∙ ap (λ (t : List ℕ). lookup (at_key t) old) same) in
+      let stored : rrset_at (sets_of octets sets old) (owner_of change) (type_in change) ≡ set_of_type (type_in change) (node_sets there)
+      = stored_at old (owner_of change) (type_in change) was ∙ ap (find (is_of_type (type_in change))) (sym node) in
+      replaced old new (owner_of change) (type_in change) _ (Some w) was now
+      (λ name. ap (lookup (at_key (name_key name))) is ∙ lookup_inserted (name_key name) k w old ∙ ap (λ (t : List ℕ). cond (bytes_eq (name_key name) t) (Some w) (lookup (at_key (name_key name)) old)) same)
+      (λ t. ap (find (is_of_type t)) holds ∙ find_change t (node_sets there) change
+      ∙ ap (λ (s : Option RRset). cond (same_record_type (type_in change) t) (Some (made change s)) (find (is_of_type t) (node_sets there))) (sym stored)
+      ∙ ap (λ (ss : List RRset). cond (same_record_type (type_in change) t) (Some (made change (rrset_at (sets_of octets sets old) (owner_of change) (type_in change)))) (find (is_of_type t) ss)) node)

@@ -1,5 +1,5 @@
 -- What the map's own calls say of a zone.
-use Rattle.std.proofs.Common.{◌≡◌, ◌∙◌, sym, ap, subst, Vec, Global}
+use Rattle.std.proofs.Common.{◌≡◌, ℕ, ◌∙◌, sym, ap, subst, Vec, Global}
 use Rattle.std.specs.Prelude.{Bool, true, List, [], ◌&&◌, Option}
 use Rattle.std.specs.Bool.{beq}
 use Rattle.std.specs.List.{filter}
@@ -15,9 +15,12 @@ use Rattle.zst_key.proofs.KeyLemmas.{key-below}
 use Rattle.zst_key.proofs.KeyOrder.{keys-order}
 use Rattle.zst_record.specs.RecordSets.{RRset}
 use Rattle.zst_handler.specs.Lookups.{sets_of_name}
+use Rattle.zst_handler.specs.Zones.{rrset_at}
 use Rattle.zst_map.specs.ZoneMaps.{IsZone, exists_alike, sets_of}
 use Rattle.zst_map.proofs.Keys.{begins, begins-starts_with}
-use Rattle.zst_map.proofs.ZoneEntries.{at_key, key_cmp, node_sets}
+use Rattle.zst_map.specs.Changes.{owner_of, set_of_type, type_in}
+use Rattle.zst_map.specs.declared.change.Change.{Change}
+use Rattle.zst_map.proofs.ZoneEntries.{at_key, key_cmp, node_sets, stored_at}
 use Rattle.zst_map.proofs.NamedSets.{named_in}
 use Rattle.zst_map.proofs.ZoneNodes.{exists_from, first_begins, from_key}
 
@@ -66,3 +69,13 @@ exists_by entries zone key result is view e =
 -- The test of the code, as the key's octets say it.
 pub begins_by : (key owner : DomainName) (b : Bool) → b ≡ (beq owner.fqdn key.fqdn && is_at_or_below owner key) → begins (name_key key) (name_key owner) ≡ b
 begins_by key owner b e = begins-starts_with (name_key key) (name_key owner) ∙ key-below owner key ∙ sym e
+
+-- The set of a change's owner and type is among those under its key.
+pub set_there : (entries : Entries) (zone : List RRset) (key : DomainName) (change : Change) (there : Option Node) → IsZone name_key sets entries → sets_of name_key sets entries ≡ zone
+    → name_key key ≡ name_key (owner_of change) → there ≡ lookup (at_key name_key sets (name_key key)) entries
+    → rrset_at zone (owner_of change) (type_in change) ≡ set_of_type (type_in change) (node_sets name_key sets there)
+set_there entries zone key change there is view same found =
+    sym (ap (λ (z : List RRset). rrset_at z (owner_of change) (type_in change)) view)
+    ∙ stored_at name_key sets entries (owner_of change) (type_in change) is
+    ∙ ap (λ (q : List ℕ). set_of_type (type_in change) (node_sets name_key sets (lookup (at_key name_key sets q) entries))) (sym same)
+    ∙ ap (λ (o : Option Node). set_of_type (type_in change) (node_sets name_key sets o)) (sym found)

@@ -5,8 +5,6 @@ use Rattle.zst_record.specs.dnw_codes.declared.record_type.RecordType.{RecordTyp
 use Rattle.zst_record.specs.dnw_codes.declared.record_type.RecordType.TheVariants as kind
 use Rattle.zst_record.specs.dnw_codes.RecordType.{same_record_type}
 use Rattle.zst_record.specs.dnw_name.DomainName.{DomainName, name_cmp, name_eq}
-use Rattle.zst_record.specs.drd_rdata.Types.{type_of}
-use Rattle.zst_record.specs.declared.records.Record.{Record}
 use Rattle.zst_record.specs.RecordSets.{RRset}
 use Rattle.zst_key.specs.Ancestors.{star}
 use Rattle.zst_handler.specs.Zones.{rrset_at}
@@ -26,16 +24,17 @@ pub record Grows (old new : Index) : Type 0 where
   pub uncut : new.has_cuts ≡ false → old.has_cuts ≡ false
   pub absolute : new.has_relative ≡ false → old.has_relative ≡ false
 
--- A record's owner, which may own an SOA, stands where a search for the record looks: as owner of NS,
--- as a wildcard.
-pub record HasOwnerOf (r : Record) (owns_soa : Bool) (index : Index) : Type 0 where
-  pub cut : same_record_type (type_of r.rdata) kind.NS ≡ true → (name : DomainName)
-      → name_eq name r.name ≡ true → IsSome (get name_cmp index.name_servers name)
-  pub uncut : index.has_cuts ≡ false → same_record_type (type_of r.rdata) kind.NS ≡ true
+-- The owner of a set of this type, which may own an SOA, stands where a search for the set looks: as
+-- owner of NS, as a wildcard.
+pub record HasOwnerOf (owner : DomainName) (record_type : RecordType) (owns_soa : Bool)
+    (index : Index) : Type 0 where
+  pub cut : same_record_type record_type kind.NS ≡ true → (name : DomainName)
+      → name_eq name owner ≡ true → IsSome (get name_cmp index.name_servers name)
+  pub uncut : index.has_cuts ≡ false → same_record_type record_type kind.NS ≡ true
       → owns_soa ≡ true
-  pub star_above : (name : DomainName) → name_eq (star name) r.name ≡ true
+  pub star_above : (name : DomainName) → name_eq (star name) owner ≡ true
       → IsSome (get name_cmp index.wildcards name)
-  pub absolute : index.has_relative ≡ false → r.name.fqdn ≡ true
+  pub absolute : index.has_relative ≡ false → owner.fqdn ≡ true
 
 -- The owners of all sets stand so.
 pub record IsIndexed (index : Index) (sets : List RRset) : Type 0 where

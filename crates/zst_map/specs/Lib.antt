@@ -1,3 +1,4 @@
+pub mod Changes
 pub mod Indexes
 pub mod Searches
 pub mod ZoneMaps

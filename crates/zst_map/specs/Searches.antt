@@ -2,7 +2,6 @@
 use Rattle.std.specs.Prelude.{List, Option, Some, if◌then◌else◌, option_map, option_copied}
 use Rattle.std.specs.Option.{option_flatten}
 use Rattle.std.specs.Borrow.{Bor}
-use Rattle.zst_record.specs.dnw_codes.declared.record_type.RecordType.{RecordType}
 use Rattle.zst_record.specs.dnw_name.DomainName.{DomainName, lowercase_name}
 use Rattle.zst_record.specs.RecordSets.{RRset, renamed}
 use Rattle.zst_key.specs.Ancestors.{star}

@@ -1,5 +1,5 @@
 -- How a zone's sets stand in its map: under each owner's key, the owner's sets by rising type.
-use Rattle.std.specs.Prelude.{◌≡◌, ℕ, ◌+◌, ◌<◌, ◌&&◌, Bool, List, [], ◌∷◌, length, if◌then◌else◌, nat_lt, ◌==◌, None, Some, Result, Ok, Err}
+use Rattle.std.specs.Prelude.{◌≡◌, ℕ, ◌+◌, ◌<◌, ◌&&◌, Bool, List, [], ◌∷◌, length, if◌then◌else◌, nat_lt, ◌==◌, Result, Ok, Err}
 use Rattle.std.specs.Bool.{beq}
 use Rattle.std.specs.List.{AllByRecursion, flat_map, list_any}
 use Rattle.std.specs.List.Sorted.{IsStrictlySortedBy}
@@ -7,11 +7,9 @@ use Rattle.std.specs.Ordering.{nat_cmp}
 use Rattle.std.specs.Cmp.Lexicographic.{slice_cmp}
 use Rattle.std.specs.Map.{keys_of}
 use Rattle.zst_record.specs.dnw_name.DomainName.{DomainName, is_at_or_below}
-use Rattle.zst_record.specs.dnw_codes.RecordType.{record_type_number, same_record_type}
+use Rattle.zst_record.specs.dnw_codes.RecordType.{record_type_number}
 use Rattle.zst_key.specs.NameKeys.{name_key}
-use Rattle.zst_record.specs.declared.records.Record.{Record}
-use Rattle.zst_record.specs.drd_rdata.Types.{type_of}
-use Rattle.zst_record.specs.RecordSets.{RRset, set_with}
+use Rattle.zst_record.specs.RecordSets.{RRset}
 
 -- The set's owner has this key.
 pub record IsOwnedAt (key : List ℕ) (set : RRset) : Type 0 where
@@ -35,15 +33,6 @@ pub record IsNode (key : List ℕ) (sets : List RRset) : Type 0 where
   pub filled : 0 < length sets
   pub owned : AllByRecursion (IsOwnedAt key) sets
   pub rise : TypesRise sets
-
--- The sets of one owner with one record more.
-abbrev pub with_record : List RRset → Record → List RRset
-with_record [] r = set_with None r ∷ []
-with_record (set ∷ sets) r =
-    if nat_lt (record_type_number set.record_type) (record_type_number (type_of r.rdata)) then set
-    ∷ with_record sets r
-    else if same_record_type set.record_type (type_of r.rdata) then set_with (Some set) r ∷ sets
-    else set_with None r ∷ set ∷ sets
 
 -- The place of the set of a type (Ok), or where it would go (Err), in sets that start at a place.
 abbrev pub place_from : ℕ → List RRset → ℕ → Result ℕ ℕ

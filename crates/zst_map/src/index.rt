@@ -2,13 +2,15 @@
 
 ghost use Rattle.std.specs.Prelude.{◌≡◌, ◌&&◌, true, false, not, OnOk, IsSome};
 ghost use Rattle.std.specs.BTreeMap.{get};
+ghost use Rattle.zst_record.specs.dnw_codes.RecordType.{same_record_type};
+ghost use Rattle.zst_record.specs.dnw_codes.declared.record_type.RecordType.TheVariants as kind;
 ghost use Rattle.zst_record.specs.dnw_name.DomainName.{DomainName, lowercase_name, name_cmp};
 ghost use Rattle.zst_key.specs.Ancestors.{parent};
 ghost use Rattle.zst_map.specs.Indexes.{Grows, HasName, HasOwnerOf};
 
 use std::alloc::{AllocError, Global};
 use std::collections::BTreeMap;
-use zst_handler::{Record, RecordType};
+use zst_handler::{Name, RecordType};
 use zst_key::NameKey;
 
 /// The names at which a search looks for cuts and wildcards. Each may hold more.
@@ -37,22 +39,39 @@ impl Index {
         }
     }
 
-    /// Puts a record's owner, which has this key and may own an SOA, where a search for the record looks.
+    /// Puts an owner of a set of this type, which has this key and may own an SOA, where a search for the set looks.
     pub(crate) fn mark(
         &mut self,
         key: &NameKey,
-        next: &Record,
+        owner: &Name,
+        record_type: RecordType,
         owns_soa: bool,
     ) -> Result<(), AllocError>
-        requires { key.now ≡ lowercase_name next.now.name }
+        requires { key.now ≡ lowercase_name owner.now }
         ensures kept { Grows self.old self.new }
-        ensures marked { OnOk result (HasOwnerOf next.now owns_soa self.new) }
+        ensures marked { OnOk result (HasOwnerOf owner.now record_type owns_soa self.new) }
     {
-        let is_ns = next.record_type() == RecordType::NS;
+        let is_ns = record_type == RecordType::NS;
         self.has_relative |= !key.is_fqdn();
         self.has_cuts |= is_cut(is_ns, owns_soa);
         put_if(&mut self.name_servers, key, is_ns)?;
-        put_above_if(&mut self.wildcards, key, next.name.is_wildcard())
+        put_above_if(&mut self.wildcards, key, owner.is_wildcard())
+    }
+
+    /// Lets an owner of NS lose its SOA.
+    pub(crate) fn unmark(&mut self, record_type: RecordType)
+        ensures kept { Grows self.old self.new }
+        ensures cut { same_record_type record_type kind.SOA ≡ true → self.new.has_cuts ≡ true }
+    {
+        self.has_cuts |= record_type == RecordType::SOA;
+    }
+
+    /// Takes out all names.
+    pub(crate) fn clear(&mut self) {
+        self.name_servers.clear();
+        self.wildcards.clear();
+        self.has_cuts = false;
+        self.has_relative = false;
     }
 }
 

@@ -12,9 +12,13 @@ pub use zst_handler::{
 };
 pub use zst_key::NameKey;
 
+mod apart;
+mod change;
 mod index;
+mod iter;
 mod map;
 mod node;
 mod zone_sets;
 
+pub use iter::ZoneSetsIter;
 pub use zone_sets::{Match, ZoneSets};

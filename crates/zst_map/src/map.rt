@@ -1,28 +1,30 @@
 //! The sets of a zone, in the canonical order of their owners.
 
-ghost use Rattle.std.specs.Prelude.{◌≡◌, true, [], ◌∷◌, IfOk, OnOk, OnErr};
+ghost use Rattle.std.specs.Prelude.{◌≡◌, true, [], None, Some, IfOk, OnOk, OnErr};
 ghost use Rattle.std.specs.List.{AllByRecursion};
 ghost use Rattle.zst_record.specs.dnw_name.DomainName.{name_eq, lowercase_name};
 ghost use Rattle.zst_record.specs.dnw_codes.RecordType.{record_type_number};
 ghost use Rattle.zst_handler.specs.Lookups.{sets_of_name};
-ghost use Rattle.zst_handler.specs.Zones.{Adds, AreInOrder};
-ghost use Rattle.zst_record.specs.RecordSets.{set_with};
-ghost use Rattle.zst_map.specs.ZoneMaps.{exists_alike, with_record, place_from};
+ghost use Rattle.zst_handler.specs.Updates.{Replaces};
+ghost use Rattle.zst_handler.specs.Zones.{AreInOrder, rrset_at};
+ghost use Rattle.zst_map.specs.Changes.{alters, is_only, made, owner_of, set_of_type, type_in, with_change, without_type};
+ghost use Rattle.zst_map.specs.ZoneMaps.{TypesRise, exists_alike, place_from};
 
+use crate::change::Change;
 use std::alloc::{AllocError, Global};
 use std::cmp::Ordering;
 use std::collections::BTreeMap;
 use std::collections::btree_map::Entry;
 use std::marker::Model;
 use std::mem;
-use zst_handler::{Record, RecordSet, RecordType};
+use zst_handler::{RecordSet, RecordType};
 use zst_key::NameKey;
 
 /// The sets of a zone, by owner in canonical order (RFC 4034 section 6.1), then by type.
 #[derive(Drop)]
 pub struct ZoneMap {
     /// The sets of each owner, by rising type, under the owner's key.
-    nodes: BTreeMap<NameKey, Vec<RecordSet>>,
+    pub(crate) nodes: BTreeMap<NameKey, Vec<RecordSet>>,
 }
 
 impl Model for ZoneMap {
@@ -81,50 +83,107 @@ impl ZoneMap {
         }
     }
 
-    /// Adds a record, whose owner has this key, to the set of its owner and type, in place of the one with equal data;
-    /// where there is no such set, one is made. The map is searched once.
-    pub fn add(&mut self, alloc: Global, key: NameKey, next: Record) -> Result<(), AllocError>
-        requires { key ≡ lowercase_name next.name }
-        ensures ok { OnOk result (Adds self.old next self.new) }
+    /// Changes the set of an owner, which has this key, and a type, and tells whether that changed it; where there is no
+    /// such set, one is made. The map is searched once.
+    pub(crate) fn change(
+        &mut self,
+        alloc: Global,
+        key: NameKey,
+        change: Change,
+    ) -> Result<bool, AllocError>
+        requires { key ≡ lowercase_name (owner_of change) }
+        ensures changed { IfOk result (λ changed. changed ≡ alters change (rrset_at self.old (owner_of change) (type_in change))) }
+        ensures ok { OnOk result (Replaces self.old (owner_of change) (type_in change)
+            (Some (made change (rrset_at self.old (owner_of change) (type_in change)))) self.new) }
         ensures ordered { OnOk result (AreInOrder self.new) }
+        ensures before { AreInOrder self.old }
         ensures err { OnErr result (self.new ≡ self.old) }
     {
         match self.nodes.entry(key) {
-            Ok(Entry::Occupied(entry)) => add_to_node(alloc, entry.into_mut(), next),
+            Ok(Entry::Occupied(entry)) => change_node(alloc, entry.into_mut(), change),
             Ok(Entry::Vacant(entry)) => {
-                Entry::Vacant(entry).or_try_insert_with(|| node_of(alloc, next))?;
-                Ok(())
+                Entry::Vacant(entry).or_try_insert_with(|| node_of(alloc, change))?;
+                Ok(true)
             }
             Err(_) => {
-                mem::drop(next);
+                mem::drop(change);
                 Err(AllocError)
             }
         }
     }
+
+    /// Takes out the set of an owner, which has this key, and a type.
+    pub(crate) fn remove(&mut self, key: &NameKey, record_type: RecordType) -> Option<RecordSet>
+        ensures value { result ≡ rrset_at self.old key.now record_type }
+        ensures others { Replaces self.old key.now record_type None self.new }
+        ensures ordered { AreInOrder self.new }
+    {
+        if is_only(self.searched(key), record_type) {
+            let Some(mut node) = self.nodes.remove(key) else {
+                return None;
+            };
+            return node.pop();
+        }
+        let Some(node) = self.nodes.get_mut(key) else {
+            return None;
+        };
+        take_out(node, record_type)
+    }
+
+    /// Takes out all sets.
+    pub(crate) fn clear(&mut self)
+        ensures { self.new ≡ [] }
+    {
+        self.nodes.clear();
+    }
 }
 
-/// The sets of an owner that has only one record.
-fn node_of(alloc: Global, next: Record) -> Result<Vec<RecordSet>, AllocError>
-    ensures { IfOk result (λ node. node.items ≡ with_record [] next) }
+/// The sets of an owner that has only one.
+fn node_of(alloc: Global, change: Change) -> Result<Vec<RecordSet>, AllocError>
+    ensures { IfOk result (λ node. node.items ≡ with_change [] change) }
 {
     let mut node = Vec::with_capacity(alloc, 1)?;
-    node.push_reserved(RecordSet::from_record(alloc, next)?);
+    node.push_reserved(change.into_set(alloc)?);
     Ok(node)
 }
 
-/// Adds a record to the sets of its owner.
-fn add_to_node(alloc: Global, sets: &mut Vec<RecordSet>, next: Record) -> Result<(), AllocError>
-    requires { AllByRecursion (λ set. name_eq next.name set.name ≡ true) sets.old.items }
-    ensures ok { OnOk result (sets.new.items ≡ with_record sets.old.items next) }
+/// Changes a set of an owner, and tells whether that changed it.
+fn change_node(alloc: Global, sets: &mut Vec<RecordSet>, change: Change) -> Result<bool, AllocError>
+    requires owned { AllByRecursion (λ set. name_eq (owner_of change) set.name ≡ true) sets.old.items }
+    requires rise { TypesRise sets.old.items }
+    ensures changed { IfOk result (λ changed. changed ≡ alters change (set_of_type (type_in change) sets.old.items)) }
+    ensures ok { OnOk result (sets.new.items ≡ with_change sets.old.items change) }
     ensures err { OnErr result (sets.new.items ≡ sets.old.items) }
 {
-    match place_of(sets, next.record_type()) {
-        Ok(place) => sets[place].put(next),
+    match place_of(sets, change.record_type()) {
+        Ok(place) => change.apply(&mut sets[place]),
         Err(place) => {
-            let set = RecordSet::from_record(alloc, next)?;
+            let set = change.into_set(alloc)?;
             sets.insert(place, set)?;
-            Ok(())
+            Ok(true)
         }
+    }
+}
+
+/// Whether the sets of an owner are one, of this type.
+fn is_only(sets: &[RecordSet], record_type: RecordType) -> bool
+    ensures { result ≡ is_only sets.now record_type }
+{
+    match sets {
+        [set] => set.record_type() == record_type,
+        _ => false,
+    }
+}
+
+/// Takes the set of a type out of an owner's.
+fn take_out(sets: &mut Vec<RecordSet>, record_type: RecordType) -> Option<RecordSet>
+    requires { TypesRise sets.old.items }
+    ensures value { result ≡ set_of_type record_type sets.old.items }
+    ensures others { sets.new.items ≡ without_type sets.old.items record_type }
+{
+    match place_of(sets, record_type) {
+        Ok(place) => Some(sets.remove(place)),
+        Err(_) => None,
     }
 }
 

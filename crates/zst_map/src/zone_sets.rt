@@ -1,6 +1,6 @@
 //! The sets of a zone, with the names at which a search for cuts and wildcards looks.
 
-ghost use Rattle.std.specs.Prelude.{◌≡◌, [], true, IfOk, OnOk, OnErr, IsSome, is_some, option_copied, option_map};
+ghost use Rattle.std.specs.Prelude.{◌≡◌, [], true, false, Some, None, IfOk, OnOk, OnErr, IsSome, is_some, option_copied, option_map};
 ghost use Rattle.std.specs.BTreeMap.{get};
 ghost use Rattle.zst_key.specs.Ancestors.{nearest_in};
 ghost use Rattle.zst_record.specs.dnw_codes.RecordType.{same_record_type};
@@ -10,10 +10,15 @@ ghost use Rattle.zst_record.specs.dnw_name.DomainName.{DomainName, lowercase_nam
 ghost use Rattle.zst_handler.specs.Answers.{set_in};
 ghost use Rattle.zst_handler.specs.Found.{above, delegation, found};
 ghost use Rattle.zst_handler.specs.Lookups.{sets_of_name};
+ghost use Rattle.zst_handler.specs.Updates.{Replaces, upsert_changes, upserted};
 ghost use Rattle.zst_handler.specs.Zones.{Adds, AreInOrder, exists_in, rrset_at};
+ghost use Rattle.zst_map.specs.Changes.{alters, made, owner_of, type_in};
 ghost use Rattle.zst_map.specs.Searches.{lent, looked_for, match_set, sought_in};
 
+use crate::apart::is_kept_out;
+use crate::change::Change;
 use crate::index::Index;
+use crate::iter::ZoneSetsIter;
 use crate::map::ZoneMap;
 use crate::node::{cut_of, find_set, here};
 use std::alloc::{AllocError, Global};
@@ -98,6 +103,13 @@ impl ZoneSets {
         self.sets.sets_at(key)
     }
 
+    /// The sets, in order.
+    pub fn iter(&self) -> ZoneSetsIter<'_>
+        ensures { result ≡ self.now }
+    {
+        ZoneSetsIter::new(&self.sets)
+    }
+
     /// Whether the name of a key exists: whether an owner equals it or lies below it (RFC 4592 section 2.2.2), whether or
     /// not they end at the root.
     pub fn exists(&self, key: &NameKey) -> Result<bool, AllocError>
@@ -122,20 +134,87 @@ impl ZoneSets {
         ensures ordered { OnOk result (AreInOrder self.new) }
         ensures err { OnErr result (self.new ≡ self.old) }
     {
-        let owns_soa = self.owns_soa(&key, &next);
-        if self.index.mark(&key, &next, owns_soa).is_err() {
+        self.change(alloc, key, Change::Add(next))?;
+        Ok(())
+    }
+
+    /// Adds a record, whose owner has this key, as an update does (RFC 2136 section 3.4.2.2), and tells whether that
+    /// changed the sets.
+    pub fn upsert(&mut self, alloc: Global, key: NameKey, next: Record) -> Result<bool, AllocError>
+        requires { key ≡ lowercase_name next.name }
+        ensures changed { IfOk result (λ changed. changed ≡ upsert_changes self.old next) }
+        ensures ok { OnOk result (upsert_changes self.old next ≡ true → Replaces self.old next.name (type_of next.rdata)
+            (Some (upserted (rrset_at self.old next.name (type_of next.rdata)) next)) self.new) }
+        ensures ordered { OnOk result (upsert_changes self.old next ≡ true → AreInOrder self.new) }
+        ensures unchanged { OnOk result (upsert_changes self.old next ≡ false → self.new ≡ self.old) }
+        ensures err { OnErr result (self.new ≡ self.old) }
+    {
+        if is_kept_out(self.sets.sets_at(&key), &next) {
             mem::drop(next);
+            mem::drop(key);
+            return Ok(false);
+        }
+        self.change(alloc, key, Change::Upsert(next))
+    }
+
+    /// Puts a set, whose owner has this key, in place of the one of its owner and type.
+    pub fn put(&mut self, alloc: Global, key: NameKey, set: RecordSet) -> Result<(), AllocError>
+        requires { key ≡ lowercase_name set.name }
+        ensures ok { OnOk result (Replaces self.old set.name set.record_type (Some set) self.new) }
+        ensures ordered { OnOk result (AreInOrder self.new) }
+        ensures err { OnErr result (self.new ≡ self.old) }
+    {
+        self.change(alloc, key, Change::Put(set))?;
+        Ok(())
+    }
+
+    // Changes the set of an owner, which has this key, and a type, and tells whether that changed it.
+    fn change(&mut self, alloc: Global, key: NameKey, change: Change) -> Result<bool, AllocError>
+        requires { key ≡ lowercase_name (owner_of change) }
+        ensures changed { IfOk result (λ changed. changed ≡ alters change (rrset_at self.old (owner_of change) (type_in change))) }
+        ensures ok { OnOk result (Replaces self.old (owner_of change) (type_in change)
+            (Some (made change (rrset_at self.old (owner_of change) (type_in change)))) self.new) }
+        ensures ordered { OnOk result (AreInOrder self.new) }
+        ensures before { OnOk result (AreInOrder self.old) }
+        ensures err { OnErr result (self.new ≡ self.old) }
+    {
+        let record_type = change.record_type();
+        let owns_soa = self.owns_soa(&key, record_type);
+        if self
+            .index
+            .mark(&key, change.name(), record_type, owns_soa)
+            .is_err()
+        {
+            mem::drop(change);
             mem::drop(key);
             return Err(AllocError);
         }
-        self.sets.add(alloc, key, next)
+        self.sets.change(alloc, key, change)
     }
 
-    // Whether the owner of a record, which has this key, owns an SOA; that is looked up for name servers alone.
-    fn owns_soa(&self, key: &NameKey, next: &Record) -> bool
-        ensures { same_record_type (type_of next.now.rdata) kind.NS ≡ true → result ≡ is_some (rrset_at self.now key.now kind.SOA) }
+    /// Takes out the set of a type at the name of a key.
+    pub fn remove(&mut self, key: &NameKey, record_type: RecordType) -> Option<RecordSet>
+        ensures value { result ≡ rrset_at self.old key.now record_type }
+        ensures others { Replaces self.old key.now record_type None self.new }
+        ensures ordered { AreInOrder self.new }
     {
-        next.record_type() == RecordType::NS && self.get(key, RecordType::SOA).is_some()
+        self.index.unmark(record_type);
+        self.sets.remove(key, record_type)
+    }
+
+    /// Takes out all sets.
+    pub fn clear(&mut self)
+        ensures { self.new ≡ [] }
+    {
+        self.index.clear();
+        self.sets.clear();
+    }
+
+    // Whether the name of a key owns an SOA; that is looked up for name servers alone.
+    fn owns_soa(&self, key: &NameKey, record_type: RecordType) -> bool
+        ensures { same_record_type record_type kind.NS ≡ true → result ≡ is_some (rrset_at self.now key.now kind.SOA) }
+    {
+        record_type == RecordType::NS && self.get(key, RecordType::SOA).is_some()
     }
 
     /// Which set answers the name of a key and a type: that of the cut at or above it; else what its own sets answer;

@@ -4,6 +4,7 @@ pub mod LookupOnce
 pub mod LowerNames
 pub mod Matches
 pub mod ReadBack
+pub mod Stored
 pub mod Told
 pub use Rattle.zst_map.proofs.dnw_name_lemmas
 pub use Rattle.zst_map.proofs.drd_words_lemmas

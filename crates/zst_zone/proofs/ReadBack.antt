@@ -10,7 +10,7 @@ use Rattle.zst_map.specs.dnw_name.DomainName.{DomainName, name_eq}
 use Rattle.zst_map.specs.drd_rdata.Order.{rdata_eq}
 use Rattle.zst_map.specs.drd_rdata.Types.{type_of}
 use Rattle.zst_map.specs.zst_record.Records.{ReadsBackAlone}
-use Rattle.zst_map.specs.zst_record.RecordSets.{RRset, first_of_put, put_record, set_with}
+use Rattle.zst_map.specs.zst_record.RecordSets.{RRset, put_record, set_with}
 use Rattle.zst_map.specs.zst_record.declared.records.Record.{Record}
 use Rattle.zst_map.specs.zst_handler.Zones.{AddsTo, AreInOrder, SetReadsBack, Zone, ZoneReadsBack, rrset_at}
 use Rattle.zst_map.proofs.ZoneNodes.{is_set_at}
@@ -21,7 +21,7 @@ find_step : (P : RRset → Type 0) (b : Bool) (x s : RRset) (rest : Option RRset
 find_step P true x s rest e here more = let g : x ≡ s = cc in subst P g (here refl)
 find_step P false x s rest e here more = more e
 
-found_is : (name : DomainName) (t : RecordType) (xs : List RRset) (s : RRset) → rrset_at xs name t ≡ Some s → is_set_at name t s ≡ true
+pub found_is : (name : DomainName) (t : RecordType) (xs : List RRset) (s : RRset) → rrset_at xs name t ≡ Some s → is_set_at name t s ≡ true
 found_is name t [] s e = let h : ⊥ = cc in absurd h
 found_is name t (x ∷ xs) s e = find_step (λ u. is_set_at name t u ≡ true) (is_set_at name t x) x s (find (is_set_at name t) xs) e (λ b. b) (found_is name t xs s)
 
@@ -59,22 +59,9 @@ alone_or_put : (same : Bool) (rs : List Record) (r : Record) → AllByRecursion 
 alone_or_put true rs r all new = put_reads_back rs r all new
 alone_or_put false rs r all new = (new, tt)
 
-owner_put : (name : DomainName) (rs : List Record) (r : Record) → name.fqdn ≡ true → r.name.fqdn ≡ true → (first_of_put r.name name rs r).fqdn ≡ true
-owner_put name [] r old new = new
-owner_put name (s ∷ ss) r old new = by (rdata_eq s.rdata r.rdata)
-  where
-    by : (b : Bool) → (cond b r.name name).fqdn ≡ true
-    by true = new
-    by false = old
-
-owner_full : (same : Bool) (name : DomainName) (rs : List Record) (r : Record) → name.fqdn ≡ true → r.name.fqdn ≡ true → (cond (not same) r.name (first_of_put r.name name rs r)).fqdn ≡ true
-owner_full true name rs r old new = owner_put name rs r old new
-owner_full false name rs r old new = new
-
 with_reads_back : (o : Option RRset) (r : Record) → ((s : RRset) → o ≡ Some s → SetReadsBack s) → ReadsBackAlone r → SetReadsBack (set_with o r)
-with_reads_back None r old new = record { owner = new.owner; records = (new, tt); signatures = tt }
+with_reads_back None r old new = record { records = (new, tt); signatures = tt }
 with_reads_back (Some s) r old new = record {
-  owner = owner_full (same_class r.dns_class s.dns_class) s.name s.records r (old s refl).owner new.owner;
   records = alone_or_put (same_class r.dns_class s.dns_class) s.records r (old s refl).records new;
   signatures = tt;
 }

@@ -8,7 +8,7 @@ use Rattle.zst_map.specs.zst_handler.declared.lookup_options.LookupOptions.{Look
 use Rattle.zst_map.specs.zst_handler.Answers.{ShowsAnswer}
 use Rattle.zst_map.specs.zst_handler.Chains.{IsAliasChain, Links, NoneTwice, asked_names, end_of}
 use Rattle.zst_map.specs.zst_handler.Lookups.{Answer, AnswersFrom, flattened}
-use Rattle.zst_map.specs.zst_handler.Zones.{AreInOrder}
+use Rattle.zst_map.specs.zst_handler.Zones.{AreInOrder, AreStored}
 
 -- A set, or its records under another name: both are the same where they stand in for an alias.
 abbrev pub IsBehind : Option RRset → Option RRset → Type 0
@@ -54,7 +54,8 @@ LeadsOn zone name record_type chain keys n None = IsAliasChain zone name record_
 LeadsOn zone name record_type chain keys n (Some next) =
     LeadsTo zone name record_type chain keys n next
 
--- This is the key of the zone's origin, and its sets stand in order.
+-- This is the key of the zone's origin, and its sets stand in order, each with its records.
 pub record IsKept (origin key : DomainName) (sets : List RRset) : Type 0 where
   pub at : key ≡ lowercase_name origin
   pub ordered : AreInOrder sets
+  pub stored : AreStored sets

@@ -1,4 +1,5 @@
 pub mod Answering
+pub mod Starts
 pub use Rattle.zst_map.specs.dnw_codes
 pub use Rattle.zst_map.specs.dnw_name
 pub use Rattle.zst_map.specs.drd_names
@@ -8,3 +9,4 @@ pub use Rattle.zst_map.specs.zst_codes
 pub use Rattle.zst_map.specs.zst_handler
 pub use Rattle.zst_map.specs.zst_key
 pub use Rattle.zst_map.specs.zst_record
+pub mod zst_request

@@ -1,19 +1,41 @@
 //! A zone kept in memory, and what it answers.
 
-ghost use Rattle.std.specs.Prelude.{◌≡◌, option_copied, IfOk, OnOk, OnErr};
+ghost use Rattle.std.specs.Prelude.{◌≡◌, ◌↔◌, [], false, Some, None, IsTrue, option_copied, IfOk, IfErr, OnOk, OnErr};
 ghost use Rattle.zst_map.specs.dnw_name.DomainName.{is_at_or_below, lowercase_name};
 ghost use Rattle.zst_map.specs.zst_handler.Answers.{LookupAnswers, denial_error};
 ghost use Rattle.zst_map.specs.zst_handler.Lookups.{denial};
-ghost use Rattle.zst_map.specs.zst_handler.Zones.{rrset_at, empty_zone, AddsTo, AreInOrder};
+ghost use Rattle.zst_map.specs.dnw_codes.declared.dns_class.DNSClass.TheVariants.{IN};
+ghost use Rattle.zst_map.specs.dnw_codes.declared.record_type.RecordType.TheVariants as types;
+ghost use Rattle.zst_map.specs.zst_record.RecordSets.{none_left};
+ghost use Rattle.zst_map.specs.zst_handler.Updates.{Upserts, ZoneReplaces, upsert_changes};
+ghost use Rattle.zst_map.specs.zst_handler.Zones.{rrset_at, empty_zone, AddsTo, AreInOrder, AreStored, ZoneReadsBack};
+ghost use Rattle.zst_zone.specs.Starts.{RefusesSet, first_data, minimum_of, serial_of};
 
+use crate::back::all_read_back;
 use crate::lookup::lookup;
 use std::alloc::{AllocError, Global};
 use std::marker::{Model, PhantomData};
+use std::mem;
+use thiserror::Error;
 use zst_map::{
-    AuthLookup, AxfrPolicy, LookupControlFlow, LookupError, LookupOptions, Name, NameKey,
-    NxProofKind, Record, RecordSet, RecordType, ResponseCode, RrKey, ZoneSets, ZoneSettings,
+    AuthLookup, AxfrPolicy, DNSClass, LookupControlFlow, LookupError, LookupOptions, Name, NameKey,
+    NxProofKind, RData, Record, RecordSet, RecordType, ResponseCode, RrKey, ZoneSets, ZoneSettings,
     ZoneType,
 };
+
+/// Why a zone is not changed or made.
+#[derive(Clone, Copy, Debug, PartialEq, Eq, Error)]
+pub enum ZoneError {
+    /// A set stands under another owner or type than its own.
+    #[error("WrongKey")]
+    WrongKey,
+    /// A set has no records.
+    #[error("EmptySet")]
+    EmptySet,
+    /// Memory was refused.
+    #[error("OutOfMemory")]
+    OutOfMemory,
+}
 
 /// A zone kept in memory. `K` is to sign it.
 #[derive(Drop)]
@@ -64,8 +86,23 @@ impl<K> InMemoryZoneHandler<K> {
     pub fn origin(&self) -> &Name
         ensures value { result.now ≡ self.now.origin }
         ensures ordered { AreInOrder self.now.sets }
+        ensures stored { AreStored self.now.sets }
     {
         &self.origin
+    }
+
+    /// The class of the zone, that of the Internet.
+    pub fn class(&self) -> DNSClass
+        ensures { result ≡ IN }
+    {
+        DNSClass::IN
+    }
+
+    /// The sets of the zone, by owner in canonical order, then by type.
+    pub fn records(&self) -> &ZoneSets
+        ensures { result.now ≡ self.now.sets }
+    {
+        &self.sets
     }
 
     /// What this server is to the zone.
@@ -180,6 +217,43 @@ impl<K> InMemoryZoneHandler<K> {
         }
     }
 
+    /// Whether each record of the zone and each signature can be read alone: a server asks it of a zone.
+    pub fn reads_back(&self) -> bool
+        ensures { IsTrue result ↔ ZoneReadsBack self.now }
+    {
+        all_read_back(&self.sets)
+    }
+
+    /// The serial number of the zone, that of the SOA at its origin; 0 without one.
+    pub fn serial(&self) -> u32
+        ensures { result ≡ serial_of (first_data (rrset_at self.now.sets self.now.origin types.SOA)) }
+    {
+        match self.start() {
+            Some(RData::SOA(soa)) => soa.serial,
+            _ => 0,
+        }
+    }
+
+    /// How long a denial may be kept, in seconds: the field `minimum` of the SOA at the origin (RFC 2308 section 4); 0
+    /// without one.
+    pub fn minimum_ttl(&self) -> u32
+        ensures { result ≡ minimum_of (first_data (rrset_at self.now.sets self.now.origin types.SOA)) }
+    {
+        match self.start() {
+            Some(RData::SOA(soa)) => soa.minimum,
+            _ => 0,
+        }
+    }
+
+    // The data of the SOA at the origin.
+    fn start(&self) -> Option<&RData>
+        ensures { option_copied result ≡ first_data (rrset_at self.now.sets self.now.origin types.SOA) }
+    {
+        let set = self.apex(RecordType::SOA)?;
+        let first = set.as_slice().first()?;
+        Some(&first.rdata)
+    }
+
     /// Adds a record to the set of its owner and type, in place of the one with equal data; where there is no such set,
     /// one is made. It makes one key.
     pub fn insert(&mut self, alloc: Global, next: Record) -> Result<(), AllocError>
@@ -197,5 +271,81 @@ impl<K> InMemoryZoneHandler<K> {
         ensures err { OnErr result (self.new ≡ self.old) }
     {
         self.sets.add(alloc, key, next)
+    }
+
+    /// Adds a record as an update does (RFC 2136 section 3.4.2.2), and tells whether that changed the zone. A record of
+    /// another class than IN isn't taken; nor one that would stand beside an alias, or an alias beside others; nor one
+    /// that is there with its time to live; nor an SOA whose serial number isn't above the stored one's. Equal data are
+    /// replaced, and so is what there is one of at most: SOA, CNAME, ANAME. A changed set loses its signatures. The
+    /// serial number of the update isn't kept.
+    pub fn upsert(&mut self, alloc: Global, next: Record, _serial: u32) -> Result<bool, AllocError>
+        ensures changed { IfOk result (λ changed. changed ≡ upsert_changes self.old.sets next) }
+        ensures ok { OnOk result (Upserts self.old next self.new) }
+        ensures err { OnErr result (self.new ≡ self.old) }
+    {
+        let key = NameKey::of(alloc, &next.name)?;
+        self.sets.upsert(alloc, key, next)
+    }
+
+    /// What `upsert` does: a zone is changed by whoever holds it alone.
+    pub fn upsert_mut(
+        &mut self,
+        alloc: Global,
+        next: Record,
+        serial: u32,
+    ) -> Result<bool, AllocError>
+        ensures changed { IfOk result (λ changed. changed ≡ upsert_changes self.old.sets next) }
+        ensures ok { OnOk result (Upserts self.old next self.new) }
+        ensures err { OnErr result (self.new ≡ self.old) }
+    {
+        self.upsert(alloc, next, serial)
+    }
+
+    /// Puts a set in place of the one of its owner and type.
+    pub fn put_set(&mut self, alloc: Global, set: RecordSet) -> Result<(), ZoneError>
+        ensures ok { OnOk result ((none_left set.records ≡ false) × ZoneReplaces self.old set.name set.record_type (Some set) self.new) }
+        ensures refused { IfErr result (λ e. RefusesSet set e × (self.new ≡ self.old)) }
+    {
+        if set.is_empty() {
+            mem::drop(set);
+            return Err(ZoneError::EmptySet);
+        }
+        self.put_filled(alloc, set)
+            .map_err(|_| ZoneError::OutOfMemory)
+    }
+
+    // Puts a set that has records in place of the one of its owner and type.
+    fn put_filled(&mut self, alloc: Global, set: RecordSet) -> Result<(), AllocError>
+        requires { none_left set.records ≡ false }
+        ensures ok { OnOk result (ZoneReplaces self.old set.name set.record_type (Some set) self.new) }
+        ensures err { OnErr result (self.new ≡ self.old) }
+    {
+        let key = NameKey::of(alloc, set.name())?;
+        let _held = set.as_slice();
+        self.sets.put(alloc, key, set)
+    }
+
+    /// Takes out the set of an owner and a type.
+    pub fn remove_set(&mut self, alloc: Global, at: &RrKey) -> Result<Option<RecordSet>, AllocError>
+        ensures value { IfOk result (λ taken. taken ≡ rrset_at self.old.sets at.now.name at.now.record_type) }
+        ensures ok { OnOk result (ZoneReplaces self.old at.now.name at.now.record_type None self.new) }
+        ensures err { OnErr result (self.new ≡ self.old) }
+    {
+        let key = NameKey::of(alloc, &at.name)?;
+        Ok(self.sets.remove(&key, at.record_type))
+    }
+
+    /// Takes out all sets.
+    pub fn clear(&mut self)
+        ensures { self.new ≡ record self.old { sets = [] } }
+    {
+        self.sets.clear();
+    }
+
+    /// What signs the zone: nothing yet.
+    pub fn secure_keys(&self) -> &[K]
+        ensures { result.now ≡ [] }
+    {
+        &[]
     }
 }

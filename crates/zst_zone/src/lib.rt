@@ -8,11 +8,17 @@ pub use zst_map::{
     AnswerSet, AuthLookup, AxfrPolicy, DNSClass, LookupControlFlow, LookupError, LookupOptions,
     LookupRecords, LookupRecordsIter, LowerName, Name, NameKey, Nsec3HashAlgorithm, NxProofKind,
     ProtoError, RData, Record, RecordRef, RecordSet, RecordType, ResponseCode, RrKey, RrsetRecords,
-    Salt, SaltLenError, ZoneSettings, ZoneType,
+    Salt, SaltLenError, ZoneSets, ZoneSetsIter, ZoneSettings, ZoneType,
+};
+pub use zst_request::{
+    AxfrRecords, AxfrRecordsIter, BlocklistConsultAction, RequestTsig, TSigResponseContext,
+    ZoneHandler, ZoneRequest, ZoneTransfer, ZoneTransferIter,
 };
 
+mod back;
 mod chain;
 mod handler;
 mod lookup;
+mod zone_handler;
 
-pub use handler::InMemoryZoneHandler;
+pub use handler::{InMemoryZoneHandler, ZoneError};

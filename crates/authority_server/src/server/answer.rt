@@ -6,7 +6,7 @@ ghost use Rattle.zst_zone.specs.dnw_name.DomainName.{lowercase_name};
 ghost use Rattle.zst_zone.specs.dnw_codes.declared.record_type.RecordType.{RecordType};
 ghost use Rattle.zst_zone.specs.zst_handler.Answers.{ShowsAnswer, Tells, answers_in};
 ghost use Rattle.zst_zone.specs.zst_handler.Lookups.{Answer, IsLookup, Outcome, answered};
-ghost use Rattle.zst_zone.specs.zst_handler.Zones.{ZoneReadsBack};
+ghost use Rattle.zst_zone.specs.zst_handler.Zones.{AreStored, ZoneReadsBack};
 ghost use Rattle.zsv_message.specs.Headers.{FitsHeader};
 ghost use Rattle.zsv_reply.specs.Replies.{bare_failure};
 ghost use Rattle.zsv_reply.specs.Writing.{IsWritten};
@@ -325,6 +325,7 @@ pub fn reply_to<K>(
     limit: u16,
 ) -> Result<Vec<u8>, AllocError>
     requires back { ZoneReadsBack zone.now }
+    requires stored { AreStored zone.now.sets }
     requires message { IsRequest message.now request.now }
     requires lower { 12 ≤ limit }
     ensures { IfOk result (λ reply. Answers zone.now message.now request.now reply.items limit) }

@@ -1,7 +1,7 @@
-use Rattle.std.proofs.Common.{◌≡◌, ◌∙◌, refl, sym, ap, Some, is_some}
-use Rattle.std.specs.Prelude.{Bool, true, cond, Option}
+use Rattle.std.proofs.Common.{◌∙◌, sym, ap, Some, is_some}
+use Rattle.std.specs.Prelude.{Bool, cond}
 use Rattle.std.specs.BTreeMap.{BTreeMap, Updates, get}
-use Rattle.zst_record.specs.dnw_name.DomainName.{DomainName, name_cmp, name_eq}
+use Rattle.zst_record.specs.dnw_name.DomainName.{DomainName, name_cmp}
 use Rattle.zst_record.specs.dnw_name.NameOrderLaws.{name_eq-by_cmp}
 use Rattle.zst_record.specs.RecordLaws.{name_eq_equiv}
 use Rattle.zst_map.specs.Indexes.{HasName}

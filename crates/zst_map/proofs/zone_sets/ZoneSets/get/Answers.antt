@@ -1,4 +1,4 @@
-use Rattle.std.proofs.Common.{◌∙◌, ap, sym, List}
+use Rattle.std.proofs.Common.{◌∙◌, ap, List}
 use Rattle.zst_record.specs.RecordSets.{RRset}
 use Rattle.zst_handler.specs.Zones.{rrset_at}
 use Rattle.zst_map.proofs.Searched.{own_found}

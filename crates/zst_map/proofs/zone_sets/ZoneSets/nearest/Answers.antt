@@ -1,4 +1,4 @@
-use Rattle.std.proofs.Common.{◌≡◌, ◌∙◌, ap, sym, subst, Option, Some}
+use Rattle.std.proofs.Common.{◌≡◌, ◌∙◌, ap, sym, subst, Option}
 use Rattle.std.specs.Prelude.{IfOk, option_map}
 use Rattle.std.specs.BTreeMap.{get}
 use Rattle.zst_record.specs.dnw_name.DomainName.{DomainName, name_cmp}
@@ -6,7 +6,7 @@ use Rattle.zst_record.specs.RecordSets.{RRset}
 use Rattle.zst_key.specs.Ancestors.{nearest_in}
 use Rattle.zst_handler.specs.Found.{above}
 use Rattle.zst_map.specs.Searches.{lent, sought_in}
-use Rattle.zst_map.proofs.NearestOf.{LeadsTo, leads_to, none_nearest}
+use Rattle.zst_map.proofs.NearestOf.{leads_to, none_nearest}
 use Rattle.zst_map.proofs.Searched.{found_above, found_here, lent_some}
 use Rattle.zst_map.proofs.zone_sets.ZoneSets.nearest.Goals as goal
 

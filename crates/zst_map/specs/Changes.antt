@@ -1,0 +1,59 @@
+-- What changes at an owner, and what its sets are then.
+use Rattle.std.specs.Prelude.{Bool, true, false, List, [], ◌∷◌, Option, Some, None, find, nat_lt, if◌then◌else◌}
+use Rattle.zst_record.specs.dnw_codes.declared.record_type.RecordType.{RecordType}
+use Rattle.zst_record.specs.dnw_codes.RecordType.{record_type_number, same_record_type}
+use Rattle.zst_record.specs.dnw_name.DomainName.{DomainName}
+use Rattle.zst_record.specs.drd_rdata.Types.{type_of}
+use Rattle.zst_record.specs.RecordSets.{RRset, inserted, set_of, set_with, takes}
+use Rattle.zst_map.specs.declared.change.Change.{Change}
+use Rattle.zst_map.specs.declared.change.Change.TheVariants as changes
+
+abbrev pub owner_of : Change → DomainName
+owner_of (changes.Add r) = r.name
+owner_of (changes.Upsert r) = r.name
+owner_of (changes.Put set) = set.name
+
+-- The type of the set that changes.
+abbrev pub type_in : Change → RecordType
+type_in (changes.Add r) = type_of r.rdata
+type_in (changes.Upsert r) = type_of r.rdata
+type_in (changes.Put set) = set.record_type
+
+-- The set that was there, or none, as it is then.
+abbrev pub made : Change → Option RRset → RRset
+made (changes.Add r) set = set_with set r
+made (changes.Upsert r) None = set_of r
+made (changes.Upsert r) (Some set) = if takes set r then inserted set r else set
+made (changes.Put new) set = new
+
+-- Whether that is another one: an update may find its record there.
+abbrev pub alters : Change → Option RRset → Bool
+alters (changes.Upsert r) (Some set) = takes set r
+alters change set = true
+
+-- The sets of one owner with this one, by rising type, in place of the one of its type.
+abbrev pub with_set : List RRset → RRset → List RRset
+with_set [] new = new ∷ []
+with_set (set ∷ sets) new =
+    if nat_lt (record_type_number set.record_type) (record_type_number new.record_type) then set
+    ∷ with_set sets new
+    else if same_record_type set.record_type new.record_type then new ∷ sets
+    else new ∷ set ∷ sets
+
+abbrev pub set_of_type : RecordType → List RRset → Option RRset
+set_of_type record_type sets = find (λ set. same_record_type set.record_type record_type) sets
+
+abbrev pub with_change : List RRset → Change → List RRset
+with_change sets change = with_set sets (made change (set_of_type (type_in change) sets))
+
+-- ---- what is taken out
+-- The sets of one owner are one, of this type.
+abbrev pub is_only : List RRset → RecordType → Bool
+is_only (set ∷ []) record_type = same_record_type set.record_type record_type
+is_only sets record_type = false
+
+-- The sets of one owner without that of a type.
+abbrev pub without_type : List RRset → RecordType → List RRset
+without_type [] record_type = []
+without_type (set ∷ sets) record_type =
+    if same_record_type set.record_type record_type then sets else set ∷ without_type sets record_type

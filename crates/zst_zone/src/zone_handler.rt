@@ -1,0 +1,78 @@
+//! A zone in memory, as a server asks its handler.
+
+use crate::handler::InMemoryZoneHandler;
+use std::alloc::{AllocError, Global};
+use zst_request::{
+    AuthLookup, AxfrPolicy, LookupControlFlow, LookupError, LookupOptions, Name, NxProofKind,
+    RecordType, TSigResponseContext, ZoneHandler, ZoneRequest, ZoneType,
+};
+
+impl<K: Drop> ZoneHandler for InMemoryZoneHandler<K> {
+    ghost use Rattle.zst_request.specs.Views.{Stored};
+
+    ghost view = { λ zone. Stored zone };
+
+    fn zone_type(&self) -> ZoneType {
+        self.zone_type()
+    }
+
+    fn axfr_policy(&self) -> AxfrPolicy {
+        self.axfr_policy()
+    }
+
+    fn origin(&self) -> &Name {
+        self.origin()
+    }
+
+    fn nx_proof_kind(&self) -> Option<&NxProofKind> {
+        self.nx_proof_kind()
+    }
+
+    /// What `lookup` answers; a zone is handed over by `zone_transfer` alone, so a question for that is broken off.
+    fn search<'z>(
+        &'z self,
+        alloc: Global,
+        request: &ZoneRequest<'_>,
+        options: LookupOptions,
+    ) -> Result<
+        (
+            LookupControlFlow<AuthLookup<'z>>,
+            Option<TSigResponseContext>,
+        ),
+        AllocError,
+    > {
+        if request.query_type == RecordType::AXFR {
+            return Ok((LookupControlFlow::Break(Err(LookupError::NetError)), None));
+        }
+        let flow = self.lookup(alloc, request.name, request.query_type, options)?;
+        Ok((flow, None))
+    }
+
+    fn lookup<'z>(
+        &'z self,
+        alloc: Global,
+        name: &Name,
+        record_type: RecordType,
+        options: LookupOptions,
+    ) -> Result<LookupControlFlow<AuthLookup<'z>>, AllocError> {
+        self.lookup(alloc, name, record_type, options)
+    }
+
+    /// The last result: a stored zone replaces none.
+    fn consult<'z>(
+        &'z self,
+        alloc: Global,
+        name: &Name,
+        record_type: RecordType,
+        options: LookupOptions,
+        last: LookupControlFlow<AuthLookup<'z>>,
+    ) -> Result<
+        (
+            LookupControlFlow<AuthLookup<'z>>,
+            Option<TSigResponseContext>,
+        ),
+        AllocError,
+    > {
+        Ok((last, None))
+    }
+}
