@@ -203,7 +203,8 @@ fn both<'z>(
     first: Option<&'z RecordSet>,
     second: Option<&'z RecordSet>,
 ) -> Result<Option<LookupRecords<'z>>, AllocError>
-    ensures { IfOk result (λ found. records_if found ≡ sets_shown options.dnssec_ok (listed (option_copied first.entry) ++ listed (option_copied second.entry))) }
+    ensures { IfOk result (λ found. records_if found
+        ≡ sets_shown options.dnssec_ok (listed (option_copied first.entry) ++ listed (option_copied second.entry))) }
 {
     match (first, second) {
         (None, None) => Ok(None),
