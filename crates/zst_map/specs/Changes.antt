@@ -56,4 +56,5 @@ is_only sets record_type = false
 abbrev pub without_type : List RRset → RecordType → List RRset
 without_type [] record_type = []
 without_type (set ∷ sets) record_type =
-    if same_record_type set.record_type record_type then sets else set ∷ without_type sets record_type
+    if same_record_type set.record_type record_type then sets
+    else set ∷ without_type sets record_type
