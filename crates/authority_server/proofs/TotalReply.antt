@@ -8,15 +8,15 @@ use Rattle.zst_zone.specs.dnw_codes.RecordType.{same_record_type}
 use Rattle.zst_zone.specs.dnw_name.DomainName.{is_at_or_below}
 use Rattle.zst_zone.specs.zst_handler.Lookups.{Outcome, answered, name_error, name_exists, out_of_zone}
 use Rattle.zst_zone.specs.zst_handler.Zones.{Zone}
-use Rattle.zsv_message.specs.Requests.{Request}
-use Rattle.zsv_message.specs.declared.header.Metadata.{Metadata}
-use Rattle.zsv_message.specs.declared.header.MessageType.{MessageType}
-use Rattle.zsv_message.specs.declared.header.MessageType.TheVariants as messages
-use Rattle.zsv_message.specs.declared.header.OpCode.{OpCode}
-use Rattle.zsv_message.specs.declared.header.OpCode.TheVariants as operations
-use Rattle.zsv_message.specs.declared.request.Query.{Query}
-use Rattle.zsv_message.specs.zst_codes.declared.response_code.ResponseCode.{ResponseCode}
-use Rattle.zsv_message.specs.zst_codes.declared.response_code.ResponseCode.TheVariants as responses
+use Rattle.zsv_parts.specs.Requests.{Request}
+use Rattle.zsv_parts.specs.declared.header.Metadata.{Metadata}
+use Rattle.zsv_parts.specs.declared.header.MessageType.{MessageType}
+use Rattle.zsv_parts.specs.declared.header.MessageType.TheVariants as messages
+use Rattle.zsv_parts.specs.declared.header.OpCode.{OpCode}
+use Rattle.zsv_parts.specs.declared.header.OpCode.TheVariants as operations
+use Rattle.zsv_parts.specs.declared.request.Query.{Query}
+use Rattle.zsv_parts.specs.zst_codes.declared.response_code.ResponseCode.{ResponseCode}
+use Rattle.zsv_parts.specs.zst_codes.declared.response_code.ResponseCode.TheVariants as responses
 use Rattle.zsv_reply.specs.Replies.{ReplyParts}
 use Rattle.zsv_reply.specs.zst_record.declared.records.Record.{Record}
 use Rattle.authority_server.specs.Serving.{AtOrigin, BesideAnswer, DeniedParts, OperationParts, OutcomeParts, PartsOf, QueryParts, QuestionParts, RequestParts, answer_records, answered_parts, error_parts, parts_with, reply_metadata}

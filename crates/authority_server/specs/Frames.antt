@@ -7,7 +7,7 @@ use Rattle.std.specs.Int.{w16, to_be_bytes}
 use Rattle.std.specs.Io.KnownBytes.{Appends, Consumes, IsAtEnd}
 use Rattle.authority_server.specs.declared.stream.StreamError.{StreamError}
 use Rattle.authority_server.specs.declared.stream.StreamError.TheVariants as errors
-use Rattle.zsv_message.specs.Requests.{OpensRequest}
+use Rattle.zsv_parts.specs.Requests.{OpensRequest}
 use Rattle.authority_server.specs.Serving.{World, Received, Serves, ServesAll}
 
 -- A message behind its length.

@@ -2,7 +2,7 @@
 
 ghost use Rattle.std.specs.Prelude.{◌≡◌, ◌+◌, ◌<◌, vec_len, vec_capacity, length, map, IfOk, IfErr, OnOk, false};
 ghost use Rattle.authority_server.specs.Serving.{limit_of, Serves};
-ghost use Rattle.zsv_message.specs.Requests.{OpensRequest};
+ghost use Rattle.zsv_parts.specs.Requests.{OpensRequest};
 ghost use Rattle.authority_server.specs.Runs.{octets_of, received_of, ServesNext, ServesFront};
 
 use crate::server::answer::reply_to;
@@ -11,7 +11,7 @@ use std::marker::Model;
 use std::net::SocketAddr;
 use thiserror::Error;
 use zst_zone::{InMemoryZoneHandler, ZoneType};
-use zsv_message::{MessageRequest, ReadError};
+use zsv_parts::{MessageRequest, ReadError};
 
 pub mod answer;
 mod sections;

@@ -5,12 +5,12 @@ use Rattle.zst_record.specs.dnw_encoder.Effects.{StaysTrue, Writes, WritesOctets
 use Rattle.zst_record.proofs.dnw_encoder_lemmas.Laws.{holds_now, holds_same, holds_written, puts_stands, writes_same, writes_then}
 use Rattle.zst_record.specs.dnw_encoder.Members.{In}
 use Rattle.zst_record.specs.dnw_encoder.State.{State}
-use Rattle.zsv_message.specs.declared.header.Header.{Header}
-use Rattle.zsv_message.specs.Headers.{header_of, header_octets, reserved_bit}
+use Rattle.zsv_parts.specs.declared.header.Header.{Header}
+use Rattle.zsv_parts.specs.Headers.{header_of, header_octets, reserved_bit}
 use Rattle.zsv_reply.specs.declared.encode.Kept.{Kept}
 use Rattle.zsv_reply.specs.Replies.{Front, ReplyParts, header_of_reply}
 use Rattle.zsv_reply.specs.Writing.{EmitsFront, IsWritten}
-use Rattle.zsv_message.proofs.Flags.{reserved_zero}
+use Rattle.zsv_parts.proofs.Flags.{reserved_zero}
 
 -- An open place before the offset stays open.
 pub stays_open : (p size : ℕ) (old new : State) → Writes old new → p + size ≤ old.offset → In (place_of p size) old.places → In (place_of p size) new.places

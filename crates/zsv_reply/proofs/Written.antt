@@ -1,9 +1,9 @@
 -- A reply that was written is a reply to its request.
 use Rattle.std.proofs.Common.{◌≡◌, ℕ, ◌+◌, ◌≤◌, List, length, refl, subst, arith}
 use Rattle.zst_record.specs.dnw_decoder.Octets.{Stands}
-use Rattle.zsv_message.specs.Requests.{Request, IsRequest}
-use Rattle.zsv_message.proofs.Pieces.{SameThere}
-use Rattle.zsv_message.proofs.QuestionsOver.{questions_over}
+use Rattle.zsv_parts.specs.Requests.{Request, IsRequest}
+use Rattle.zsv_parts.proofs.Pieces.{SameThere}
+use Rattle.zsv_parts.proofs.QuestionsOver.{questions_over}
 use Rattle.zsv_reply.specs.Replies.{ReplyParts, IsReply}
 use Rattle.zsv_reply.specs.Writing.{IsWritten}
 use Rattle.zsv_reply.proofs.Fronts.{front_forward}

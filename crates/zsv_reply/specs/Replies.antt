@@ -2,16 +2,16 @@
 -- 4.1; RFC 2181, section 9; RFC 9471, section 3.1).
 use Rattle.std.specs.Prelude.{◌≡◌, ℕ, ◌+◌, ◌<◌, ◌≤◌, Bool, false, ◌||◌, List, [], ◌∷◌, length, nat_lt}
 use Rattle.zst_record.specs.declared.records.Record.{Record}
-use Rattle.zsv_message.specs.declared.header.Metadata.{Metadata}
-use Rattle.zsv_message.specs.declared.header.Header.{Header}
-use Rattle.zsv_message.specs.declared.header.MessageType.TheVariants as messages
-use Rattle.zsv_message.specs.declared.header.OpCode.TheVariants as operations
-use Rattle.zsv_message.specs.zst_codes.declared.response_code.ResponseCode.TheVariants as responses
-use Rattle.zsv_message.specs.Headers.{header_of, reserved_bit}
+use Rattle.zsv_parts.specs.declared.header.Metadata.{Metadata}
+use Rattle.zsv_parts.specs.declared.header.Header.{Header}
+use Rattle.zsv_parts.specs.declared.header.MessageType.TheVariants as messages
+use Rattle.zsv_parts.specs.declared.header.OpCode.TheVariants as operations
+use Rattle.zsv_parts.specs.zst_codes.declared.response_code.ResponseCode.TheVariants as responses
+use Rattle.zsv_parts.specs.Headers.{header_of, reserved_bit}
 use Rattle.zst_record.specs.dnw_decoder.Octets.{Stands}
 use Rattle.zst_record.specs.Records.{RecordAt, plain}
-use Rattle.zsv_message.specs.Requests.{Request, QuestionAt, QuestionsAt, AvoidsHeader}
-use Rattle.zsv_message.specs.Wire.{Entries}
+use Rattle.zsv_parts.specs.Requests.{Request, QuestionAt, QuestionsAt, AvoidsHeader}
+use Rattle.zsv_parts.specs.Wire.{Entries}
 
 -- What a reply holds in full: the records of its three sections behind the questions.
 pub record ReplyParts : Type 0 where

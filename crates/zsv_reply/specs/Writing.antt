@@ -8,7 +8,7 @@ use Rattle.zst_record.specs.dnw_encoder.Effects.{StaysTrue}
 use Rattle.zst_record.specs.dnw_encoder.State.{State}
 use Rattle.zst_record.specs.declared.records.Record.{Record}
 use Rattle.zst_record.specs.Records.{ReadsBackAlone}
-use Rattle.zsv_message.specs.Headers.{header_of, reserved_bit}
+use Rattle.zsv_parts.specs.Headers.{header_of, reserved_bit}
 use Rattle.zsv_reply.specs.declared.encode.Kept.{Kept}
 use Rattle.zsv_reply.specs.Replies.{Front, ReplyParts, header_of_fronts, is_cut}
 

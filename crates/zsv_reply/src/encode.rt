@@ -13,14 +13,14 @@ ghost use Rattle.zst_record.specs.drd_rdata.Writing.{WritesInFull};
 ghost use Rattle.zst_record.specs.Lending.{seen};
 ghost use Rattle.zst_record.specs.Records.{ReadsBackAlone};
 ghost use Rattle.zst_record.specs.Writing.{EmitsRecord, RefusesRecord};
-ghost use Rattle.zsv_message.specs.Headers.{header_of, header_octets, reserved_bit, FitsHeader};
+ghost use Rattle.zsv_parts.specs.Headers.{header_of, header_octets, reserved_bit, FitsHeader};
 ghost use Rattle.zsv_reply.specs.Lending.{Holds};
 ghost use Rattle.zsv_reply.specs.Replies.{ReplyParts, header_of_reply};
 ghost use Rattle.zsv_reply.specs.Writing.{written_count, AllReadBack, EmitsFront, IsWritten};
 
 use std::alloc::{AllocError, Global};
 use zst_record::{BinEncodable, BinEncoder, NameEncoding, ProtoError, Record, RecordRef};
-use zsv_message::{Header, HeaderCounts, Metadata};
+use zsv_parts::{Header, HeaderCounts, Metadata};
 
 /// What lends a record, as `&Record` does: it is written as the record is. An iterator of `&Record` is bounded by this, as
 /// `I::Item: LendsRecord`.

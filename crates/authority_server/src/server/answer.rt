@@ -7,10 +7,10 @@ ghost use Rattle.zst_zone.specs.dnw_codes.declared.record_type.RecordType.{Recor
 ghost use Rattle.zst_zone.specs.zst_handler.Answers.{ShowsAnswer, Tells, answers_in};
 ghost use Rattle.zst_zone.specs.zst_handler.Lookups.{Answer, IsLookup, Outcome, answered};
 ghost use Rattle.zst_zone.specs.zst_handler.Zones.{AreStored, ZoneReadsBack};
-ghost use Rattle.zsv_message.specs.Headers.{FitsHeader};
+ghost use Rattle.zsv_parts.specs.Headers.{FitsHeader};
 ghost use Rattle.zsv_reply.specs.Replies.{bare_failure};
 ghost use Rattle.zsv_reply.specs.Writing.{IsWritten};
-ghost use Rattle.zsv_message.specs.Requests.{IsRequest};
+ghost use Rattle.zsv_parts.specs.Requests.{IsRequest};
 ghost use Rattle.authority_server.specs.Serving.{reply_metadata, error_parts, AtOrigin, BesideAnswer, DeniedParts, OutcomeParts, QuestionParts, QueryParts, PartsOf, Answers, is_referral};
 ghost use Rattle.authority_server.specs.Servers.{parts_of, IsSound};
 
@@ -21,7 +21,7 @@ use zst_zone::{
     AuthLookup, InMemoryZoneHandler, LookupControlFlow, LookupError, LookupOptions,
     LookupRecordsIter, NameKey, ProtoError,
 };
-use zsv_message::{MessageRequest, MessageType, Metadata, OpCode, Query, ResponseCode};
+use zsv_parts::{MessageRequest, MessageType, Metadata, OpCode, Query, ResponseCode};
 use zsv_reply::{MessageResponse, RecordType, encode_header};
 
 /// Questions without EDNS ask for no signatures.

@@ -1,5 +1,5 @@
 use Rattle.std.proofs.Common.{rules}
-use Rattle.zsv_message.proofs.Flags.{octets_back}
+use Rattle.zsv_parts.proofs.Flags.{octets_back}
 use Rattle.zsv_reply.proofs.encode.header_over.Goals as goal
 
 pub returns-clause-back : goal.returns-clause-back

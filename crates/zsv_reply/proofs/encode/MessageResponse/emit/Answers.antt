@@ -3,7 +3,7 @@ use Rattle.std.proofs.lemmas.Result.{on_ok_weaker}
 use Rattle.zst_record.specs.dnw_encoder.Effects.{Fills}
 use Rattle.zst_record.specs.dnw_encoder.Encoders.{state}
 use Rattle.zst_record.proofs.dnw_encoder_lemmas.PlaceLaws.{opens_open}
-use Rattle.zsv_message.specs.Headers.{header_octets}
+use Rattle.zsv_parts.specs.Headers.{header_octets}
 use Rattle.zsv_reply.specs.Replies.{header_of_reply}
 use Rattle.zsv_reply.proofs.Sections.{Steps, stays_open, steps_write}
 use Rattle.zsv_reply.proofs.encode.MessageResponse.emit.Goals as goal

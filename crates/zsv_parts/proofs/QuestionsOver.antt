@@ -1,10 +1,10 @@
 -- Questions of one message that stand in another.
 use Rattle.std.proofs.Common.{◌≡◌, ℕ, ◌+◌, ◌<◌, ◌≤◌, List, [], ◌∷◌, length, arith}
 use Rattle.dnw_encoder.proofs.dnw_decoder_lemmas.SpellingLaws.{spelled_within}
-use Rattle.zsv_message.specs.declared.request.Query.{Query}
-use Rattle.zsv_message.specs.Requests.{QuestionAt, AvoidsHeader}
-use Rattle.zsv_message.specs.Wire.{Entries, PointsFrom}
-use Rattle.zsv_message.proofs.Pieces.{SameThere, stands_over, spelled_over}
+use Rattle.zsv_parts.specs.declared.request.Query.{Query}
+use Rattle.zsv_parts.specs.Requests.{QuestionAt, AvoidsHeader}
+use Rattle.zsv_parts.specs.Wire.{Entries, PointsFrom}
+use Rattle.zsv_parts.proofs.Pieces.{SameThere, stands_over, spelled_over}
 
 -- Questions whose pointers don't go before some octets stand wherever these octets do.
 question_over : (m n : List ℕ) (to : ℕ) → SameThere m n 12 to → to ≤ length n → (place : ℕ) (q : Query) (end : ℕ) → 12 ≤ place → end ≤ to → (at : QuestionAt m place q end) → PointsFrom 12 at.name.spelled → QuestionAt n place q end

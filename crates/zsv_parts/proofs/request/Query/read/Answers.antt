@@ -1,6 +1,6 @@
 use Rattle.std.proofs.lemmas.Result.{err_from_is_err_and}
-use Rattle.zsv_message.proofs.Questions.{type_err, class_err}
-use Rattle.zsv_message.proofs.request.Query.read.Goals as goal
+use Rattle.zsv_parts.proofs.Questions.{type_err, class_err}
+use Rattle.zsv_parts.proofs.request.Query.read.Goals as goal
 
 pub returns-in_err-query_type-clause-question : goal.returns-in_err-query_type-clause-question
 returns-in_err-query_type-clause-question c =

@@ -1,12 +1,12 @@
 -- The header of a message: RFC 1035, section 4.1.1; RFC 4035, section 3.2 for AD and CD.
 use Rattle.std.specs.Prelude.{◌≡◌, ℕ, ◌+◌, ◌/◌, ◌%◌, ◌^◌, ◌*◌, ◌<◌, ◌≤◌, ◌==◌, ◌++◌, Bool, true, false, List, ◌∷◌, get_or, drop, length, if◌then◌else◌}
-use Rattle.zsv_message.specs.declared.header.MessageType.{MessageType}
-use Rattle.zsv_message.specs.declared.header.MessageType.TheVariants as types
-use Rattle.zsv_message.specs.declared.header.OpCode.{OpCode}
-use Rattle.zsv_message.specs.declared.header.OpCode.TheVariants as operations
-use Rattle.zsv_message.specs.declared.header.Metadata.{Metadata}
-use Rattle.zsv_message.specs.declared.header.HeaderCounts.{HeaderCounts}
-use Rattle.zsv_message.specs.declared.header.Header.{Header}
+use Rattle.zsv_parts.specs.declared.header.MessageType.{MessageType}
+use Rattle.zsv_parts.specs.declared.header.MessageType.TheVariants as types
+use Rattle.zsv_parts.specs.declared.header.OpCode.{OpCode}
+use Rattle.zsv_parts.specs.declared.header.OpCode.TheVariants as operations
+use Rattle.zsv_parts.specs.declared.header.Metadata.{Metadata}
+use Rattle.zsv_parts.specs.declared.header.HeaderCounts.{HeaderCounts}
+use Rattle.zsv_parts.specs.declared.header.Header.{Header}
 use Rattle.dnw_encoder.specs.dnw_decoder.Octets.{number_16, octets_16}
 use Rattle.zst_codes.specs.ResponseCode.{low_bits, response_code_number, response_code_of}
 

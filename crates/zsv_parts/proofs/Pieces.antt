@@ -4,7 +4,7 @@ use Rattle.std.proofs.lemmas.List.{drop-drop, drop-append-le, append_cancel_righ
 use Rattle.dnw_encoder.specs.dnw_decoder.Octets.{Stands}
 use Rattle.dnw_encoder.specs.dnw_decoder.Spelling.{pointer_octets, Spelled, at_end, at_label, at_pointer}
 use Rattle.dnw_encoder.proofs.dnw_decoder_lemmas.SpellingLaws.{spelled_within}
-use Rattle.zsv_message.specs.Wire.{PointsFrom}
+use Rattle.zsv_parts.specs.Wire.{PointsFrom}
 
 -- Between two places, two messages have the same octets.
 pub record SameThere (m n : List ℕ) (from to : ℕ) : Type 0 where

@@ -13,12 +13,12 @@ use Rattle.dnw_encoder.specs.dnw_decoder.Reading.{IsWantOfMemory}
 use Rattle.dnw_encoder.specs.dnw_decoder.Spelling.{NameAt}
 use Rattle.dnw_encoder.proofs.dnw_decoder_lemmas.SpellingLaws.{name_once}
 use Rattle.dnw_encoder.proofs.dnw_decoder_lemmas.Standing.{stands_same}
-use Rattle.zsv_message.specs.declared.read.ReadError.{ReadError}
-use Rattle.zsv_message.specs.declared.read.ReadError.TheVariants as errors
-use Rattle.zsv_message.specs.declared.request.Query.{Query}
-use Rattle.zsv_message.specs.Headers.{header_of}
-use Rattle.zsv_message.specs.Requests.{QuestionAt, QuestionsAt, OpensRequest, ReadsRequest}
-use Rattle.zsv_message.specs.Wire.{Entries, Reads, DecodesTo, TellsReadCause}
+use Rattle.zsv_parts.specs.declared.read.ReadError.{ReadError}
+use Rattle.zsv_parts.specs.declared.read.ReadError.TheVariants as errors
+use Rattle.zsv_parts.specs.declared.request.Query.{Query}
+use Rattle.zsv_parts.specs.Headers.{header_of}
+use Rattle.zsv_parts.specs.Requests.{QuestionAt, QuestionsAt, OpensRequest, ReadsRequest}
+use Rattle.zsv_parts.specs.Wire.{Entries, Reads, DecodesTo, TellsReadCause}
 
 -- Two numbers of 16 bits in the same octets are the same.
 number_once : (a b : ℕ) → a < 65536 → b < 65536 → octets_16 a ≡ octets_16 b → a ≡ b

@@ -2,15 +2,15 @@
 use Rattle.std.proofs.Common.{◌≡◌, ℕ, ◌+◌, ◌*◌, ◌/◌, ◌%◌, ◌^◌, ◌<◌, ◌≤◌, Bool, true, false, List, [], ◌∷◌, ◌++◌, append-nil, get_or, refl, sym, ap, ◌∙◌, arith, eq-eqb}
 use Rattle.std.specs.Int.{w16, to_be_bytes}
 use Rattle.std.specs.Prelude.{◌==◌}
-use Rattle.zsv_message.specs.declared.header.MessageType.{MessageType}
-use Rattle.zsv_message.specs.declared.header.MessageType.TheVariants as types
-use Rattle.zsv_message.specs.declared.header.OpCode.{OpCode}
+use Rattle.zsv_parts.specs.declared.header.MessageType.{MessageType}
+use Rattle.zsv_parts.specs.declared.header.MessageType.TheVariants as types
+use Rattle.zsv_parts.specs.declared.header.OpCode.{OpCode}
 use Rattle.zst_codes.specs.declared.response_code.ResponseCode.{ResponseCode}
-use Rattle.zsv_message.specs.declared.header.Metadata.{Metadata}
-use Rattle.zsv_message.specs.declared.header.Header.{Header}
+use Rattle.zsv_parts.specs.declared.header.Metadata.{Metadata}
+use Rattle.zsv_parts.specs.declared.header.Header.{Header}
 use Rattle.std.specs.Prelude.{if◌then◌else◌}
 use Rattle.zst_codes.specs.ResponseCode.{response_code_of, response_code_number}
-use Rattle.zsv_message.specs.Headers.{flag, is_response, op_code_of, op_code_number, high_octet, low_octet, metadata_of, header_of, header_octets, reserved_bit, FitsHeader}
+use Rattle.zsv_parts.specs.Headers.{flag, is_response, op_code_of, op_code_number, high_octet, low_octet, metadata_of, header_of, header_octets, reserved_bit, FitsHeader}
 
 flag_small : (b : Bool) → flag b ≤ 1
 flag_small true = omega arith

@@ -3,13 +3,13 @@ use Rattle.std.proofs.lemmas.Result.{err_from_is_err_and}
 use Rattle.smallvec.specs.SmallVec.{SmallVec}
 use Rattle.dnw_encoder.specs.dnw_decoder.Reading.{Reading, reading}
 use Rattle.dnw_encoder.proofs.dnw_decoder_lemmas.Standing.{stands_front}
-use Rattle.zsv_message.specs.declared.header.Header.{Header}
-use Rattle.zsv_message.specs.declared.request.Query.{Query}
-use Rattle.zsv_message.specs.Headers.{header_of}
-use Rattle.zsv_message.specs.Requests.{OpensRequest, QuestionsAt}
-use Rattle.zsv_message.specs.Wire.{DecodesTo}
-use Rattle.zsv_message.proofs.Questions.{request_err}
-use Rattle.zsv_message.proofs.request.MessageRequest.read.Goals as goal
+use Rattle.zsv_parts.specs.declared.header.Header.{Header}
+use Rattle.zsv_parts.specs.declared.request.Query.{Query}
+use Rattle.zsv_parts.specs.Headers.{header_of}
+use Rattle.zsv_parts.specs.Requests.{OpensRequest, QuestionsAt}
+use Rattle.zsv_parts.specs.Wire.{DecodesTo}
+use Rattle.zsv_parts.proofs.Questions.{request_err}
+use Rattle.zsv_parts.proofs.request.MessageRequest.read.Goals as goal
 
 -- A whole header that counts no records.
 opens : (message : List ℕ) (h : Header) → h ≡ header_of message → 12 ≤ length message → h.counts.answers ≡ 0 → h.counts.authorities ≡ 0 → h.counts.additionals ≡ 0 → OpensRequest message

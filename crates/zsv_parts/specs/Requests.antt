@@ -1,14 +1,14 @@
 -- Questions, and the requests that are read: RFC 1035, section 4.1.2.
 use Rattle.std.specs.Prelude.{◌≡◌, ℕ, ◌≤◌, List, [], ◌∷◌, length, Result, Ok, Err}
-use Rattle.zsv_message.specs.declared.header.Metadata.{Metadata}
-use Rattle.zsv_message.specs.declared.request.Query.{Query}
-use Rattle.zsv_message.specs.declared.read.ReadError.{ReadError}
-use Rattle.zsv_message.specs.declared.read.ReadError.TheVariants as errors
-use Rattle.zsv_message.specs.Headers.{header_of}
+use Rattle.zsv_parts.specs.declared.header.Metadata.{Metadata}
+use Rattle.zsv_parts.specs.declared.request.Query.{Query}
+use Rattle.zsv_parts.specs.declared.read.ReadError.{ReadError}
+use Rattle.zsv_parts.specs.declared.read.ReadError.TheVariants as errors
+use Rattle.zsv_parts.specs.Headers.{header_of}
 use Rattle.dnw_encoder.specs.dnw_decoder.Octets.{Stands}
 use Rattle.dnw_encoder.specs.dnw_decoder.Codes.{RecordTypeAt, ClassAt}
 use Rattle.dnw_encoder.specs.dnw_decoder.Spelling.{NameAt}
-use Rattle.zsv_message.specs.Wire.{Entries, PointsFrom}
+use Rattle.zsv_parts.specs.Wire.{Entries, PointsFrom}
 
 -- A question at a place: a name, a type, a class.
 pub record QuestionAt (message : List ℕ) (place : ℕ) (question : Query) (end : ℕ) : Type 0 where

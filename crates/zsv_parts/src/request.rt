@@ -1,8 +1,8 @@
 //! Requests and their questions (RFC 1035 section 4.1.2).
 
 ghost use Rattle.std.specs.Prelude.{◌≡◌, ◌≤◌, length};
-ghost use Rattle.zsv_message.specs.Wire.{Reads, DecodesTo};
-ghost use Rattle.zsv_message.specs.Requests.{QuestionAt, QuestionsAt, Request, IsRequest, ReadsRequest};
+ghost use Rattle.zsv_parts.specs.Wire.{Reads, DecodesTo};
+ghost use Rattle.zsv_parts.specs.Requests.{QuestionAt, QuestionsAt, Request, IsRequest, ReadsRequest};
 
 use crate::header::{Header, Metadata};
 use crate::read::ReadError;
@@ -83,7 +83,7 @@ pub struct MessageRequest<'m> {
 }
 
 impl<'m> Model for MessageRequest<'m> {
-    ghost use Rattle.zsv_message.specs.Requests.{Request};
+    ghost use Rattle.zsv_parts.specs.Requests.{Request};
 
     ghost Value = { Request };
 

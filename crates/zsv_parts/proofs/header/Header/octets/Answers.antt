@@ -1,6 +1,6 @@
 use Rattle.std.proofs.Common.{rules}
-use Rattle.zsv_message.proofs.Flags.{header_back, two_octets}
-use Rattle.zsv_message.proofs.header.Header.octets.Goals as goal
+use Rattle.zsv_parts.proofs.Flags.{header_back, two_octets}
+use Rattle.zsv_parts.proofs.header.Header.octets.Goals as goal
 
 pub returns-clause-value : goal.returns-clause-value
 returns-clause-value c fits rest =

@@ -1,11 +1,11 @@
 use Rattle.std.proofs.Common.{ℕ, List, Err, arith, subst, ◌∙◌}
 use Rattle.smallvec.specs.SmallVec.{SmallVec}
-use Rattle.zsv_message.specs.declared.request.Query.{Query}
-use Rattle.zsv_message.specs.Wire.{Reads}
+use Rattle.zsv_parts.specs.declared.request.Query.{Query}
+use Rattle.zsv_parts.specs.Wire.{Reads}
 use Rattle.std.proofs.lemmas.Result.{err_from_is_err_and}
-use Rattle.zsv_message.specs.Requests.{QuestionAt}
-use Rattle.zsv_message.proofs.Questions.{question_once, entries_more, entries_all, questions_err}
-use Rattle.zsv_message.proofs.request.read_questions.Goals as goal
+use Rattle.zsv_parts.specs.Requests.{QuestionAt}
+use Rattle.zsv_parts.proofs.Questions.{question_once, entries_more, entries_all, questions_err}
+use Rattle.zsv_parts.proofs.request.read_questions.Goals as goal
 
 pub returns-in_err-question-clause-questions : goal.returns-in_err-question-clause-questions
 returns-in_err-question-clause-questions c =

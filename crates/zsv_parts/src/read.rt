@@ -15,7 +15,7 @@ pub enum ReadError {
 }
 
 impl From<AllocError> for ReadError {
-    ghost use Rattle.zsv_message.specs.declared.read.ReadError.TheVariants.{Memory};
+    ghost use Rattle.zsv_parts.specs.declared.read.ReadError.TheVariants.{Memory};
 
     ghost from_gives = { λ _ e. e ≡ Memory };
 
@@ -25,7 +25,7 @@ impl From<AllocError> for ReadError {
 }
 
 impl<T: Drop> From<AllocFailed<T>> for ReadError {
-    ghost use Rattle.zsv_message.specs.declared.read.ReadError.TheVariants.{Memory};
+    ghost use Rattle.zsv_parts.specs.declared.read.ReadError.TheVariants.{Memory};
 
     ghost from_gives = { λ _ e. e ≡ Memory };
 
@@ -35,7 +35,7 @@ impl<T: Drop> From<AllocFailed<T>> for ReadError {
 }
 
 impl From<DecodeError> for ReadError {
-    ghost use Rattle.zsv_message.specs.Wire.{TellsReadCause};
+    ghost use Rattle.zsv_parts.specs.Wire.{TellsReadCause};
 
     ghost from_gives = { TellsReadCause };
 

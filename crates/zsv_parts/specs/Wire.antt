@@ -3,8 +3,8 @@ use Rattle.std.specs.Prelude.{◌≡◌, ℕ, ◌≤◌, List, [], ◌∷◌, Re
 use Rattle.dnw_codes.specs.declared.error.DecodeError.{DecodeError}
 use Rattle.dnw_encoder.specs.dnw_decoder.Reading.{IsWantOfMemory}
 use Rattle.dnw_encoder.specs.dnw_decoder.Spelling.{Spelled, at_end, at_label, at_pointer}
-use Rattle.zsv_message.specs.declared.read.ReadError.{ReadError}
-use Rattle.zsv_message.specs.declared.read.ReadError.TheVariants as errors
+use Rattle.zsv_parts.specs.declared.read.ReadError.{ReadError}
+use Rattle.zsv_parts.specs.declared.read.ReadError.TheVariants as errors
 
 -- What a reader answers, both ways: a value that stands there, seen by view, up to the place that
 -- is read next, or that none does.

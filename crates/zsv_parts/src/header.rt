@@ -4,7 +4,7 @@ ghost use Rattle.std.specs.Prelude.{◌≡◌, ◌+◌, ◌<◌, ◌≤◌, ◌%
 ghost use Rattle.dnw_encoder.specs.dnw_decoder.Reading.{IsCut};
 ghost use Rattle.dnw_encoder.specs.Effects.{Writes, WritesOctets, IsRefusal};
 ghost use Rattle.dnw_encoder.specs.Encoders.{state};
-ghost use Rattle.zsv_message.specs.Headers.{op_code_of, op_code_number, bit, metadata_of, counts_of, header_of, high_octet, low_octet, header_octets, HeaderAt, FitsHeader};
+ghost use Rattle.zsv_parts.specs.Headers.{op_code_of, op_code_number, bit, metadata_of, counts_of, header_of, high_octet, low_octet, header_octets, HeaderAt, FitsHeader};
 
 use dnw_encoder::{BinDecoder, BinEncodable, BinEncoder, DecodeError, EncodedSize, ProtoError};
 use zst_codes::ResponseCode;
