@@ -4,6 +4,7 @@ ghost use Rattle.std.specs.Borrow.{sem};
 ghost use Rattle.drd_types.specs.drd_opt.Entries.{options_of};
 
 use crate::edns_flags::EdnsFlags;
+use dnw_codes::DNSClass;
 use drd_types::{EdnsCode, EdnsOption, OPT};
 use std::alloc::{AllocError, Global};
 
@@ -22,6 +23,7 @@ pub struct Edns {
 }
 
 impl Edns {
+    ghost use Rattle.dnw_codes.specs.DNSClass.{class_number};
     ghost use Rattle.zst_edns.specs.Edns.{IsEdnsOf, KeepsAllButPayload, edns_ttl};
     ghost use Rattle.zst_edns.specs.Flags.{with_dnssec_ok};
     ghost use Rattle.zst_edns.specs.Lending.{LendsOptions};
@@ -31,13 +33,13 @@ impl Edns {
         ensures fields { IsEdnsOf 512 0 result }
         ensures options { result.options.options.items ≡ [] }
     {
-        Edns::from_fields(512, 0, OPT::new(Vec::new(alloc)))
+        Edns::from_fields(DNSClass::for_opt(512), 0, OPT::new(Vec::new(alloc)))
     }
 
     /// What the class, the TTL and the data of an OPT record say (RFC 6891 6.1.2, 6.1.3). A payload below 512 octets is
     /// taken as 512 (RFC 6891 6.2.3).
-    pub fn from_fields(class: u16, ttl: u32, options: OPT) -> Edns
-        ensures fields { IsEdnsOf class ttl result }
+    pub fn from_fields(dns_class: DNSClass, ttl: u32, options: OPT) -> Edns
+        ensures fields { IsEdnsOf (class_number dns_class) ttl result }
         ensures options { result.options ≡ options }
         ensures ttl { edns_ttl result ≡ ttl }
     {
@@ -45,7 +47,7 @@ impl Edns {
             rcode_high: (ttl / 16_777_216) as u8,
             version: (ttl / 65_536 % 256) as u8,
             flags: EdnsFlags::from((ttl % 65_536) as u16),
-            max_payload: class.max(512),
+            max_payload: u16::from(dns_class).max(512),
             options,
         }
     }

@@ -1,6 +1,6 @@
 -- Questions, one behind the other: one place holds one of them, and what is read is what stands there.
 use Rattle.std.proofs.Common.{◌≡◌, ℕ, ◌+◌, ◌/◌, ◌%◌, ◌<◌, ◌≤◌, List, [], ◌∷◌, ◌++◌, length, get_or, refl, sym, ap, subst, inl, inr, ◌∙◌, arith, append_assoc, append-nil, length-append}
-use Rattle.std.specs.Prelude.{◌⊎◌, Err}
+use Rattle.std.specs.Prelude.{◌⊎◌}
 use Rattle.dnw_codes.specs.DNSClass.{class_of}
 use Rattle.dnw_codes.specs.RecordType.{record_type_of}
 use Rattle.dnw_codes.specs.declared.dns_class.DNSClass.{DNSClass}
@@ -9,31 +9,28 @@ use Rattle.dnw_codes.specs.declared.record_type.RecordType.{RecordType}
 use Rattle.dnw_encoder.specs.dnw_name.DomainName.{DomainName}
 use Rattle.dnw_encoder.specs.dnw_decoder.Codes.{RecordTypeAt, ClassAt}
 use Rattle.dnw_encoder.specs.dnw_decoder.Octets.{octets_16}
-use Rattle.dnw_encoder.specs.dnw_decoder.Reading.{IsWantOfMemory}
+use Rattle.dnw_encoder.specs.dnw_decoder.Reading.{IsCut, IsWantOfMemory}
 use Rattle.dnw_encoder.specs.dnw_decoder.Spelling.{NameAt}
 use Rattle.dnw_encoder.proofs.dnw_decoder_lemmas.SpellingLaws.{name_once}
 use Rattle.dnw_encoder.proofs.dnw_decoder_lemmas.Standing.{stands_same}
-use Rattle.zsv_parts.specs.declared.read.ReadError.{ReadError}
-use Rattle.zsv_parts.specs.declared.read.ReadError.TheVariants as errors
-use Rattle.zsv_parts.specs.declared.request.Query.{Query}
-use Rattle.zsv_parts.specs.Headers.{header_of}
-use Rattle.zsv_parts.specs.Requests.{QuestionAt, QuestionsAt, OpensRequest, ReadsRequest}
-use Rattle.zsv_parts.specs.Wire.{Entries, Reads, DecodesTo, TellsReadCause}
+use Rattle.zsv_parts.specs.declared.question.Query.{Query}
+use Rattle.zsv_parts.specs.Questions.{Asked, AskedAt, QuestionAt, QuestionsAt, RefusesQuestion, RefusesQuestions}
+use Rattle.zsv_parts.specs.Wire.{Entries}
 
 -- Two numbers of 16 bits in the same octets are the same.
-number_once : (a b : ℕ) → a < 65536 → b < 65536 → octets_16 a ≡ octets_16 b → a ≡ b
+pub number_once : (a b : ℕ) → a < 65536 → b < 65536 → octets_16 a ≡ octets_16 b → a ≡ b
 number_once a b few less same =
     let high : a / 256 % 256 ≡ b / 256 % 256 = ap (λ (octets : List ℕ). get_or octets 0 0) same in
     let low : a % 256 ≡ b % 256 = ap (λ (octets : List ℕ). get_or octets 1 0) same in
     omega arith
 
 -- One place holds one type, and one class.
-type_once : (message : List ℕ) (place : ℕ) (a b : RecordType) (e f : ℕ) → RecordTypeAt message place a e → RecordTypeAt message place b f → (a ≡ b) × (e ≡ f)
+pub type_once : (message : List ℕ) (place : ℕ) (a b : RecordType) (e f : ℕ) → RecordTypeAt message place a e → RecordTypeAt message place b f → (a ≡ b) × (e ≡ f)
 type_once message place a b e f p q =
     let same = stands_same message place (octets_16 p.number) (octets_16 q.number) e f refl p.there q.there in
     (p.means ∙ ap record_type_of (number_once p.number q.number p.small q.small same.0) ∙ sym q.means, same.1)
 
-class_once : (message : List ℕ) (place : ℕ) (a b : DNSClass) (e f : ℕ) → ClassAt message place a e → ClassAt message place b f → (a ≡ b) × (e ≡ f)
+pub class_once : (message : List ℕ) (place : ℕ) (a b : DNSClass) (e f : ℕ) → ClassAt message place a e → ClassAt message place b f → (a ≡ b) × (e ≡ f)
 class_once message place a b e f p q =
     let same = stands_same message place (octets_16 p.number) (octets_16 q.number) e f refl p.there q.there in
     (p.means ∙ ap class_of (number_once p.number q.number p.small q.small same.0) ∙ sym q.means, same.1)
@@ -53,26 +50,30 @@ question_once message place a b e f p q =
       classes.1,
     )
 
--- A reader that is refused one part of a question says so of the question.
-pub name_err : (message : List ℕ) (place end : ℕ) (cause : DecodeError) (e : ReadError) → TellsReadCause cause e → IsWantOfMemory cause ⊎ ((name : DomainName) (behind : ℕ) → NameAt message place name behind → ⊥) → Reads (QuestionAt message place) (Err e) end
-name_err message place end cause errors.Malformed tells (inl memory) = absurd (tells memory)
-name_err message place end cause errors.Malformed tells (inr none) = λ q behind at. none q.name at.middle at.name
-name_err message place end cause errors.Memory tells why = tt
+-- Where no name stands, or memory ran out for one, so it is with a question; and so on with type and class.
+pub name_none : (message : List ℕ) (place : ℕ) (e : DecodeError) → IsWantOfMemory e ⊎ ((name : DomainName) (behind : ℕ) → NameAt message place name behind → ⊥) → IsWantOfMemory e ⊎ ((q : Query) (end : ℕ) → QuestionAt message place q end → ⊥)
+name_none message place e (inl memory) = inl memory
+name_none message place e (inr none) = inr (λ q end at. none q.name at.middle at.name)
 
-pub type_err : (message : List ℕ) (place middle end : ℕ) (name : DomainName) (cause : DecodeError) (e : ReadError) → NameAt message place name middle → TellsReadCause cause e → IsWantOfMemory cause ⊎ ((t : RecordType) (behind : ℕ) → RecordTypeAt message middle t behind → ⊥) → Reads (QuestionAt message place) (Err e) end
-type_err message place middle end name cause errors.Malformed here tells (inl memory) = absurd (tells memory)
-type_err message place middle end name cause errors.Malformed here tells (inr none) = λ q behind at.
+pub type_none : (message : List ℕ) (place middle : ℕ) (name : DomainName) (e : DecodeError) → NameAt message place name middle → IsWantOfMemory e ⊎ ((t : RecordType) (behind : ℕ) → RecordTypeAt message middle t behind → ⊥) → IsWantOfMemory e ⊎ ((q : Query) (end : ℕ) → QuestionAt message place q end → ⊥)
+type_none message place middle name e here (inl memory) = inl memory
+type_none message place middle name e here (inr none) = inr (λ q end at.
     let same = name_once message place q.name name at.middle middle at.name here in
-    none q.query_type at.last (subst (λ (m : ℕ). RecordTypeAt message m q.query_type at.last) same.1 at.query_type)
-type_err message place middle end name cause errors.Memory here tells why = tt
+    none q.query_type at.last (subst (λ (m : ℕ). RecordTypeAt message m q.query_type at.last) same.1 at.query_type))
 
-pub class_err : (message : List ℕ) (place middle last end : ℕ) (name : DomainName) (t : RecordType) (cause : DecodeError) (e : ReadError) → NameAt message place name middle → RecordTypeAt message middle t last → TellsReadCause cause e → IsWantOfMemory cause ⊎ ((c : DNSClass) (behind : ℕ) → ClassAt message last c behind → ⊥) → Reads (QuestionAt message place) (Err e) end
-class_err message place middle last end name t cause errors.Malformed here typed tells (inl memory) = absurd (tells memory)
-class_err message place middle last end name t cause errors.Malformed here typed tells (inr none) = λ q behind at.
+pub class_none : (message : List ℕ) (place middle last : ℕ) (name : DomainName) (t : RecordType) (e : DecodeError) → NameAt message place name middle → RecordTypeAt message middle t last → IsWantOfMemory e ⊎ ((c : DNSClass) (behind : ℕ) → ClassAt message last c behind → ⊥) → IsWantOfMemory e ⊎ ((q : Query) (end : ℕ) → QuestionAt message place q end → ⊥)
+class_none message place middle last name t e here typed (inl memory) = inl memory
+class_none message place middle last name t e here typed (inr none) = inr (λ q end at.
     let same = name_once message place q.name name at.middle middle at.name here in
     let types = type_once message middle q.query_type t at.last last (subst (λ (m : ℕ). RecordTypeAt message m q.query_type at.last) same.1 at.query_type) typed in
-    none q.query_class behind (subst (λ (m : ℕ). ClassAt message m q.query_class behind) types.1 at.query_class)
-class_err message place middle last end name t cause errors.Memory here typed tells why = tt
+    none q.query_class end (subst (λ (m : ℕ). ClassAt message m q.query_class end) types.1 at.query_class))
+
+-- A name is there, and the type or the class behind it is cut.
+pub lacks_type : (message : List ℕ) (place middle : ℕ) (name : DomainName) (e : DecodeError) → NameAt message place name middle → IsCut 2 message middle e → RefusesQuestion message place e
+lacks_type message place middle name e here cut = inr (record { name = name; behind = middle; there = here; cut = (cut.0, omega (arith, cut.1)) })
+
+pub lacks_class : (message : List ℕ) (place middle last : ℕ) (name : DomainName) (t : RecordType) (e : DecodeError) → NameAt message place name middle → RecordTypeAt message middle t last → IsCut 2 message last e → RefusesQuestion message place e
+lacks_class message place middle last name t e here typed cut = inr (record { name = name; behind = middle; there = here; cut = (cut.0, omega (arith, cut.1, typed.there.behind)) })
 
 -- What was read, and what is still ahead.
 pub record EntriesAhead {X : Type 0} (At : ℕ → X → ℕ → Type 0) (place : ℕ) (before : List X) (at : ℕ) : Type 0 where
@@ -115,14 +116,23 @@ entries_none At place before at a none all end e long =
     let found = a.only all end e (omega arith) in
     none_first At at end none found.0 found.2 (longer before found.0 all found.1 long)
 
--- A reader that finds no further question says so of all.
-pub questions_err : (message : List ℕ) (place count : ℕ) (before : List Query) (at : ℕ) (end last : ℕ) → EntriesAhead (QuestionAt message) place before at → length before < count → (e : ReadError) {X : Type 0} (view : X → List Query) → Reads (QuestionAt message at) (Err e) end → DecodesTo view (QuestionsAt message place count) (Err e) last
-questions_err message place count before at end last a more errors.Malformed view none = λ qs behind there.
-    entries_none (QuestionAt message) place before at a none qs behind there.0 (omega (arith, there.1))
-questions_err message place count before at end last a more errors.Memory view none = tt
+-- Where no further question stands, no more do.
+pub questions_none : (message : List ℕ) (place count : ℕ) (before : List Query) (at : ℕ) (e : DecodeError) → EntriesAhead (QuestionAt message) place before at → length before < count → IsWantOfMemory e ⊎ ((q : Query) (end : ℕ) → QuestionAt message at q end → ⊥) → IsWantOfMemory e ⊎ ((qs : List Query) (end : ℕ) → QuestionsAt message place count qs end → ⊥)
+questions_none message place count before at e a more (inl memory) = inl memory
+questions_none message place count before at e a more (inr none) = inr (λ qs end there.
+    entries_none (QuestionAt message) place before at a none qs end there.0 (omega (arith, there.1)))
 
--- A message whose questions can't be read is no request, or memory is wanted behind its header.
-pub request_err : (message : List ℕ) (count end : ℕ) → OpensRequest message → count ≡ (header_of message).counts.queries → (e : ReadError) {X : Type 0} (view : X → List Query) → DecodesTo view (QuestionsAt message 12 count) (Err e) end → ReadsRequest message (Err e)
-request_err message count end opens counted errors.Malformed view none = λ request is.
-    none request.questions is.end (is.questions.0, is.questions.1 ∙ sym counted)
-request_err message count end opens counted errors.Memory view none = opens
+-- The next question is refused.
+pub questions_refused : (message : List ℕ) (place count : ℕ) (before : List Query) (at : ℕ) (e : DecodeError) → EntriesAhead (QuestionAt message) place before at → length before < count → RefusesQuestion message at e → RefusesQuestions message place count e
+questions_refused message place count before at e a more cause = record {
+  before = before;
+  at = at;
+  there = entries_all (QuestionAt message) place before at a;
+  fewer = more;
+  cause = cause;
+}
+
+-- Where no questions stand, no question section does.
+pub asked_none : (message : List ℕ) (place count : ℕ) (e : DecodeError) → IsWantOfMemory e ⊎ ((qs : List Query) (end : ℕ) → QuestionsAt message place count qs end → ⊥) → IsWantOfMemory e ⊎ ((asked : Asked) (end : ℕ) → AskedAt message place count asked end → ⊥)
+asked_none message place count e (inl memory) = inl memory
+asked_none message place count e (inr none) = inr (λ asked end at. none asked.questions end at.questions)

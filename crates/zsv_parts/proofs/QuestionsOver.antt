@@ -1,8 +1,8 @@
 -- Questions of one message that stand in another.
 use Rattle.std.proofs.Common.{◌≡◌, ℕ, ◌+◌, ◌<◌, ◌≤◌, List, [], ◌∷◌, length, arith}
 use Rattle.dnw_encoder.proofs.dnw_decoder_lemmas.SpellingLaws.{spelled_within}
-use Rattle.zsv_parts.specs.declared.request.Query.{Query}
-use Rattle.zsv_parts.specs.Requests.{QuestionAt, AvoidsHeader}
+use Rattle.zsv_parts.specs.declared.question.Query.{Query}
+use Rattle.zsv_parts.specs.Questions.{QuestionAt, AvoidsHeader}
 use Rattle.zsv_parts.specs.Wire.{Entries, PointsFrom}
 use Rattle.zsv_parts.proofs.Pieces.{SameThere, stands_over, spelled_over}
 

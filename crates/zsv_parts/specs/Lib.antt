@@ -1,5 +1,5 @@
 pub mod Headers
-pub mod Requests
+pub mod Questions
 pub mod Wire
 pub use Rattle.dnw_encoder.specs.dnw_decoder
 pub mod zst_codes

@@ -1,14 +1,12 @@
-//! Messages: headers, questions, and which octets are a request (RFC 1035 section 4).
+//! The parts of a message beside its records: the header, and the questions (RFC 1035 sections 4.1.1 and 4.1.2).
 //!
-//! `MessageRequest::read` reads exactly what `IsRequest` says.
+//! `Header::read` and `Queries::read` read exactly what stands there (`HeaderAt`, `AskedAt`).
 #![tactic(auto)]
 
 pub use zst_codes::ResponseCode;
 
 mod header;
-mod read;
-mod request;
+mod question;
 
 pub use header::{Header, HeaderCounts, MessageType, Metadata, OpCode};
-pub use read::ReadError;
-pub use request::{MessageRequest, Query};
+pub use question::{Queries, Query};

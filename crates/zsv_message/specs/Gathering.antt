@@ -1,0 +1,24 @@
+-- What is kept of the first records of an additional section.
+use Rattle.std.specs.Prelude.{◌≡◌, ℕ, Bool, true, false, List, find}
+use Rattle.zst_record.specs.drd_rdata.declared.rdata.RData.{RData}
+use Rattle.zst_record.specs.drd_rdata.declared.rdata.RData.TheVariants as rdata
+use Rattle.zst_record.specs.declared.records.Record.{Record}
+use Rattle.zsv_parts.specs.declared.header.OpCode.{OpCode}
+use Rattle.zsv_message.specs.declared.additionals.Additionals.{Additionals}
+use Rattle.zsv_message.specs.Messages.{IsEdnsFor, IsSignatureFor, in_additionals, other_records}
+use Rattle.zsv_message.specs.Sections.{SectionAt, is_opt, is_tsig, past_all}
+
+-- Data that are options.
+abbrev pub holds_options : RData → Bool
+holds_options (rdata.OPT options) = true
+holds_options other = false
+
+-- So many records stand from a place on, and this is kept of them.
+pub record Gathers (op : OpCode) (message : List ℕ) (place count : ℕ) (found : Additionals)
+    (at : ℕ) : Type 0 where
+  pub standing : List Record
+  pub there : SectionAt (in_additionals op) message place count standing at
+  pub next : found.next ≡ past_all (in_additionals op) standing
+  pub additionals : found.records.items ≡ other_records standing
+  pub edns : IsEdnsFor (find is_opt standing) found.edns
+  pub signature : IsSignatureFor message at (find is_tsig standing) found.signature

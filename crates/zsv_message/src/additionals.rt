@@ -1,0 +1,167 @@
+//! The additional section: the options and the signature of a message stand among its records (RFC 6891 section 6.1.1,
+//! RFC 8945 section 5.1).
+
+ghost use Rattle.std.specs.Prelude.{◌≡◌, ◌+◌, ◌-◌, ◌<◌, ◌≤◌, ◌^◌, ◌⊎◌, ℕ, List, Option, Some, true, length, IfOk, IfErr, OnOk};
+ghost use Rattle.zst_edns.specs.declared.edns.Edns.{Edns as Options};
+ghost use Rattle.zst_record.specs.dnw_decoder.Reading.{IsWantOfMemory};
+ghost use Rattle.zst_record.specs.declared.records.Record.{Record as Entry};
+ghost use Rattle.zsv_parts.specs.declared.header.OpCode.{OpCode};
+ghost use Rattle.zsv_parts.specs.declared.tsig.TsigRecord.{TsigRecord as Signature};
+ghost use Rattle.zsv_parts.specs.Signatures.{RefusesTsig, TsigAt};
+ghost use Rattle.zsv_message.specs.Gathering.{Gathers, holds_options};
+ghost use Rattle.zsv_message.specs.Messages.{AdditionalsAt, IsEdnsRecord, IsSigned, RefusesAdditionals, data_octets, is_update};
+
+use crate::placing::{Placing, is_opt, is_tsig};
+use crate::section::read_placed;
+use std::alloc::Global;
+use zst_edns::Edns;
+use zst_record::{BinDecoder, DecodeError, RData, Record};
+use zsv_parts::{Tsig, TsigRecord};
+
+/// What is kept of an additional section.
+#[derive(Drop)]
+pub(crate) struct Additionals {
+    /// The records that are neither options nor a signature by a shared key.
+    pub(crate) records: Vec<Record>,
+    /// The options.
+    pub(crate) edns: Option<Edns>,
+    /// The signature by a shared key.
+    pub(crate) signature: Option<TsigRecord>,
+    /// Where the next record stands.
+    next: Placing,
+}
+
+// The options of a message that a record holds.
+fn options_of(standing: Record) -> Edns
+    requires { holds_options standing.rdata ≡ true }
+    ensures { IsEdnsRecord standing result }
+{
+    let Record {
+        dns_class,
+        ttl,
+        rdata,
+        ..
+    } = standing;
+    match rdata {
+        RData::OPT(options) => Edns::from_fields(dns_class, ttl, options),
+        _ => unreachable!(),
+    }
+}
+
+// How many octets data have that are kept as octets.
+fn data_len(rdata: &RData) -> u16
+    ensures { (octets : List ℕ) → data_octets rdata.now ≡ Some octets → length octets < 2 ^ 16 → result ≡ length octets }
+{
+    match rdata {
+        RData::Unknown { rdata, .. } => match u16::try_from(rdata.anything.len()) {
+            Ok(len) => len,
+            Err(_) => 0,
+        },
+        _ => 0,
+    }
+}
+
+// The signature whose record ends at the decoder's index; its data are so many octets. They are read where they stand,
+// since the name in them may have pointers.
+fn signature_of(
+    alloc: Global,
+    decoder: &mut BinDecoder<'_>,
+    standing: Record,
+    len: u16,
+) -> Result<TsigRecord, DecodeError>
+    requires { len ≤ decoder.old.index }
+    ensures ok { IfOk result (IsSigned decoder.old.octets (decoder.old.index - len) len standing) }
+    ensures stays { OnOk result (decoder.new ≡ decoder.old) }
+    ensures same { decoder.new.octets ≡ decoder.old.octets }
+    ensures refused { IfErr result (RefusesTsig decoder.old.octets (decoder.old.index - len) len) }
+    ensures none { IfErr result (λ e. IsWantOfMemory e
+        ⊎ ((r : Entry) (t : Signature) → IsSigned decoder.old.octets (decoder.old.index - len) len r t → ⊥)) }
+{
+    let Record {
+        name,
+        dns_class,
+        ttl,
+        ..
+    } = standing;
+    decoder.set_index(decoder.index() - usize::from(len));
+    let rdata = Tsig::read_data(alloc, decoder, len)?;
+    Ok(TsigRecord {
+        name,
+        dns_class,
+        ttl,
+        rdata,
+    })
+}
+
+impl Additionals {
+    // Nothing yet.
+    fn new(alloc: Global, is_update: bool) -> Additionals {
+        Additionals {
+            records: Vec::new(alloc),
+            edns: None,
+            signature: None,
+            next: Placing {
+                is_update,
+                is_additional: true,
+                is_signed: false,
+                has_options: false,
+            },
+        }
+    }
+
+    // The next record, at the decoder's index, and what is kept of it.
+    fn read_next(
+        &mut self,
+        alloc: Global,
+        decoder: &mut BinDecoder<'_>,
+    ) -> Result<(), DecodeError>
+        ensures ok { (op : OpCode) (place n : ℕ) → Gathers op decoder.old.octets place n self.old decoder.old.index
+            → OnOk result (Gathers op decoder.old.octets place (n + 1) self.new decoder.new.index) }
+        ensures same { decoder.new.octets ≡ decoder.old.octets }
+        ensures refused { (op : OpCode) (place n count : ℕ) → n < count → Gathers op decoder.old.octets place n self.old decoder.old.index
+            → IfErr result (λ e. IsWantOfMemory e ⊎ RefusesAdditionals op decoder.old.octets place count e) }
+        ensures none { (op : OpCode) (place n count : ℕ) → n < count → Gathers op decoder.old.octets place n self.old decoder.old.index
+            → IfErr result (λ e. IsWantOfMemory e
+            ⊎ ((rs : List Entry) (o : Option Options) (t : Option Signature) (end : ℕ)
+            → AdditionalsAt decoder.old.octets op place count rs o t end → ⊥)) }
+    {
+        let standing = read_placed(alloc, decoder, self.next)?;
+        self.next = self.next.past(&standing);
+        if is_opt(&standing) {
+            self.edns = Some(options_of(standing));
+            return Ok(());
+        }
+        if is_tsig(&standing) {
+            let len = data_len(&standing.rdata);
+            self.signature = Some(signature_of(alloc, decoder, standing, len)?);
+            return Ok(());
+        }
+        match self.records.push(standing) {
+            Ok(()) => Ok(()),
+            Err(_) => Err(DecodeError::Memory),
+        }
+    }
+
+    /// What is kept of so many records from the decoder's index on, which moves behind them.
+    pub(crate) fn read(
+        alloc: Global,
+        decoder: &mut BinDecoder<'_>,
+        count: u16,
+        is_update: bool,
+    ) -> Result<Additionals, DecodeError>
+        ensures ok { (op : OpCode) → is_update ≡ is_update op → IfOk result
+            (λ a. AdditionalsAt decoder.old.octets op decoder.old.index count a.records.items a.edns a.signature decoder.new.index) }
+        ensures same { decoder.new.octets ≡ decoder.old.octets }
+        ensures refused { (op : OpCode) → is_update ≡ is_update op → IfErr result
+            (λ e. IsWantOfMemory e ⊎ RefusesAdditionals op decoder.old.octets decoder.old.index count e) }
+        ensures none { (op : OpCode) → is_update ≡ is_update op → IfErr result (λ e. IsWantOfMemory e
+            ⊎ ((rs : List Entry) (o : Option Options) (t : Option Signature) (end : ℕ)
+            → AdditionalsAt decoder.old.octets op decoder.old.index count rs o t end → ⊥)) }
+    {
+        let mut found = Additionals::new(alloc, is_update);
+        'records: for _ in 0..count {
+            found.read_next(alloc, decoder)?;
+        }
+        Ok(found)
+    }
+}

@@ -1,0 +1,12 @@
+//! Messages, whole: header, questions, and the records of three sections, options and signatures among them
+//! (RFC 1035 section 4.1, RFC 6891 section 6.1, RFC 8945 section 4.2).
+//!
+//! `MessageRequest::read` reads exactly what `IsMessage` says, and refuses all else by its cause (`RefusesMessage`).
+#![tactic(auto)]
+
+mod additionals;
+mod placing;
+mod request;
+mod section;
+
+pub use request::MessageRequest;

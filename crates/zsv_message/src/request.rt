@@ -1,0 +1,141 @@
+//! Messages that are read (RFC 1035 section 4.1, RFC 6891 section 6.1, RFC 8945 section 4.2).
+
+ghost use Rattle.std.specs.Prelude.{◌≡◌, ◌==◌, ◌≤◌, option_map, max, option_map_or};
+ghost use Rattle.zsv_message.specs.Messages.{ReadsMessage, is_update, joined_metadata};
+
+use crate::additionals::Additionals;
+use crate::placing::Placing;
+use crate::section::read_section;
+use std::alloc::Global;
+use std::marker::Model;
+use zst_edns::Edns;
+use zst_record::{BinDecoder, DecodeError, Record};
+use zsv_parts::{Header, Metadata, OpCode, Queries, ResponseCode, TsigRecord};
+
+/// A message: what header and options say, its questions, and its records by section.
+#[derive(Drop)]
+pub struct MessageRequest<'m> {
+    metadata: Metadata,
+    queries: Queries<'m>,
+    answers: Vec<Record>,
+    authorities: Vec<Record>,
+    additionals: Vec<Record>,
+    edns: Option<Edns>,
+    signature: Option<TsigRecord>,
+}
+
+impl<'m> Model for MessageRequest<'m> {
+    ghost use Rattle.zsv_message.specs.Messages.{Message};
+
+    ghost Value = { Message };
+
+    ghost view = { λ m. record { metadata = m.metadata; asked = m.queries; answers = m.answers.items; authorities = m.authorities.items; additionals = m.additionals.items; edns = m.edns; signature = m.signature } };
+}
+
+// Whether an operation changes a zone (RFC 2136 section 1.3).
+fn is_update(op_code: OpCode) -> bool
+    ensures { result ≡ is_update op_code }
+{
+    matches!(op_code, OpCode::Update)
+}
+
+// What a header says, with the eight bits of the response code that options have above its four.
+fn joined(metadata: Metadata, edns: &Option<Edns>) -> Metadata
+    ensures { result ≡ joined_metadata metadata edns.now }
+{
+    match edns {
+        None => metadata,
+        Some(edns) => Metadata {
+            response_code: ResponseCode::from(edns.rcode_high(), metadata.response_code.low()),
+            ..metadata
+        },
+    }
+}
+
+impl<'m> MessageRequest<'m> {
+    /// The message that octets hold: a header, and as many questions and records as it counts, each where it may stand.
+    /// Octets behind the last record are ignored. Where the octets are refused, the error is that of the first question or
+    /// record that can't be read, or may not stand where it does. A message without a whole header takes no memory.
+    pub fn read(alloc: Global, octets: &'m [u8]) -> Result<MessageRequest<'m>, DecodeError>
+        ensures { ReadsMessage octets.now result }
+    {
+        let mut decoder = BinDecoder::new(octets);
+        let header = Header::read(&mut decoder)?;
+        let counts = header.counts;
+        let is_update = is_update(header.metadata.op_code);
+        let before = Placing {
+            is_update,
+            is_additional: false,
+            is_signed: false,
+            has_options: false,
+        };
+        let queries = Queries::read(alloc, &mut decoder, counts.queries)?;
+        let answers = read_section(alloc, &mut decoder, before, counts.answers)?;
+        let authorities = read_section(alloc, &mut decoder, before, counts.authorities)?;
+        let found = Additionals::read(alloc, &mut decoder, counts.additionals, is_update)?;
+        let Additionals {
+            records,
+            edns,
+            signature,
+            ..
+        } = found;
+        Ok(MessageRequest {
+            metadata: joined(header.metadata, &edns),
+            queries,
+            answers,
+            authorities,
+            additionals: records,
+            edns,
+            signature,
+        })
+    }
+
+    /// What header and options say: the response code is joined of both.
+    pub fn metadata(&self) -> Metadata
+        ensures { result ≡ self.now.metadata }
+    {
+        self.metadata
+    }
+
+    /// The questions, and the octets in which they stand.
+    pub fn queries(&self) -> &Queries<'m>
+        ensures { result.now ≡ self.now.asked }
+    {
+        &self.queries
+    }
+
+    /// The records of the answer section; of an update what it asks of the zone first (RFC 2136 section 2.4).
+    pub fn answers(&self) -> &[Record]
+        ensures { result.now ≡ self.now.answers }
+    {
+        &self.answers
+    }
+
+    /// The records of the authority section; of an update what it changes (RFC 2136 section 2.5).
+    pub fn authorities(&self) -> &[Record]
+        ensures { result.now ≡ self.now.authorities }
+    {
+        &self.authorities
+    }
+
+    /// The additional records, without options and a signature by a shared key.
+    pub fn additionals(&self) -> &[Record]
+        ensures { result.now ≡ self.now.additionals }
+    {
+        &self.additionals
+    }
+
+    /// The options of the message (RFC 6891 section 6.1).
+    pub fn edns(&self) -> Option<&Edns>
+        ensures { option_map (λ edns. edns.now) result ≡ self.now.edns }
+    {
+        self.edns.as_ref()
+    }
+
+    /// The signature of the message by a shared key (RFC 8945 section 4.2).
+    pub fn signature(&self) -> Option<&TsigRecord>
+        ensures { option_map (λ signature. signature.now) result ≡ self.now.signature }
+    {
+        self.signature.as_ref()
+    }
+}
