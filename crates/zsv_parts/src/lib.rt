@@ -8,7 +8,9 @@ pub use zst_codes::ResponseCode;
 mod header;
 mod read;
 mod request;
+mod tsig;
 
 pub use header::{Header, HeaderCounts, MessageType, Metadata, OpCode};
 pub use read::ReadError;
 pub use request::{MessageRequest, Query};
+pub use tsig::{Tsig, TsigRecord};
