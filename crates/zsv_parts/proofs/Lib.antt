@@ -2,3 +2,4 @@ pub mod Flags
 pub mod Pieces
 pub mod Questions
 pub mod QuestionsOver
+pub mod TsigLaws

@@ -1,12 +1,15 @@
-//! The parts of a message beside its records: the header, and the questions (RFC 1035 sections 4.1.1 and 4.1.2).
+//! The parts of a message beside its resource records: the header, the questions, and the data of its signature by a shared
+//! key (RFC 1035 sections 4.1.1 and 4.1.2, RFC 8945 section 4.2).
 //!
-//! `Header::read` and `Queries::read` read exactly what stands there (`HeaderAt`, `AskedAt`).
+//! `Header::read`, `Queries::read` and `Tsig::read_data` read exactly what stands there (`HeaderAt`, `AskedAt`, `TsigAt`).
 #![tactic(auto)]
 
 pub use zst_codes::ResponseCode;
 
 mod header;
 mod question;
+mod tsig;
 
 pub use header::{Header, HeaderCounts, MessageType, Metadata, OpCode};
 pub use question::{Queries, Query};
+pub use tsig::{Tsig, TsigRecord};
