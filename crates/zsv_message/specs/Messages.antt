@@ -7,6 +7,7 @@ use Rattle.zst_record.specs.dnw_decoder.Reading.{IsCut, IsWantOfMemory}
 use Rattle.zst_record.specs.drd_rdata.declared.rdata.RData.{RData}
 use Rattle.zst_record.specs.drd_rdata.declared.rdata.RData.TheVariants as rdata
 use Rattle.zst_record.specs.declared.records.Record.{Record}
+use Rattle.zst_record.specs.Records.{RecordAt}
 use Rattle.zst_edns.specs.Edns.{IsEdnsOf}
 use Rattle.zst_edns.specs.declared.edns.Edns.{Edns}
 use Rattle.zsv_parts.specs.declared.header.Metadata.{Metadata}
@@ -18,7 +19,7 @@ use Rattle.zsv_parts.specs.Headers.{header_of}
 use Rattle.zsv_parts.specs.Questions.{Asked, AskedAt, RefusesQuestions}
 use Rattle.zsv_parts.specs.Signatures.{RefusesTsig, TsigAt}
 use Rattle.zsv_message.specs.declared.placing.Placing.{Placing}
-use Rattle.zsv_message.specs.Sections.{PlacedRecords, RefusesSection, SectionAt, is_opt, is_tsig}
+use Rattle.zsv_message.specs.Sections.{PlacedRecords, RefusesSection, SectionAt, is_opt, is_root, is_tsig}
 
 -- What a message holds. The response code is the one that header and options give together. A
 -- signature by a public key stays among the additional records.
@@ -37,6 +38,13 @@ abbrev pub IsEdnsRecord : Record → Edns → Type 0
 IsEdnsRecord r edns =
     (r.rdata ≡ rdata.OPT edns.options) × IsEdnsOf (class_number r.dns_class) r.ttl edns
 
+-- An OPT record at a place, as it is read.
+pub record OptAt (message : List ℕ) (place : ℕ) (edns : Edns) (end : ℕ) : Type 0 where
+  pub standing : Record
+  pub there : RecordAt message place standing end
+  pub owner : is_root standing.name ≡ true
+  pub says : IsEdnsRecord standing edns
+
 abbrev pub IsEdnsFor : Option Record → Option Edns → Type 0
 IsEdnsFor None None = Unit {0}
 IsEdnsFor (Some r) (Some edns) = IsEdnsRecord r edns
@@ -51,11 +59,11 @@ data_octets other = None
 -- The signature of a record, its data so many octets at a place. They are read where they stand,
 -- since the name in them may have pointers.
 pub record IsSigned (message : List ℕ) (place len : ℕ) (r : Record) (tsig : TsigRecord) : Type 0
-    where
-  pub name : tsig.name ≡ r.name
-  pub dns_class : tsig.dns_class ≡ r.dns_class
-  pub ttl : tsig.ttl ≡ r.ttl
-  pub rdata : TsigAt message place len tsig.rdata
+  where
+    pub name : tsig.name ≡ r.name
+    pub dns_class : tsig.dns_class ≡ r.dns_class
+    pub ttl : tsig.ttl ≡ r.ttl
+    pub rdata : TsigAt message place len tsig.rdata
 
 -- The signature whose record ends the records of a message, and its data the record.
 pub record IsSignatureRecord (message : List ℕ) (end : ℕ) (r : Record) (tsig : TsigRecord) :

@@ -36,7 +36,7 @@ abbrev pub misplaced : Placing → Record → Option DecodeError
 misplaced at r =
     if at.is_signed then Some RecordAfterSig
     else if not at.is_additional && (is_opt r || is_signature r) then
-        Some (RecordNotInAdditionalSection (type_of r.rdata))
+    Some (RecordNotInAdditionalSection (type_of r.rdata))
     else if is_opt r && not (is_root r.name) then Some EdnsNameNotRoot
     else if is_opt r && at.has_options then Some DuplicateEdns
     else if is_update0 r.rdata && (not at.is_update || is_tsig r) then Some InvalidEmptyRecord
@@ -67,11 +67,11 @@ SectionAt at message place count records end =
 
 -- A record stands at a place, and may not.
 pub record IsMisplaced (at : Placing) (message : List ℕ) (place : ℕ) (e : DecodeError) : Type 0
-    where
-  pub standing : Record
-  pub end : ℕ
-  pub there : RecordAt message place standing end
-  pub cause : misplaced at standing ≡ Some e
+  where
+    pub standing : Record
+    pub end : ℕ
+    pub there : RecordAt message place standing end
+    pub cause : misplaced at standing ≡ Some e
 
 -- No record is read at a place: none stands there, or one that may not.
 abbrev pub RefusesPlaced : Placing → List ℕ → ℕ → DecodeError → Type 0

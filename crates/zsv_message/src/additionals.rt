@@ -110,11 +110,7 @@ impl Additionals {
     }
 
     // The next record, at the decoder's index, and what is kept of it.
-    fn read_next(
-        &mut self,
-        alloc: Global,
-        decoder: &mut BinDecoder<'_>,
-    ) -> Result<(), DecodeError>
+    fn read_next(&mut self, alloc: Global, decoder: &mut BinDecoder<'_>) -> Result<(), DecodeError>
         ensures ok { (op : OpCode) (place n : ℕ) → Gathers op decoder.old.octets place n self.old decoder.old.index
             → OnOk result (Gathers op decoder.old.octets place (n + 1) self.new decoder.new.index) }
         ensures same { decoder.new.octets ≡ decoder.old.octets }

@@ -4,6 +4,12 @@
 //! `MessageRequest::read` reads exactly what `IsMessage` says, and refuses all else by its cause (`RefusesMessage`).
 #![tactic(auto)]
 
+pub use zst_edns::Edns;
+pub use zsv_parts::{
+    Header, HeaderCounts, MessageType, Metadata, OpCode, Queries, Query, ResponseCode, Tsig,
+    TsigRecord,
+};
+
 mod additionals;
 mod placing;
 mod request;

@@ -69,9 +69,7 @@ impl Placing {
         if self.is_signed {
             Some(DecodeError::RecordAfterSig)
         } else if !self.is_additional && is_of_message(standing) {
-            Some(DecodeError::RecordNotInAdditionalSection(
-                standing.record_type(),
-            ))
+            Some(DecodeError::RecordNotInAdditionalSection(standing.record_type()))
         } else if is_owned_opt(standing) {
             Some(DecodeError::EdnsNameNotRoot)
         } else if is_opt(standing) && self.has_options {

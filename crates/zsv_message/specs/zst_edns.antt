@@ -1,0 +1,2 @@
+pub use Rattle.zst_edns.specs.Edns
+pub use Rattle.zst_edns.specs.declared
