@@ -2,12 +2,13 @@
 use Rattle.std.proofs.Common.{◌≡◌, ℕ, ◌/◌, ◌%◌, Bool, true, false, cond, List, [], ◌∷◌, refl, sym, ap, subst, arith}
 use Rattle.std.specs.Prelude.{get_or, unwrap_or, find, Some, ◌==◌}
 use Rattle.std.proofs.lemmas.Bool.{eqb-true}
-use Rattle.zsv_parts.specs.dnw_decoder.Octets.{number_16}
-use Rattle.zsv_parts.specs.Headers.{op_code_of, op_code_number, metadata_of, FitsHeader}
-use Rattle.zsv_parts.specs.zst_codes.ResponseCode.{named_response_codes, response_code_of, response_code_number}
-use Rattle.zsv_parts.specs.zst_codes.declared.response_code.ResponseCode.{ResponseCode}
-use Rattle.zsv_parts.specs.zst_codes.declared.response_code.ResponseCode.TheVariants.{Unknown}
-use Rattle.zsv_parts.specs.Requests.{Request, IsRequest}
+use Rattle.zsv_message.specs.zsv_parts.dnw_decoder.Octets.{number_16}
+use Rattle.zsv_message.specs.zsv_parts.Headers.{op_code_of, op_code_number, metadata_of, FitsHeader}
+use Rattle.zsv_message.specs.zsv_parts.zst_codes.ResponseCode.{named_response_codes, response_code_of, response_code_number}
+use Rattle.zsv_message.specs.zsv_parts.zst_codes.declared.response_code.ResponseCode.{ResponseCode}
+use Rattle.zsv_message.specs.zsv_parts.zst_codes.declared.response_code.ResponseCode.TheVariants.{Unknown}
+use Rattle.zsv_message.specs.Messages.{IsMessage, Message, joined_metadata}
+use Rattle.zsv_message.specs.zst_edns.declared.edns.Edns.{Edns}
 
 op_code_back : (n : ℕ) → op_code_number (op_code_of n) ≡ n
 op_code_back n = grind arith

@@ -6,24 +6,26 @@ use Rattle.zst_zone.specs.dnw_codes.declared.record_type.RecordType.{RecordType}
 use Rattle.zst_zone.specs.dnw_codes.declared.record_type.RecordType.TheVariants as types
 use Rattle.zst_zone.specs.dnw_codes.RecordType.{same_record_type}
 use Rattle.zst_zone.specs.dnw_name.DomainName.{is_at_or_below}
+use Rattle.zst_zone.specs.zst_handler.Answers.{sets_shown}
 use Rattle.zst_zone.specs.zst_handler.Lookups.{Outcome, answered, name_error, name_exists, out_of_zone}
 use Rattle.zst_zone.specs.zst_handler.Zones.{Zone}
-use Rattle.zsv_parts.specs.Headers.{FitsHeader}
-use Rattle.zsv_parts.specs.Requests.{Request}
-use Rattle.zsv_parts.specs.declared.header.Metadata.{Metadata}
-use Rattle.zsv_parts.specs.declared.header.MessageType.{MessageType}
-use Rattle.zsv_parts.specs.declared.header.MessageType.TheVariants as messages
-use Rattle.zsv_parts.specs.declared.header.OpCode.{OpCode}
-use Rattle.zsv_parts.specs.declared.header.OpCode.TheVariants as operations
-use Rattle.zsv_parts.specs.declared.request.Query.{Query}
-use Rattle.zsv_parts.specs.zst_codes.ResponseCode.{response_code_of, response_code_number}
-use Rattle.zsv_parts.specs.zst_codes.declared.response_code.ResponseCode.{ResponseCode}
-use Rattle.zsv_parts.specs.zst_codes.declared.response_code.ResponseCode.TheVariants as responses
+use Rattle.zsv_message.specs.zsv_parts.Headers.{FitsHeader}
+use Rattle.zsv_message.specs.Messages.{Message}
+use Rattle.zsv_message.specs.zst_edns.declared.edns.Edns.{Edns}
+use Rattle.zsv_message.specs.zsv_parts.declared.header.Metadata.{Metadata}
+use Rattle.zsv_message.specs.zsv_parts.declared.header.MessageType.{MessageType}
+use Rattle.zsv_message.specs.zsv_parts.declared.header.MessageType.TheVariants as messages
+use Rattle.zsv_message.specs.zsv_parts.declared.header.OpCode.{OpCode}
+use Rattle.zsv_message.specs.zsv_parts.declared.header.OpCode.TheVariants as operations
+use Rattle.zsv_message.specs.zsv_parts.declared.question.Query.{Query}
+use Rattle.zsv_message.specs.zsv_parts.zst_codes.ResponseCode.{response_code_of, response_code_number}
+use Rattle.zsv_message.specs.zsv_parts.zst_codes.declared.response_code.ResponseCode.{ResponseCode}
+use Rattle.zsv_message.specs.zsv_parts.zst_codes.declared.response_code.ResponseCode.TheVariants as responses
 use Rattle.zsv_reply.specs.Replies.{ReplyParts}
 use Rattle.zsv_reply.specs.zst_record.Records.{ReadsBackAlone}
 use Rattle.zsv_reply.specs.zst_record.declared.records.Record.{Record}
 use Rattle.authority_server.specs.Servers.{IsSound}
-use Rattle.authority_server.specs.Serving.{AtOrigin, BesideAnswer, DeniedParts, OperationParts, OutcomeParts, PartsOf, QueryParts, QuestionParts, RequestParts, answer_records, error_parts, is_referral, parts_with, records_of, reply_metadata}
+use Rattle.authority_server.specs.Serving.{AnswersEdns, AtOrigin, BesideAnswer, DeniedParts, KindParts, OperationParts, OutcomeParts, PlainParts, QueryParts, QuestionParts, answer_records, asks_for_dnssec, error_parts, has_other_version, is_referral, parts_with, reply_metadata, with_edns}
 use Rattle.authority_server.proofs.ShownBack.{OutcomeReadsBack, ZoneIsSound, append_back, lookup_back, sets_shown_back}
 
 -- A response code with a name of its own in four bits.
@@ -52,63 +54,67 @@ with_sound m false records additionals beside fits first more later =
     record { metadata = fits; reads_back = record { answers = first; authorities = later; additionals = more } }
 
 -- ---- the zone's own answers
-records_back : (outcome : Outcome) → OutcomeReadsBack outcome → AllByRecursion ReadsBackAlone (answer_records outcome)
-records_back (answered answer) back = sets_shown_back false answer.answers back.answers
-records_back name_exists back = tt
-records_back name_error back = tt
-records_back out_of_zone back = tt
+records_back : (dnssec : Bool) (outcome : Outcome) → OutcomeReadsBack outcome → AllByRecursion ReadsBackAlone (answer_records dnssec outcome)
+records_back dnssec (answered answer) back = sets_shown_back dnssec answer.answers back.answers
+records_back dnssec name_exists back = tt
+records_back dnssec name_error back = tt
+records_back dnssec out_of_zone back = tt
 
-origin_back : (zone : Zone) (t : RecordType) (records : List Record) → ZoneIsSound zone → AtOrigin zone t records → AllByRecursion ReadsBackAlone records
-origin_back zone t records back (outcome, is, shown) =
-    subst (AllByRecursion ReadsBackAlone) (sym shown) (records_back outcome (lookup_back zone zone.origin t outcome back is))
+origin_back : (zone : Zone) (dnssec : Bool) (t : RecordType) (records : List Record) → ZoneIsSound zone → AtOrigin zone dnssec t records → AllByRecursion ReadsBackAlone records
+origin_back zone dnssec t records back (outcome, is, shown) =
+    subst (AllByRecursion ReadsBackAlone) (sym shown) (records_back dnssec outcome (lookup_back zone zone.origin t outcome back is))
 
-beside_back : (zone : Zone) (t : RecordType) (beside : List Record) → ZoneIsSound zone → BesideAnswer zone t beside → AllByRecursion ReadsBackAlone beside
-beside_back zone t beside back (start, other) = by (same_record_type t types.SOA) refl
+beside_back : (zone : Zone) (dnssec : Bool) (t : RecordType) (beside : List Record) → ZoneIsSound zone → BesideAnswer zone dnssec t beside → AllByRecursion ReadsBackAlone beside
+beside_back zone dnssec t beside back (start, other) = by (same_record_type t types.SOA) refl
   where
     by : (b : Bool) → same_record_type t types.SOA ≡ b → AllByRecursion ReadsBackAlone beside
-    by true e = origin_back zone types.NS beside back (start e)
+    by true e = origin_back zone dnssec types.NS beside back (start e)
     by false e = subst (AllByRecursion ReadsBackAlone) (sym (other e)) tt
 
-denied_sound : (zone : Zone) (m : Metadata) (code : ResponseCode) (parts : ReplyParts) → ZoneIsSound zone → FitsHeader m → IsKnown code → DeniedParts zone m code parts → IsSound parts
-denied_sound zone m code parts back fits known (start, at, is) =
-    subst IsSound (sym is) (with_sound (reply_metadata m true code) false [] [] start (fits_reply m true code fits known) tt tt (origin_back zone types.SOA start back at))
+denied_sound : (zone : Zone) (m : Metadata) (dnssec : Bool) (code : ResponseCode) (parts : ReplyParts) → ZoneIsSound zone → FitsHeader m → IsKnown code → DeniedParts zone m dnssec code parts → IsSound parts
+denied_sound zone m dnssec code parts back fits known (start, at, is) =
+    subst IsSound (sym is) (with_sound (reply_metadata m true code) false [] [] start (fits_reply m true code fits known) tt tt (origin_back zone dnssec types.SOA start back at))
 
-outcome_sound : (zone : Zone) (m : Metadata) (t : RecordType) (outcome : Outcome) (parts : ReplyParts) → ZoneIsSound zone → FitsHeader m → OutcomeReadsBack outcome → OutcomeParts zone m t outcome parts → IsSound parts
-outcome_sound zone m t (answered answer) parts back fits shown (beside, at, is) =
-    subst IsSound (sym is) (with_sound (reply_metadata m true responses.NoError) (is_referral t (records_of answer.answers)) (records_of answer.answers) (records_of answer.additionals) beside
-    (fits_reply m true responses.NoError fits (record { back = refl; small = omega arith })) (sets_shown_back false answer.answers shown.answers) (sets_shown_back false answer.additionals shown.additionals)
-    (beside_back zone t beside back at))
-outcome_sound zone m t name_exists parts back fits shown is = denied_sound zone m responses.NoError parts back fits (record { back = refl; small = omega arith }) is
-outcome_sound zone m t name_error parts back fits shown is = denied_sound zone m responses.NXDomain parts back fits (record { back = refl; small = omega arith }) is
-outcome_sound zone m t out_of_zone parts back fits shown is =
+outcome_sound : (zone : Zone) (m : Metadata) (dnssec : Bool) (t : RecordType) (outcome : Outcome) (parts : ReplyParts) → ZoneIsSound zone → FitsHeader m → OutcomeReadsBack outcome → OutcomeParts zone m dnssec t outcome parts → IsSound parts
+outcome_sound zone m dnssec t (answered answer) parts back fits shown (beside, at, is) =
+    subst IsSound (sym is) (with_sound (reply_metadata m true responses.NoError) (is_referral t (sets_shown dnssec answer.answers)) (sets_shown dnssec answer.answers) (sets_shown dnssec answer.additionals) beside
+    (fits_reply m true responses.NoError fits (record { back = refl; small = omega arith })) (sets_shown_back dnssec answer.answers shown.answers) (sets_shown_back dnssec answer.additionals shown.additionals)
+    (beside_back zone dnssec t beside back at))
+outcome_sound zone m dnssec t name_exists parts back fits shown is = denied_sound zone m dnssec responses.NoError parts back fits (record { back = refl; small = omega arith }) is
+outcome_sound zone m dnssec t name_error parts back fits shown is = denied_sound zone m dnssec responses.NXDomain parts back fits (record { back = refl; small = omega arith }) is
+outcome_sound zone m dnssec t out_of_zone parts back fits shown is =
     subst IsSound (sym is) (with_sound (reply_metadata m true responses.Refused) false [] [] [] (fits_reply m true responses.Refused fits (record { back = refl; small = omega arith })) tt tt tt)
 
 -- ---- questions and requests
-question_sound : (zone : Zone) (m : Metadata) (q : Query) (parts : ReplyParts) → ZoneIsSound zone → FitsHeader m → QuestionParts zone m q parts → IsSound parts
-question_sound zone m q parts back fits is = by (is_at_or_below q.name zone.origin) refl
+question_sound : (zone : Zone) (m : Metadata) (dnssec : Bool) (q : Query) (parts : ReplyParts) → ZoneIsSound zone → FitsHeader m → QuestionParts zone m dnssec q parts → IsSound parts
+question_sound zone m dnssec q parts back fits is = by (is_at_or_below q.name zone.origin) refl
   where
     inside : (b : Bool) → is_at_or_below q.name zone.origin ≡ true → same_record_type q.query_type types.AXFR ≡ b → IsSound parts
     inside true here e = error_sound m responses.ServFail parts fits (record { back = refl; small = omega arith }) (is.transfer here e)
     inside false here e =
         let (outcome, found, shown) = is.looked_up here e in
-        outcome_sound zone m q.query_type outcome parts back fits (lookup_back zone q.name q.query_type outcome back found) shown
+        outcome_sound zone m dnssec q.query_type outcome parts back fits (lookup_back zone q.name q.query_type outcome back found) shown
 
     by : (b : Bool) → is_at_or_below q.name zone.origin ≡ b → IsSound parts
     by false e = error_sound m responses.Refused parts fits (record { back = refl; small = omega arith }) (is.outside e)
     by true e = inside (same_record_type q.query_type types.AXFR) e refl
 
-query_sound : (zone : Zone) (m : Metadata) (qs : List Query) (parts : ReplyParts) → ZoneIsSound zone → FitsHeader m → QueryParts zone m qs parts → IsSound parts
-query_sound zone m [] parts back fits is = error_sound m responses.FormErr parts fits (record { back = refl; small = omega arith }) is
-query_sound zone m (q ∷ []) parts back fits is = question_sound zone m q parts back fits is
-query_sound zone m (q ∷ r ∷ qs) parts back fits is = error_sound m responses.FormErr parts fits (record { back = refl; small = omega arith }) is
+query_sound : (zone : Zone) (m : Metadata) (dnssec : Bool) (qs : List Query) (parts : ReplyParts) → ZoneIsSound zone → FitsHeader m → QueryParts zone m dnssec qs parts → IsSound parts
+query_sound zone m dnssec [] parts back fits is = error_sound m responses.FormErr parts fits (record { back = refl; small = omega arith }) is
+query_sound zone m dnssec (q ∷ []) parts back fits is = question_sound zone m dnssec q parts back fits is
+query_sound zone m dnssec (q ∷ r ∷ qs) parts back fits is = error_sound m responses.FormErr parts fits (record { back = refl; small = omega arith }) is
 
-operation_sound : (zone : Zone) (m : Metadata) (operation : OpCode) (qs : List Query) (parts : ReplyParts) → ZoneIsSound zone → FitsHeader m → OperationParts zone m operation qs parts → IsSound parts
-operation_sound zone m operations.Query qs parts back fits is = query_sound zone m qs parts back fits is
-operation_sound zone m other qs parts back fits is = error_sound m responses.NotImp parts fits (record { back = refl; small = omega arith }) is
+operation_sound : (zone : Zone) (m : Metadata) (dnssec : Bool) (operation : OpCode) (qs : List Query) (parts : ReplyParts) → ZoneIsSound zone → FitsHeader m → OperationParts zone m dnssec operation qs parts → IsSound parts
+operation_sound zone m dnssec operations.Query qs parts back fits is = query_sound zone m dnssec qs parts back fits is
+operation_sound zone m dnssec other qs parts back fits is = error_sound m responses.NotImp parts fits (record { back = refl; small = omega arith }) is
 
-request_sound : (zone : Zone) (request : Request) (kind : MessageType) (parts : ReplyParts) → ZoneIsSound zone → FitsHeader request.metadata → RequestParts zone request kind parts → IsSound parts
-request_sound zone request messages.Response parts back fits is = error_sound request.metadata responses.FormErr parts fits (record { back = refl; small = omega arith }) is
-request_sound zone request messages.Query parts back fits is = operation_sound zone request.metadata request.metadata.op_code request.questions parts back fits is
+kind_sound : (zone : Zone) (m : Metadata) (dnssec : Bool) (kind : MessageType) (qs : List Query) (parts : ReplyParts) → ZoneIsSound zone → FitsHeader m → KindParts zone m dnssec kind qs parts → IsSound parts
+kind_sound zone m dnssec messages.Response qs parts back fits is = error_sound m responses.FormErr parts fits (record { back = refl; small = omega arith }) is
+kind_sound zone m dnssec messages.Query qs parts back fits is = operation_sound zone m dnssec m.op_code qs parts back fits is
 
-pub parts_sound : (zone : Zone) (request : Request) (parts : ReplyParts) → ZoneIsSound zone → FitsHeader request.metadata → PartsOf zone request parts → IsSound parts
-parts_sound zone request parts back fits is = request_sound zone request request.metadata.message_type parts back fits is
+pub plain_sound : (zone : Zone) (request : Message) (parts : ReplyParts) → ZoneIsSound zone → FitsHeader request.metadata → PlainParts zone request parts → IsSound parts
+plain_sound zone request parts back fits is = by (has_other_version request.edns) refl
+  where
+    by : (b : Bool) → has_other_version request.edns ≡ b → IsSound parts
+    by true e = error_sound request.metadata responses.BADVERS parts fits (record { back = refl; small = omega arith }) (is.other_version e)
+    by false e = kind_sound zone request.metadata (asks_for_dnssec request.edns) request.metadata.message_type request.asked.questions parts back fits (is.answered e)

@@ -10,28 +10,29 @@ use Rattle.zsv_reply.specs.drd_rdata.declared.rdata.RData.TheVariants as rdata
 use Rattle.zsv_reply.specs.zst_record.declared.records.Record.{Record}
 use Rattle.zst_zone.specs.zst_codes.declared.settings.ZoneType.TheVariants as kinds
 use Rattle.zst_zone.specs.zst_codes.declared.settings.AxfrPolicy.TheVariants as policies
-use Rattle.zsv_parts.specs.declared.header.MessageType.TheVariants as messages
-use Rattle.zsv_parts.specs.declared.header.OpCode.TheVariants as operations
-use Rattle.zsv_parts.specs.zst_codes.declared.response_code.ResponseCode.{ResponseCode}
-use Rattle.zsv_parts.specs.zst_codes.declared.response_code.ResponseCode.TheVariants as responses
-use Rattle.zsv_parts.specs.declared.header.Metadata.{Metadata}
-use Rattle.zsv_parts.specs.declared.request.Query.{Query}
+use Rattle.zsv_message.specs.zsv_parts.declared.header.MessageType.TheVariants as messages
+use Rattle.zsv_message.specs.zsv_parts.declared.header.OpCode.TheVariants as operations
+use Rattle.zsv_message.specs.zsv_parts.zst_codes.declared.response_code.ResponseCode.{ResponseCode}
+use Rattle.zsv_message.specs.zsv_parts.zst_codes.declared.response_code.ResponseCode.TheVariants as responses
+use Rattle.zsv_message.specs.zsv_parts.declared.header.Metadata.{Metadata}
+use Rattle.zsv_message.specs.zsv_parts.declared.question.Query.{Query}
 use Rattle.zst_zone.specs.dnw_name.DomainName.{DomainName, name_cmp, name_octets, name_eq, is_at_or_below}
 use Rattle.std.specs.declared.cmp.Ordering.TheVariants.{Less, Greater}
 use Rattle.std.specs.Net.Addr.{ipv4_bits}
-use Rattle.zsv_parts.specs.dnw_decoder.Octets.{octets_16, octets_32}
-use Rattle.zsv_parts.specs.Headers.{header_of}
+use Rattle.zsv_message.specs.zsv_parts.dnw_decoder.Octets.{octets_16, octets_32}
+use Rattle.zsv_message.specs.zsv_parts.Headers.{header_of}
 use Rattle.zsv_reply.specs.drd_rdata.Writing.{written_octets}
 use Rattle.zsv_reply.specs.zst_record.Records.{plain}
-use Rattle.zsv_parts.specs.dnw_decoder.Spelling.{NameAt, at_end, at_label}
-use Rattle.zsv_parts.specs.Requests.{Request, QuestionAt}
+use Rattle.zsv_message.specs.zsv_parts.dnw_decoder.Spelling.{NameAt, at_end, at_label}
+use Rattle.zsv_message.specs.Messages.{Message}
+use Rattle.zsv_message.specs.zsv_parts.Questions.{QuestionAt}
 use Rattle.zsv_reply.specs.zst_record.RecordSets.{RRset}
 use Rattle.zsv_reply.specs.Replies.{ReplyParts}
 use Rattle.zst_zone.specs.zst_handler.Chains.{IsAliasChain, NoneTwice, asked_names, leads}
 use Rattle.zst_zone.specs.zst_handler.Found.{found}
 use Rattle.zst_zone.specs.zst_handler.Lookups.{IsLookup, LookupFrom, Outcome, additionals, answered, is_flattened, name_exists, name_error, out_of_zone}
 use Rattle.zst_zone.specs.zst_handler.Zones.{Zone, AreInOrder, set_cmp}
-use Rattle.authority_server.specs.Serving.{AtOrigin, OutcomeParts, PartsOf, QuestionParts}
+use Rattle.authority_server.specs.Serving.{AnswersEdns, AtOrigin, OutcomeParts, PartsOf, QueryParts, QuestionParts, with_edns}
 
 abbrev example : DomainName
 example = record { fqdn = true; labels = codes "example" ∷ codes "com" ∷ [] }
@@ -211,8 +212,8 @@ question_asked = record {
   query_class = record { number = 1; small = omega arith; there = record { there = refl; behind = refl }; means = refl };
 }
 
-abbrev asks : Metadata → List Query → Request
-asks m qs = record { metadata = m; questions = qs; question_octets = [] }
+abbrev asks : Metadata → List Query → Message
+asks m qs = record { metadata = m; asked = record { questions = qs; octets = [] }; answers = []; authorities = []; additionals = []; edns = None; signature = None }
 
 abbrev one : DomainName → Query
 one name = record { name = name; query_type = types.A; query_class = classes.IN }
@@ -235,31 +236,39 @@ answer_metadata authoritative code = record {
 abbrev Gives : List Query → ReplyParts → Type 0
 Gives qs parts = PartsOf zone (asks plain_metadata qs) parts
 
-looked_up : (name : DomainName) (parts : ReplyParts) (outcome : Outcome) → is_at_or_below name example ≡ true → IsLookup zone name types.A outcome → OutcomeParts zone plain_metadata types.A outcome parts → QuestionParts zone plain_metadata (one name) parts
+gives : (qs : List Query) (parts : ReplyParts) → parts ≡ with_edns None parts → QueryParts zone plain_metadata false qs parts → Gives qs parts
+gives qs parts none is = record {
+  plain = with_edns None parts;
+  gives = record { other_version = λ e. absurd (false≢true e); answered = λ _. subst (QueryParts zone plain_metadata false qs) none is };
+  edns = subst (λ (p : ReplyParts). AnswersEdns None p.metadata.response_code p.edns) (sym none) tt;
+  whole = none ∙ ap (λ (p : ReplyParts). with_edns p.edns (with_edns None parts)) (sym none);
+}
+
+looked_up : (name : DomainName) (parts : ReplyParts) (outcome : Outcome) → is_at_or_below name example ≡ true → IsLookup zone name types.A outcome → OutcomeParts zone plain_metadata false types.A outcome parts → QuestionParts zone plain_metadata false (one name) parts
 looked_up name parts outcome inside is shown = record {
   outside = λ e. absurd (true≢false (sym inside ∙ e));
   transfer = λ here e. absurd (false≢true e);
   looked_up = λ here e. (outcome, is, shown);
 }
 
-address_parts : Gives (one (below (codes "www")) ∷ []) (record { metadata = answer_metadata true responses.NoError; answers = address ∷ []; authorities = []; additionals = [] })
-address_parts = looked_up (below (codes "www")) _ (one_set set_of_address []) refl (lookup_of_one (below (codes "www")) types.A set_of_address [] refl refl refl refl refl) ([], (λ e. absurd (false≢true e), λ _. refl), refl)
+address_parts : Gives (one (below (codes "www")) ∷ []) (record { metadata = answer_metadata true responses.NoError; answers = address ∷ []; authorities = []; additionals = []; edns = None })
+address_parts = gives _ _ refl (looked_up (below (codes "www")) _ (one_set set_of_address []) refl (lookup_of_one (below (codes "www")) types.A set_of_address [] refl refl refl refl refl) ([], (λ e. absurd (false≢true e), λ _. refl), refl))
 
-at_start : AtOrigin zone types.SOA (start ∷ [])
+at_start : AtOrigin zone false types.SOA (start ∷ [])
 at_start = (one_set set_of_start [], lookup_of_one example types.SOA set_of_start [] refl refl refl refl refl, refl)
 
-missing_parts : Gives (one (below (codes "z")) ∷ []) (record { metadata = answer_metadata true responses.NXDomain; answers = []; authorities = start ∷ []; additionals = [] })
-missing_parts = looked_up (below (codes "z")) _ name_error refl a_missing_name (start ∷ [], at_start, refl)
+missing_parts : Gives (one (below (codes "z")) ∷ []) (record { metadata = answer_metadata true responses.NXDomain; answers = []; authorities = start ∷ []; additionals = []; edns = None })
+missing_parts = gives _ _ refl (looked_up (below (codes "z")) _ name_error refl a_missing_name (start ∷ [], at_start, refl))
 
-outside_parts : Gives (one elsewhere ∷ []) (record { metadata = answer_metadata false responses.Refused; answers = []; authorities = []; additionals = [] })
-outside_parts = record { outside = λ _. refl; transfer = λ here e. absurd (false≢true here); looked_up = λ here e. absurd (false≢true here) }
+outside_parts : Gives (one elsewhere ∷ []) (record { metadata = answer_metadata false responses.Refused; answers = []; authorities = []; additionals = []; edns = None })
+outside_parts = gives _ _ refl (record { outside = λ _. refl; transfer = λ here e. absurd (false≢true here); looked_up = λ here e. absurd (false≢true here) })
 
-no_question_parts : Gives [] (record { metadata = answer_metadata false responses.FormErr; answers = []; authorities = []; additionals = [] })
-no_question_parts = refl
+no_question_parts : Gives [] (record { metadata = answer_metadata false responses.FormErr; answers = []; authorities = []; additionals = []; edns = None })
+no_question_parts = gives _ _ refl refl
 
 -- A referral's name servers are authority, with the address of the first one.
-referral_parts : Gives (one (two_below (codes "www") (codes "sub")) ∷ []) (record { metadata = answer_metadata true responses.NoError; answers = []; authorities = server ∷ []; additionals = glue ∷ [] })
-referral_parts = looked_up (two_below (codes "www") (codes "sub")) _ (one_set set_of_servers (set_of_glue ∷ [])) refl below_a_cut ([], (λ e. absurd (false≢true e), λ _. refl), refl)
+referral_parts : Gives (one (two_below (codes "www") (codes "sub")) ∷ []) (record { metadata = answer_metadata true responses.NoError; answers = []; authorities = server ∷ []; additionals = glue ∷ []; edns = None })
+referral_parts = gives _ _ refl (looked_up (two_below (codes "www") (codes "sub")) _ (one_set set_of_servers (set_of_glue ∷ [])) refl below_a_cut ([], (λ e. absurd (false≢true e), λ _. refl), refl))
 
 -- Names rise in the canonical order: the nine names of RFC 4034, section 6.1.
 abbrev named : List (List ℕ) → DomainName

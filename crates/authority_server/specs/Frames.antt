@@ -1,5 +1,5 @@
 -- Messages on a stream: RFC 1035, section 4.2.2.
-use Rattle.std.specs.Prelude.{◌≡◌, ℕ, ◌-◌, ◌^◌, ◌<◌, false, List, [], ◌++◌, length, take, map, Option, Some, None}
+use Rattle.std.specs.Prelude.{◌≡◌, ℕ, ◌-◌, ◌^◌, ◌<◌, ◌≤◌, false, List, [], ◌++◌, length, take, map, Option, Some, None}
 use Rattle.std.specs.List.{AllByRecursion, flat_map}
 use Rattle.std.specs.declared.net.SocketAddr.{SocketAddr}
 use Rattle.authority_server.specs.declared.server.Protocol.TheVariants as protocols
@@ -7,7 +7,6 @@ use Rattle.std.specs.Int.{w16, to_be_bytes}
 use Rattle.std.specs.Io.KnownBytes.{Appends, Consumes, IsAtEnd}
 use Rattle.authority_server.specs.declared.stream.StreamError.{StreamError}
 use Rattle.authority_server.specs.declared.stream.StreamError.TheVariants as errors
-use Rattle.zsv_parts.specs.Requests.{OpensRequest}
 use Rattle.authority_server.specs.Serving.{World, Received, Serves, ServesAll}
 
 -- A message behind its length.
@@ -67,7 +66,7 @@ IsServeFault old received before after new errors.Write =
     × WritesFront before after (frame_of reply)
 IsServeFault old received before after new errors.CutFrame = ⊥
 IsServeFault old received before after new (errors.OutOfMemory applied) =
-    (applied ≡ false) × OpensRequest received.message × (after ≡ before) × (new ≡ old)
+    (applied ≡ false) × (12 ≤ length received.message) × (after ≡ before) × (new ≡ old)
 IsServeFault old received before after new errors.TooLong = ⊥
 
 -- One message served, and its answer's frame written behind what was written before.

@@ -3,7 +3,7 @@ use Rattle.std.specs.Prelude.{◌≡◌, Bool, true, false}
 use Rattle.authority_server.specs.declared.server.answer.Response.{Response}
 use Rattle.zst_zone.specs.zst_codes.declared.settings.ZoneType.{ZoneType}
 use Rattle.zst_zone.specs.zst_codes.declared.settings.ZoneType.TheVariants as zones
-use Rattle.zsv_parts.specs.Headers.{FitsHeader}
+use Rattle.zsv_message.specs.zsv_parts.Headers.{FitsHeader}
 use Rattle.zsv_reply.specs.Replies.{ReplyParts}
 use Rattle.zsv_reply.specs.Writing.{AllReadBack}
 use Rattle.zst_zone.specs.zst_handler.Answers.{additionals_in, answers_in}

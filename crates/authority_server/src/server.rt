@@ -1,8 +1,7 @@
 //! The server: one message in, one reply out.
 
-ghost use Rattle.std.specs.Prelude.{◌≡◌, ◌+◌, ◌<◌, vec_len, vec_capacity, length, map, IfOk, IfErr, OnOk, false};
+ghost use Rattle.std.specs.Prelude.{◌≡◌, ◌+◌, ◌<◌, ◌≤◌, option_copied, vec_len, vec_capacity, length, map, IfOk, IfErr, OnOk, false};
 ghost use Rattle.authority_server.specs.Serving.{limit_of, Serves};
-ghost use Rattle.zsv_parts.specs.Requests.{OpensRequest};
 ghost use Rattle.authority_server.specs.Runs.{octets_of, received_of, ServesNext, ServesFront};
 
 use crate::server::answer::reply_to;
@@ -11,7 +10,8 @@ use std::marker::Model;
 use std::net::SocketAddr;
 use thiserror::Error;
 use zst_zone::{InMemoryZoneHandler, ZoneType};
-use zsv_parts::{MessageRequest, ReadError};
+use zsv_message::{Edns, MessageRequest};
+use zst_record::DecodeError;
 
 pub mod answer;
 mod sections;
@@ -26,13 +26,15 @@ pub enum Protocol {
 }
 
 impl Protocol {
-    /// How many octets a reply may have.
-    pub fn limit(self) -> u16
-        ensures { result ≡ limit_of self }
+    /// How many octets a reply may have, to a request with these options (RFC 6891 section 6.2.5).
+    pub fn limit(self, edns: Option<&Edns>) -> u16
+        ensures value { result ≡ limit_of self (option_copied edns) }
+        ensures lower { 512 ≤ result }
     {
-        match self {
-            Protocol::Udp => 512,
-            Protocol::Tcp => 65535,
+        match (self, edns) {
+            (Protocol::Udp, None) => 512,
+            (Protocol::Udp, Some(edns)) => edns.max_payload(),
+            (Protocol::Tcp, _) => 65535,
         }
     }
 }
@@ -104,6 +106,9 @@ impl<S, K> Authority<S, K> {
 
     /// Serves one message. A message outside the request grammar gets no reply; each other gets one, within the
     /// transport's limit, that holds what the zone answers.
+    ///
+    /// A message that is itself a reply (QR set) is answered by a format error. Callers drop such datagrams, since two
+    /// servers that answer them would answer each other without end.
     pub fn serve(
         &mut self,
         message: &[u8],
@@ -114,14 +119,15 @@ impl<S, K> Authority<S, K> {
         ensures served { IfOk result
             (λ answer. Serves self.old (record { message = message.now; source = src; transport = protocol; now = now })
             (octets_of answer) self.new) }
-        ensures refused { IfErr result (λ e. (e ≡ ServeError.OutOfMemory false) × OpensRequest message.now × (self.new ≡ self.old)) }
+        ensures refused { IfErr result (λ e. (e ≡ ServeError.OutOfMemory false) × (12 ≤ length message.now) × (self.new ≡ self.old)) }
     {
         let request = match MessageRequest::read(self.alloc, message) {
             Ok(request) => request,
-            Err(ReadError::Malformed) => return Ok(None),
-            Err(ReadError::Memory) => return Err(ServeError::OutOfMemory { applied: false }),
+            Err(DecodeError::Memory) => return Err(ServeError::OutOfMemory { applied: false }),
+            Err(_) => return Ok(None),
         };
-        match reply_to(&self.zone, self.alloc, message, &request, protocol.limit()) {
+        let limit = protocol.limit(request.edns());
+        match reply_to(&self.zone, self.alloc, message, &request, limit) {
             Ok(reply) => Ok(Some(reply)),
             Err(_) => Err(ServeError::OutOfMemory { applied: false }),
         }

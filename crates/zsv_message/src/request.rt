@@ -1,6 +1,6 @@
 //! Messages that are read (RFC 1035 section 4.1, RFC 6891 section 6.1, RFC 8945 section 4.2).
 
-ghost use Rattle.std.specs.Prelude.{◌≡◌, ◌==◌, ◌≤◌, option_map, max, option_map_or};
+ghost use Rattle.std.specs.Prelude.{◌≡◌, option_copied};
 ghost use Rattle.zsv_message.specs.Messages.{ReadsMessage, is_update, joined_metadata};
 
 use crate::additionals::Additionals;
@@ -127,14 +127,14 @@ impl<'m> MessageRequest<'m> {
 
     /// The options of the message (RFC 6891 section 6.1).
     pub fn edns(&self) -> Option<&Edns>
-        ensures { option_map (λ edns. edns.now) result ≡ self.now.edns }
+        ensures { option_copied result ≡ self.now.edns }
     {
         self.edns.as_ref()
     }
 
     /// The signature of the message by a shared key (RFC 8945 section 4.2).
     pub fn signature(&self) -> Option<&TsigRecord>
-        ensures { option_map (λ signature. signature.now) result ≡ self.now.signature }
+        ensures { option_copied result ≡ self.now.signature }
     {
         self.signature.as_ref()
     }

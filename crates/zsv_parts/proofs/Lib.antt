@@ -3,3 +3,4 @@ pub mod Pieces
 pub mod Questions
 pub mod QuestionsOver
 pub mod TsigLaws
+pub mod TsigWriting

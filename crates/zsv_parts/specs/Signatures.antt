@@ -1,12 +1,16 @@
 -- The data of a message's signature, TSIG: RFC 8945, section 4.2.
-use Rattle.std.specs.Prelude.{◌≡◌, ℕ, ◌+◌, ◌-◌, ◌/◌, ◌%◌, ◌^◌, ◌<◌, ◌≤◌, List, [], ◌∷◌, ◌++◌, ◌⊎◌, length}
+use Rattle.std.specs.Prelude.{◌≡◌, true, ℕ, ◌+◌, ◌-◌, ◌/◌, ◌%◌, ◌^◌, ◌<◌, ◌≤◌, List, [], ◌∷◌, ◌++◌, ◌⊎◌, length}
 use Rattle.dnw_codes.specs.declared.error.DecodeError.{DecodeError}
+use Rattle.dnw_codes.specs.declared.error.ProtoError.{ProtoError}
+use Rattle.dnw_codes.specs.declared.error.ProtoError.TheVariants.{CharacterDataTooLong}
 use Rattle.dnw_codes.specs.declared.error.DecodeError.TheVariants.{IncorrectRDataLengthRead}
-use Rattle.dnw_encoder.specs.dnw_name.DomainName.{DomainName}
+use Rattle.dnw_encoder.specs.dnw_name.DomainName.{DomainName, name_octets}
 use Rattle.dnw_encoder.specs.dnw_decoder.Octets.{octets_16, octets_32, number_16, Stands}
 use Rattle.dnw_encoder.specs.dnw_decoder.Reading.{IsCut, IsWantOfMemory}
 use Rattle.dnw_encoder.specs.dnw_decoder.Refusals.{Refuses}
 use Rattle.dnw_encoder.specs.dnw_decoder.Spelling.{NameAt}
+use Rattle.dnw_encoder.specs.Effects.{Sound, StaysTrue, WritesOctets, IsRefusal}
+use Rattle.dnw_encoder.specs.State.{State}
 use Rattle.zsv_parts.specs.declared.tsig.Tsig.{Tsig}
 
 -- A number of 48 bits in six octets, the greatest first.
@@ -107,3 +111,31 @@ RefusesTsig message place len e =
     Refuses message place e
     ⊎ ((name : DomainName) × (behind : ℕ) × NameAt message place name behind
     × RefusesSigned message place len behind e)
+
+-- The octets of the data: the algorithm's name in full, and the fields behind it.
+abbrev pub tsig_octets : Tsig → List ℕ
+tsig_octets tsig = name_octets tsig.algorithm ++ signed_octets (signed_of tsig)
+
+-- A signature was written, within the maximum. Its octets are exactly these; one whose algorithm's
+-- name is fully qualified, and whose time has 48 bits, stands there, in the finished message too.
+pub record EmitsTsig (tsig : Tsig) (old new : State) : Type 0 where
+  pub exact : WritesOctets (tsig_octets tsig) old new
+  pub fits : new.offset ≤ old.maximum
+  pub short_mac : length tsig.mac.items < 2 ^ 16
+  pub short_other : length tsig.other.items < 2 ^ 16
+  pub stays : Sound old → tsig.algorithm.fqdn ≡ true → tsig.time < 2 ^ 48
+      → StaysTrue new new.offset
+      (λ message. TsigAt message old.offset (length (tsig_octets tsig)) tsig)
+
+-- Octets are more than two octets can count.
+abbrev pub IsTooLong : List ℕ → ProtoError → Type 0
+IsTooLong octets e = (e ≡ CharacterDataTooLong 65535 (length octets)) × (65535 < length octets)
+
+-- A signature is refused for the length of its MAC, or else of its other data, and nothing is
+-- written; or for want of room or memory.
+abbrev pub RefusesEmission : Tsig → State → ProtoError → State → Type 0
+RefusesEmission tsig old e new =
+    ((IsTooLong tsig.mac.items e
+    ⊎ ((length tsig.mac.items ≤ 65535) × IsTooLong tsig.other.items e)) × (new ≡ old))
+    ⊎ ((length tsig.mac.items ≤ 65535) × (length tsig.other.items ≤ 65535)
+    × IsRefusal old (length (tsig_octets tsig)) e)

@@ -1,15 +1,20 @@
 //! The signature of a message by a key that both ends have: TSIG (RFC 8945 section 4.2).
 
-ghost use Rattle.std.specs.Prelude.{◌≡◌, ◌+◌, ◌-◌, ◌<◌, ◌≤◌, ◌^◌, ◌⊎◌, ◌∷◌, ℕ, List, length, IfOk, IfErr, OnOk, OnErr};
+ghost use Rattle.std.specs.Prelude.{◌≡◌, ◌+◌, ◌-◌, ◌<◌, ◌≤◌, ◌^◌, ◌++◌, ◌⊎◌, ◌∷◌, ℕ, List, length, IfOk, IfErr, OnOk, OnErr};
 ghost use Rattle.dnw_codes.specs.declared.error.DecodeError.TheVariants.{IncorrectRDataLengthRead};
 ghost use Rattle.dnw_encoder.specs.dnw_decoder.Octets.{octets_16, number_16};
 ghost use Rattle.dnw_encoder.specs.dnw_decoder.Reading.{TakesOctets, IsWantOfMemory};
+ghost use Rattle.dnw_encoder.specs.dnw_name.DomainName.{IsDomainName, name_octets};
+ghost use Rattle.dnw_encoder.specs.Effects.{Writes, WritesOctets, IsRefusal};
+ghost use Rattle.dnw_encoder.specs.Encoders.{state};
 ghost use Rattle.zsv_parts.specs.declared.tsig.Tsig.{Tsig as Signature};
-ghost use Rattle.zsv_parts.specs.Signatures.{octets_48, counted, signed_of, time_octets, code_octets, FitsTime, FitsCodes, SignedAt, TsigAt, time_sizes, code_sizes, field_sizes, RefusesFields, RefusesSigned, RefusesTsig};
+ghost use Rattle.zsv_parts.specs.Signatures.{octets_48, counted, signed_of, time_octets, code_octets, FitsTime, FitsCodes, SignedAt, TsigAt, time_sizes, code_sizes, field_sizes, RefusesFields, RefusesSigned, RefusesTsig, signed_octets, tsig_octets, EmitsTsig, IsTooLong, RefusesEmission};
 ghost use Rattle.zsv_parts.specs.Signed.{signed};
 
 use dnw_codes::DNSClass;
-use dnw_encoder::{BinDecodable, BinDecoder, DecodeError, Name};
+use dnw_encoder::{
+    BinDecodable, BinDecoder, BinEncodable, BinEncoder, DecodeError, Name, ProtoError,
+};
 use std::alloc::Global;
 
 /// The data of a signature.
@@ -297,5 +302,129 @@ impl Tsig {
                 Err(refused)
             }
         }
+    }
+}
+
+// Writes octets behind others.
+fn emit_two(encoder: &mut BinEncoder<'_>, front: &[u8], rest: &[u8]) -> Result<(), ProtoError>
+    ensures same_reference { encoder.new.buffer.ghost_name ≡ encoder.old.buffer.ghost_name }
+    ensures writes { Writes (state encoder.old) (state encoder.new) }
+    ensures ok { OnOk result (WritesOctets (front.now ++ rest.now) (state encoder.old) (state encoder.new)) }
+    ensures fits { OnOk result ((state encoder.new).offset ≤ (state encoder.old).maximum) }
+    ensures cause { IfErr result (IsRefusal (state encoder.old) (length front.now + length rest.now)) }
+{
+    let _start = encoder.offset();
+    encoder.emit_vec(front)?;
+    encoder.emit_vec(rest)
+}
+
+// The number of octets, which two octets can hold.
+fn count_of(octets: &[u8]) -> Result<u16, ProtoError>
+    ensures ok { IfOk result (λ count. (count ≡ length octets.now) × (length octets.now < 2 ^ 16)) }
+    ensures err { IfErr result (IsTooLong octets.now) }
+{
+    match u16::try_from(octets.len()) {
+        Ok(count) => Ok(count),
+        Err(_) => Err(ProtoError::CharacterDataTooLong {
+            max: 65_535,
+            len: octets.len(),
+        }),
+    }
+}
+
+impl Tsig {
+    // The time, the fudge and the size of the MAC.
+    fn time_numbers(&self, mac_size: u16) -> [u8; 10]
+        ensures octets { result ≡ octets_48 self.now.time ++ (octets_16 self.now.fudge ++ octets_16 mac_size) }
+        ensures small { self.now.fudge < 2 ^ 16 }
+    {
+        let (time, fudge) = (self.time, self.fudge);
+        let high = (time / 0x1_0000_0000 % 0x1_0000) as u16;
+        let low = (time % 0x1_0000_0000) as u32;
+        let [first, second] = high.to_be_bytes();
+        let [third, fourth, fifth, last] = low.to_be_bytes();
+        let [fudge, fudge_low] = fudge.to_be_bytes();
+        let [size, size_low] = mac_size.to_be_bytes();
+        [
+            first, second, third, fourth, fifth, last, fudge, fudge_low, size, size_low,
+        ]
+    }
+
+    // The original id, the error and the length of the other data.
+    fn code_numbers(&self, other_len: u16) -> [u8; 6]
+        ensures octets { result ≡ octets_16 self.now.oid ++ (octets_16 self.now.error ++ octets_16 other_len) }
+        ensures small_oid { self.now.oid < 2 ^ 16 }
+        ensures small_error { self.now.error < 2 ^ 16 }
+    {
+        let (oid, error) = (self.oid, self.error);
+        let [oid, oid_low] = oid.to_be_bytes();
+        let [error, error_low] = error.to_be_bytes();
+        let [len, len_low] = other_len.to_be_bytes();
+        [oid, oid_low, error, error_low, len, len_low]
+    }
+
+    // Writes the algorithm's name in full.
+    fn emit_algorithm(&self, encoder: &mut BinEncoder<'_>) -> Result<(), ProtoError>
+        ensures same_reference { encoder.new.buffer.ghost_name ≡ encoder.old.buffer.ghost_name }
+        ensures writes { Writes (state encoder.old) (state encoder.new) }
+        ensures name { IsDomainName self.now.algorithm }
+        ensures ok { OnOk result (WritesOctets (name_octets self.now.algorithm) (state encoder.old) (state encoder.new)) }
+        ensures cause { IfErr result (IsRefusal (state encoder.old) (length (name_octets self.now.algorithm))) }
+    {
+        emit_two(encoder, self.algorithm.as_octets(), &[0])
+    }
+
+    // Writes the fields behind it.
+    fn emit_signed(
+        &self,
+        encoder: &mut BinEncoder<'_>,
+        mac_size: u16,
+        other_len: u16,
+    ) -> Result<(), ProtoError>
+        requires mac { mac_size ≡ length self.now.mac.items }
+        requires other { other_len ≡ length self.now.other.items }
+        ensures same_reference { encoder.new.buffer.ghost_name ≡ encoder.old.buffer.ghost_name }
+        ensures writes { Writes (state encoder.old) (state encoder.new) }
+        ensures ok { OnOk result (WritesOctets (signed_octets (signed_of self.now)) (state encoder.old) (state encoder.new)) }
+        ensures fits { OnOk result ((state encoder.new).offset ≤ (state encoder.old).maximum) }
+        ensures small { OnOk result ((self.now.fudge < 2 ^ 16) × (self.now.oid < 2 ^ 16) × (self.now.error < 2 ^ 16)) }
+        ensures cause { IfErr result (IsRefusal (state encoder.old) (length (signed_octets (signed_of self.now)))) }
+    {
+        let _start = encoder.offset();
+        emit_two(encoder, &self.time_numbers(mac_size), &self.mac)?;
+        emit_two(encoder, &self.code_numbers(other_len), &self.other)
+    }
+
+    // Writes the data, whose lengths these are.
+    fn emit_data(
+        &self,
+        encoder: &mut BinEncoder<'_>,
+        mac_size: u16,
+        other_len: u16,
+    ) -> Result<(), ProtoError>
+        requires mac { mac_size ≡ length self.now.mac.items }
+        requires other { other_len ≡ length self.now.other.items }
+        ensures same_reference { encoder.new.buffer.ghost_name ≡ encoder.old.buffer.ghost_name }
+        ensures writes { Writes (state encoder.old) (state encoder.new) }
+        ensures ok { OnOk result (EmitsTsig self.now (state encoder.old) (state encoder.new)) }
+        ensures cause { IfErr result (IsRefusal (state encoder.old) (length (tsig_octets self.now))) }
+    {
+        let _start = encoder.offset();
+        self.emit_algorithm(encoder)?;
+        self.emit_signed(encoder, mac_size, other_len)
+    }
+}
+
+impl BinEncodable for Tsig {
+    ghost emits = { EmitsTsig };
+
+    ghost refuses = { RefusesEmission };
+
+    /// Writes the algorithm's name in full and the fields behind it (RFC 8945 section 4.2); of the time 48 bits. A MAC, or
+    /// other data, of more than 65,535 octets is refused, and nothing is written.
+    fn emit(&self, encoder: &mut BinEncoder<'_>) -> Result<(), ProtoError> {
+        let mac_size = count_of(&self.mac)?;
+        let other_len = count_of(&self.other)?;
+        self.emit_data(encoder, mac_size, other_len)
     }
 }

@@ -1,17 +1,17 @@
 //! What a zone answers to a request (RFC 1034 section 4.3.2).
 
-ghost use Rattle.std.specs.Prelude.{◌≡◌, ◌+◌, ◌≤◌, ◌++◌, [], length, Ok, Err, IfOk, IfErr, if◌then◌else◌};
+ghost use Rattle.std.specs.Prelude.{◌≡◌, ◌+◌, ◌<◌, ◌≤◌, ◌^◌, ◌++◌, [], length, Ok, Err, IfOk, IfErr, if◌then◌else◌, option_copied};
 ghost use Rattle.zst_zone.specs.dnw_codes.ProtoError.{IsMemory};
 ghost use Rattle.zst_zone.specs.dnw_name.DomainName.{lowercase_name};
 ghost use Rattle.zst_zone.specs.dnw_codes.declared.record_type.RecordType.{RecordType};
 ghost use Rattle.zst_zone.specs.zst_handler.Answers.{ShowsAnswer, Tells, answers_in};
 ghost use Rattle.zst_zone.specs.zst_handler.Lookups.{Answer, IsLookup, Outcome, answered};
 ghost use Rattle.zst_zone.specs.zst_handler.Zones.{AreStored, ZoneReadsBack};
-ghost use Rattle.zsv_parts.specs.Headers.{FitsHeader};
+ghost use Rattle.zsv_message.specs.zsv_parts.Headers.{FitsHeader};
 ghost use Rattle.zsv_reply.specs.Replies.{bare_failure};
 ghost use Rattle.zsv_reply.specs.Writing.{IsWritten};
-ghost use Rattle.zsv_parts.specs.Requests.{IsRequest};
-ghost use Rattle.authority_server.specs.Serving.{reply_metadata, error_parts, AtOrigin, BesideAnswer, DeniedParts, OutcomeParts, QuestionParts, QueryParts, PartsOf, Answers, is_referral};
+ghost use Rattle.zsv_message.specs.Messages.{IsMessage};
+ghost use Rattle.authority_server.specs.Serving.{reply_metadata, error_parts, AtOrigin, BesideAnswer, DeniedParts, OutcomeParts, QuestionParts, QueryParts, KindParts, PlainParts, AnswersEdns, Answers, has_other_version, is_referral, with_edns};
 ghost use Rattle.authority_server.specs.Servers.{parts_of, IsSound};
 
 use crate::server::sections::Authorities;
@@ -21,11 +21,10 @@ use zst_zone::{
     AuthLookup, InMemoryZoneHandler, LookupControlFlow, LookupError, LookupOptions,
     LookupRecordsIter, NameKey, ProtoError,
 };
-use zsv_parts::{MessageRequest, MessageType, Metadata, OpCode, Query, ResponseCode};
+use zsv_message::{
+    Edns, MessageRequest, MessageType, Metadata, OpCode, Queries, Query, ResponseCode,
+};
 use zsv_reply::{MessageResponse, RecordType, encode_header};
-
-/// Questions without EDNS ask for no signatures.
-const WITHOUT_DNSSEC: LookupOptions = LookupOptions { dnssec_ok: false };
 
 // What a full reply holds; the zone lends its records.
 #[derive(Drop)]
@@ -62,17 +61,18 @@ impl Response<'_> {
         }
     }
 
-    // The octets of the reply, of at most `limit`. Only memory may be wanting.
+    // The octets of the reply with these options, of at most `limit`. Only memory may be wanting.
     fn encode(
         &self,
         alloc: Global,
-        questions: u16,
-        question_octets: &[u8],
+        edns: Option<Edns>,
+        queries: &Queries<'_>,
         limit: u16,
     ) -> Result<Vec<u8>, ProtoError>
-        requires sound { IsSound (parts_of self.now) }
-        requires room { 12 + length question_octets.now ≤ limit }
-        ensures written { IfOk result (λ reply. IsWritten reply.items (parts_of self.now) questions question_octets.now limit) }
+        requires sound { IsSound (with_edns edns (parts_of self.now)) }
+        requires few { length queries.now.questions < 2 ^ 16 }
+        requires room { 12 + length queries.now.octets ≤ limit }
+        ensures written { IfOk result (λ reply. IsWritten reply.items (with_edns edns (parts_of self.now)) (length queries.now.questions) queries.now.octets limit) }
         ensures cause { IfErr result IsMemory }
     {
         let response = MessageResponse {
@@ -80,8 +80,9 @@ impl Response<'_> {
             answers: self.answers(),
             authorities: self.authorities(),
             additionals: self.found.additional_records(),
+            edns,
         };
-        response.encode(alloc, questions, question_octets, limit)
+        response.encode(alloc, queries.len() as u16, queries.as_bytes(), limit)
     }
 }
 
@@ -119,11 +120,12 @@ fn error_response(request: Metadata, response_code: ResponseCode) -> Response<'s
 fn at_origin<'z, K>(
     zone: &'z InMemoryZoneHandler<K>,
     alloc: Global,
+    options: LookupOptions,
     record_type: RecordType,
 ) -> Result<AuthLookup<'z>, AllocError>
-    ensures { IfOk result (λ found. AtOrigin zone.now record_type (answers_in found)) }
+    ensures { IfOk result (λ found. AtOrigin zone.now options.dnssec_ok record_type (answers_in found)) }
 {
-    match zone.lookup_origin(alloc, record_type, WITHOUT_DNSSEC)? {
+    match zone.lookup_origin(alloc, record_type, options)? {
         LookupControlFlow::Continue(Ok(found)) => Ok(found),
         _ => Ok(AuthLookup::Empty),
     }
@@ -133,12 +135,13 @@ fn at_origin<'z, K>(
 fn beside_answer<'z, K>(
     zone: &'z InMemoryZoneHandler<K>,
     alloc: Global,
+    options: LookupOptions,
     record_type: RecordType,
 ) -> Result<AuthLookup<'z>, AllocError>
-    ensures { IfOk result (λ found. BesideAnswer zone.now record_type (answers_in found)) }
+    ensures { IfOk result (λ found. BesideAnswer zone.now options.dnssec_ok record_type (answers_in found)) }
 {
     if record_type == RecordType::SOA {
-        at_origin(zone, alloc, RecordType::NS)
+        at_origin(zone, alloc, options, RecordType::NS)
     } else {
         Ok(AuthLookup::Empty)
     }
@@ -157,13 +160,14 @@ fn answered_response<'z, K>(
     zone: &'z InMemoryZoneHandler<K>,
     alloc: Global,
     request: Metadata,
+    options: LookupOptions,
     record_type: RecordType,
     found: AuthLookup<'z>,
 ) -> Result<Response<'z>, AllocError>
-    ensures { (answer : Answer) → ShowsAnswer WITHOUT_DNSSEC answer found.entry
-        → IfOk result (λ r. OutcomeParts zone.now request record_type (answered answer) (parts_of r)) }
+    ensures { (answer : Answer) → ShowsAnswer options answer found.entry
+        → IfOk result (λ r. OutcomeParts zone.now request options.dnssec_ok record_type (answered answer) (parts_of r)) }
 {
-    let beside = beside_answer(zone, alloc, record_type)?;
+    let beside = beside_answer(zone, alloc, options, record_type)?;
     Ok(Response {
         metadata: reply_header(request, true, ResponseCode::NoError),
         is_referral: is_referral(record_type, &found),
@@ -177,11 +181,12 @@ fn denial_response<'z, K>(
     zone: &'z InMemoryZoneHandler<K>,
     alloc: Global,
     request: Metadata,
+    options: LookupOptions,
     response_code: ResponseCode,
 ) -> Result<Response<'z>, AllocError>
-    ensures { IfOk result (λ r. DeniedParts zone.now request response_code (parts_of r)) }
+    ensures { IfOk result (λ r. DeniedParts zone.now request options.dnssec_ok response_code (parts_of r)) }
 {
-    let beside = at_origin(zone, alloc, RecordType::SOA)?;
+    let beside = at_origin(zone, alloc, options, RecordType::SOA)?;
     Ok(Response {
         metadata: reply_header(request, true, response_code),
         found: AuthLookup::Empty,
@@ -195,15 +200,16 @@ fn denied_response<'z, K>(
     zone: &'z InMemoryZoneHandler<K>,
     alloc: Global,
     request: Metadata,
+    options: LookupOptions,
     why: &LookupError,
 ) -> Result<Response<'z>, AllocError>
-    ensures { (denied : Outcome) (record_type : RecordType) → Tells WITHOUT_DNSSEC denied (LookupControlFlow.Continue (Err why.now))
-        → IfOk result (λ r. OutcomeParts zone.now request record_type denied (parts_of r)) }
+    ensures { (denied : Outcome) (record_type : RecordType) → Tells options denied (LookupControlFlow.Continue (Err why.now))
+        → IfOk result (λ r. OutcomeParts zone.now request options.dnssec_ok record_type denied (parts_of r)) }
 {
     match why {
-        LookupError::NameExists => denial_response(zone, alloc, request, ResponseCode::NoError),
+        LookupError::NameExists => denial_response(zone, alloc, request, options, ResponseCode::NoError),
         LookupError::ResponseCode(ResponseCode::NXDomain) => {
-            denial_response(zone, alloc, request, ResponseCode::NXDomain)
+            denial_response(zone, alloc, request, options, ResponseCode::NXDomain)
         }
         _ => Ok(Response {
             metadata: reply_header(request, true, ResponseCode::Refused),
@@ -219,19 +225,20 @@ fn outcome_response<'z, K>(
     zone: &'z InMemoryZoneHandler<K>,
     alloc: Global,
     request: Metadata,
+    options: LookupOptions,
     key: &NameKey,
     question: &Query,
 ) -> Result<Response<'z>, AllocError>
     requires { key.now ≡ lowercase_name question.now.name }
     ensures { IfOk result (λ r. (outcome : Outcome) × IsLookup zone.now question.now.name question.now.query_type outcome
-        × OutcomeParts zone.now request question.now.query_type outcome (parts_of r)) }
+        × OutcomeParts zone.now request options.dnssec_ok question.now.query_type outcome (parts_of r)) }
 {
     let record_type = question.query_type;
-    match zone.lookup_at(alloc, &question.name, key, record_type, WITHOUT_DNSSEC)? {
+    match zone.lookup_at(alloc, &question.name, key, record_type, options)? {
         LookupControlFlow::Continue(Ok(found)) => {
-            answered_response(zone, alloc, request, record_type, found)
+            answered_response(zone, alloc, request, options, record_type, found)
         }
-        LookupControlFlow::Continue(Err(why)) => denied_response(zone, alloc, request, &why),
+        LookupControlFlow::Continue(Err(why)) => denied_response(zone, alloc, request, options, &why),
         _ => Ok(error_response(request, ResponseCode::ServFail)),
     }
 }
@@ -241,9 +248,10 @@ fn question_response<'z, K>(
     zone: &'z InMemoryZoneHandler<K>,
     alloc: Global,
     request: Metadata,
+    options: LookupOptions,
     question: &Query,
 ) -> Result<Response<'z>, AllocError>
-    ensures { IfOk result (λ r. QuestionParts zone.now request question.now (parts_of r)) }
+    ensures { IfOk result (λ r. QuestionParts zone.now request options.dnssec_ok question.now (parts_of r)) }
 {
     let key = NameKey::of(alloc, &question.name)?;
     if !zone.is_in_zone(&key) {
@@ -252,37 +260,86 @@ fn question_response<'z, K>(
     if question.query_type == RecordType::AXFR {
         return Ok(error_response(request, ResponseCode::ServFail));
     }
-    outcome_response(zone, alloc, request, &key, question)
+    outcome_response(zone, alloc, request, options, &key, question)
 }
 
 // A query asks one question.
 fn query_response<'z, K>(
     zone: &'z InMemoryZoneHandler<K>,
     alloc: Global,
-    request: &MessageRequest<'_>,
+    request: Metadata,
+    options: LookupOptions,
+    questions: &[Query],
 ) -> Result<Response<'z>, AllocError>
-    ensures { IfOk result (λ r. QueryParts zone.now request.now.metadata request.now.questions (parts_of r)) }
+    ensures { IfOk result (λ r. QueryParts zone.now request options.dnssec_ok questions.now (parts_of r)) }
 {
-    match request.questions() {
-        [question] => question_response(zone, alloc, request.metadata(), question),
-        _ => Ok(error_response(request.metadata(), ResponseCode::FormErr)),
+    match questions {
+        [question] => question_response(zone, alloc, request, options, question),
+        _ => Ok(error_response(request, ResponseCode::FormErr)),
     }
 }
 
-// What a full reply to a request holds.
+// What a full reply to a message holds beside its options, whose version is served: only queries are answered.
+fn kind_response<'z, K>(
+    zone: &'z InMemoryZoneHandler<K>,
+    alloc: Global,
+    request: Metadata,
+    options: LookupOptions,
+    questions: &[Query],
+) -> Result<Response<'z>, AllocError>
+    ensures { IfOk result (λ r. KindParts zone.now request options.dnssec_ok request.message_type questions.now (parts_of r)) }
+{
+    match (request.message_type, request.op_code) {
+        (MessageType::Response, _) => Ok(error_response(request, ResponseCode::FormErr)),
+        (MessageType::Query, OpCode::Query) => {
+            query_response(zone, alloc, request, options, questions)
+        }
+        (MessageType::Query, _) => Ok(error_response(request, ResponseCode::NotImp)),
+    }
+}
+
+// Whether a request has EDNS of another version than the one that is served.
+fn has_other_version(edns: Option<&Edns>) -> bool
+    ensures { result ≡ has_other_version (option_copied edns) }
+{
+    match edns {
+        Some(edns) => edns.version() > 0,
+        None => false,
+    }
+}
+
+// What a full reply to a request holds beside its options.
 fn response_to<'z, K>(
     zone: &'z InMemoryZoneHandler<K>,
     alloc: Global,
     request: &MessageRequest<'_>,
 ) -> Result<Response<'z>, AllocError>
-    ensures { IfOk result (λ r. PartsOf zone.now request.now (parts_of r)) }
+    ensures { IfOk result (λ r. PlainParts zone.now request.now (parts_of r)) }
 {
     let metadata = request.metadata();
-    match (metadata.message_type, metadata.op_code) {
-        (MessageType::Response, _) => Ok(error_response(metadata, ResponseCode::FormErr)),
-        (MessageType::Query, OpCode::Query) => query_response(zone, alloc, request),
-        (MessageType::Query, _) => Ok(error_response(metadata, ResponseCode::NotImp)),
+    if has_other_version(request.edns()) {
+        return Ok(error_response(metadata, ResponseCode::BADVERS));
     }
+    let options = LookupOptions::from_edns(request.edns());
+    kind_response(
+        zone,
+        alloc,
+        metadata,
+        options,
+        request.queries().queries(),
+    )
+}
+
+// The options of a reply: the upper bits of its code, DO and the payload as they were asked.
+fn reply_edns(alloc: Global, asked: Option<&Edns>, response_code: ResponseCode) -> Option<Edns>
+    ensures { AnswersEdns (option_copied asked) response_code result }
+{
+    let asked = asked?;
+    let mut edns = Edns::new(alloc);
+    edns.set_rcode_high(response_code.high());
+    edns.set_dnssec_ok(asked.flags().dnssec_ok);
+    edns.set_max_payload(asked.max_payload());
+    Some(edns)
 }
 
 // What is left to say where not even the questions fit.
@@ -326,22 +383,18 @@ pub fn reply_to<K>(
 ) -> Result<Vec<u8>, AllocError>
     requires back { ZoneReadsBack zone.now }
     requires stored { AreStored zone.now.sets }
-    requires message { IsRequest message.now request.now }
+    requires message { IsMessage message.now request.now }
     requires lower { 12 ≤ limit }
     ensures { IfOk result (λ reply. Answers zone.now message.now request.now reply.items limit) }
 {
-    let question_octets = request.question_octets();
+    let queries = request.queries();
     let room = usize::from(limit - 12);
-    if room < question_octets.len() {
+    if room < queries.as_bytes().len() {
         return encode_header(alloc, bare_header(request.metadata().id));
     }
     let response = response_to(zone, alloc, request)?;
-    let encoded = response.encode(
-        alloc,
-        request.questions().len() as u16,
-        question_octets,
-        limit,
-    );
+    let edns = reply_edns(alloc, request.edns(), response.metadata.response_code);
+    let encoded = response.encode(alloc, edns, queries, limit);
     mem::drop(response);
     or_memory(encoded)
 }
