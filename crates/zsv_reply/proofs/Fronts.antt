@@ -11,8 +11,9 @@ use Rattle.zst_record.specs.dnw_encoder.Effects.{StaysTrue, Writes, Emitted, Wro
 use Rattle.zst_record.proofs.dnw_encoder_lemmas.Laws.{holds_now, holds_more, holds_written, writes_same, writes_then}
 use Rattle.zst_record.specs.dnw_encoder.State.{State, is_lower}
 use Rattle.zst_record.specs.drd_rdata.Writing.{WritesInFull}
+use Rattle.zsv_reply.specs.declared.encode.Kept.{Kept}
 use Rattle.zsv_reply.specs.Replies.{Front, is_cut}
-use Rattle.zsv_reply.specs.Writing.{written_count, EmitsFront}
+use Rattle.zsv_reply.specs.Writing.{written_count, EmitsFront, IsNotKept}
 
 -- An encoder goes on writing names in full.
 pub in_full_then : (old new : State) → WritesInFull old → Writes old new → WritesInFull new
@@ -196,6 +197,10 @@ module _ {X : Type 0} (At : List ℕ → ℕ → X → ℕ → Type 0) (plain : 
             | inr (refused, other) ↦ inl (memory_left mid (plain (lent y)) e (laws.refused (lent y) mid e (refuses_lent y mid e new refused) alone (omega (arith, same, small))) other)
           ]
 
+      not_kept : (xs : List X) (old new : State) (written : Result (ℕ × Bool) ProtoError) (e : ProtoError) → IfOk written (Told xs old new) → IfErr written IsMemory → IsNotKept written e → IsMemory e
+      not_kept xs old new (Ok count) e told memory many = absurd (omega (arith, told.few, many))
+      not_kept xs old new (Err refused) e told memory is = subst IsMemory (sym is) memory
+
       front_told : (xs : List X) (from : I) (old new : State) (r : Result ℕ ProtoError) → AlwaysYields gives lent from xs → AllByRecursion Good xs → WritesInFull old → old.maximum < 2 ^ 16 →
           IfOk r (λ count. (left : I) × WroteAll gives emits from left count old new) → IfErr r (λ e. (left : I) × WroteFront gives emits refuses from left old e new) →
           IfOk (written_count r) (Told xs old new) × IfErr (written_count r) IsMemory
@@ -211,8 +216,16 @@ module _ {X : Type 0} (At : List ℕ → ℕ → X → ℕ → Type 0) (plain : 
             | inr f ↦ absurd (cc f.1)
           ]
 
-      pub told_of_call : (xs : List X) (from : I) (old new : State) (r : Result ℕ ProtoError) (written : Result (ℕ × Bool) ProtoError) → written ≡ written_count r → AlwaysYields gives lent from xs → AllByRecursion Good xs → WritesInFull old → old.maximum < 2 ^ 16 →
-          IfOk r (λ count. (left : I) × WroteAll gives emits from left count old new) → IfErr r (λ e. (left : I) × WroteFront gives emits refuses from left old e new) →
-          IfOk written (Told xs old new) × IfErr written IsMemory
-      told_of_call xs from old new r written is yields all full small ok err =
-          subst (λ (w : Result (ℕ × Bool) ProtoError). IfOk w (Told xs old new) × IfErr w IsMemory) (sym is) (front_told xs from old new r yields all full small ok err)
+      -- What a call that writes the items, and tells what was kept of them, answers.
+      module _ (from : I) (old new : State) (r : Result ℕ ProtoError) (full : WritesInFull old) (small : old.maximum < 2 ^ 16) (ok : IfOk r (λ count. (left : I) × WroteAll gives emits from left count old new)) (err : IfErr r (λ e. (left : I) × WroteFront gives emits refuses from left old e new)) where
+        pub front_kept : (answer : Result Kept ProtoError) → IfOk answer (λ kept. written_count r ≡ Ok (kept.count, kept.is_cut)) → IfOk answer (λ kept. (xs : List X) → AlwaysYields gives lent from xs → AllByRecursion Good xs → EmitsFront At plain xs kept old new)
+        front_kept (Ok kept) is = λ xs yields all.
+            let told = front_told xs from old new r yields all full small ok err in
+            (subst (λ (w : Result (ℕ × Bool) ProtoError). IfOk w (Told xs old new)) is told.0).front
+        front_kept (Err e) is = tt
+
+        pub front_refused : (answer : Result Kept ProtoError) → IfErr answer (IsNotKept (written_count r)) → IfErr answer (λ e. (xs : List X) → AlwaysYields gives lent from xs → AllByRecursion Good xs → IsMemory e)
+        front_refused (Ok kept) is = tt
+        front_refused (Err e) is = λ xs yields all.
+            let told = front_told xs from old new r yields all full small ok err in
+            not_kept xs old new (written_count r) e told.0 told.1 is

@@ -1,6 +1,6 @@
 -- The sections of a reply, written one behind the other, and the header that is filled in last.
 use Rattle.std.proofs.Common.{◌≡◌, ℕ, ◌+◌, ◌≤◌, ◌||◌, Bool, true, false, List, [], ◌∷◌, ◌++◌, length, drop, refl, sym, ap, subst, ◌∙◌, arith}
-use Rattle.std.specs.Prelude.{IfOk, MatchResult, Some, None, Result, Ok, Err, option_to_list}
+use Rattle.std.specs.Prelude.{IfOk, IfErr, MatchResult, Some, None, Result, Ok, Err, option_to_list}
 use Rattle.zst_record.specs.declared.records.Record.{Record}
 use Rattle.zst_record.specs.dnw_decoder.Octets.{Stands}
 use Rattle.zst_record.specs.dnw_encoder.Effects.{StaysTrue, Writes, WritesOctets, Fills, Sound, place_of}
@@ -69,7 +69,15 @@ options_behind records edns one two both old mid new f w g v counts cuts = recor
   fits = λ within. omega (arith, w.modes.maximum, g.fits (omega (arith, w.modes.maximum, f.fits within)));
 }
 
--- What holds of a value is so where there is one.
+-- What holds of a value, or of an error, is so where there is one.
+pub if_ok : {T E : Type 0} {P Q : T → Type 0} (r : Result T E) → ((x : T) → P x → Q x) → IfOk r P → IfOk r Q
+if_ok (Ok x) f p = f x p
+if_ok (Err e) f p = tt
+
+pub if_err : {T E : Type 0} {P Q : E → Type 0} (r : Result T E) → ((e : E) → P e → Q e) → IfErr r P → IfErr r Q
+if_err (Ok x) f p = tt
+if_err (Err e) f p = f e p
+
 pub if_matched : {T E : Type 0} {P Q : T → Type 0} (R : E → Type 0) (r : Result T E) → ((x : T) → P x → Q x) → MatchResult r P R → IfOk r Q
 if_matched R (Ok x) f p = f x p
 if_matched R (Err e) f p = tt

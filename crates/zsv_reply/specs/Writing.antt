@@ -1,6 +1,6 @@
 -- A reply as an encoder writes it: as many records of each list as fit, then options of EDNS, then
 -- the header over them.
-use Rattle.std.specs.Prelude.{◌≡◌, ℕ, ◌+◌, ◌*◌, ◌<◌, ◌≤◌, Bool, true, false, ◌||◌, List, length, Option, option_to_list, Result, Ok, Err}
+use Rattle.std.specs.Prelude.{◌≡◌, ℕ, ◌+◌, ◌*◌, ◌^◌, ◌<◌, ◌≤◌, Bool, true, false, ◌||◌, List, length, Option, option_to_list, Result, Ok, Err}
 use Rattle.std.specs.List.{AllByRecursion}
 use Rattle.zst_record.specs.dnw_codes.declared.error.ProtoError.{ProtoError}
 use Rattle.zst_record.specs.dnw_codes.declared.error.ProtoError.TheVariants.{NotAllRecordsWritten}
@@ -35,6 +35,11 @@ abbrev pub written_count : Result ℕ ProtoError → Result (ℕ × Bool) ProtoE
 written_count (Ok count) = Ok (count, false)
 written_count (Err (NotAllRecordsWritten count)) = Ok (count, true)
 written_count (Err other) = Err other
+
+-- Nothing is kept: the writing was refused otherwise, or 16 bits don't count the items.
+abbrev pub IsNotKept : Result (ℕ × Bool) ProtoError → ProtoError → Type 0
+IsNotKept (Ok written) e = 2 ^ 16 ≤ written.0
+IsNotKept (Err refused) e = e ≡ refused
 
 -- The front of a list was written, so many items, of which each takes eleven octets at least: it
 -- stands there in the finished message too.

@@ -18,7 +18,7 @@ ghost use Rattle.zsv_message.specs.zst_edns.Writing.{EdnsReadsBack};
 ghost use Rattle.zsv_message.specs.zsv_parts.Headers.{header_of, header_octets, reserved_bit, FitsHeader};
 ghost use Rattle.zsv_reply.specs.Lending.{Holds};
 ghost use Rattle.zsv_reply.specs.Replies.{ReplyParts, header_of_reply, opt_plain};
-ghost use Rattle.zsv_reply.specs.Writing.{written_count, AllReadBack, EmitsAdditionals, EmitsFront, FitsOpCode, IsWritten};
+ghost use Rattle.zsv_reply.specs.Writing.{written_count, AllReadBack, EmitsAdditionals, EmitsFront, FitsOpCode, IsNotKept, IsWritten};
 
 use std::alloc::{AllocError, Global};
 use std::iter;
@@ -102,6 +102,18 @@ fn count_written(written: Result<usize, ProtoError>) -> Result<(usize, bool), Pr
     }
 }
 
+// What is kept of a list of which so many items were written, if 16 bits count them.
+fn kept_of(written: Result<usize, ProtoError>) -> Result<Kept, ProtoError>
+    ensures ok { IfOk result (λ kept. written_count written ≡ Ok (kept.count, kept.is_cut)) }
+    ensures cause { IfErr result (IsNotKept (written_count written)) }
+{
+    let (written, is_cut) = count_written(written)?;
+    match u16::try_from(written) {
+        Ok(count) => Ok(Kept { count, is_cut }),
+        Err(_) => Err(ProtoError::Message("more records than 16 bits count")),
+    }
+}
+
 // Writes as many records of a list as fit.
 fn emit_front<I: Iterator>(encoder: &mut BinEncoder<'_>, records: I) -> Result<Kept, ProtoError>
 where
@@ -118,11 +130,7 @@ where
         (λ e. (lent : List Record) → AlwaysYields I.next_gives I.Item.lent records lent → AllByRecursion ReadsBackAlone lent
         → IsMemory e) }
 {
-    let (written, is_cut) = count_written(encoder.emit_all(records))?;
-    match u16::try_from(written) {
-        Ok(count) => Ok(Kept { count, is_cut }),
-        Err(_) => Err(ProtoError::Message("more records than 16 bits count")),
-    }
+    kept_of(encoder.emit_all(records))
 }
 
 // Writes options of EDNS if they fit.
@@ -135,11 +143,7 @@ fn emit_edns(encoder: &mut BinEncoder<'_>, edns: &Edns) -> Result<Kept, ProtoErr
         → EmitsFront OptAt opt_plain (edns.now ∷ []) kept (state encoder.old) (state encoder.new)) }
     ensures cause { IfErr result (λ e. EdnsReadsBack edns.now → IsMemory e) }
 {
-    let (written, is_cut) = count_written(encoder.emit_all(iter::once(edns)))?;
-    match u16::try_from(written) {
-        Ok(count) => Ok(Kept { count, is_cut }),
-        Err(_) => Err(ProtoError::Message("more records than 16 bits count")),
-    }
+    kept_of(encoder.emit_all(iter::once(edns)))
 }
 
 // Two fronts as one, if 16 bits count both.
