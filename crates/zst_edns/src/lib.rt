@@ -6,6 +6,7 @@
 
 mod edns;
 mod edns_flags;
+mod emit;
 
 pub use edns::Edns;
 pub use edns_flags::EdnsFlags;

@@ -1,2 +1,3 @@
 pub use Rattle.zst_edns.specs.Edns
+pub use Rattle.zst_edns.specs.Writing
 pub use Rattle.zst_edns.specs.declared

@@ -1,40 +1,47 @@
 -- A reply that was written is a reply to its request.
-use Rattle.std.proofs.Common.{◌≡◌, ℕ, ◌+◌, ◌≤◌, List, length, refl, subst, arith}
+use Rattle.std.proofs.Common.{ℕ, ◌+◌, ◌≤◌, List, length, refl, subst, arith}
+use Rattle.std.specs.Prelude.{option_to_list}
 use Rattle.zst_record.specs.dnw_decoder.Octets.{Stands}
-use Rattle.zsv_parts.specs.Requests.{Request, IsRequest}
-use Rattle.zsv_parts.proofs.Pieces.{SameThere}
-use Rattle.zsv_parts.proofs.QuestionsOver.{questions_over}
-use Rattle.zsv_reply.specs.Replies.{ReplyParts, IsReply}
+use Rattle.zst_record.specs.Records.{RecordAt, ReadsBackAlone, plain}
+use Rattle.zst_record.specs.Writing.{EmitsRecord, RefusesRecord}
+use Rattle.zsv_message.specs.Messages.{OptAt}
+use Rattle.zsv_message.specs.zst_edns.Writing.{EdnsReadsBack, EmitsEdns, RefusesEdns}
+use Rattle.zsv_message.specs.zsv_parts.Questions.{Asked, AskedAt}
+use Rattle.zsv_message.proofs.zsv_parts_lemmas.Pieces.{SameThere}
+use Rattle.zsv_message.proofs.zsv_parts_lemmas.QuestionsOver.{questions_over}
+use Rattle.zsv_reply.specs.Replies.{Fronts, FrontsAt, ReplyParts, IsReply, opt_plain}
 use Rattle.zsv_reply.specs.Writing.{IsWritten}
 use Rattle.zsv_reply.proofs.Fronts.{front_forward}
+use Rattle.zsv_reply.proofs.OptRecords.{options_stand, records_stand}
 
--- Where the questions fit.
-pub reply_of_written : (message reply : List ℕ) (request : Request) (parts : ReplyParts) (limit : ℕ) → IsRequest message request →
-    12 + length request.question_octets ≤ limit →
-    IsWritten reply parts (length request.questions) request.question_octets limit →
-    IsReply message reply parts request limit
-reply_of_written message reply request parts limit is room w =
-    let first = 12 + length request.question_octets in
-    let asked_end : is.end ≡ first = omega (arith, is.octets.behind) in
-    let same : SameThere message reply 12 first = record { octets = request.question_octets; in_m = subst (λ (k : ℕ). Stands message 12 request.question_octets k) asked_end is.octets; in_n = w.asked } in
-    let answers_long = front_forward reply limit first parts.answers w.kept w.answers_end w.answers_front in
-    let authorities_long = front_forward reply limit w.answers_end parts.authorities w.kept_authorities w.authorities_end w.authorities_front in
-    let long : first ≤ length reply = omega (arith, answers_long, authorities_long, front_forward reply limit w.authorities_end parts.additionals w.kept_additionals (length reply) w.additionals_front) in
+-- A reply ends at the place of its fronts or behind it.
+fronts_forward : (reply : List ℕ) (limit place : ℕ) (parts : ReplyParts) (kept : Fronts) → FrontsAt reply limit place parts kept → place ≤ length reply
+fronts_forward reply limit place parts kept f =
+    omega (
+      arith,
+      front_forward RecordAt plain ReadsBackAlone EmitsRecord RefusesRecord records_stand reply limit place parts.answers kept.answers f.answers_end f.answers,
+      front_forward RecordAt plain ReadsBackAlone EmitsRecord RefusesRecord records_stand reply limit f.answers_end parts.authorities kept.authorities f.authorities_end f.authorities,
+      front_forward RecordAt plain ReadsBackAlone EmitsRecord RefusesRecord records_stand reply limit f.authorities_end parts.additionals kept.additionals f.additionals_end f.additionals,
+      front_forward OptAt opt_plain EdnsReadsBack EmitsEdns RefusesEdns options_stand reply limit f.additionals_end (option_to_list parts.edns) kept.edns (length reply) f.edns,
+    )
+
+-- Where the questions of a message fit.
+pub reply_of_written : (message reply : List ℕ) (id count : ℕ) (asked : Asked) (end : ℕ) (parts : ReplyParts) (limit : ℕ) → AskedAt message 12 count asked end →
+    12 + length asked.octets ≤ limit → IsWritten reply parts (length asked.questions) asked.octets limit →
+    IsReply message reply parts id asked limit
+reply_of_written message reply id count asked end parts limit is room w =
+    let first = 12 + length asked.octets in
+    let same : SameThere message reply 12 first = record { octets = asked.octets; in_m = subst (λ (k : ℕ). Stands message 12 asked.octets k) is.octets.behind is.octets; in_n = w.asked } in
+    let long = fronts_forward reply limit first parts w.kept w.fronts in
     record {
       within = w.within;
       reserved = w.reserved;
       whole = λ _. record {
         questions_end = first;
-        answers = w.kept;
-        answers_end = w.answers_end;
-        authorities = w.kept_authorities;
-        authorities_end = w.authorities_end;
-        additionals = w.kept_additionals;
+        kept = w.kept;
         question_octets = w.asked;
-        questions = λ there far. (questions_over message reply first same long 12 request.questions first (omega arith) (omega arith) there far, refl);
-        answers_front = w.answers_front;
-        authorities_front = w.authorities_front;
-        additionals_front = w.additionals_front;
+        questions = λ there far. (questions_over message reply first same long 12 asked.questions first (omega arith) (omega arith) there far, refl);
+        fronts = w.fronts;
         header = w.header;
       };
       bare = λ less. absurd (omega (arith, less, room));

@@ -16,3 +16,4 @@ pub record Holds {A X N Y S Z : Type 0} (answers_give : A → Option X → A →
   pub answers : AlwaysYields answers_give answer response.answers parts.answers
   pub authorities : AlwaysYields authorities_give authority response.authorities parts.authorities
   pub additionals : AlwaysYields additionals_give additional response.additionals parts.additionals
+  pub edns : parts.edns ≡ response.edns

@@ -1,39 +1,54 @@
 -- A reply: what it holds in full, and how that stands in octets, cut at a limit (RFC 1035, section
--- 4.1; RFC 2181, section 9; RFC 9471, section 3.1).
-use Rattle.std.specs.Prelude.{◌≡◌, ℕ, ◌+◌, ◌<◌, ◌≤◌, Bool, false, ◌||◌, List, [], ◌∷◌, length, nat_lt}
+-- 4.1; RFC 2181, section 9; RFC 6891, section 6.1; RFC 9471, section 3.1).
+use Rattle.std.specs.Prelude.{◌≡◌, ℕ, ◌+◌, ◌<◌, ◌≤◌, Bool, false, ◌||◌, List, [], ◌∷◌, length, nat_lt, Option, option_to_list}
 use Rattle.zst_record.specs.declared.records.Record.{Record}
-use Rattle.zsv_parts.specs.declared.header.Metadata.{Metadata}
-use Rattle.zsv_parts.specs.declared.header.Header.{Header}
-use Rattle.zsv_parts.specs.declared.header.MessageType.TheVariants as messages
-use Rattle.zsv_parts.specs.declared.header.OpCode.TheVariants as operations
-use Rattle.zsv_parts.specs.zst_codes.declared.response_code.ResponseCode.TheVariants as responses
-use Rattle.zsv_parts.specs.Headers.{header_of, reserved_bit}
 use Rattle.zst_record.specs.dnw_decoder.Octets.{Stands}
 use Rattle.zst_record.specs.Records.{RecordAt, plain}
-use Rattle.zsv_parts.specs.Requests.{Request, QuestionAt, QuestionsAt, AvoidsHeader}
-use Rattle.zsv_parts.specs.Wire.{Entries}
+use Rattle.zsv_message.specs.Messages.{OptAt}
+use Rattle.zsv_message.specs.zst_edns.Writing.{opt_octets}
+use Rattle.zsv_message.specs.zst_edns.declared.edns.Edns.{Edns}
+use Rattle.zsv_message.specs.zsv_parts.declared.header.Metadata.{Metadata}
+use Rattle.zsv_message.specs.zsv_parts.declared.header.Header.{Header}
+use Rattle.zsv_message.specs.zsv_parts.declared.header.MessageType.TheVariants as messages
+use Rattle.zsv_message.specs.zsv_parts.declared.header.OpCode.TheVariants as operations
+use Rattle.zsv_message.specs.zsv_parts.zst_codes.ResponseCode.{joined_code, low_bits}
+use Rattle.zsv_message.specs.zsv_parts.zst_codes.declared.response_code.ResponseCode.TheVariants as responses
+use Rattle.zsv_message.specs.zsv_parts.Headers.{header_of, reserved_bit}
+use Rattle.zsv_message.specs.zsv_parts.Questions.{Asked, QuestionAt, QuestionsAt, AvoidsHeader}
+use Rattle.zsv_message.specs.zsv_parts.Wire.{Entries}
 
--- What a reply holds in full: the records of its three sections behind the questions.
+-- What a reply holds in full: the records of its three sections behind the questions, and options
+-- of EDNS behind the additional records.
 pub record ReplyParts : Type 0 where
   pub metadata : Metadata
   pub answers : List Record
   pub authorities : List Record
   pub additionals : List Record
+  pub edns : Option Edns
 
--- The front of a list that stands in a reply from a place on: it ends early only at a record that
--- would pass the limit, even written plainly, and no record takes more than that.
-abbrev pub Front : List ℕ → ℕ → ℕ → List Record → List Record → ℕ → Type 0
-Front reply limit place [] [] end = end ≡ place
-Front reply limit place (r ∷ rs) [] end = (end ≡ place) × (limit < place + plain r)
-Front reply limit place (r ∷ rs) (k ∷ ks) end =
-    (behind : ℕ) × (k ≡ r) × RecordAt reply place k behind × (behind ≤ place + plain k)
-    × Front reply limit behind rs ks end
-Front reply limit place [] (k ∷ ks) end = ⊥
+-- How many octets an OPT record takes.
+abbrev pub opt_plain : Edns → ℕ
+opt_plain edns = length (opt_octets edns)
 
--- A header with these counts, that says whether something was left out.
+-- The front of a list that stands in a reply from a place on: it ends early only at an item that
+-- would pass the limit, even written plainly, and no item takes more than that.
+abbrev pub Front : {X : Type 0} → (List ℕ → ℕ → X → ℕ → Type 0) → (X → ℕ) → List ℕ → ℕ → ℕ
+    → List X → List X → ℕ → Type 0
+Front At plain reply limit place [] [] end = end ≡ place
+Front At plain reply limit place (x ∷ xs) [] end = (end ≡ place) × (limit < place + plain x)
+Front At plain reply limit place (x ∷ xs) (k ∷ ks) end =
+    (behind : ℕ) × (k ≡ x) × At reply place k behind × (behind ≤ place + plain k)
+    × Front At plain reply limit behind xs ks end
+Front At plain reply limit place [] (k ∷ ks) end = ⊥
+
+-- A header with these counts, that says whether something was left out. Of the response code it has
+-- the last four bits: an OPT record holds those above (RFC 6891, section 6.1.3).
 abbrev pub header_of_reply : Metadata → Bool → ℕ → ℕ → ℕ → ℕ → Header
 header_of_reply m truncated questions answers authorities additionals = record {
-  metadata = record m { truncation = truncated };
+  metadata = record m {
+    truncation = truncated;
+    response_code = joined_code 0 (low_bits m.response_code);
+  };
   counts = record {
     queries = questions;
     answers = answers;
@@ -43,41 +58,57 @@ header_of_reply m truncated questions answers authorities additionals = record {
 }
 
 -- Whether a list is longer than the front that is kept of it.
-abbrev pub is_cut : List Record → List Record → Bool
-is_cut records kept = nat_lt (length kept) (length records)
+abbrev pub is_cut : {X : Type 0} → List X → List X → Bool
+is_cut items kept = nat_lt (length kept) (length items)
+
+-- The fronts that are kept of a reply's lists, its options as a list of none or one.
+pub record Fronts : Type 0 where
+  pub answers : List Record
+  pub authorities : List Record
+  pub additionals : List Record
+  pub edns : List Edns
+
+-- Something was left out.
+abbrev pub is_truncated : ReplyParts → Fronts → Bool
+is_truncated parts kept =
+    is_cut parts.answers kept.answers || is_cut parts.authorities kept.authorities
+    || (is_cut parts.additionals kept.additionals || is_cut (option_to_list parts.edns) kept.edns)
 
 -- The header over so many questions and the fronts that are kept of a reply's lists: it counts
--- them, and says that the reply is truncated exactly where one of them is cut (RFC 2181, section 9;
--- RFC 9471, section 3.1).
-abbrev pub header_of_fronts : ReplyParts → ℕ → List Record → List Record → List Record → Header
-header_of_fronts parts questions answers authorities additionals =
-    header_of_reply parts.metadata
-    (is_cut parts.answers answers || is_cut parts.authorities authorities
-    || is_cut parts.additionals additionals) questions (length answers) (length authorities)
-    (length additionals)
+-- them, the OPT record among the additional records (RFC 6891, section 6.1.1), and says that the
+-- reply is truncated exactly where one of them is cut (RFC 2181, section 9; RFC 9471, section 3.1).
+abbrev pub header_of_fronts : ReplyParts → ℕ → Fronts → Header
+header_of_fronts parts questions kept =
+    header_of_reply parts.metadata (is_truncated parts kept) questions (length kept.answers)
+    (length kept.authorities) (length kept.additionals + length kept.edns)
+
+-- The fronts stand one behind the other, from a place on up to the end of the reply.
+pub record FrontsAt (reply : List ℕ) (limit place : ℕ) (parts : ReplyParts) (kept : Fronts) :
+    Type 0 where
+  pub answers_end : ℕ
+  pub authorities_end : ℕ
+  pub additionals_end : ℕ
+  pub answers : Front RecordAt plain reply limit place parts.answers kept.answers answers_end
+  pub authorities : Front RecordAt plain reply limit answers_end parts.authorities kept.authorities
+      authorities_end
+  pub additionals : Front RecordAt plain reply limit authorities_end parts.additionals
+      kept.additionals additionals_end
+  pub edns : Front OptAt opt_plain reply limit additionals_end (option_to_list parts.edns) kept.edns
+      (length reply)
 
 -- The reply in which the question section fits: its octets as sent, which are the same questions
 -- unless a pointer of theirs goes into the message's header; a front of each list; and nothing
 -- behind.
-pub record IsWholeReply (message reply : List ℕ) (parts : ReplyParts) (request : Request)
-    (limit : ℕ) : Type 0 where
+pub record IsWholeReply (message reply : List ℕ) (parts : ReplyParts) (asked : Asked) (limit : ℕ) :
+    Type 0 where
   pub questions_end : ℕ
-  pub answers : List Record
-  pub answers_end : ℕ
-  pub authorities : List Record
-  pub authorities_end : ℕ
-  pub additionals : List Record
-  pub question_octets : Stands reply 12 request.question_octets questions_end
-  pub questions : (there : Entries (QuestionAt message) 12 request.questions questions_end)
-      → AvoidsHeader message 12 request.questions questions_end there
-      → QuestionsAt reply 12 (length request.questions) request.questions questions_end
-  pub answers_front : Front reply limit questions_end parts.answers answers answers_end
-  pub authorities_front : Front reply limit answers_end parts.authorities authorities
-      authorities_end
-  pub additionals_front : Front reply limit authorities_end parts.additionals additionals
-      (length reply)
-  pub header : header_of reply
-      ≡ header_of_fronts parts (length request.questions) answers authorities additionals
+  pub kept : Fronts
+  pub question_octets : Stands reply 12 asked.octets questions_end
+  pub questions : (there : Entries (QuestionAt message) 12 asked.questions questions_end)
+      → AvoidsHeader message 12 asked.questions questions_end there
+      → QuestionsAt reply 12 (length asked.questions) asked.questions questions_end
+  pub fronts : FrontsAt reply limit questions_end parts kept
+  pub header : header_of reply ≡ header_of_fronts parts (length asked.questions) kept
 
 -- What is left to say where not even the questions fit.
 abbrev pub bare_failure : ℕ → Metadata
@@ -94,13 +125,11 @@ bare_failure id = record {
   response_code = responses.ServFail;
 }
 
--- A reply of these parts to the request that a message is, within the limit.
-pub record IsReply (message reply : List ℕ) (parts : ReplyParts) (request : Request) (limit : ℕ) :
-    Type 0 where
+-- A reply of these parts, within the limit, to a message of this identifier and these questions.
+pub record IsReply (message reply : List ℕ) (parts : ReplyParts) (id : ℕ) (asked : Asked)
+    (limit : ℕ) : Type 0 where
   pub within : length reply ≤ limit
   pub reserved : reserved_bit reply ≡ false
-  pub whole : 12 + length request.question_octets ≤ limit
-      → IsWholeReply message reply parts request limit
-  pub bare : limit < 12 + length request.question_octets
-      → (length reply ≡ 12)
-      × (header_of reply ≡ header_of_reply (bare_failure request.metadata.id) false 0 0 0 0)
+  pub whole : 12 + length asked.octets ≤ limit → IsWholeReply message reply parts asked limit
+  pub bare : limit < 12 + length asked.octets
+      → (length reply ≡ 12) × (header_of reply ≡ header_of_reply (bare_failure id) false 0 0 0 0)

@@ -1,6 +1,6 @@
-//! A reply in octets, cut at its limit (RFC 1035 section 4.1, RFC 2181 section 9).
+//! A reply in octets, cut at its limit (RFC 1035 section 4.1, RFC 2181 section 9, RFC 6891 section 6.1).
 
-ghost use Rattle.std.specs.Prelude.{◌≡◌, ◌+◌, ◌^◌, ◌<◌, ◌≤◌, ◌||◌, ◌++◌, ℕ, List, false, length, IfOk, IfErr, OnOk};
+ghost use Rattle.std.specs.Prelude.{◌≡◌, ◌+◌, ◌*◌, ◌^◌, ◌<◌, ◌≤◌, ◌||◌, ◌∷◌, ◌++◌, [], ℕ, List, Some, false, length, option_to_list, IfOk, IfErr, OnOk, MatchResult};
 ghost use Rattle.std.specs.Iterator.{AlwaysYields};
 ghost use Rattle.std.specs.List.{AllByRecursion};
 ghost use Rattle.zst_record.specs.declared.records.Record.{Record};
@@ -11,16 +11,19 @@ ghost use Rattle.zst_record.specs.dnw_encoder.Encoders.{state};
 ghost use Rattle.zst_record.specs.dnw_encoder.State.{State};
 ghost use Rattle.zst_record.specs.drd_rdata.Writing.{WritesInFull};
 ghost use Rattle.zst_record.specs.Lending.{seen};
-ghost use Rattle.zst_record.specs.Records.{ReadsBackAlone};
+ghost use Rattle.zst_record.specs.Records.{RecordAt, ReadsBackAlone, plain};
 ghost use Rattle.zst_record.specs.Writing.{EmitsRecord, RefusesRecord};
-ghost use Rattle.zsv_parts.specs.Headers.{header_of, header_octets, reserved_bit, FitsHeader};
+ghost use Rattle.zsv_message.specs.Messages.{OptAt};
+ghost use Rattle.zsv_message.specs.zst_edns.Writing.{EdnsReadsBack};
+ghost use Rattle.zsv_message.specs.zsv_parts.Headers.{header_of, header_octets, reserved_bit, FitsHeader};
 ghost use Rattle.zsv_reply.specs.Lending.{Holds};
-ghost use Rattle.zsv_reply.specs.Replies.{ReplyParts, header_of_reply};
-ghost use Rattle.zsv_reply.specs.Writing.{written_count, AllReadBack, EmitsFront, IsWritten};
+ghost use Rattle.zsv_reply.specs.Replies.{ReplyParts, header_of_reply, opt_plain};
+ghost use Rattle.zsv_reply.specs.Writing.{written_count, AllReadBack, EmitsAdditionals, EmitsFront, FitsOpCode, IsNotKept, IsWritten};
 
 use std::alloc::{AllocError, Global};
+use std::iter;
 use zst_record::{BinEncodable, BinEncoder, NameEncoding, ProtoError, Record, RecordRef};
-use zsv_parts::{Header, HeaderCounts, Metadata};
+use zsv_message::{Edns, Header, HeaderCounts, Metadata};
 
 /// What lends a record, as `&Record` does: it is written as the record is. An iterator of `&Record` is bounded by this, as
 /// `I::Item: LendsRecord`.
@@ -65,9 +68,23 @@ pub struct MessageResponse<A, N, S> {
     pub authorities: N,
     /// The additional records, as the addresses of name servers.
     pub additionals: S,
+    /// The options of EDNS, which stand behind the additional records (RFC 6891 section 6.1.1). Of the response code they
+    /// hold the bits above the header's four.
+    pub edns: Option<Edns>,
 }
 
-// How many records of a list were written, and whether one was left out.
+impl<A, N, S> MessageResponse<A, N, S> {
+    /// Sets the options of EDNS.
+    pub fn set_edns(&mut self, edns: Edns) -> &mut MessageResponse<A, N, S>
+        ensures same_reference { result.ghost_name ≡ self.entry.ghost_name }
+        ensures value { result.now ≡ record self.old { edns = Some edns } }
+    {
+        self.edns = Some(edns);
+        self
+    }
+}
+
+// How many items of a list were written, and whether one was left out.
 #[derive(Clone, Copy)]
 struct Kept {
     count: u16,
@@ -85,6 +102,18 @@ fn count_written(written: Result<usize, ProtoError>) -> Result<(usize, bool), Pr
     }
 }
 
+// What is kept of a list of which so many items were written, if 16 bits count them.
+fn kept_of(written: Result<usize, ProtoError>) -> Result<Kept, ProtoError>
+    ensures ok { IfOk result (λ kept. written_count written ≡ Ok (kept.count, kept.is_cut)) }
+    ensures cause { IfErr result (IsNotKept (written_count written)) }
+{
+    let (written, is_cut) = count_written(written)?;
+    match u16::try_from(written) {
+        Ok(count) => Ok(Kept { count, is_cut }),
+        Err(_) => Err(ProtoError::Message("more records than 16 bits count")),
+    }
+}
+
 // Writes as many records of a list as fit.
 fn emit_front<I: Iterator>(encoder: &mut BinEncoder<'_>, records: I) -> Result<Kept, ProtoError>
 where
@@ -96,15 +125,71 @@ where
     ensures writes { Writes (state encoder.old) (state encoder.new) }
     ensures ok { IfOk result
         (λ kept. (lent : List Record) → AlwaysYields I.next_gives I.Item.lent records lent → AllByRecursion ReadsBackAlone lent
-        → EmitsFront lent kept (state encoder.old) (state encoder.new)) }
+        → EmitsFront RecordAt plain lent kept (state encoder.old) (state encoder.new)) }
     ensures cause { IfErr result
         (λ e. (lent : List Record) → AlwaysYields I.next_gives I.Item.lent records lent → AllByRecursion ReadsBackAlone lent
         → IsMemory e) }
 {
-    let (written, is_cut) = count_written(encoder.emit_all(records))?;
-    match u16::try_from(written) {
-        Ok(count) => Ok(Kept { count, is_cut }),
-        Err(_) => Err(ProtoError::Message("more records than 16 bits count")),
+    kept_of(encoder.emit_all(records))
+}
+
+// Writes options of EDNS if they fit.
+fn emit_edns(encoder: &mut BinEncoder<'_>, edns: &Edns) -> Result<Kept, ProtoError>
+    requires in_full { WritesInFull (state encoder.old) }
+    requires small { (state encoder.old).maximum < 2 ^ 16 }
+    ensures same_reference { encoder.new.buffer.ghost_name ≡ encoder.old.buffer.ghost_name }
+    ensures writes { Writes (state encoder.old) (state encoder.new) }
+    ensures ok { IfOk result (λ kept. EdnsReadsBack edns.now
+        → EmitsFront OptAt opt_plain (edns.now ∷ []) kept (state encoder.old) (state encoder.new)) }
+    ensures cause { IfErr result (λ e. EdnsReadsBack edns.now → IsMemory e) }
+{
+    kept_of(encoder.emit_all(iter::once(edns)))
+}
+
+// Two fronts as one, if 16 bits count both.
+fn kept_together(first: Kept, second: Kept) -> Result<Kept, ProtoError>
+    ensures { MatchResult result
+        (λ kept. (kept.count ≡ first.count + second.count) × (kept.is_cut ≡ (first.is_cut || second.is_cut)))
+        (λ e. 2 ^ 16 ≤ first.count + second.count) }
+{
+    match first.count.checked_add(second.count) {
+        Some(count) => Ok(Kept {
+            count,
+            is_cut: first.is_cut || second.is_cut,
+        }),
+        None => Err(ProtoError::Message("more records than 16 bits count")),
+    }
+}
+
+// Writes as many additional records as fit, and the options of EDNS behind them. These are counted among the records
+// (RFC 6891 section 6.1.1).
+fn emit_additionals<I: Iterator>(
+    encoder: &mut BinEncoder<'_>,
+    records: I,
+    edns: &Option<Edns>,
+) -> Result<Kept, ProtoError>
+where
+    I::Item: LendsRecord,
+    requires can_next { I.can_next records }
+    requires in_full { WritesInFull (state encoder.old) }
+    requires small { (state encoder.old).maximum < 2 ^ 16 }
+    ensures same_reference { encoder.new.buffer.ghost_name ≡ encoder.old.buffer.ghost_name }
+    ensures writes { Writes (state encoder.old) (state encoder.new) }
+    ensures ok { IfOk result
+        (λ kept. (lent : List Record) → AlwaysYields I.next_gives I.Item.lent records lent → AllByRecursion ReadsBackAlone lent
+        → AllByRecursion EdnsReadsBack (option_to_list edns.now)
+        → EmitsAdditionals lent edns.now kept (state encoder.old) (state encoder.new)) }
+    ensures cause { IfErr result
+        (λ e. (lent : List Record) → AlwaysYields I.next_gives I.Item.lent records lent → AllByRecursion ReadsBackAlone lent
+        → AllByRecursion EdnsReadsBack (option_to_list edns.now) → IsMemory e) }
+{
+    let kept = emit_front(encoder, records)?;
+    match edns {
+        None => Ok(kept),
+        Some(edns) => {
+            let options = emit_edns(encoder, edns)?;
+            kept_together(kept, options)
+        }
     }
 }
 
@@ -115,7 +200,8 @@ fn is_truncated(answers: Kept, authorities: Kept, additionals: Kept) -> bool
     answers.is_cut || authorities.is_cut || additionals.is_cut
 }
 
-// The header over so many questions and what is kept of each list. It says whether records were left out.
+// The header over so many questions and what is kept of each list. It says whether records were left out, and is read as
+// the last four bits of its response code.
 fn header_over(
     metadata: Metadata,
     queries: u16,
@@ -123,9 +209,9 @@ fn header_over(
     authorities: Kept,
     additionals: Kept,
 ) -> Header
-    ensures value { result ≡ header_of_reply metadata (answers.is_cut || authorities.is_cut || additionals.is_cut) queries
-        answers.count authorities.count additionals.count }
-    ensures back { FitsHeader metadata → (rest : List ℕ) → header_of (header_octets result ++ rest) ≡ result }
+    ensures { FitsOpCode metadata → (rest : List ℕ) → header_of (header_octets result ++ rest)
+        ≡ header_of_reply metadata (answers.is_cut || authorities.is_cut || additionals.is_cut) queries answers.count
+        authorities.count additionals.count }
 {
     let mut metadata = metadata;
     metadata.truncation = is_truncated(answers, authorities, additionals);
@@ -157,7 +243,7 @@ where
         requires answers { A.can_next self.answers }
         requires authorities { N.can_next self.authorities }
         requires additionals { S.can_next self.additionals }
-        requires metadata { FitsHeader self.metadata }
+        requires metadata { FitsOpCode self.metadata }
         requires front { (state encoder.old).offset ≡ 0 }
         requires in_full { WritesInFull (state encoder.old) }
         requires small { (state encoder.old).maximum < 2 ^ 16 }
@@ -176,14 +262,16 @@ where
         encoder.emit_vec(question_octets)?;
         let answers = emit_front(encoder, self.answers)?;
         let authorities = emit_front(encoder, self.authorities)?;
-        let additionals = emit_front(encoder, self.additionals)?;
+        let additionals = emit_additionals(encoder, self.additionals, &self.edns)?;
         let header = header_over(self.metadata, questions, answers, authorities, additionals);
         place.replace(encoder, header)
     }
 
-    /// The reply, of at most `limit` octets: the header, the questions as they were sent, and what fits of each list. The
-    /// header counts what is written and says whether a record was left out (RFC 2181 section 9, RFC 9471 section 3.1).
-    /// Where all records read back alone, only memory may be wanting.
+    /// The reply, of at most `limit` octets: the header, the questions as they were sent, what fits of each list, and the
+    /// options of EDNS if they fit. The header counts what is written, the OPT record among the additional records, and
+    /// says whether something was left out (RFC 2181 section 9, RFC 6891 section 6.1.1, RFC 9471 section 3.1). It has the
+    /// last four bits of the response code. Where all records read back alone and the options read back, only memory may be
+    /// wanting.
     pub fn encode(
         self,
         alloc: Global,
@@ -194,7 +282,7 @@ where
         requires answers { A.can_next self.answers }
         requires authorities { N.can_next self.authorities }
         requires additionals { S.can_next self.additionals }
-        requires metadata { FitsHeader self.metadata }
+        requires metadata { FitsOpCode self.metadata }
         requires room { 12 + length question_octets.now ≤ limit }
         ensures written { IfOk result
             (λ reply. (parts : ReplyParts)

@@ -1,5 +1,5 @@
 use Rattle.std.proofs.Common.{[], append-nil, ◌∙◌}
-use Rattle.zsv_parts.proofs.Flags.{reserved_of}
+use Rattle.zsv_message.proofs.zsv_parts_lemmas.Flags.{reserved_of}
 use Rattle.zsv_reply.proofs.encode.encode_header.Goals as goal
 
 pub returns-clause-header : goal.returns-clause-header

@@ -1,0 +1,123 @@
+-- Records, and options of EDNS, stand where they were written.
+use Rattle.std.proofs.Common.{◌≡◌, ℕ, ◌+◌, ◌≤◌, ◌==◌, Bool, true, false, inl, inr, List, [], ◌∷◌, ◌++◌, length, refl, sym, subst, arith}
+use Rattle.std.proofs.lemmas.Bool.{eqb-true}
+use Rattle.std.specs.Prelude.{Option, Some, unwrap_or, find, if◌then◌else◌}
+use Rattle.zst_record.specs.dnw_codes.DNSClass.{class_number, class_of, named_classes}
+use Rattle.zst_record.specs.dnw_codes.RecordType.{record_type_number}
+use Rattle.zst_record.specs.dnw_codes.declared.dns_class.DNSClass.{DNSClass}
+use Rattle.zst_record.specs.dnw_codes.declared.dns_class.DNSClass.TheVariants.{Unknown}
+use Rattle.zst_record.specs.dnw_codes.declared.error.ProtoError.{ProtoError}
+use Rattle.zst_record.specs.dnw_codes.declared.error.ProtoError.TheVariants.{Message}
+use Rattle.zst_record.specs.dnw_codes.declared.record_type.RecordType.TheVariants as kind
+use Rattle.zst_record.specs.dnw_decoder.Octets.{octets_16, octets_32, Stands}
+use Rattle.zst_record.specs.dnw_decoder.Spelling.{at_end}
+use Rattle.zst_record.specs.dnw_name.DomainName.{domain_name}
+use Rattle.zst_record.proofs.dnw_decoder_lemmas.SpellingLaws.{spelled_within}
+use Rattle.zst_record.proofs.dnw_decoder_lemmas.Standing.{length-octets_32, stands_split, stands_within}
+use Rattle.zst_record.specs.dnw_encoder.Effects.{IsRefusal}
+use Rattle.zst_record.proofs.dnw_encoder_lemmas.Laws.{holds_map, puts_stands}
+use Rattle.zst_record.specs.dnw_encoder.State.{State}
+use Rattle.zst_record.specs.drd_rdata.Reading.{RDataAt}
+use Rattle.zst_record.specs.drd_rdata.declared.rdata.RData.TheVariants as rdata
+use Rattle.zst_record.specs.Records.{RecordAt, ReadsBackAlone, plain}
+use Rattle.zst_record.specs.Writing.{EmitsRecord, RefusesRecord}
+use Rattle.zst_record.specs.declared.records.Record.{Record}
+use Rattle.zsv_message.specs.Messages.{OptAt}
+use Rattle.zsv_message.specs.zst_edns.Edns.{IsEdnsOf, edns_ttl}
+use Rattle.zsv_message.specs.zst_edns.Writing.{EdnsReadsBack, EmitsEdns, FitsFields, RefusesEdns, edns_data, opt_head, opt_octets}
+use Rattle.zsv_message.specs.zst_edns.declared.edns.Edns.{Edns}
+use Rattle.zsv_message.proofs.zst_edns_lemmas.WritingLaws.{options_read}
+use Rattle.zsv_reply.specs.Replies.{opt_plain}
+use Rattle.zsv_reply.proofs.Fronts.{Standing}
+
+-- A record takes at least eleven octets.
+record_long : (message : List ℕ) (place : ℕ) (r : Record) (end : ℕ) → RecordAt message place r end → place + 11 ≤ end
+record_long message place r end at =
+    let name = spelled_within message place (length message) place r.name.labels at.owner_end at.owner.spelled in
+    omega (arith, name.0, at.record_type.there.behind, at.dns_class.there.behind, at.ttl.behind, length-octets_32 r.ttl, at.count.behind, at.filled)
+
+pub records_stand : Standing RecordAt plain ReadsBackAlone EmitsRecord RefusesRecord
+records_stand = record {
+  stays = λ r old new one alone full small. one.stays alone full small;
+  size = λ r old new one alone. one.size alone;
+  fits = λ r old new one. one.fits;
+  refused = λ r old e refused alone small. refused alone small;
+  long = record_long;
+}
+
+-- The number of the class of a number is that number.
+number_by : (b : Bool) (named : DNSClass) (n : ℕ) (found : Option DNSClass) → (b ≡ true → class_number named ≡ n) → class_number (unwrap_or found (Unknown n)) ≡ n → class_number (unwrap_or (if b then Some named else found) (Unknown n)) ≡ n
+number_by true named n found is other = is refl
+number_by false named n found is other = other
+
+class_found : (n : ℕ) (named : List DNSClass) → class_number (unwrap_or (find (λ class. class_number class == n) named) (Unknown n)) ≡ n
+class_found n [] = refl
+class_found n (class ∷ classes) =
+    number_by (class_number class == n) class n (find (λ class. class_number class == n) classes) (eqb-true (class_number class) n) (class_found n classes)
+
+class_back : (n : ℕ) → class_number (class_of n) ≡ n
+class_back n = class_found n named_classes
+
+-- Where the octets of an OPT record stand, the record is read.
+pub opt_at : (edns : Edns) (message : List ℕ) (place end : ℕ) → FitsFields edns → EdnsReadsBack edns → Stands message place (opt_octets edns) end → OptAt message place edns end
+opt_at edns message place end fields back there =
+    let n = length (edns_data edns) in
+    let type_octets = octets_16 (record_type_number kind.OPT) in
+    let class_octets = octets_16 edns.max_payload in
+    let ttl_octets = octets_32 (edns_ttl edns) in
+    let both = stands_split message place (opt_head edns n) (edns_data edns) end there in
+    let owner = stands_split message place (0 ∷ []) (type_octets ++ (class_octets ++ (ttl_octets ++ octets_16 n))) (place + length (opt_head edns n)) both.0 in
+    let typed = stands_split message (place + 1) type_octets (class_octets ++ (ttl_octets ++ octets_16 n)) (place + length (opt_head edns n)) owner.1 in
+    let classed = stands_split message (place + 1 + 2) class_octets (ttl_octets ++ octets_16 n) (place + length (opt_head edns n)) typed.1 in
+    let timed = stands_split message (place + 1 + 2 + 2) ttl_octets (octets_16 n) (place + length (opt_head edns n)) classed.1 in
+    let inside = stands_within message place (0 ∷ []) (place + 1) (omega arith) owner.0 in
+    record {
+      standing = record {
+        name = domain_name true [];
+        dns_class = class_of edns.max_payload;
+        ttl = edns_ttl edns;
+        rdata = rdata.OPT edns.options;
+      };
+      there = record {
+        owner_end = place + 1;
+        type_end = place + 1 + 2;
+        class_end = place + 1 + 2 + 2;
+        ttl_end = place + 1 + 2 + 2 + length ttl_octets;
+        first = place + length (opt_head edns n);
+        len = n;
+        owner = record { full = refl; spelled = at_end (omega (arith, inside)) owner.0; size = omega arith };
+        record_type = record { number = record_type_number kind.OPT; small = omega arith; there = typed.0; means = refl };
+        dns_class = record { number = edns.max_payload; small = fields.payload; there = classed.0; means = refl };
+        ttl = timed.0;
+        small_ttl = fields.ttl;
+        count = timed.1;
+        small_len = back.counted;
+        rdata = elim (options_read edns message (place + length (opt_head edns n)) end back both.1) [
+          | inl none ↦ inl (none.0, (edns.options, refl, none.1))
+          | inr some ↦ inr (some.0, (refl, subst (λ (behind : ℕ). RDataAt message (place + length (opt_head edns n)) (rdata.OPT edns.options) behind) both.1.behind some.1))
+        ];
+        filled = both.1.behind;
+      };
+      owner = refl;
+      says = (refl, subst (λ (class : ℕ). IsEdnsOf class (edns_ttl edns) edns) (sym (class_back edns.max_payload)) (fields.back back.flags));
+    }
+
+edns_long : (message : List ℕ) (place : ℕ) (edns : Edns) (end : ℕ) → OptAt message place edns end → place + 11 ≤ end
+edns_long message place edns end at = record_long message place at.standing end at.there
+
+-- Options that read back are refused for room or for want of memory.
+room_wanted : (edns : Edns) (old : State) (e : ProtoError) → RefusesEdns edns old e → EdnsReadsBack edns → IsRefusal old (opt_plain edns) e
+room_wanted edns old e (inl refused) back = refused
+room_wanted edns old (Message words) (inr long) back = absurd (omega (arith, long, back.counted))
+room_wanted edns old e (inr long) back = absurd long
+
+pub options_stand : Standing OptAt opt_plain EdnsReadsBack EmitsEdns RefusesEdns
+options_stand = record {
+  stays = λ edns old new one back full small.
+      holds_map new.offset new (λ message. Stands message old.offset (opt_octets edns) new.offset) (λ message. OptAt message old.offset edns new.offset)
+      (λ message there. opt_at edns message old.offset new.offset one.fields back there) (puts_stands (opt_octets edns) old new full.sound one.octets);
+  size = λ edns old new one back. omega (arith, one.octets.offset);
+  fits = λ edns old new one. one.fits;
+  refused = λ edns old e refused back small. room_wanted edns old e refused back;
+  long = edns_long;
+}
