@@ -18,7 +18,6 @@ use Rattle.zsv_message.specs.zsv_parts.declared.header.OpCode.{OpCode}
 use Rattle.zsv_message.specs.zsv_parts.declared.header.OpCode.TheVariants as operations
 use Rattle.zsv_message.specs.zsv_parts.declared.question.Query.{Query}
 use Rattle.zsv_message.specs.zst_edns.Writing.{EdnsReadsBack, edns_data}
-use Rattle.zsv_message.specs.zst_edns.drd_opt.Entries.{Entry, entries_octets}
 use Rattle.zsv_message.specs.zsv_parts.zst_codes.declared.response_code.ResponseCode.{ResponseCode}
 use Rattle.zsv_message.specs.zsv_parts.zst_codes.declared.response_code.ResponseCode.TheVariants as responses
 use Rattle.zsv_reply.specs.Replies.{ReplyParts}
@@ -117,7 +116,7 @@ edns_back None code None answers = tt
 edns_back None code (Some edns) answers = absurd answers
 edns_back (Some asked) code None answers = absurd answers
 edns_back (Some asked) code (Some edns) answers =
-    let few : length (edns_data edns) ≡ 0 = ap (λ (entries : List Entry). length (entries_octets entries)) answers.options in
+    let few : length (edns_data edns) ≡ 0 = ap (λ es. length (edns_data (record edns { options = record edns.options { options = record edns.options.options { items = es } } }))) answers.options in
     (record { flags = omega (arith, answers.other_flags); options = inl answers.options; counted = omega (arith, few) }, tt)
 
 pub parts_sound : (zone : Zone) (request : Message) (parts : ReplyParts) (edns : Option Edns) → ZoneIsSound zone → FitsOpCode request.metadata → PlainParts zone request parts → AnswersEdns request.edns parts.metadata.response_code edns → IsSound (with_edns edns parts)

@@ -10,8 +10,7 @@ use std::marker::Model;
 use std::net::SocketAddr;
 use thiserror::Error;
 use zst_zone::{InMemoryZoneHandler, ZoneType};
-use zsv_message::{Edns, MessageRequest};
-use zst_record::DecodeError;
+use zsv_message::{DecodeError, Edns, MessageRequest};
 
 pub mod answer;
 mod sections;

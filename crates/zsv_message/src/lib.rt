@@ -5,6 +5,7 @@
 #![tactic(auto)]
 
 pub use zst_edns::Edns;
+pub use zst_record::DecodeError;
 pub use zsv_parts::{
     Header, HeaderCounts, MessageType, Metadata, OpCode, Queries, Query, ResponseCode, Tsig,
     TsigRecord,
