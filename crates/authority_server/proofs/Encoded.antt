@@ -3,7 +3,7 @@ use Rattle.std.proofs.Common.{◌≡◌, ◌∙◌, ap, subst, arith, Vec, Globa
 use Rattle.std.specs.Prelude.{ℕ, ◌+◌, ◌<◌, ◌≤◌, false, List, length, Result, Ok, Err, IfOk}
 use Rattle.zst_zone.specs.zst_handler.Zones.{Zone}
 use Rattle.zsv_message.specs.zsv_parts.Headers.{header_of, reserved_bit}
-use Rattle.zsv_message.specs.zsv_parts.Requests.{Request}
+use Rattle.zsv_message.specs.Messages.{Message}
 use Rattle.zsv_message.specs.zsv_parts.declared.header.Header.{Header}
 use Rattle.zsv_message.specs.zsv_parts.declared.header.Metadata.{Metadata}
 use Rattle.zsv_reply.specs.Replies.{bare_failure}
@@ -18,7 +18,7 @@ value_told P Q encoded (Err e) same told f = same
 abbrev bare_header : Metadata → Header
 bare_header m = record { metadata = m; counts = record { queries = 0; answers = 0; authorities = 0; additionals = 0 } }
 
-pub bare_told : {E : Type 0} (zone : Zone) (message : List ℕ) (request : Request) (limit : ℕ) (m : Metadata) (r : Result (Vec ℕ Global) E) → 12 ≤ limit → limit < 12 + length request.question_octets → m ≡ bare_failure request.metadata.id
+pub bare_told : {E : Type 0} (zone : Zone) (message : List ℕ) (request : Message) (limit : ℕ) (m : Metadata) (r : Result (Vec ℕ Global) E) → 12 ≤ limit → limit < 12 + length request.asked.octets → m ≡ bare_failure request.metadata.id
     → IfOk r (λ reply. length reply.items ≡ 12) → IfOk r (λ reply. reserved_bit reply.items ≡ false) → IfOk r (λ reply. header_of reply.items ≡ bare_header m) → IfOk r (λ reply. Answers zone message request reply.items limit)
 bare_told zone message request limit m (Ok reply) lower small is long reserved header =
     let (parts, gives) = parts_for zone request in (

@@ -1,6 +1,6 @@
 -- What a full reply holds in a zone whose sets read back can be written and read back.
-use Rattle.std.proofs.Common.{◌≡◌, refl, subst, sym, arith}
-use Rattle.std.specs.Prelude.{◌<◌, Bool, true, false, List, [], ◌∷◌}
+use Rattle.std.proofs.Common.{◌≡◌, refl, subst, sym, ap, inl, arith}
+use Rattle.std.specs.Prelude.{ℕ, Bool, true, false, List, [], ◌∷◌, length, Option, Some, None, option_to_list}
 use Rattle.std.specs.List.{AllByRecursion}
 use Rattle.zst_zone.specs.dnw_codes.declared.record_type.RecordType.{RecordType}
 use Rattle.zst_zone.specs.dnw_codes.declared.record_type.RecordType.TheVariants as types
@@ -9,7 +9,6 @@ use Rattle.zst_zone.specs.dnw_name.DomainName.{is_at_or_below}
 use Rattle.zst_zone.specs.zst_handler.Answers.{sets_shown}
 use Rattle.zst_zone.specs.zst_handler.Lookups.{Outcome, answered, name_error, name_exists, out_of_zone}
 use Rattle.zst_zone.specs.zst_handler.Zones.{Zone}
-use Rattle.zsv_message.specs.zsv_parts.Headers.{FitsHeader}
 use Rattle.zsv_message.specs.Messages.{Message}
 use Rattle.zsv_message.specs.zst_edns.declared.edns.Edns.{Edns}
 use Rattle.zsv_message.specs.zsv_parts.declared.header.Metadata.{Metadata}
@@ -18,40 +17,33 @@ use Rattle.zsv_message.specs.zsv_parts.declared.header.MessageType.TheVariants a
 use Rattle.zsv_message.specs.zsv_parts.declared.header.OpCode.{OpCode}
 use Rattle.zsv_message.specs.zsv_parts.declared.header.OpCode.TheVariants as operations
 use Rattle.zsv_message.specs.zsv_parts.declared.question.Query.{Query}
-use Rattle.zsv_message.specs.zsv_parts.zst_codes.ResponseCode.{response_code_of, response_code_number}
+use Rattle.zsv_message.specs.zst_edns.Writing.{EdnsReadsBack, edns_data}
+use Rattle.zsv_message.specs.zst_edns.drd_opt.Entries.{Entry, entries_octets}
 use Rattle.zsv_message.specs.zsv_parts.zst_codes.declared.response_code.ResponseCode.{ResponseCode}
 use Rattle.zsv_message.specs.zsv_parts.zst_codes.declared.response_code.ResponseCode.TheVariants as responses
 use Rattle.zsv_reply.specs.Replies.{ReplyParts}
+use Rattle.zsv_reply.specs.Writing.{FitsOpCode}
 use Rattle.zsv_reply.specs.zst_record.Records.{ReadsBackAlone}
 use Rattle.zsv_reply.specs.zst_record.declared.records.Record.{Record}
 use Rattle.authority_server.specs.Servers.{IsSound}
 use Rattle.authority_server.specs.Serving.{AnswersEdns, AtOrigin, BesideAnswer, DeniedParts, KindParts, OperationParts, OutcomeParts, PlainParts, QueryParts, QuestionParts, answer_records, asks_for_dnssec, error_parts, has_other_version, is_referral, parts_with, reply_metadata, with_edns}
 use Rattle.authority_server.proofs.ShownBack.{OutcomeReadsBack, ZoneIsSound, append_back, lookup_back, sets_shown_back}
 
--- A response code with a name of its own in four bits.
-record IsKnown (code : ResponseCode) : Type 0 where
-  back : response_code_of (response_code_number code) ≡ code
-  small : response_code_number code < 16
-
-fits_reply : (m : Metadata) (authoritative : Bool) (code : ResponseCode) → FitsHeader m → IsKnown code → FitsHeader (reply_metadata m authoritative code)
-fits_reply m authoritative code fits known = record {
-  op_code = fits.op_code;
-  small_op_code = fits.small_op_code;
-  response_code = known.back;
-  small_response_code = known.small;
-}
+-- A reply has the operation of its request.
+fits_reply : (m : Metadata) (authoritative : Bool) (code : ResponseCode) → FitsOpCode m → FitsOpCode (reply_metadata m authoritative code)
+fits_reply m authoritative code fits = record { op_code = fits.op_code; small = fits.small }
 
 -- ---- parts of records that read back
-error_sound : (m : Metadata) (code : ResponseCode) (parts : ReplyParts) → FitsHeader m → IsKnown code → parts ≡ error_parts m code → IsSound parts
-error_sound m code parts fits known is =
-    subst IsSound (sym is) (record { metadata = fits_reply m false code fits known; reads_back = record { answers = tt; authorities = tt; additionals = tt } })
+error_sound : (m : Metadata) (code : ResponseCode) (parts : ReplyParts) → FitsOpCode m → parts ≡ error_parts m code → IsSound parts
+error_sound m code parts fits is =
+    subst IsSound (sym is) (record { metadata = fits_reply m false code fits; reads_back = record { answers = tt; authorities = tt; additionals = tt; edns = tt } })
 
-with_sound : (m : Metadata) (referral : Bool) (records additionals beside : List Record) → FitsHeader m → AllByRecursion ReadsBackAlone records → AllByRecursion ReadsBackAlone additionals → AllByRecursion ReadsBackAlone beside
+with_sound : (m : Metadata) (referral : Bool) (records additionals beside : List Record) → FitsOpCode m → AllByRecursion ReadsBackAlone records → AllByRecursion ReadsBackAlone additionals → AllByRecursion ReadsBackAlone beside
     → IsSound (parts_with m referral records additionals beside)
 with_sound m true records additionals beside fits first more later =
-    record { metadata = fits; reads_back = record { answers = tt; authorities = append_back records beside first later; additionals = more } }
+    record { metadata = fits; reads_back = record { answers = tt; authorities = append_back records beside first later; additionals = more; edns = tt } }
 with_sound m false records additionals beside fits first more later =
-    record { metadata = fits; reads_back = record { answers = first; authorities = later; additionals = more } }
+    record { metadata = fits; reads_back = record { answers = first; authorities = later; additionals = more; edns = tt } }
 
 -- ---- the zone's own answers
 records_back : (dnssec : Bool) (outcome : Outcome) → OutcomeReadsBack outcome → AllByRecursion ReadsBackAlone (answer_records dnssec outcome)
@@ -71,50 +63,72 @@ beside_back zone dnssec t beside back (start, other) = by (same_record_type t ty
     by true e = origin_back zone dnssec types.NS beside back (start e)
     by false e = subst (AllByRecursion ReadsBackAlone) (sym (other e)) tt
 
-denied_sound : (zone : Zone) (m : Metadata) (dnssec : Bool) (code : ResponseCode) (parts : ReplyParts) → ZoneIsSound zone → FitsHeader m → IsKnown code → DeniedParts zone m dnssec code parts → IsSound parts
-denied_sound zone m dnssec code parts back fits known (start, at, is) =
-    subst IsSound (sym is) (with_sound (reply_metadata m true code) false [] [] start (fits_reply m true code fits known) tt tt (origin_back zone dnssec types.SOA start back at))
+denied_sound : (zone : Zone) (m : Metadata) (dnssec : Bool) (code : ResponseCode) (parts : ReplyParts) → ZoneIsSound zone → FitsOpCode m → DeniedParts zone m dnssec code parts → IsSound parts
+denied_sound zone m dnssec code parts back fits (start, at, is) =
+    subst IsSound (sym is) (with_sound (reply_metadata m true code) false [] [] start (fits_reply m true code fits) tt tt (origin_back zone dnssec types.SOA start back at))
 
-outcome_sound : (zone : Zone) (m : Metadata) (dnssec : Bool) (t : RecordType) (outcome : Outcome) (parts : ReplyParts) → ZoneIsSound zone → FitsHeader m → OutcomeReadsBack outcome → OutcomeParts zone m dnssec t outcome parts → IsSound parts
+outcome_sound : (zone : Zone) (m : Metadata) (dnssec : Bool) (t : RecordType) (outcome : Outcome) (parts : ReplyParts) → ZoneIsSound zone → FitsOpCode m → OutcomeReadsBack outcome → OutcomeParts zone m dnssec t outcome parts → IsSound parts
 outcome_sound zone m dnssec t (answered answer) parts back fits shown (beside, at, is) =
     subst IsSound (sym is) (with_sound (reply_metadata m true responses.NoError) (is_referral t (sets_shown dnssec answer.answers)) (sets_shown dnssec answer.answers) (sets_shown dnssec answer.additionals) beside
-    (fits_reply m true responses.NoError fits (record { back = refl; small = omega arith })) (sets_shown_back dnssec answer.answers shown.answers) (sets_shown_back dnssec answer.additionals shown.additionals)
+    (fits_reply m true responses.NoError fits) (sets_shown_back dnssec answer.answers shown.answers) (sets_shown_back dnssec answer.additionals shown.additionals)
     (beside_back zone dnssec t beside back at))
-outcome_sound zone m dnssec t name_exists parts back fits shown is = denied_sound zone m dnssec responses.NoError parts back fits (record { back = refl; small = omega arith }) is
-outcome_sound zone m dnssec t name_error parts back fits shown is = denied_sound zone m dnssec responses.NXDomain parts back fits (record { back = refl; small = omega arith }) is
+outcome_sound zone m dnssec t name_exists parts back fits shown is = denied_sound zone m dnssec responses.NoError parts back fits is
+outcome_sound zone m dnssec t name_error parts back fits shown is = denied_sound zone m dnssec responses.NXDomain parts back fits is
 outcome_sound zone m dnssec t out_of_zone parts back fits shown is =
-    subst IsSound (sym is) (with_sound (reply_metadata m true responses.Refused) false [] [] [] (fits_reply m true responses.Refused fits (record { back = refl; small = omega arith })) tt tt tt)
+    subst IsSound (sym is) (with_sound (reply_metadata m true responses.Refused) false [] [] [] (fits_reply m true responses.Refused fits) tt tt tt)
 
 -- ---- questions and requests
-question_sound : (zone : Zone) (m : Metadata) (dnssec : Bool) (q : Query) (parts : ReplyParts) → ZoneIsSound zone → FitsHeader m → QuestionParts zone m dnssec q parts → IsSound parts
+question_sound : (zone : Zone) (m : Metadata) (dnssec : Bool) (q : Query) (parts : ReplyParts) → ZoneIsSound zone → FitsOpCode m → QuestionParts zone m dnssec q parts → IsSound parts
 question_sound zone m dnssec q parts back fits is = by (is_at_or_below q.name zone.origin) refl
   where
     inside : (b : Bool) → is_at_or_below q.name zone.origin ≡ true → same_record_type q.query_type types.AXFR ≡ b → IsSound parts
-    inside true here e = error_sound m responses.ServFail parts fits (record { back = refl; small = omega arith }) (is.transfer here e)
+    inside true here e = error_sound m responses.ServFail parts fits (is.transfer here e)
     inside false here e =
         let (outcome, found, shown) = is.looked_up here e in
         outcome_sound zone m dnssec q.query_type outcome parts back fits (lookup_back zone q.name q.query_type outcome back found) shown
 
     by : (b : Bool) → is_at_or_below q.name zone.origin ≡ b → IsSound parts
-    by false e = error_sound m responses.Refused parts fits (record { back = refl; small = omega arith }) (is.outside e)
+    by false e = error_sound m responses.Refused parts fits (is.outside e)
     by true e = inside (same_record_type q.query_type types.AXFR) e refl
 
-query_sound : (zone : Zone) (m : Metadata) (dnssec : Bool) (qs : List Query) (parts : ReplyParts) → ZoneIsSound zone → FitsHeader m → QueryParts zone m dnssec qs parts → IsSound parts
-query_sound zone m dnssec [] parts back fits is = error_sound m responses.FormErr parts fits (record { back = refl; small = omega arith }) is
+query_sound : (zone : Zone) (m : Metadata) (dnssec : Bool) (qs : List Query) (parts : ReplyParts) → ZoneIsSound zone → FitsOpCode m → QueryParts zone m dnssec qs parts → IsSound parts
+query_sound zone m dnssec [] parts back fits is = error_sound m responses.FormErr parts fits is
 query_sound zone m dnssec (q ∷ []) parts back fits is = question_sound zone m dnssec q parts back fits is
-query_sound zone m dnssec (q ∷ r ∷ qs) parts back fits is = error_sound m responses.FormErr parts fits (record { back = refl; small = omega arith }) is
+query_sound zone m dnssec (q ∷ r ∷ qs) parts back fits is = error_sound m responses.FormErr parts fits is
 
-operation_sound : (zone : Zone) (m : Metadata) (dnssec : Bool) (operation : OpCode) (qs : List Query) (parts : ReplyParts) → ZoneIsSound zone → FitsHeader m → OperationParts zone m dnssec operation qs parts → IsSound parts
+operation_sound : (zone : Zone) (m : Metadata) (dnssec : Bool) (operation : OpCode) (qs : List Query) (parts : ReplyParts) → ZoneIsSound zone → FitsOpCode m → OperationParts zone m dnssec operation qs parts → IsSound parts
 operation_sound zone m dnssec operations.Query qs parts back fits is = query_sound zone m dnssec qs parts back fits is
-operation_sound zone m dnssec other qs parts back fits is = error_sound m responses.NotImp parts fits (record { back = refl; small = omega arith }) is
+operation_sound zone m dnssec other qs parts back fits is = error_sound m responses.NotImp parts fits is
 
-kind_sound : (zone : Zone) (m : Metadata) (dnssec : Bool) (kind : MessageType) (qs : List Query) (parts : ReplyParts) → ZoneIsSound zone → FitsHeader m → KindParts zone m dnssec kind qs parts → IsSound parts
-kind_sound zone m dnssec messages.Response qs parts back fits is = error_sound m responses.FormErr parts fits (record { back = refl; small = omega arith }) is
+kind_sound : (zone : Zone) (m : Metadata) (dnssec : Bool) (kind : MessageType) (qs : List Query) (parts : ReplyParts) → ZoneIsSound zone → FitsOpCode m → KindParts zone m dnssec kind qs parts → IsSound parts
+kind_sound zone m dnssec messages.Response qs parts back fits is = error_sound m responses.FormErr parts fits is
 kind_sound zone m dnssec messages.Query qs parts back fits is = operation_sound zone m dnssec m.op_code qs parts back fits is
 
-pub plain_sound : (zone : Zone) (request : Message) (parts : ReplyParts) → ZoneIsSound zone → FitsHeader request.metadata → PlainParts zone request parts → IsSound parts
+plain_sound : (zone : Zone) (request : Message) (parts : ReplyParts) → ZoneIsSound zone → FitsOpCode request.metadata → PlainParts zone request parts → IsSound parts
 plain_sound zone request parts back fits is = by (has_other_version request.edns) refl
   where
     by : (b : Bool) → has_other_version request.edns ≡ b → IsSound parts
-    by true e = error_sound request.metadata responses.BADVERS parts fits (record { back = refl; small = omega arith }) (is.other_version e)
+    by true e = error_sound request.metadata responses.BADVERS parts fits (is.other_version e)
     by false e = kind_sound zone request.metadata (asks_for_dnssec request.edns) request.metadata.message_type request.asked.questions parts back fits (is.answered e)
+
+-- The options of a reply read back.
+edns_back : (asked : Option Edns) (code : ResponseCode) (edns : Option Edns) → AnswersEdns asked code edns → AllByRecursion EdnsReadsBack (option_to_list edns)
+edns_back None code None answers = tt
+edns_back None code (Some edns) answers = absurd answers
+edns_back (Some asked) code None answers = absurd answers
+edns_back (Some asked) code (Some edns) answers =
+    let few : length (edns_data edns) ≡ 0 = ap (λ (entries : List Entry). length (entries_octets entries)) answers.options in
+    (record { flags = omega (arith, answers.other_flags); options = inl answers.options; counted = omega (arith, few) }, tt)
+
+pub parts_sound : (zone : Zone) (request : Message) (parts : ReplyParts) (edns : Option Edns) → ZoneIsSound zone → FitsOpCode request.metadata → PlainParts zone request parts → AnswersEdns request.edns parts.metadata.response_code edns → IsSound (with_edns edns parts)
+parts_sound zone request parts edns back fits is answers =
+    let plain = plain_sound zone request parts back fits is in
+    record {
+      metadata = plain.metadata;
+      reads_back = record {
+        answers = plain.reads_back.answers;
+        authorities = plain.reads_back.authorities;
+        additionals = plain.reads_back.additionals;
+        edns = edns_back request.edns parts.metadata.response_code edns answers;
+      };
+    }

@@ -3,9 +3,8 @@ use Rattle.std.specs.Prelude.{◌≡◌, Bool, true, false}
 use Rattle.authority_server.specs.declared.server.answer.Response.{Response}
 use Rattle.zst_zone.specs.zst_codes.declared.settings.ZoneType.{ZoneType}
 use Rattle.zst_zone.specs.zst_codes.declared.settings.ZoneType.TheVariants as zones
-use Rattle.zsv_message.specs.zsv_parts.Headers.{FitsHeader}
 use Rattle.zsv_reply.specs.Replies.{ReplyParts}
-use Rattle.zsv_reply.specs.Writing.{AllReadBack}
+use Rattle.zsv_reply.specs.Writing.{AllReadBack, FitsOpCode}
 use Rattle.zst_zone.specs.zst_handler.Answers.{additionals_in, answers_in}
 use Rattle.zst_zone.specs.zst_handler.Zones.{AreStored, Zone, ZoneReadsBack}
 use Rattle.authority_server.specs.Serving.{parts_with}
@@ -23,7 +22,7 @@ parts_of r =
 
 -- A reply that can be written and read back.
 pub record IsSound (parts : ReplyParts) : Type 0 where
-  pub metadata : FitsHeader parts.metadata
+  pub metadata : FitsOpCode parts.metadata
   pub reads_back : AllReadBack parts
 
 -- A zone that its server answers for: a primary's or a secondary's, of records that those whom its

@@ -2,3 +2,4 @@ pub mod Edns
 pub mod Flags
 pub mod Lending
 pub mod Writing
+pub mod zst_codes

@@ -4,6 +4,11 @@
 //! read and written stays. `EdnsFlags` are the last sixteen bits of it.
 #![tactic(auto)]
 
+pub use zst_codes::{
+    AxfrPolicy, LookupControlFlow, LookupError, Nsec3HashAlgorithm, NxProofKind, ResponseCode,
+    Salt, SaltLenError, ZoneType,
+};
+
 mod edns;
 mod edns_flags;
 mod emit;

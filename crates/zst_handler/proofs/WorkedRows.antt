@@ -1,8 +1,8 @@
 -- The definitions of the lookup computed on worked rows: a cut with its glue, wildcards, aliases.
 use Rattle.std.proofs.Common.{◌≡◌, ℕ, true, List, [], ◌∷◌, refl, subst, arith}
 use Rattle.std.specs.Prelude.{codes, pos, None, Some}
-use Rattle.zst_codes.specs.declared.settings.ZoneType.TheVariants as kinds
-use Rattle.zst_codes.specs.declared.settings.AxfrPolicy.TheVariants as policies
+use Rattle.zst_edns.specs.zst_codes.declared.settings.ZoneType.TheVariants as kinds
+use Rattle.zst_edns.specs.zst_codes.declared.settings.AxfrPolicy.TheVariants as policies
 use Rattle.zst_record.specs.dnw_codes.declared.dns_class.DNSClass.TheVariants as classes
 use Rattle.zst_record.specs.dnw_codes.declared.record_type.RecordType.TheVariants as types
 use Rattle.zst_record.specs.dnw_name.DomainName.{DomainName}

@@ -17,11 +17,11 @@ use Rattle.zst_handler.specs.Lookups.{Answer, IsLookup, Outcome, answered, name_
 use Rattle.zst_handler.specs.Zones.{Zone}
 use Rattle.zst_record.specs.dnw_codes.declared.record_type.RecordType.{RecordType}
 use Rattle.zst_record.specs.dnw_name.DomainName.{DomainName}
-use Rattle.zst_codes.specs.declared.lookup_control_flow.LookupControlFlow.{LookupControlFlow}
-use Rattle.zst_codes.specs.declared.lookup_control_flow.LookupControlFlow.TheVariants as flows
-use Rattle.zst_codes.specs.declared.lookup_error.LookupError.{LookupError}
-use Rattle.zst_codes.specs.declared.lookup_error.LookupError.TheVariants as errors
-use Rattle.zst_codes.specs.declared.response_code.ResponseCode.TheVariants as codes
+use Rattle.zst_edns.specs.zst_codes.declared.lookup_control_flow.LookupControlFlow.{LookupControlFlow}
+use Rattle.zst_edns.specs.zst_codes.declared.lookup_control_flow.LookupControlFlow.TheVariants as flows
+use Rattle.zst_edns.specs.zst_codes.declared.lookup_error.LookupError.{LookupError}
+use Rattle.zst_edns.specs.zst_codes.declared.lookup_error.LookupError.TheVariants as errors
+use Rattle.zst_edns.specs.zst_codes.declared.response_code.ResponseCode.TheVariants as codes
 
 -- The set as it answers: the zone's own, or under another name.
 abbrev pub under : RRset → Option DomainName → Option ℕ → RRset

@@ -2,6 +2,7 @@ pub mod Answers
 pub mod Chains
 pub mod Found
 pub mod Lookups
+pub mod Options
 pub mod Updates
 pub mod Zones
 pub use Rattle.zst_record.specs.dnw_codes
@@ -9,5 +10,5 @@ pub use Rattle.zst_record.specs.dnw_name
 pub use Rattle.zst_record.specs.drd_names
 pub use Rattle.zst_record.specs.drd_rdata
 pub use Rattle.zst_record.specs.drd_words
-pub mod zst_codes
+pub use Rattle.zst_edns.specs.zst_codes
 pub mod zst_record

@@ -7,9 +7,9 @@ use Rattle.std.specs.declared.cmp.Ordering.{Ordering}
 use Rattle.std.specs.declared.cmp.Ordering.TheVariants.{Less}
 use Rattle.zst_record.specs.dnw_codes.declared.record_type.RecordType.{RecordType}
 use Rattle.zst_record.specs.declared.records.Record.{Record}
-use Rattle.zst_codes.specs.declared.settings.ZoneType.{ZoneType}
-use Rattle.zst_codes.specs.declared.settings.AxfrPolicy.{AxfrPolicy}
-use Rattle.zst_codes.specs.declared.nx_proof.NxProofKind.{NxProofKind}
+use Rattle.zst_edns.specs.zst_codes.declared.settings.ZoneType.{ZoneType}
+use Rattle.zst_edns.specs.zst_codes.declared.settings.AxfrPolicy.{AxfrPolicy}
+use Rattle.zst_edns.specs.zst_codes.declared.nx_proof.NxProofKind.{NxProofKind}
 use Rattle.zst_handler.specs.declared.settings.ZoneSettings.{ZoneSettings}
 use Rattle.zst_record.specs.dnw_name.DomainName.{DomainName, name_cmp, name_eq, is_at_or_below}
 use Rattle.zst_record.specs.dnw_codes.RecordType.{record_type_number, same_record_type}

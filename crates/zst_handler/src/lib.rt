@@ -4,9 +4,9 @@
 //! answers a name and a type, `IsAliasChain` where aliases lead, and `IsLookup` what is answered, or why nothing is.
 #![tactic(auto)]
 
-pub use zst_codes::{
-    AxfrPolicy, LookupControlFlow, LookupError, Nsec3HashAlgorithm, NxProofKind, ResponseCode,
-    Salt, SaltLenError, ZoneType,
+pub use zst_edns::{
+    AxfrPolicy, Edns, LookupControlFlow, LookupError, Nsec3HashAlgorithm, NxProofKind,
+    ResponseCode, Salt, SaltLenError, ZoneType,
 };
 pub use zst_record::{
     ANAME, CNAME, DNSClass, LowerName, MX, NS, Name, ProtoError, RData, Record, RecordRef,

@@ -1,8 +1,10 @@
 //! What a lookup is asked for beside name and type.
 
-ghost use Rattle.std.specs.Prelude.{◌≡◌, true};
+ghost use Rattle.std.specs.Prelude.{◌≡◌, true, option_copied};
 ghost use Rattle.zst_handler.specs.Answers.{shown};
+ghost use Rattle.zst_handler.specs.Options.{asks_for_dnssec};
 
+use zst_edns::Edns;
 use zst_record::{RecordSet, RrsetRecords};
 
 /// What a lookup is asked for beside name and type.
@@ -18,6 +20,19 @@ impl LookupOptions {
         ensures { result.dnssec_ok ≡ true }
     {
         LookupOptions { dnssec_ok: true }
+    }
+
+    /// What a message asks for that has these EDNS, or none: signatures where DO is set (RFC 3225 section 3), and none
+    /// without an OPT record.
+    pub fn from_edns(edns: Option<&Edns>) -> LookupOptions
+        ensures { result.dnssec_ok ≡ asks_for_dnssec (option_copied edns.entry) }
+    {
+        match edns {
+            Some(edns) => LookupOptions {
+                dnssec_ok: edns.flags().dnssec_ok,
+            },
+            None => LookupOptions { dnssec_ok: false },
+        }
     }
 
     /// The records of a set, and behind them its signatures if these are asked for.

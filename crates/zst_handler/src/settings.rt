@@ -1,6 +1,6 @@
 //! How a zone is made.
 
-use zst_codes::{AxfrPolicy, NxProofKind, ZoneType};
+use zst_edns::{AxfrPolicy, NxProofKind, ZoneType};
 
 /// How a zone is made: what this server is to it, who may transfer it, how it proves that a name is absent.
 #[derive(Drop)]

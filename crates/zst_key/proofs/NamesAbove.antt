@@ -238,3 +238,29 @@ module _ {X : Type 0} (at : DomainName → Option X) where
   found-apart name above p x has last differ =
       none-behind name above has
       (λ j some. flags_between above p above.fqdn refl differ j (before_last above p x last j some) (not_gt-le (name_cmp p above) last.0))
+
+-- ---- an entry at the name itself
+up_to-equal : (o p : Ordering) → o ≡ p → is_gt (ordering_reverse p) ≡ false → is_lt o ≡ false
+up_to-equal Less p e up_to = let less : p ≡ Less = sym e in absurd (true≢false (ap (λ (q : Ordering). is_gt (ordering_reverse q)) (sym less) ∙ up_to))
+up_to-equal Equal p e up_to = refl
+up_to-equal Greater p e up_to = refl
+
+not_gt-equal : (o : Ordering) → is_eq o ≡ true → is_gt o ≡ false
+not_gt-equal Less e = absurd (true≢false (sym e))
+not_gt-equal Equal e = refl
+not_gt-equal Greater e = absurd (true≢false (sym e))
+
+is-equal : (o : Ordering) → is_eq o ≡ true → o ≡ Equal
+is-equal Less e = absurd (true≢false (sym e))
+is-equal Equal e = refl
+is-equal Greater e = absurd (true≢false (sym e))
+
+-- An entry at the name itself is the last one up to it.
+pub last-itself : {X : Type 0} (at : DomainName → Option X) (owner name : DomainName) (x : X) → name_eq owner name ≡ true → at owner ≡ Some x → IsLastUpTo at name (Some (owner, x))
+last-itself at owner name x same there =
+    let level : is_eq (name_cmp owner name) ≡ true = sym (name_eq-by_cmp owner name) ∙ same in (
+      not_gt-equal (name_cmp owner name) level,
+      there,
+      λ other up_to some. up_to-equal (name_cmp owner other) (name_cmp name other) (name_total.congr owner name other (is-equal (name_cmp owner name) level))
+          (ap is_gt (sym (name_total.antisymm other name)) ∙ up_to),
+    )

@@ -1,2 +1,3 @@
 pub use Rattle.dnw_name.specs.DomainName
 pub use Rattle.dnw_name.specs.NameOrderLaws
+pub use Rattle.dnw_name.specs.declared

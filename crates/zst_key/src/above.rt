@@ -8,11 +8,15 @@ use crate::key::NameKey;
 use std::alloc::AllocError;
 use std::collections::BTreeMap;
 
-// The last entry of a map that does not stand behind a name in canonical order (RFC 4034 6.1).
+// The last entry of a map that does not stand behind a name in canonical order (RFC 4034 6.1). Where this is the first of
+// all, as a zone's origin is among its names, the map is not searched.
 fn last_up_to<'m, V>(names: &'m BTreeMap<NameKey, V>, key: &NameKey) -> Option<(&'m NameKey, &'m V)>
     ensures { IsLastUpTo (get name_cmp names.now) key.now (option_map (λ p. (p.0.now, p.1.now)) result) }
 {
-    names.range(..=key).next_back()
+    match names.first_key_value() {
+        Some((owner, value)) if owner == key => Some((owner, value)),
+        _ => names.range(..=key).next_back(),
+    }
 }
 
 /// The entry of a map for a name, or else for the nearest name above it. It takes memory only for names of more than 39

@@ -106,6 +106,14 @@ impl NameKey {
         self.octets.as_slice()[1..].starts_with(&other.octets.as_slice()[1..])
     }
 
+    /// Whether the name above this one is the other; the root is above itself.
+    pub fn is_child_of(&self, other: &NameKey) -> bool
+        ensures { IsTrue result ↔ (parent self.now ≡ other.now) }
+    {
+        let octets = self.octets.as_slice();
+        &octets[..parent_end(octets)] == other.octets.as_slice()
+    }
+
     /// Whether the name is the other one, or lies below it, where both end at the root or neither does.
     pub fn is_below(&self, other: &NameKey) -> bool
         ensures below { result ≡ (beq self.now.fqdn other.now.fqdn && is_at_or_below self.now other.now) }

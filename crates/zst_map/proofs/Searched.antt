@@ -18,7 +18,7 @@ use Rattle.zst_handler.specs.Zones.{rrset_at}
 use Rattle.zst_map.specs.Searches.{lent, looked_for, sought_in}
 use Rattle.zst_map.specs.declared.zone_sets.Sought.TheVariants as seeks
 use Rattle.zst_map.proofs.NamedSets.{type_among}
-use Rattle.zst_map.proofs.NearestOf.{nearest_above_it, nearest_here}
+use Rattle.zst_map.proofs.NearestOf.{above_parent, nearest_above_it, nearest_here}
 use Rattle.zst_map.proofs.ZoneNodes.{is_of_type}
 
 -- ---- what is lent
@@ -186,3 +186,25 @@ pub third_found : (zone : List RRset) (key : DomainName) (t : RecordType) → de
 third_found zone key t first second =
     ap (λ (o : Option RRset). or_else o (or_else (here zone t key) (wildcard_answer zone key t))) first
     ∙ ap (λ (o : Option RRset). or_else o (wildcard_answer zone key t)) second
+
+-- ---- a cut at a name, or right above it
+not_parents : (sets : List RRset) (key : DomainName) (t : RecordType) → same_record_type t kind.DS ≡ false → delegation sets key t ≡ cut_found (nearest_in (cut_at sets) key)
+not_parents sets key t other = ap (λ (b : Bool). cond b (cut_found (above (cut_at sets) key)) (cut_found (nearest_in (cut_at sets) key))) other
+
+pub cut_itself : (sets : List RRset) (key : DomainName) (t : RecordType) (servers : Option RRset) → same_record_type t kind.DS ≡ false → cut_at sets key ≡ Some servers
+    → servers ≡ delegation sets key t
+cut_itself sets key t servers other there = ap cut_found (sym (nearest_here (cut_at sets) key servers there)) ∙ sym (not_parents sets key t other)
+
+pub cut_right_above : (sets : List RRset) (key : DomainName) (t : RecordType) (servers : Option RRset) → same_record_type t kind.DS ≡ false → cut_at sets key ≡ None
+    → cut_at sets (parent key) ≡ Some servers → servers ≡ delegation sets key t
+cut_right_above sets key t servers other none there = by key.labels refl
+  where
+    by : (labels : List (List ℕ)) → key.labels ≡ labels → servers ≡ delegation sets key t
+    by [] e =
+        let root : parent key ≡ key = ap (λ (ls : List (List ℕ)). domain_name key.fqdn (drop 1 ls)) e ∙ sym (ap (domain_name key.fqdn) e) in
+        let h : None ≡ Some servers = sym none ∙ ap (cut_at sets) (sym root) ∙ there in
+        absurd (cc)
+    by (label ∷ labels) e =
+        let some : key.labels ≡ [] → ⊥ = λ empty. let h : label ∷ labels ≡ [] = sym e ∙ empty in absurd (cc) in
+        ap cut_found (sym (nearest_here (cut_at sets) (parent key) servers there)
+        ∙ sym (nearest_above_it (cut_at sets) key none ∙ above_parent (cut_at sets) key some)) ∙ sym (not_parents sets key t other)

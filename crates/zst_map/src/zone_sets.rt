@@ -1,8 +1,8 @@
 //! The sets of a zone, with the names at which a search for cuts and wildcards looks.
 
-ghost use Rattle.std.specs.Prelude.{◌≡◌, [], true, false, Some, None, IfOk, OnOk, OnErr, IsSome, is_some, option_copied, option_map};
+ghost use Rattle.std.specs.Prelude.{◌≡◌, [], true, false, Some, None, IfOk, IfSome, OnOk, OnErr, IsSome, is_some, option_copied, option_map};
 ghost use Rattle.std.specs.BTreeMap.{get};
-ghost use Rattle.zst_key.specs.Ancestors.{nearest_in};
+ghost use Rattle.zst_key.specs.Ancestors.{nearest_in, parent};
 ghost use Rattle.zst_record.specs.dnw_codes.RecordType.{same_record_type};
 ghost use Rattle.zst_record.specs.dnw_codes.declared.record_type.RecordType.TheVariants as kind;
 ghost use Rattle.zst_record.specs.drd_rdata.Types.{type_of};
@@ -38,6 +38,16 @@ pub struct Match<'z> {
 }
 
 impl<'z> Match<'z> {
+    // A set under its own name.
+    fn own(set: &'z RecordSet) -> Match<'z>
+        ensures { (name : DomainName) → match_set name result ≡ set.now }
+    {
+        Match {
+            set,
+            is_wildcard: false,
+        }
+    }
+
     /// The set as it answers the name asked for: a wildcard's stands under that name in lower case.
     pub fn answer(self, alloc: Global, name: &Name) -> Result<AnswerSet<'z>, AllocError>
         ensures { IfOk result (λ answer. set_in answer ≡ match_set name.now self.entry) }
@@ -94,6 +104,18 @@ impl ZoneSets {
         ensures { option_copied result ≡ rrset_at self.now key.now record_type }
     {
         find_set(self.sets.sets_at(key), record_type)
+    }
+
+    /// The IPv4 addresses and the IPv6 addresses at the name of a key.
+    pub fn addresses(&self, key: &NameKey) -> (Option<&RecordSet>, Option<&RecordSet>)
+        ensures first { option_copied result.0 ≡ rrset_at self.now key.now kind.A }
+        ensures second { option_copied result.1 ≡ rrset_at self.now key.now kind.AAAA }
+    {
+        let sets = self.sets.sets_at(key);
+        (
+            find_set(sets, RecordType::A),
+            find_set(sets, RecordType::AAAA),
+        )
     }
 
     /// All sets at the name of a key, by rising type.
@@ -219,7 +241,7 @@ impl ZoneSets {
 
     /// Which set answers the name of a key and a type: that of the cut at or above it; else what its own sets answer;
     /// else what the nearest wildcard answers (RFC 1034 section 4.3.2 step 3). The map is searched once for the name, and
-    /// once for a cut that is found.
+    /// once for a cut that is found. For a name right below the zone's start no cut is searched.
     pub fn search(
         &self,
         key: &NameKey,
@@ -227,17 +249,59 @@ impl ZoneSets {
     ) -> Result<Option<Match<'_>>, AllocError>
         ensures { IfOk result (λ answer. option_map (match_set key.now) answer ≡ found self.now key.now record_type) }
     {
-        if let Some(set) = self.delegation(key, record_type)? {
-            return Ok(Some(Match {
-                set,
-                is_wildcard: false,
-            }));
+        if !self.index.has_cuts {
+            return self.search_uncut(key, self.sets.sets_at(key), record_type);
         }
-        if let Some(set) = here(self.sets.sets_at(key), record_type) {
-            return Ok(Some(Match {
-                set,
-                is_wildcard: false,
-            }));
+        let cut = match self.start_above(key) {
+            Some(start) => return self.search_near(key, start, record_type),
+            None => self.delegation(key, record_type)?,
+        };
+        match cut {
+            Some(set) => Ok(Some(Match::own(set))),
+            None => self.search_uncut(key, self.sets.sets_at(key), record_type),
+        }
+    }
+
+    // The name above that of a key, where it is the first that owns NS, as a zone's start is.
+    fn start_above(&self, key: &NameKey) -> Option<&NameKey>
+        ensures { IfSome result (λ start. start.now ≡ parent key.now) }
+    {
+        match self.index.name_servers.first_key_value() {
+            Some((start, _)) if key.is_child_of(start) => Some(start),
+            _ => None,
+        }
+    }
+
+    // What `search` answers, from the name above on, at which no index need be searched.
+    fn search_near(
+        &self,
+        key: &NameKey,
+        above: &NameKey,
+        record_type: RecordType,
+    ) -> Result<Option<Match<'_>>, AllocError>
+        requires { above.now ≡ parent key.now }
+        ensures { IfOk result (λ answer. option_map (match_set key.now) answer ≡ found self.now key.now record_type) }
+    {
+        let sets = self.sets.sets_at(key);
+        match self.delegation_near(key, above, sets, record_type)? {
+            Some(set) => Ok(Some(Match::own(set))),
+            None => self.search_uncut(key, sets, record_type),
+        }
+    }
+
+    // Which set answers the name of a key, whose own sets these are, and a type, where no cut is at or above the name.
+    fn search_uncut<'z>(
+        &'z self,
+        key: &NameKey,
+        sets: &'z [RecordSet],
+        record_type: RecordType,
+    ) -> Result<Option<Match<'z>>, AllocError>
+        requires uncut { delegation self.now key.now record_type ≡ None }
+        requires own { sets.now ≡ sets_of_name self.now key.now }
+        ensures { IfOk result (λ answer. option_map (match_set key.now) answer ≡ found self.now key.now record_type) }
+    {
+        if let Some(set) = here(sets, record_type) {
+            return Ok(Some(Match::own(set)));
         }
         match self.wildcard(key, record_type)? {
             Some(set) => Ok(Some(Match {
@@ -245,6 +309,30 @@ impl ZoneSets {
                 is_wildcard: true,
             })),
             None => Ok(None),
+        }
+    }
+
+    // What `delegation` answers, by the name's own sets first, and those of the name above.
+    fn delegation_near<'z>(
+        &'z self,
+        key: &NameKey,
+        above: &NameKey,
+        sets: &'z [RecordSet],
+        record_type: RecordType,
+    ) -> Result<Option<&'z RecordSet>, AllocError>
+        requires above { above.now ≡ parent key.now }
+        requires own { sets.now ≡ sets_of_name self.now key.now }
+        ensures { IfOk result (λ servers. option_copied servers ≡ delegation self.now key.now record_type) }
+    {
+        if record_type == RecordType::DS {
+            return self.delegation(key, record_type);
+        }
+        if let Some(servers) = cut_of(sets) {
+            return Ok(servers);
+        }
+        match cut_of(self.sets.sets_at(above)) {
+            Some(servers) => Ok(servers),
+            None => self.delegation(key, record_type),
         }
     }
 
@@ -257,9 +345,6 @@ impl ZoneSets {
     ) -> Result<Option<&RecordSet>, AllocError>
         ensures { IfOk result (λ servers. option_copied servers ≡ delegation self.now key.now record_type) }
     {
-        if !self.index.has_cuts {
-            return Ok(None);
-        }
         let cut = if record_type == RecordType::DS {
             self.above(key, Sought::Cut)?
         } else {

@@ -1,7 +1,7 @@
 -- One place holds one record, but for what its data are: of their type, their number, and whether there are none, all
 -- that stand there agree.
 use Rattle.std.proofs.Common.{◌≡◌, ℕ, ◌+◌, ◌-◌, ◌^◌, ◌<◌, ◌≤◌, Bool, true, false, List, [], ◌∷◌, length, Option, Some, None, refl, sym, ap, subst, inl, inr, ◌∙◌, ◌⊎◌, arith, true≢false}
-use Rattle.std.proofs.Common.{eqb→eq}
+use Rattle.std.proofs.lemmas.Bool.{eqb-true}
 use Rattle.std.specs.Prelude.{cond, ◌==◌, find, unwrap_or}
 use Rattle.zst_record.specs.dnw_codes.RecordType.{named_record_types, record_type_number, record_type_of, same_record_type}
 use Rattle.zst_record.specs.dnw_codes.declared.record_type.RecordType.{RecordType}
@@ -15,8 +15,8 @@ use Rattle.zst_record.specs.drd_rdata.declared.rdata.RData.TheVariants as rdata
 use Rattle.zst_record.specs.declared.records.Record.{Record}
 use Rattle.zst_record.specs.Records.{RecordAt}
 use Rattle.zsv_parts.proofs.Questions.{number_once, type_once}
-use Rattle.zsv_parts.proofs.dnw_decoder_lemmas.SpellingLaws.{name_once}
-use Rattle.zsv_parts.proofs.dnw_decoder_lemmas.Standing.{stands_same, length-octets_32}
+use Rattle.zst_record.proofs.dnw_decoder_lemmas.SpellingLaws.{name_once}
+use Rattle.zst_record.proofs.dnw_decoder_lemmas.Standing.{stands_same, length-octets_32}
 use Rattle.zsv_message.specs.Gathering.{holds_options}
 use Rattle.zsv_message.specs.Messages.{data_octets}
 use Rattle.zsv_message.specs.Sections.{is_opt, is_tsig}
@@ -62,15 +62,15 @@ bare_alike t message place len v w (inr a) (inr b) = not_bare message place (pla
 -- The type of a number has that number.
 number_back : (named : List RecordType) (n : ℕ) → record_type_number (unwrap_or (find (λ t. record_type_number t == n) named) (kind.Unknown n)) ≡ n
 number_back [] n = refl
-number_back (x ∷ xs) n = by (record_type_number x == n) refl where
-  by : (b : Bool) → (record_type_number x == n) ≡ b → record_type_number (unwrap_or (cond b (Some x) (find (λ t. record_type_number t == n) xs)) (kind.Unknown n)) ≡ n
-  by true e = eqb→eq e
-  by false e = number_back xs n
+number_back (x ∷ xs) n = by (record_type_number x == n) refl (number_back xs n) where
+  by : (b : Bool) → (record_type_number x == n) ≡ b → record_type_number (unwrap_or (find (λ t. record_type_number t == n) xs) (kind.Unknown n)) ≡ n → record_type_number (unwrap_or (cond b (Some x) (find (λ t. record_type_number t == n) xs)) (kind.Unknown n)) ≡ n
+  by true e later = eqb-true (record_type_number x) n e
+  by false e later = later
 
 -- A type that is read, and is the same as another, is that of its number.
 type_is : (t u : RecordType) (n : ℕ) → t ≡ record_type_of n → same_record_type t u ≡ true → t ≡ record_type_of (record_type_number u)
 type_is t u n means same =
-    let number : n ≡ record_type_number u = sym (ap record_type_number means ∙ number_back named_record_types n) ∙ eqb→eq same in
+    let number : n ≡ record_type_number u = sym (ap record_type_number means ∙ number_back named_record_types n) ∙ eqb-true (record_type_number t) (record_type_number u) same in
     means ∙ ap record_type_of number
 
 pub opt_type : (message : List ℕ) (place end : ℕ) (r : Record) → RecordAt message place r end → is_opt r ≡ true → type_of r.rdata ≡ kind.OPT

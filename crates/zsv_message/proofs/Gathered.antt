@@ -1,5 +1,6 @@
 -- What is kept of one record more of an additional section, and what it means where none is read.
-use Rattle.std.proofs.Common.{◌≡◌, ℕ, ◌+◌, ◌-◌, ◌<◌, ◌≤◌, Bool, true, false, not, ◌||◌, List, [], ◌∷◌, ◌++◌, length, Option, Some, None, refl, sym, ap, subst, inl, inr, ◌∙◌, ◌⊎◌, arith, true≢false, append-nil, length-append, eqb→eq}
+use Rattle.std.proofs.Common.{◌≡◌, ℕ, ◌+◌, ◌-◌, ◌^◌, ◌<◌, ◌≤◌, Bool, true, false, not, ◌||◌, List, [], ◌∷◌, ◌++◌, length, Option, Some, None, refl, sym, ap, subst, inl, inr, ◌∙◌, ◌⊎◌, arith, true≢false, append-nil, length-append}
+use Rattle.std.proofs.lemmas.Bool.{eqb-true}
 use Rattle.std.proofs.lemmas.List.Elements.{filter-append}
 use Rattle.std.proofs.lemmas.List.Folds.{find-append}
 use Rattle.std.specs.List.{filter}
@@ -16,24 +17,25 @@ use Rattle.zst_record.specs.declared.records.Record.{Record}
 use Rattle.zst_record.specs.Records.{RecordAt}
 use Rattle.zsv_parts.specs.declared.header.OpCode.{OpCode}
 use Rattle.zsv_parts.specs.declared.tsig.TsigRecord.{TsigRecord}
-use Rattle.zsv_parts.specs.Signatures.{RefusesTsig}
+use Rattle.zsv_parts.specs.declared.tsig.Tsig.{Tsig}
+use Rattle.zsv_parts.specs.Signatures.{RefusesTsig, TsigAt}
 use Rattle.zsv_message.specs.declared.additionals.Additionals.{Additionals}
 use Rattle.zsv_message.specs.declared.placing.Placing.{Placing}
 use Rattle.zsv_message.specs.Gathering.{Gathers}
-use Rattle.zsv_message.specs.Messages.{AdditionalsAt, IsEdnsFor, IsEdnsRecord, IsSignatureFor, IsSigned, RefusesAdditionals, data_octets, in_additionals, other_records}
+use Rattle.zsv_message.specs.Messages.{AdditionalsAt, IsEdnsFor, IsEdnsRecord, IsSignatureFor, IsSigned, RefusesAdditionals, data_octets, in_additionals, is_update, other_records}
 use Rattle.zsv_message.specs.Sections.{PlacedRecords, RefusesPlaced, SectionAt, is_opt, is_signature, is_tsig, misplaced, past, past_all}
 use Rattle.zsv_message.proofs.Alike.{are_alike, tsig_holds}
 use Rattle.zsv_message.proofs.Sectioning.{goes_on, may_stand, past_more, placed_more, section_none, section_refused}
 
 -- The first of a list and one more that passes a test.
 find_more : (test : Record → Bool) (rs : List Record) (r : Record) → test r ≡ false → find test (rs ++ r ∷ []) ≡ find test rs
-find_more test rs r no = find-append test rs (r ∷ []) ∙ ap (λ (b : Bool). option_or (find test rs) (cond b (Some r) None)) no ∙ or_none (find test rs) where
+find_more test rs r fails = find-append test rs (r ∷ []) ∙ ap (λ (b : Bool). option_or (find test rs) (cond b (Some r) None)) fails ∙ or_none (find test rs) where
   or_none : (o : Option Record) → option_or o None ≡ o
   or_none None = refl
   or_none (Some x) = refl
 
 find_last : (test : Record → Bool) (rs : List Record) (r : Record) → find test rs ≡ None → test r ≡ true → find test (rs ++ r ∷ []) ≡ Some r
-find_last test rs r none yes = find-append test rs (r ∷ []) ∙ ap (λ (o : Option Record). option_or o (find test (r ∷ []))) none ∙ ap (λ (b : Bool). cond b (Some r) None) yes
+find_last test rs r none passes = find-append test rs (r ∷ []) ∙ ap (λ (o : Option Record). option_or o (find test (r ∷ []))) none ∙ ap (λ (b : Bool). cond b (Some r) None) passes
 
 neither : (a b : Bool) → (a || b) ≡ false → (a ≡ false) × (b ≡ false)
 neither false false e = (refl, refl)
@@ -67,8 +69,8 @@ opt_no_tsig t e = by (same_record_type t kind.TSIG) refl where
   by : (b : Bool) → same_record_type t kind.TSIG ≡ b → b ≡ false
   by false other = refl
   by true other =
-      let opt : record_type_number t ≡ 41 = eqb→eq e in
-      let tsig : record_type_number t ≡ 250 = eqb→eq other in
+      let opt : record_type_number t ≡ 41 = eqb-true (record_type_number t) 41 e in
+      let tsig : record_type_number t ≡ 250 = eqb-true (record_type_number t) 250 other in
       absurd (omega (arith, opt, tsig))
 
 -- No signature stays none, wherever the records end.
@@ -155,9 +157,9 @@ pub gathers_all : (op : OpCode) (message : List ℕ) (place n : ℕ) (found : Ad
 gathers_all op message place n found at g = record {
   standing = g.standing;
   there = g.there;
-  additionals = g.additionals;
-  edns = g.edns;
-  signature = g.signature;
+  rest = g.additionals;
+  options = g.edns;
+  signs = g.signature;
 }
 
 -- The next record is refused, or its data as those of a signature.
@@ -221,9 +223,30 @@ signature_none op message place n count found at r end octets e more g here may 
     let same : last ≡ end = closed.1 ∙ alike.end in
     by on.one t none
     (λ (theirs : List ℕ) (whole : data_octets on.one.rdata ≡ Some theirs). ap length (same_octets theirs other.0 (data_octets on.one.rdata) whole other.1) ∙ long) last same
-    (subst (λ (f : Option Record). IsSignatureFor message last f t) first a.signature)) where
+    (subst (λ (f : Option Record). IsSignatureFor message last f t) first a.signs)) where
       by : (one : Record) (t : Option TsigRecord) → ((s : Record) (t : TsigRecord) → IsSigned message (end - length octets) (length octets) s t → ⊥) → ((theirs : List ℕ) → data_octets one.rdata ≡ Some theirs → length theirs ≡ length octets) → (last : ℕ) → last ≡ end → IsSignatureFor message last (Some one) t → ⊥
       by one None none count last same is = is
       by one (Some t) none count last same is =
           let len = count is.octets is.whole in
           none one t (subst (λ (n : ℕ). IsSigned message (end - n) n one t) len (subst (λ (p : ℕ). IsSigned message (p - length is.octets) (length is.octets) one t) same is.there))
+
+-- Where no data of a signature stand, no signature does.
+pub none_signed : (message : List ℕ) (place len : ℕ) (e : DecodeError) → IsWantOfMemory e ⊎ ((tsig : Tsig) → TsigAt message place len tsig → ⊥) → IsWantOfMemory e ⊎ ((r : Record) (t : TsigRecord) → IsSigned message place len r t → ⊥)
+none_signed message place len e (inl memory) = inl memory
+none_signed message place len e (inr none) = inr (λ r t is. none t.rdata is.rdata)
+
+-- The data of a signature's record are octets, as many as were counted, and end where the record does.
+pub record SignatureData (end : ℕ) (r : Record) (len : ℕ) : Type 0 where
+  pub octets : List ℕ
+  pub whole : data_octets r.rdata ≡ Some octets
+  pub counted : len ≡ length octets
+  pub inside : len ≤ end
+
+pub signature_data : (at : Placing) (message : List ℕ) (place end : ℕ) (r : Record) (len : ℕ) → RecordAt message place r end → misplaced at r ≡ None → is_tsig r ≡ true → ((octets : List ℕ) → data_octets r.rdata ≡ Some octets → length octets < 2 ^ 16 → len ≡ length octets) → SignatureData end r len
+signature_data at message place end r len here may is counts =
+    let held = tsig_holds message place end r here is ((may_stand at r may).some is) in
+    let count : len ≡ length held.0 = counts held.0 held.1 (omega (arith, held.2, here.small_len)) in
+    record { octets = held.0; whole = held.1; counted = count; inside = omega (arith, count, held.2, here.filled) }
+
+pub starts_additionals : (b : Bool) (op : OpCode) → b ≡ is_update op → record { is_update = b; is_additional = true; is_signed = false; has_options = false } ≡ in_additionals op
+starts_additionals b op e = λ i. record { is_update = e i; is_additional = true; is_signed = false; has_options = false }

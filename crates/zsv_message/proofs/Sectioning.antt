@@ -17,9 +17,13 @@ use Rattle.zsv_message.specs.Sections.{PlacedRecords, RefusesPlaced, RefusesSect
 use Rattle.zsv_message.proofs.Alike.{are_alike, bare_alike}
 
 -- What tells whether a record is misplaced, and where the next one stands: its type, its owner, and whether it has data.
-type_opt type_tsig type_signature : RecordType → Bool
+type_opt : RecordType → Bool
 type_opt t = same_record_type t kind.OPT
+
+type_tsig : RecordType → Bool
 type_tsig t = same_record_type t kind.TSIG
+
+type_signature : RecordType → Bool
 type_signature t = type_tsig t || same_record_type t kind.SIG
 
 told : Placing → RecordType → DomainName → Bool → Option DecodeError
@@ -35,7 +39,7 @@ behind at t = record at { is_signed = at.is_signed || type_signature t; has_opti
 
 -- Records that stand at one place may stand there alike, and leave the same behind them.
 pub misplaced_alike : (at : Placing) (message : List ℕ) (place : ℕ) (a b : Record) (e f : ℕ) → RecordAt message place a e → RecordAt message place b f → misplaced at a ≡ misplaced at b
-unfolding told
+unfolding told type_opt type_signature type_tsig
 misplaced_alike at message place a b e f p q =
     let same = are_alike message place a b e f p q in
     let other : ReadsAs (type_of b.rdata) message q.first q.len a.rdata =
@@ -46,7 +50,7 @@ misplaced_alike at message place a b e f p q =
     λ i. told at (same.kind i) (same.owner i) (bare i)
 
 pub past_alike : (at : Placing) (message : List ℕ) (place : ℕ) (a b : Record) (e f : ℕ) → RecordAt message place a e → RecordAt message place b f → past at a ≡ past at b
-unfolding behind
+unfolding behind type_signature type_opt type_tsig
 past_alike at message place a b e f p q =
     let same = are_alike message place a b e f p q in
     λ i. behind at (same.kind i)
@@ -90,7 +94,7 @@ continues at message place (x ∷ xs) next (y ∷ ys) end here there long =
       front = y ∷ later.front;
       rest = later.rest;
       whole = ap (λ (rs : List Record). y ∷ rs) later.whole;
-      long = ap (λ (n : ℕ). n + 1) later.long;
+      long = omega (arith, later.long);
       same = ap (λ (p : Placing). past_all p later.front) same ∙ later.same;
       there = later.there;
     }
@@ -192,7 +196,7 @@ may_stand at r none =
 
 -- Before the additional section nothing changes where records stand.
 stays : (at : Placing) (signature opt : Bool) → signature ≡ false → opt ≡ false → record at { is_signed = at.is_signed || signature; has_options = at.has_options || opt } ≡ at
-stays at signature opt no none = λ i. record at { is_signed = (ap (λ (b : Bool). at.is_signed || b) no ∙ or_false at.is_signed) i; has_options = (ap (λ (b : Bool). at.has_options || b) none ∙ or_false at.has_options) i }
+stays at signature opt unsigned none = λ i. record at { is_signed = (ap (λ (b : Bool). at.is_signed || b) unsigned ∙ or_false at.is_signed) i; has_options = (ap (λ (b : Bool). at.has_options || b) none ∙ or_false at.has_options) i }
 
 pub past_ordinary : (at : Placing) (r : Record) → at.is_additional ≡ false → misplaced at r ≡ None → past at r ≡ at
 past_ordinary at r before none =
@@ -205,3 +209,26 @@ past_all_ordinary at message place (r ∷ rs) end before there =
     let same = past_ordinary at r before there.2 in
     ap (λ (p : Placing). past_all p rs) same
     ∙ past_all_ordinary at message there.0 rs end before (subst (λ (p : Placing). PlacedRecords p message there.0 rs end) same there.3)
+
+-- Where no record stands, none may; and where one stands that may not, no other one may.
+pub none_may : (at : Placing) (message : List ℕ) (place : ℕ) (e : DecodeError) → IsWantOfMemory e ⊎ ((r : Record) (end : ℕ) → RecordAt message place r end → ⊥) → IsWantOfMemory e ⊎ ((r : Record) (end : ℕ) → RecordAt message place r end → misplaced at r ≡ None → ⊥)
+none_may at message place e (inl memory) = inl memory
+none_may at message place e (inr none) = inr (λ r end here may. none r end here)
+
+pub no_other_may : (at : Placing) (message : List ℕ) (place : ℕ) (standing : Record) (end : ℕ) (e : DecodeError) → RecordAt message place standing end → misplaced at standing ≡ Some e → IsWantOfMemory e ⊎ ((r : Record) (end : ℕ) → RecordAt message place r end → misplaced at r ≡ None → ⊥)
+no_other_may at message place standing end e here cause = inr (λ r behind other may.
+    no_cause e (sym cause ∙ misplaced_alike at message place standing r end behind here other ∙ may))
+
+-- One record more before the additional section, where nothing changes.
+pub ordinary_more : (at : Placing) (message : List ℕ) (place : ℕ) (before : List Record) (next : ℕ) (r : Record) (end : ℕ) → at.is_additional ≡ false → PlacedRecords at message place before next → RecordAt message next r end → misplaced at r ≡ None → PlacedRecords at message place (before ++ r ∷ []) end
+ordinary_more at message place before next r end ordinary there here may =
+    placed_more at message place before next r end there here (subst (λ (p : Placing). misplaced p r ≡ None) (sym (past_all_ordinary at message place before next ordinary there)) may)
+
+pub ordinary_refused : (at : Placing) (message : List ℕ) (place count : ℕ) (before : List Record) (next : ℕ) (e : DecodeError) → at.is_additional ≡ false → PlacedRecords at message place before next → length before < count → RefusesPlaced at message next e → RefusesSection at message place count e
+ordinary_refused at message place count before next e ordinary there more cause =
+    section_refused at message place count before next e there more (subst (λ (p : Placing). RefusesPlaced p message next e) (sym (past_all_ordinary at message place before next ordinary there)) cause)
+
+pub ordinary_none : (at : Placing) (message : List ℕ) (place count : ℕ) (before : List Record) (next : ℕ) (e : DecodeError) → at.is_additional ≡ false → PlacedRecords at message place before next → length before < count → IsWantOfMemory e ⊎ ((r : Record) (end : ℕ) → RecordAt message next r end → misplaced at r ≡ None → ⊥) → IsWantOfMemory e ⊎ ((records : List Record) (end : ℕ) → SectionAt at message place count records end → ⊥)
+ordinary_none at message place count before next e ordinary there more none =
+    section_none at message place count before next e there more
+    (subst (λ (p : Placing). IsWantOfMemory e ⊎ ((r : Record) (end : ℕ) → RecordAt message next r end → misplaced p r ≡ None → ⊥)) (sym (past_all_ordinary at message place before next ordinary there)) none)

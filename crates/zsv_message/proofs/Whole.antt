@@ -2,14 +2,14 @@
 use Rattle.std.proofs.Common.{◌≡◌, ℕ, ◌+◌, ◌<◌, ◌≤◌, Bool, true, false, List, [], ◌∷◌, ◌++◌, length, Option, Some, None, Err, refl, sym, ap, subst, inl, inr, ◌∙◌, ◌⊎◌, arith, length-append}
 use Rattle.zst_edns.specs.declared.edns.Edns.{Edns}
 use Rattle.zst_record.specs.dnw_codes.declared.error.DecodeError.{DecodeError}
-use Rattle.zst_record.specs.dnw_decoder.Reading.{IsCut, IsWantOfMemory}
+use Rattle.zst_record.specs.dnw_decoder.Reading.{IsCut, IsWantOfMemory, Reading, reading}
 use Rattle.zst_record.specs.declared.records.Record.{Record}
 use Rattle.zsv_parts.specs.declared.header.Header.{Header}
 use Rattle.zsv_parts.specs.declared.header.Metadata.{Metadata}
 use Rattle.zsv_parts.specs.declared.header.OpCode.{OpCode}
 use Rattle.zsv_parts.specs.declared.question.Query.{Query}
 use Rattle.zsv_parts.specs.declared.tsig.TsigRecord.{TsigRecord}
-use Rattle.zsv_parts.specs.Headers.{header_of}
+use Rattle.zsv_parts.specs.Headers.{HeaderAt, header_of}
 use Rattle.zsv_parts.specs.Questions.{Asked, AskedAt, QuestionAt, RefusesQuestions}
 use Rattle.zsv_parts.specs.Wire.{Entries}
 use Rattle.zsv_parts.proofs.Questions.{question_once}
@@ -75,7 +75,7 @@ answers_err octets h asked place e a refused none =
     let there = asked_there octets h asked place a in
     let refused = subst (λ (h : Header). IsWantOfMemory e ⊎ RefusesSection (before_additionals h.metadata.op_code) octets place h.counts.answers e) a.means refused in
     let none = subst (λ (h : Header). IsWantOfMemory e ⊎ ((records : List Record) (end : ℕ) → SectionAt (before_additionals h.metadata.op_code) octets place h.counts.answers records end → ⊥)) a.means none in (
-      behind_header octets e a.long (or_map (λ r. no_answers there r) refused),
+      behind_header octets e a.long (or_map (λ r. no_answers asked place there r) refused),
       or_map (λ (none : (records : List Record) (end : ℕ) → SectionAt (before_additionals (header_of octets).metadata.op_code) octets place (header_of octets).counts.answers records end → ⊥) (m : Message) (is : IsMessage octets m).
           none m.answers is.answers_end (subst (λ (p : ℕ). SectionAt (before_additionals (header_of octets).metadata.op_code) octets p (header_of octets).counts.answers m.answers is.answers_end)
           (asked_end octets 12 (header_of octets).counts.queries m.asked asked is.questions_end place is.questions there) is.answers)) none,
@@ -87,7 +87,7 @@ authorities_err octets h asked answers first place e a found refused none =
     let found = subst (λ (h : Header). SectionAt (before_additionals h.metadata.op_code) octets first h.counts.answers answers place) a.means found in
     let refused = subst (λ (h : Header). IsWantOfMemory e ⊎ RefusesSection (before_additionals h.metadata.op_code) octets place h.counts.authorities e) a.means refused in
     let none = subst (λ (h : Header). IsWantOfMemory e ⊎ ((records : List Record) (end : ℕ) → SectionAt (before_additionals h.metadata.op_code) octets place h.counts.authorities records end → ⊥)) a.means none in (
-      behind_header octets e a.long (or_map (λ r. no_authorities there found r) refused),
+      behind_header octets e a.long (or_map (λ r. no_authorities asked answers first place there found r) refused),
       or_map (λ (none : (records : List Record) (end : ℕ) → SectionAt (before_additionals (header_of octets).metadata.op_code) octets place (header_of octets).counts.authorities records end → ⊥) (m : Message) (is : IsMessage octets m).
           let questions = asked_end octets 12 (header_of octets).counts.queries m.asked asked is.questions_end first is.questions there in
           let answers_end = section_end (before_additionals (header_of octets).metadata.op_code) octets first (header_of octets).counts.answers m.answers answers is.answers_end place
@@ -102,7 +102,7 @@ additionals_err octets h asked answers authorities first second place e a found 
     let more = subst (λ (h : Header). SectionAt (before_additionals h.metadata.op_code) octets second h.counts.authorities authorities place) a.means more in
     let refused = subst (λ (h : Header). IsWantOfMemory e ⊎ RefusesAdditionals h.metadata.op_code octets place h.counts.additionals e) a.means refused in
     let none = subst (λ (h : Header). IsWantOfMemory e ⊎ ((rs : List Record) (o : Option Edns) (t : Option TsigRecord) (end : ℕ) → AdditionalsAt octets h.metadata.op_code place h.counts.additionals rs o t end → ⊥)) a.means none in (
-      behind_header octets e a.long (or_map (λ r. no_additionals there found more r) refused),
+      behind_header octets e a.long (or_map (λ r. no_additionals asked answers authorities first second place there found more r) refused),
       or_map (λ (none : (rs : List Record) (o : Option Edns) (t : Option TsigRecord) (end : ℕ) → AdditionalsAt octets (header_of octets).metadata.op_code place (header_of octets).counts.additionals rs o t end → ⊥) (m : Message) (is : IsMessage octets m).
           let questions = asked_end octets 12 (header_of octets).counts.queries m.asked asked is.questions_end first is.questions there in
           let answers_end = section_end (before_additionals (header_of octets).metadata.op_code) octets first (header_of octets).counts.answers m.answers answers is.answers_end second
@@ -126,3 +126,14 @@ is_message octets h asked answers authorities additionals edns signature metadat
   additionals = subst (λ (h : Header). AdditionalsAt octets h.metadata.op_code third h.counts.additionals additionals edns signature end) a.means last;
   metadata = joined ∙ ap (λ (h : Header). joined_metadata h.metadata edns) a.means;
 }
+
+-- The questions behind a header that was read.
+pub asks_of : (octets : List ℕ) (begin read asked_reader : Reading) (h : Header) (asked : Asked) → begin ≡ reading octets 0 → HeaderAt begin.octets begin.index h read.index → read.octets ≡ begin.octets → AskedAt read.octets read.index h.counts.queries asked asked_reader.index → Asks octets h asked asked_reader.index
+asks_of octets begin read asked_reader h asked start at same there =
+    let octets_are : read.octets ≡ octets = same ∙ ap (λ (r : Reading). r.octets) start in
+    let at_start : HeaderAt octets 0 h read.index = subst (λ (r : Reading). HeaderAt r.octets r.index h read.index) start at in
+    record {
+      means = at_start.means;
+      long = omega (arith, at_start.within, at_start.behind);
+      there = subst (λ (p : ℕ). AskedAt octets p h.counts.queries asked asked_reader.index) at_start.behind (subst (λ (o : List ℕ). AskedAt o read.index h.counts.queries asked asked_reader.index) octets_are there);
+    }

@@ -1,5 +1,5 @@
 -- Messages: RFC 1035, section 4.1; RFC 6891, section 6.1; RFC 8945, section 4.2.
-use Rattle.std.specs.Prelude.{◌≡◌, ℕ, ◌-◌, ◌<◌, ◌≤◌, Bool, true, false, not, ◌||◌, ◌⊎◌, List, length, Option, Some, None, find, Result, Ok, Err}
+use Rattle.std.specs.Prelude.{◌≡◌, ℕ, ◌-◌, ◌<◌, ◌≤◌, Bool, true, false, not, ◌||◌, ◌⊎◌, ◌++◌, List, [], ◌∷◌, length, Option, Some, None, find, Result, Ok, Err}
 use Rattle.std.specs.List.{filter}
 use Rattle.zst_record.specs.dnw_codes.declared.error.DecodeError.{DecodeError}
 use Rattle.zst_record.specs.dnw_codes.DNSClass.{class_number}
@@ -112,13 +112,13 @@ other_records records = filter (λ r. not (is_opt r || is_tsig r)) records
 
 -- An additional section: so many records, and what is kept of them.
 pub record AdditionalsAt (message : List ℕ) (op : OpCode) (place count : ℕ)
-    (additionals : List Record) (edns : Option Edns) (signature : Option TsigRecord) (end : ℕ) :
+    (others : List Record) (edns : Option Edns) (signature : Option TsigRecord) (end : ℕ) :
     Type 0 where
   pub standing : List Record
   pub there : SectionAt (in_additionals op) message place count standing end
-  pub additionals : additionals ≡ other_records standing
-  pub edns : IsEdnsFor (find is_opt standing) edns
-  pub signature : IsSignatureFor message end (find is_tsig standing) signature
+  pub rest : others ≡ other_records standing
+  pub options : IsEdnsFor (find is_opt standing) edns
+  pub signs : IsSignatureFor message end (find is_tsig standing) signature
 
 -- A message: a header, and as many questions and records as it counts, one behind the other. What
 -- stands behind the last one is free.
@@ -162,17 +162,18 @@ pub data RefusesMessage (octets : List ℕ) (e : DecodeError) : Type 0 where
   no_header : IsCut 12 octets 0 e → RefusesMessage octets e
   no_questions : RefusesQuestions octets 12 (header_of octets).counts.queries e
       → RefusesMessage octets e
-  no_answers : {asked : Asked} {place : ℕ}
+  no_answers : (asked : Asked) (place : ℕ)
       → AskedAt octets 12 (header_of octets).counts.queries asked place
       → RefusesSection (before_additionals (header_of octets).metadata.op_code) octets place
       (header_of octets).counts.answers e → RefusesMessage octets e
-  no_authorities : {asked : Asked} {answers : List Record} {first place : ℕ}
+  no_authorities : (asked : Asked) (answers : List Record) (first place : ℕ)
       → AskedAt octets 12 (header_of octets).counts.queries asked first
       → SectionAt (before_additionals (header_of octets).metadata.op_code) octets first
       (header_of octets).counts.answers answers place
       → RefusesSection (before_additionals (header_of octets).metadata.op_code) octets place
       (header_of octets).counts.authorities e → RefusesMessage octets e
-  no_additionals : {asked : Asked} {answers authorities : List Record} {first second place : ℕ}
+  no_additionals : (asked : Asked) (answers authorities : List Record)
+      (first second place : ℕ)
       → AskedAt octets 12 (header_of octets).counts.queries asked first
       → SectionAt (before_additionals (header_of octets).metadata.op_code) octets first
       (header_of octets).counts.answers answers second

@@ -1,7 +1,7 @@
 //! The additional section: the options and the signature of a message stand among its records (RFC 6891 section 6.1.1,
 //! RFC 8945 section 5.1).
 
-ghost use Rattle.std.specs.Prelude.{◌≡◌, ◌+◌, ◌-◌, ◌<◌, ◌≤◌, ◌^◌, ◌⊎◌, ℕ, List, Option, Some, true, length, IfOk, IfErr, OnOk};
+ghost use Rattle.std.specs.Prelude.{◌≡◌, ◌+◌, ◌-◌, ◌<◌, ◌≤◌, ◌^◌, ◌⊎◌, ℕ, List, [], Option, Some, None, true, false, length, IfOk, IfErr, OnOk};
 ghost use Rattle.zst_edns.specs.declared.edns.Edns.{Edns as Options};
 ghost use Rattle.zst_record.specs.dnw_decoder.Reading.{IsWantOfMemory};
 ghost use Rattle.zst_record.specs.declared.records.Record.{Record as Entry};
@@ -9,11 +9,12 @@ ghost use Rattle.zsv_parts.specs.declared.header.OpCode.{OpCode};
 ghost use Rattle.zsv_parts.specs.declared.tsig.TsigRecord.{TsigRecord as Signature};
 ghost use Rattle.zsv_parts.specs.Signatures.{RefusesTsig, TsigAt};
 ghost use Rattle.zsv_message.specs.Gathering.{Gathers, holds_options};
-ghost use Rattle.zsv_message.specs.Messages.{AdditionalsAt, IsEdnsRecord, IsSigned, RefusesAdditionals, data_octets, is_update};
+ghost use Rattle.zsv_message.specs.Messages.{AdditionalsAt, IsEdnsRecord, IsSigned, RefusesAdditionals, data_octets, is_update as updates};
 
 use crate::placing::{Placing, is_opt, is_tsig};
 use crate::section::read_placed;
 use std::alloc::Global;
+use std::mem;
 use zst_edns::Edns;
 use zst_record::{BinDecoder, DecodeError, RData, Record};
 use zsv_parts::{Tsig, TsigRecord};
@@ -81,8 +82,9 @@ fn signature_of(
         name,
         dns_class,
         ttl,
-        ..
+        rdata,
     } = standing;
+    mem::drop(rdata);
     decoder.set_index(decoder.index() - usize::from(len));
     let rdata = Tsig::read_data(alloc, decoder, len)?;
     Ok(TsigRecord {
@@ -95,7 +97,12 @@ fn signature_of(
 
 impl Additionals {
     // Nothing yet.
-    fn new(alloc: Global, is_update: bool) -> Additionals {
+    fn new(alloc: Global, is_update: bool) -> Additionals
+        ensures records { result.records.items ≡ [] }
+        ensures edns { result.edns ≡ None }
+        ensures signature { result.signature ≡ None }
+        ensures next { result.next ≡ record { is_update = is_update; is_additional = true; is_signed = false; has_options = false } }
+    {
         Additionals {
             records: Vec::new(alloc),
             edns: None,
@@ -132,10 +139,10 @@ impl Additionals {
             self.signature = Some(signature_of(alloc, decoder, standing, len)?);
             return Ok(());
         }
-        match self.records.push(standing) {
-            Ok(()) => Ok(()),
-            Err(_) => Err(DecodeError::Memory),
-        }
+        let Ok(()) = self.records.push(standing) else {
+            return Err(DecodeError::Memory);
+        };
+        Ok(())
     }
 
     /// What is kept of so many records from the decoder's index on, which moves behind them.
@@ -145,12 +152,12 @@ impl Additionals {
         count: u16,
         is_update: bool,
     ) -> Result<Additionals, DecodeError>
-        ensures ok { (op : OpCode) → is_update ≡ is_update op → IfOk result
+        ensures ok { (op : OpCode) → is_update ≡ updates op → IfOk result
             (λ a. AdditionalsAt decoder.old.octets op decoder.old.index count a.records.items a.edns a.signature decoder.new.index) }
         ensures same { decoder.new.octets ≡ decoder.old.octets }
-        ensures refused { (op : OpCode) → is_update ≡ is_update op → IfErr result
+        ensures refused { (op : OpCode) → is_update ≡ updates op → IfErr result
             (λ e. IsWantOfMemory e ⊎ RefusesAdditionals op decoder.old.octets decoder.old.index count e) }
-        ensures none { (op : OpCode) → is_update ≡ is_update op → IfErr result (λ e. IsWantOfMemory e
+        ensures none { (op : OpCode) → is_update ≡ updates op → IfErr result (λ e. IsWantOfMemory e
             ⊎ ((rs : List Entry) (o : Option Options) (t : Option Signature) (end : ℕ)
             → AdditionalsAt decoder.old.octets op decoder.old.index count rs o t end → ⊥)) }
     {

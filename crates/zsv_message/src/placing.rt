@@ -2,7 +2,7 @@
 
 ghost use Rattle.std.specs.Prelude.{◌≡◌, ◌&&◌, ◌||◌, not};
 ghost use Rattle.zst_record.specs.drd_rdata.Types.{is_update0};
-ghost use Rattle.zsv_message.specs.Sections.{is_opt, is_signature, is_tsig, misplaced, past};
+ghost use Rattle.zsv_message.specs.Sections.{is_opt, is_root, is_signature, is_tsig, misplaced, past};
 
 use zst_record::{DecodeError, RData, Record, RecordType};
 
@@ -49,7 +49,7 @@ fn is_of_message(standing: &Record) -> bool
 
 // Whether options have another owner than the root.
 fn is_owned_opt(standing: &Record) -> bool
-    ensures { result ≡ (is_opt standing.now && not (standing.now.name.fqdn && (length standing.now.name.labels == 0))) }
+    ensures { result ≡ (is_opt standing.now && not (is_root standing.now.name)) }
 {
     is_opt(standing) && !standing.name.is_root()
 }

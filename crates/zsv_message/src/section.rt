@@ -1,6 +1,6 @@
 //! The records of a section (RFC 1035 section 4.1.3).
 
-ghost use Rattle.std.specs.Prelude.{◌≡◌, ◌≤◌, ◌⊎◌, ℕ, List, None, length, IfOk, IfErr};
+ghost use Rattle.std.specs.Prelude.{◌≡◌, ◌≤◌, ◌⊎◌, ℕ, List, None, false, length, IfOk, IfErr};
 ghost use Rattle.zst_record.specs.dnw_decoder.Reading.{IsWantOfMemory};
 ghost use Rattle.zst_record.specs.declared.records.Record.{Record as Entry};
 ghost use Rattle.zst_record.specs.Records.{RecordAt};

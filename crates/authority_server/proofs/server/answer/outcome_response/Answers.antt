@@ -11,5 +11,5 @@ pub returns-in-Continue-Err : goal.returns-in-Continue-Err
 returns-in-Continue-Err g c =
     let answers = c.in_ok-found.ensures in
     let is = c.in-Continue-Err.is ∙ ap (λ (r : Result AuthLookup LookupError). Continue r) c.in-Continue-Err.field-0-is in
-    let told = subst (λ (flow : LookupControlFlow AuthLookup LookupError). Tells (record { dnssec_ok = false }) answers.outcome flow) is answers.told in
+    let told = subst (λ (flow : LookupControlFlow AuthLookup LookupError). Tells c.args.options answers.outcome flow) is answers.told in
     IfOk-weaker c.denied_response.result _ _ (λ r shown. (answers.outcome, answers.is, shown)) (c.denied_response.ensures answers.outcome c.args.question.now.query_type told)

@@ -1,27 +1,10 @@
-use Rattle.std.proofs.Common.{◌≡◌, ◌∙◌, ap, sym, None, List}
-use Rattle.std.specs.Prelude.{option_copied, option_map}
-use Rattle.zst_record.specs.dnw_name.DomainName.{lowercase_name}
-use Rattle.zst_record.specs.RecordSets.{RRset, renamed}
-use Rattle.zst_handler.specs.Found.{delegation, here}
-use Rattle.zst_map.proofs.Searched.{third_found, wildcard_found}
+use Rattle.std.proofs.Common.{◌∙◌, ap, sym, List, None, ◌≡◌}
+use Rattle.zst_record.specs.RecordSets.{RRset}
+use Rattle.zst_handler.specs.Found.{delegation}
+use Rattle.zst_map.proofs.Searched.{no_delegation}
 use Rattle.zst_map.proofs.zone_sets.ZoneSets.search.Goals as goal
 
-pub returns-in-Some-2 : goal.returns-in-Some-2
-returns-in-Some-2 c =
-    let zone = c.args.self.now in
-    let first : delegation zone c.args.key.now c.args.record_type ≡ None = sym c.in_ok-set.ensures ∙ ap option_copied c.in_default.is in
-    let second : here zone c.args.record_type c.args.key.now ≡ None
-    = sym (ap (λ (z : List RRset). here z c.args.record_type c.args.key.now) c.self.view_is)
-    ∙ sym (c.here.ensures c.self.inside.sets c.args.key.now c.sets_at.ensures) ∙ ap option_copied c.in_default-here.is in
-    ap (option_map (renamed (lowercase_name c.args.key.now))) (sym (ap option_copied c.in-Some-2.is) ∙ c.in_ok-set-2.ensures)
-    ∙ wildcard_found zone c.args.key.now c.args.record_type ∙ sym (third_found zone c.args.key.now c.args.record_type first second)
-
-pub returns-in-None : goal.returns-in-None
-returns-in-None c =
-    let zone = c.args.self.now in
-    let first : delegation zone c.args.key.now c.args.record_type ≡ None = sym c.in_ok-set.ensures ∙ ap option_copied c.in_default.is in
-    let second : here zone c.args.record_type c.args.key.now ≡ None
-    = sym (ap (λ (z : List RRset). here z c.args.record_type c.args.key.now) c.self.view_is)
-    ∙ sym (c.here.ensures c.self.inside.sets c.args.key.now c.sets_at.ensures) ∙ ap option_copied c.in_default-here.is in
-    ap (option_map (renamed (lowercase_name c.args.key.now))) (sym (ap option_copied c.in-None.is) ∙ c.in_ok-set-2.ensures)
-    ∙ wildcard_found zone c.args.key.now c.args.record_type ∙ sym (third_found zone c.args.key.now c.args.record_type first second)
+pub search_uncut-requires-clause-uncut : goal.search_uncut-requires-clause-uncut
+search_uncut-requires-clause-uncut c =
+    sym (ap (λ (zone : List RRset). delegation zone c.args.key.now c.args.record_type) c.self.view_is)
+    ∙ no_delegation c.self.inside.sets (c.self.invariant.uncut c.if-not-self.true) c.args.key.now c.args.record_type
