@@ -26,10 +26,10 @@ fronts_forward reply limit place parts kept f =
     )
 
 -- Where the questions of a message fit.
-pub reply_of_written : (message reply : List ℕ) (id count : ℕ) (asked : Asked) (end : ℕ) (parts : ReplyParts) (limit : ℕ) → AskedAt message 12 count asked end →
+pub reply_of_written : (message reply : List ℕ) (parts : ReplyParts) (asked : Asked) (id limit count end : ℕ) → AskedAt message 12 count asked end →
     12 + length asked.octets ≤ limit → IsWritten reply parts (length asked.questions) asked.octets limit →
-    IsReply message reply parts id asked limit
-reply_of_written message reply id count asked end parts limit is room w =
+    IsReply message reply parts asked id limit
+reply_of_written message reply parts asked id limit count end is room w =
     let first = 12 + length asked.octets in
     let same : SameThere message reply 12 first = record { octets = asked.octets; in_m = subst (λ (k : ℕ). Stands message 12 asked.octets k) is.octets.behind is.octets; in_n = w.asked } in
     let long = fronts_forward reply limit first parts w.kept w.fronts in

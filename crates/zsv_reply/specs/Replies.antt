@@ -125,9 +125,9 @@ bare_failure id = record {
   response_code = responses.ServFail;
 }
 
--- A reply of these parts, within the limit, to a message of this identifier and these questions.
-pub record IsReply (message reply : List ℕ) (parts : ReplyParts) (id : ℕ) (asked : Asked)
-    (limit : ℕ) : Type 0 where
+-- A reply of these parts, within the limit, to a message of these questions and this identifier.
+pub record IsReply (message reply : List ℕ) (parts : ReplyParts) (asked : Asked) (id limit : ℕ) :
+    Type 0 where
   pub within : length reply ≤ limit
   pub reserved : reserved_bit reply ≡ false
   pub whole : 12 + length asked.octets ≤ limit → IsWholeReply message reply parts asked limit

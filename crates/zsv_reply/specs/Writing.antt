@@ -29,8 +29,8 @@ pub record AllReadBack (parts : ReplyParts) : Type 0 where
   pub additionals : AllByRecursion ReadsBackAlone parts.additionals
   pub edns : AllByRecursion EdnsReadsBack (option_to_list parts.edns)
 
--- How many records were written, all or those before one that didn't fit, and whether there was
--- such a one.
+-- How many items were written, all or those before one that didn't fit, and whether there was such a
+-- one.
 abbrev pub written_count : Result ℕ ProtoError → Result (ℕ × Bool) ProtoError
 written_count (Ok count) = Ok (count, false)
 written_count (Err (NotAllRecordsWritten count)) = Ok (count, true)

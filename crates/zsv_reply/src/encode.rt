@@ -91,7 +91,7 @@ struct Kept {
     is_cut: bool,
 }
 
-// How many records were written: all, or those before one that didn't fit; and whether there was such a one.
+// How many items were written: all, or those before one that didn't fit; and whether there was such a one.
 fn count_written(written: Result<usize, ProtoError>) -> Result<(usize, bool), ProtoError>
     ensures { result ≡ written_count written }
 {
@@ -193,15 +193,15 @@ where
     }
 }
 
-// Whether a record of some list was left out.
+// Whether something was left out of some list.
 fn is_truncated(answers: Kept, authorities: Kept, additionals: Kept) -> bool
     ensures { result ≡ (answers.is_cut || authorities.is_cut || additionals.is_cut) }
 {
     answers.is_cut || authorities.is_cut || additionals.is_cut
 }
 
-// The header over so many questions and what is kept of each list. It says whether records were left out, and is read as
-// the last four bits of its response code.
+// The header over so many questions and what is kept of each list. It says whether something was left out. Of its
+// response code the last four bits are written.
 fn header_over(
     metadata: Metadata,
     queries: u16,
