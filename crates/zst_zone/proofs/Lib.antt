@@ -2,6 +2,7 @@ pub mod Answered
 pub mod ChainLinks
 pub mod LookupOnce
 pub mod LowerNames
+pub mod Made
 pub mod Matches
 pub mod ReadBack
 pub mod Stored

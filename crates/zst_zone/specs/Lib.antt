@@ -1,4 +1,5 @@
 pub mod Answering
+pub mod Makings
 pub mod Starts
 pub use Rattle.zst_map.specs.dnw_codes
 pub use Rattle.zst_map.specs.dnw_name

@@ -9,11 +9,13 @@ ghost use Rattle.zst_map.specs.dnw_codes.declared.record_type.RecordType.TheVari
 ghost use Rattle.zst_map.specs.zst_record.RecordSets.{none_left};
 ghost use Rattle.zst_map.specs.zst_handler.Updates.{Upserts, ZoneReplaces, upsert_changes};
 ghost use Rattle.zst_map.specs.zst_handler.Zones.{rrset_at, empty_zone, AddsTo, AreInOrder, AreStored, ZoneReadsBack};
+ghost use Rattle.zst_zone.specs.Makings.{PutsAll, RefusesAll, RefusesEntry, first_refusal, is_own_key, refusal};
 ghost use Rattle.zst_zone.specs.Starts.{RefusesSet, first_data, minimum_of, serial_of};
 
 use crate::back::all_read_back;
 use crate::lookup::lookup;
 use std::alloc::{AllocError, Global};
+use std::collections::BTreeMap;
 use std::marker::{Model, PhantomData};
 use std::mem;
 use thiserror::Error;
@@ -80,6 +82,44 @@ impl<K> InMemoryZoneHandler<K> {
             sets: ZoneSets::new(alloc),
             signer: PhantomData,
         })
+    }
+
+    /// A zone of these sets, which are put there in the order of owners and types. None is made where a set stands under
+    /// another owner or type than its own, or has no records; the first of these says why.
+    pub fn new(
+        alloc: Global,
+        origin: Name,
+        records: BTreeMap<RrKey, RecordSet>,
+        settings: ZoneSettings,
+    ) -> Result<InMemoryZoneHandler<K>, ZoneError>
+        ensures ok { IfOk result (λ zone. (first_refusal records.entries ≡ None) × PutsAll (empty_zone origin settings) records.entries zone) }
+        ensures refused { IfErr result (RefusesAll records.entries) }
+    {
+        let Ok(mut zone) = InMemoryZoneHandler::empty(alloc, origin, settings) else {
+            mem::drop(records);
+            return Err(ZoneError::OutOfMemory);
+        };
+        let mut left = records;
+        'sets: while let Some((at, set)) = left.pop_first() {
+            if let Err(refused) = zone.put_at(alloc, at, set) {
+                return Err(refused);
+            }
+        }
+        Ok(zone)
+    }
+
+    // Puts a set that is to stand under this owner and type.
+    fn put_at(&mut self, alloc: Global, at: RrKey, set: RecordSet) -> Result<(), ZoneError>
+        ensures ok { OnOk result ((refusal (at, set) ≡ None) × ZoneReplaces self.old set.name set.record_type (Some set) self.new) }
+        ensures refused { IfErr result (RefusesEntry at set) }
+    {
+        let is_own = is_own_key(&at, &set);
+        mem::drop(at);
+        if !is_own {
+            mem::drop(set);
+            return Err(ZoneError::WrongKey);
+        }
+        self.put_set(alloc, set)
     }
 
     /// Where the zone begins.
@@ -348,4 +388,11 @@ impl<K> InMemoryZoneHandler<K> {
     {
         &[]
     }
+}
+
+// Whether a set stands under its own owner and type.
+fn is_own_key(at: &RrKey, set: &RecordSet) -> bool
+    ensures { result ≡ is_own_key at.now set.now }
+{
+    at.record_type == set.record_type() && *at.name == *set.name()
 }

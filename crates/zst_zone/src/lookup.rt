@@ -181,12 +181,8 @@ fn additionals<'z>(
         return Ok(None);
     };
     let key = NameKey::of(alloc, target)?;
-    both(
-        alloc,
-        options,
-        sets.get(&key, RecordType::A),
-        sets.get(&key, RecordType::AAAA),
-    )
+    let (v4, v6) = sets.addresses(&key);
+    both(alloc, options, v4, v6)
 }
 
 // Whether addresses go beside an answer of this type.

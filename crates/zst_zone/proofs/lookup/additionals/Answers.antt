@@ -12,7 +12,7 @@ returns c =
     let has : has_additionals c.args.first.now.record_type ≡ true
     = ap has_additionals (sym c.record_type.ensures) ∙ sym c.has_additionals.ensures ∙ c.if-not-has_additionals.false in
     subst (λ (sets : List RRset). IfOk c.both.result (λ found. records_if found ≡ sets_shown c.args.options.dnssec_ok sets))
-    (more-addresses c.args.sets.now c.args.first.now c.in-Some.target.now (option_copied c.get.result) (option_copied c.get-2.result) has c.in-Some.ensures
-    (c.get.ensures ∙ rrset-keyed c.args.sets.now c.in_ok-key.key c.in-Some.target.now kind.A c.in_ok-key.ensures.key)
-    (c.get-2.ensures ∙ rrset-keyed c.args.sets.now c.in_ok-key.key c.in-Some.target.now kind.AAAA c.in_ok-key.ensures.key))
+    (more-addresses c.args.sets.now c.args.first.now c.in-Some.target.now (option_copied c.addresses.result.0) (option_copied c.addresses.result.1) has c.in-Some.ensures
+    (c.addresses.ensures.first ∙ rrset-keyed c.args.sets.now c.in_ok-key.key c.in-Some.target.now kind.A c.in_ok-key.ensures.key)
+    (c.addresses.ensures.second ∙ rrset-keyed c.args.sets.now c.in_ok-key.key c.in-Some.target.now kind.AAAA c.in_ok-key.ensures.key))
     c.both.ensures
