@@ -1,12 +1,12 @@
 -- What a request that was read says: a header that can be written.
 use Rattle.std.proofs.Common.{◌≡◌, ℕ, ◌/◌, ◌%◌, List, Option, Some, None, sym, ap, subst, arith}
 use Rattle.std.specs.Prelude.{get_or}
-use Rattle.zsv_message.specs.zsv_parts.dnw_decoder.Octets.{number_16}
-use Rattle.zsv_message.specs.zsv_parts.Headers.{header_of, metadata_of, op_code_of, op_code_number}
-use Rattle.zsv_message.specs.zsv_parts.declared.header.Metadata.{Metadata}
+use Rattle.zsv_reply.specs.zsv_message.zsv_parts.dnw_decoder.Octets.{number_16}
+use Rattle.zsv_reply.specs.zsv_message.zsv_parts.Headers.{header_of, metadata_of, op_code_of, op_code_number}
+use Rattle.zsv_reply.specs.zsv_message.zsv_parts.declared.header.Metadata.{Metadata}
 use Rattle.zsv_reply.specs.Writing.{FitsOpCode}
-use Rattle.zsv_message.specs.Messages.{IsMessage, Message, joined_metadata}
-use Rattle.zsv_message.specs.zst_edns.declared.edns.Edns.{Edns}
+use Rattle.zsv_reply.specs.zsv_message.Messages.{IsMessage, Message, joined_metadata}
+use Rattle.zsv_reply.specs.zsv_message.zst_edns.declared.edns.Edns.{Edns}
 
 op_code_back : (n : ℕ) → op_code_number (op_code_of n) ≡ n
 op_code_back n = grind arith

@@ -2,10 +2,10 @@
 use Rattle.std.proofs.Common.{◌≡◌, ◌∙◌, ap, subst, arith, Vec, Global}
 use Rattle.std.specs.Prelude.{ℕ, ◌+◌, ◌<◌, ◌≤◌, false, List, length, Result, Ok, Err, IfOk}
 use Rattle.zst_zone.specs.zst_handler.Zones.{Zone}
-use Rattle.zsv_message.specs.zsv_parts.Headers.{header_of, reserved_bit}
-use Rattle.zsv_message.specs.Messages.{Message}
-use Rattle.zsv_message.specs.zsv_parts.declared.header.Header.{Header}
-use Rattle.zsv_message.specs.zsv_parts.declared.header.Metadata.{Metadata}
+use Rattle.zsv_reply.specs.zsv_message.zsv_parts.Headers.{header_of, reserved_bit}
+use Rattle.zsv_reply.specs.zsv_message.Messages.{Message}
+use Rattle.zsv_reply.specs.zsv_message.zsv_parts.declared.header.Header.{Header}
+use Rattle.zsv_reply.specs.zsv_message.zsv_parts.declared.header.Metadata.{Metadata}
 use Rattle.zsv_reply.specs.Replies.{bare_failure}
 use Rattle.authority_server.specs.Serving.{Answers}
 use Rattle.authority_server.proofs.TotalReply.{parts_for}

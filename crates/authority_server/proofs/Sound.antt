@@ -9,17 +9,17 @@ use Rattle.zst_zone.specs.dnw_name.DomainName.{is_at_or_below}
 use Rattle.zst_zone.specs.zst_handler.Answers.{sets_shown}
 use Rattle.zst_zone.specs.zst_handler.Lookups.{Outcome, answered, name_error, name_exists, out_of_zone}
 use Rattle.zst_zone.specs.zst_handler.Zones.{Zone}
-use Rattle.zsv_message.specs.Messages.{Message}
-use Rattle.zsv_message.specs.zst_edns.declared.edns.Edns.{Edns}
-use Rattle.zsv_message.specs.zsv_parts.declared.header.Metadata.{Metadata}
-use Rattle.zsv_message.specs.zsv_parts.declared.header.MessageType.{MessageType}
-use Rattle.zsv_message.specs.zsv_parts.declared.header.MessageType.TheVariants as messages
-use Rattle.zsv_message.specs.zsv_parts.declared.header.OpCode.{OpCode}
-use Rattle.zsv_message.specs.zsv_parts.declared.header.OpCode.TheVariants as operations
-use Rattle.zsv_message.specs.zsv_parts.declared.question.Query.{Query}
-use Rattle.zsv_message.specs.zst_edns.Writing.{EdnsReadsBack, edns_data}
-use Rattle.zsv_message.specs.zsv_parts.zst_codes.declared.response_code.ResponseCode.{ResponseCode}
-use Rattle.zsv_message.specs.zsv_parts.zst_codes.declared.response_code.ResponseCode.TheVariants as responses
+use Rattle.zsv_reply.specs.zsv_message.Messages.{Message}
+use Rattle.zsv_reply.specs.zsv_message.zst_edns.declared.edns.Edns.{Edns}
+use Rattle.zsv_reply.specs.zsv_message.zsv_parts.declared.header.Metadata.{Metadata}
+use Rattle.zsv_reply.specs.zsv_message.zsv_parts.declared.header.MessageType.{MessageType}
+use Rattle.zsv_reply.specs.zsv_message.zsv_parts.declared.header.MessageType.TheVariants as messages
+use Rattle.zsv_reply.specs.zsv_message.zsv_parts.declared.header.OpCode.{OpCode}
+use Rattle.zsv_reply.specs.zsv_message.zsv_parts.declared.header.OpCode.TheVariants as operations
+use Rattle.zsv_reply.specs.zsv_message.zsv_parts.declared.question.Query.{Query}
+use Rattle.zsv_reply.specs.zsv_message.zst_edns.Writing.{EdnsReadsBack, edns_data}
+use Rattle.zsv_reply.specs.zsv_message.zsv_parts.zst_codes.declared.response_code.ResponseCode.{ResponseCode}
+use Rattle.zsv_reply.specs.zsv_message.zsv_parts.zst_codes.declared.response_code.ResponseCode.TheVariants as responses
 use Rattle.zsv_reply.specs.Replies.{ReplyParts}
 use Rattle.zsv_reply.specs.Writing.{FitsOpCode}
 use Rattle.zsv_reply.specs.zst_record.Records.{ReadsBackAlone}

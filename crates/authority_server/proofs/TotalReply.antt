@@ -8,17 +8,17 @@ use Rattle.zst_zone.specs.dnw_codes.RecordType.{same_record_type}
 use Rattle.zst_zone.specs.dnw_name.DomainName.{is_at_or_below}
 use Rattle.zst_zone.specs.zst_handler.Lookups.{Outcome, answered, name_error, name_exists, out_of_zone}
 use Rattle.zst_zone.specs.zst_handler.Zones.{Zone}
-use Rattle.zsv_message.specs.Messages.{Message}
-use Rattle.zsv_message.specs.zst_edns.declared.edns.Edns.{Edns}
-use Rattle.zsv_message.specs.zsv_parts.zst_codes.ResponseCode.{high_bits}
-use Rattle.zsv_message.specs.zsv_parts.declared.header.Metadata.{Metadata}
-use Rattle.zsv_message.specs.zsv_parts.declared.header.MessageType.{MessageType}
-use Rattle.zsv_message.specs.zsv_parts.declared.header.MessageType.TheVariants as messages
-use Rattle.zsv_message.specs.zsv_parts.declared.header.OpCode.{OpCode}
-use Rattle.zsv_message.specs.zsv_parts.declared.header.OpCode.TheVariants as operations
-use Rattle.zsv_message.specs.zsv_parts.declared.question.Query.{Query}
-use Rattle.zsv_message.specs.zsv_parts.zst_codes.declared.response_code.ResponseCode.{ResponseCode}
-use Rattle.zsv_message.specs.zsv_parts.zst_codes.declared.response_code.ResponseCode.TheVariants as responses
+use Rattle.zsv_reply.specs.zsv_message.Messages.{Message}
+use Rattle.zsv_reply.specs.zsv_message.zst_edns.declared.edns.Edns.{Edns}
+use Rattle.zsv_reply.specs.zsv_message.zsv_parts.zst_codes.ResponseCode.{high_bits}
+use Rattle.zsv_reply.specs.zsv_message.zsv_parts.declared.header.Metadata.{Metadata}
+use Rattle.zsv_reply.specs.zsv_message.zsv_parts.declared.header.MessageType.{MessageType}
+use Rattle.zsv_reply.specs.zsv_message.zsv_parts.declared.header.MessageType.TheVariants as messages
+use Rattle.zsv_reply.specs.zsv_message.zsv_parts.declared.header.OpCode.{OpCode}
+use Rattle.zsv_reply.specs.zsv_message.zsv_parts.declared.header.OpCode.TheVariants as operations
+use Rattle.zsv_reply.specs.zsv_message.zsv_parts.declared.question.Query.{Query}
+use Rattle.zsv_reply.specs.zsv_message.zsv_parts.zst_codes.declared.response_code.ResponseCode.{ResponseCode}
+use Rattle.zsv_reply.specs.zsv_message.zsv_parts.zst_codes.declared.response_code.ResponseCode.TheVariants as responses
 use Rattle.zsv_reply.specs.Replies.{ReplyParts}
 use Rattle.zsv_reply.specs.zst_record.declared.records.Record.{Record}
 use Rattle.authority_server.specs.Serving.{AnswersEdns, AtOrigin, BesideAnswer, DeniedParts, KindParts, OperationParts, OutcomeParts, PartsOf, PlainParts, QueryParts, QuestionParts, answer_records, answered_parts, asks_for_dnssec, error_parts, has_other_version, parts_with, reply_metadata, with_edns}
@@ -84,13 +84,15 @@ plain_of zone request = by (has_other_version request.edns) refl
 
 edns_of : (asked : Option Edns) (code : ResponseCode) → (edns : Option Edns) × AnswersEdns asked code edns
 edns_of None code = (None, tt)
-edns_of (Some asked) code =
-    (Some (record asked {
-      rcode_high = high_bits code;
-      version = 0;
-      flags = record { dnssec_ok = asked.flags.dnssec_ok; z = 0 };
-      options = record asked.options { options = record asked.options.options { items = [] } };
-    }), record { rcode_high = refl; version = refl; dnssec_ok = refl; other_flags = refl; max_payload = refl; options = refl })
+edns_of (Some asked) code = (
+  Some (record asked {
+    rcode_high = high_bits code;
+    version = 0;
+    flags = record { dnssec_ok = asked.flags.dnssec_ok; z = 0 };
+    options = record asked.options { options = record asked.options.options { items = [] } };
+  }),
+  record { rcode_high = refl; version = refl; dnssec_ok = refl; other_flags = refl; max_payload = refl; options = refl },
+)
 
 pub parts_for : (zone : Zone) (request : Message) → (parts : ReplyParts) × PartsOf zone request parts
 parts_for zone request =

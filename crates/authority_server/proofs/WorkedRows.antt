@@ -10,22 +10,22 @@ use Rattle.zsv_reply.specs.drd_rdata.declared.rdata.RData.TheVariants as rdata
 use Rattle.zsv_reply.specs.zst_record.declared.records.Record.{Record}
 use Rattle.zst_zone.specs.zst_codes.declared.settings.ZoneType.TheVariants as kinds
 use Rattle.zst_zone.specs.zst_codes.declared.settings.AxfrPolicy.TheVariants as policies
-use Rattle.zsv_message.specs.zsv_parts.declared.header.MessageType.TheVariants as messages
-use Rattle.zsv_message.specs.zsv_parts.declared.header.OpCode.TheVariants as operations
-use Rattle.zsv_message.specs.zsv_parts.zst_codes.declared.response_code.ResponseCode.{ResponseCode}
-use Rattle.zsv_message.specs.zsv_parts.zst_codes.declared.response_code.ResponseCode.TheVariants as responses
-use Rattle.zsv_message.specs.zsv_parts.declared.header.Metadata.{Metadata}
-use Rattle.zsv_message.specs.zsv_parts.declared.question.Query.{Query}
+use Rattle.zsv_reply.specs.zsv_message.zsv_parts.declared.header.MessageType.TheVariants as messages
+use Rattle.zsv_reply.specs.zsv_message.zsv_parts.declared.header.OpCode.TheVariants as operations
+use Rattle.zsv_reply.specs.zsv_message.zsv_parts.zst_codes.declared.response_code.ResponseCode.{ResponseCode}
+use Rattle.zsv_reply.specs.zsv_message.zsv_parts.zst_codes.declared.response_code.ResponseCode.TheVariants as responses
+use Rattle.zsv_reply.specs.zsv_message.zsv_parts.declared.header.Metadata.{Metadata}
+use Rattle.zsv_reply.specs.zsv_message.zsv_parts.declared.question.Query.{Query}
 use Rattle.zst_zone.specs.dnw_name.DomainName.{DomainName, name_cmp, name_octets, name_eq, is_at_or_below}
 use Rattle.std.specs.declared.cmp.Ordering.TheVariants.{Less, Greater}
 use Rattle.std.specs.Net.Addr.{ipv4_bits}
-use Rattle.zsv_message.specs.zsv_parts.dnw_decoder.Octets.{octets_16, octets_32}
-use Rattle.zsv_message.specs.zsv_parts.Headers.{header_of}
+use Rattle.zsv_reply.specs.zsv_message.zsv_parts.dnw_decoder.Octets.{octets_16, octets_32}
+use Rattle.zsv_reply.specs.zsv_message.zsv_parts.Headers.{header_of}
 use Rattle.zsv_reply.specs.drd_rdata.Writing.{written_octets}
 use Rattle.zsv_reply.specs.zst_record.Records.{plain}
-use Rattle.zsv_message.specs.zsv_parts.dnw_decoder.Spelling.{NameAt, at_end, at_label}
-use Rattle.zsv_message.specs.Messages.{Message}
-use Rattle.zsv_message.specs.zsv_parts.Questions.{QuestionAt}
+use Rattle.zsv_reply.specs.zsv_message.zsv_parts.dnw_decoder.Spelling.{NameAt, at_end, at_label}
+use Rattle.zsv_reply.specs.zsv_message.Messages.{Message}
+use Rattle.zsv_reply.specs.zsv_message.zsv_parts.Questions.{QuestionAt}
 use Rattle.zsv_reply.specs.zst_record.RecordSets.{RRset}
 use Rattle.zsv_reply.specs.Replies.{ReplyParts}
 use Rattle.zst_zone.specs.zst_handler.Chains.{IsAliasChain, NoneTwice, asked_names, leads}

@@ -5,14 +5,14 @@ use Rattle.std.specs.declared.net.SocketAddr.{SocketAddr}
 use Rattle.zst_zone.specs.dnw_codes.declared.record_type.RecordType.{RecordType}
 use Rattle.zst_zone.specs.dnw_codes.declared.record_type.RecordType.TheVariants as types
 use Rattle.zsv_reply.specs.zst_record.declared.records.Record.{Record}
-use Rattle.zsv_message.specs.zsv_parts.declared.header.Metadata.{Metadata}
-use Rattle.zsv_message.specs.zsv_parts.declared.header.MessageType.{MessageType}
-use Rattle.zsv_message.specs.zsv_parts.declared.header.MessageType.TheVariants as messages
-use Rattle.zsv_message.specs.zsv_parts.declared.header.OpCode.{OpCode}
-use Rattle.zsv_message.specs.zsv_parts.declared.header.OpCode.TheVariants as operations
-use Rattle.zsv_message.specs.zsv_parts.zst_codes.declared.response_code.ResponseCode.{ResponseCode}
-use Rattle.zsv_message.specs.zsv_parts.zst_codes.declared.response_code.ResponseCode.TheVariants as responses
-use Rattle.zsv_message.specs.zsv_parts.declared.question.Query.{Query}
+use Rattle.zsv_reply.specs.zsv_message.zsv_parts.declared.header.Metadata.{Metadata}
+use Rattle.zsv_reply.specs.zsv_message.zsv_parts.declared.header.MessageType.{MessageType}
+use Rattle.zsv_reply.specs.zsv_message.zsv_parts.declared.header.MessageType.TheVariants as messages
+use Rattle.zsv_reply.specs.zsv_message.zsv_parts.declared.header.OpCode.{OpCode}
+use Rattle.zsv_reply.specs.zsv_message.zsv_parts.declared.header.OpCode.TheVariants as operations
+use Rattle.zsv_reply.specs.zsv_message.zsv_parts.zst_codes.declared.response_code.ResponseCode.{ResponseCode}
+use Rattle.zsv_reply.specs.zsv_message.zsv_parts.zst_codes.declared.response_code.ResponseCode.TheVariants as responses
+use Rattle.zsv_reply.specs.zsv_message.zsv_parts.declared.question.Query.{Query}
 use Rattle.authority_server.specs.declared.server.Protocol.{Protocol}
 use Rattle.authority_server.specs.declared.server.Protocol.TheVariants as protocols
 use Rattle.zst_zone.specs.dnw_name.DomainName.{is_at_or_below}
@@ -22,9 +22,9 @@ use Rattle.zst_zone.specs.zst_handler.Answers.{sets_shown}
 use Rattle.zst_zone.specs.zst_handler.Lookups.{Answer, IsLookup, Outcome, answered, name_exists, name_error, out_of_zone}
 use Rattle.zst_zone.specs.zst_handler.Zones.{Zone}
 use Rattle.zsv_reply.specs.drd_rdata.Types.{type_of}
-use Rattle.zsv_message.specs.Messages.{IsMessage, Message}
-use Rattle.zsv_message.specs.zst_edns.declared.edns.Edns.{Edns}
-use Rattle.zsv_message.specs.zsv_parts.zst_codes.ResponseCode.{high_bits}
+use Rattle.zsv_reply.specs.zsv_message.Messages.{IsMessage, Message}
+use Rattle.zsv_reply.specs.zsv_message.zst_edns.declared.edns.Edns.{Edns}
+use Rattle.zsv_reply.specs.zsv_message.zsv_parts.zst_codes.ResponseCode.{high_bits}
 use Rattle.zsv_reply.specs.Replies.{ReplyParts, IsReply}
 
 -- The header of a reply repeats the identifier, the operation, RD and CD.

@@ -10,7 +10,7 @@ use std::marker::Model;
 use std::net::SocketAddr;
 use thiserror::Error;
 use zst_zone::{InMemoryZoneHandler, ZoneType};
-use zsv_message::{DecodeError, Edns, MessageRequest};
+use zsv_reply::{DecodeError, Edns, MessageRequest};
 
 pub mod answer;
 mod sections;

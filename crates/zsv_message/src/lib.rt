@@ -5,7 +5,10 @@
 #![tactic(auto)]
 
 pub use zst_edns::Edns;
-pub use zst_record::DecodeError;
+pub use zst_record::{
+    A, BinEncodable, BinEncoder, DNSClass, DecodeError, Label, NS, Name, NameEncoding, ProtoError,
+    RData, Record, RecordRef, RecordSet, RecordType, SOA,
+};
 pub use zsv_parts::{
     Header, HeaderCounts, MessageType, Metadata, OpCode, Queries, Query, ResponseCode, Tsig,
     TsigRecord,

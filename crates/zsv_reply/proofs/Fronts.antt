@@ -4,13 +4,13 @@ use Rattle.std.proofs.lemmas.Bool.{lt-ltb, le-ltb}
 use Rattle.std.specs.Prelude.{Option, Some, None, Result, Ok, Err, IfOk, IfErr}
 use Rattle.std.specs.Iterator.{AlwaysYields, Yields}
 use Rattle.std.specs.List.{AllByRecursion}
-use Rattle.zst_record.specs.dnw_codes.ProtoError.{IsMemory}
-use Rattle.zst_record.specs.dnw_codes.declared.error.ProtoError.{ProtoError}
-use Rattle.zst_record.specs.dnw_codes.declared.error.ProtoError.TheVariants.{MaxBufferSizeExceeded, NotAllRecordsWritten}
-use Rattle.zst_record.specs.dnw_encoder.Effects.{StaysTrue, Writes, Emitted, WroteAll, WroteFront, IsRefusal, IsSizeError}
-use Rattle.zst_record.proofs.dnw_encoder_lemmas.Laws.{holds_now, holds_more, holds_written, writes_same, writes_then}
-use Rattle.zst_record.specs.dnw_encoder.State.{State, is_lower}
-use Rattle.zst_record.specs.drd_rdata.Writing.{WritesInFull}
+use Rattle.zsv_message.specs.zst_record.dnw_codes.ProtoError.{IsMemory}
+use Rattle.zsv_message.specs.zst_record.dnw_codes.declared.error.ProtoError.{ProtoError}
+use Rattle.zsv_message.specs.zst_record.dnw_codes.declared.error.ProtoError.TheVariants.{MaxBufferSizeExceeded, NotAllRecordsWritten}
+use Rattle.zsv_message.specs.zst_record.dnw_encoder.Effects.{StaysTrue, Writes, Emitted, WroteAll, WroteFront, IsRefusal, IsSizeError}
+use Rattle.zsv_message.proofs.zst_record_lemmas.dnw_encoder_lemmas.Laws.{holds_now, holds_more, holds_written, writes_same, writes_then}
+use Rattle.zsv_message.specs.zst_record.dnw_encoder.State.{State, is_lower}
+use Rattle.zsv_message.specs.zst_record.drd_rdata.Writing.{WritesInFull}
 use Rattle.zsv_reply.specs.declared.encode.Kept.{Kept}
 use Rattle.zsv_reply.specs.Replies.{Front, is_cut}
 use Rattle.zsv_reply.specs.Writing.{written_count, EmitsFront, IsNotKept}

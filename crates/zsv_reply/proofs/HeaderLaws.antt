@@ -2,7 +2,7 @@
 use Rattle.std.proofs.Common.{◌≡◌, ℕ, ◌+◌, ◌*◌, ◌%◌, ◌^◌, ◌<◌, ◌==◌, Bool, true, false, List, [], ◌∷◌, ◌++◌, refl, sym, ap, ◌∙◌, arith}
 use Rattle.std.proofs.lemmas.Bool.{eqb-true}
 use Rattle.std.specs.Prelude.{Option, Some, unwrap_or, find, if◌then◌else◌}
-use Rattle.zst_record.specs.dnw_decoder.Octets.{octets_16}
+use Rattle.zsv_message.specs.zst_record.dnw_decoder.Octets.{octets_16}
 use Rattle.zsv_message.specs.zsv_parts.declared.header.Header.{Header}
 use Rattle.zsv_message.specs.zsv_parts.declared.header.Metadata.{Metadata}
 use Rattle.zsv_message.specs.zsv_parts.Headers.{flag, header_of, header_octets, high_octet}

@@ -7,8 +7,8 @@ use Rattle.std.specs.Prelude.{Some}
 use Rattle.std.specs.Slice.Iter.{iter_rest, iter_steps}
 use Rattle.std.specs.declared.iter.Once.{Once}
 use Rattle.std.specs.declared.slice.Iter.{Iter}
-use Rattle.zst_record.specs.Lending.{seen}
-use Rattle.zst_record.specs.declared.records.Record.{Record}
+use Rattle.zsv_message.specs.zst_record.Lending.{seen}
+use Rattle.zsv_message.specs.zst_record.declared.records.Record.{Record}
 use Rattle.zsv_reply.specs.declared.encode.MessageResponse.{MessageResponse}
 use Rattle.zsv_reply.specs.Lending.{Holds}
 

@@ -2,26 +2,26 @@
 use Rattle.std.proofs.Common.{◌≡◌, ℕ, ◌+◌, ◌≤◌, ◌==◌, Bool, true, false, inl, inr, List, [], ◌∷◌, ◌++◌, length, refl, sym, subst, arith}
 use Rattle.std.proofs.lemmas.Bool.{eqb-true}
 use Rattle.std.specs.Prelude.{Option, Some, unwrap_or, find, if◌then◌else◌}
-use Rattle.zst_record.specs.dnw_codes.DNSClass.{class_number, class_of, named_classes}
-use Rattle.zst_record.specs.dnw_codes.RecordType.{record_type_number}
-use Rattle.zst_record.specs.dnw_codes.declared.dns_class.DNSClass.{DNSClass}
-use Rattle.zst_record.specs.dnw_codes.declared.dns_class.DNSClass.TheVariants.{Unknown}
-use Rattle.zst_record.specs.dnw_codes.declared.error.ProtoError.{ProtoError}
-use Rattle.zst_record.specs.dnw_codes.declared.error.ProtoError.TheVariants.{Message}
-use Rattle.zst_record.specs.dnw_codes.declared.record_type.RecordType.TheVariants as kind
-use Rattle.zst_record.specs.dnw_decoder.Octets.{octets_16, octets_32, Stands}
-use Rattle.zst_record.specs.dnw_decoder.Spelling.{at_end}
-use Rattle.zst_record.specs.dnw_name.DomainName.{domain_name}
-use Rattle.zst_record.proofs.dnw_decoder_lemmas.SpellingLaws.{spelled_within}
-use Rattle.zst_record.proofs.dnw_decoder_lemmas.Standing.{length-octets_32, stands_split, stands_within}
-use Rattle.zst_record.specs.dnw_encoder.Effects.{IsRefusal}
-use Rattle.zst_record.proofs.dnw_encoder_lemmas.Laws.{holds_map, puts_stands}
-use Rattle.zst_record.specs.dnw_encoder.State.{State}
-use Rattle.zst_record.specs.drd_rdata.Reading.{RDataAt}
-use Rattle.zst_record.specs.drd_rdata.declared.rdata.RData.TheVariants as rdata
-use Rattle.zst_record.specs.Records.{RecordAt, ReadsBackAlone, plain}
-use Rattle.zst_record.specs.Writing.{EmitsRecord, RefusesRecord}
-use Rattle.zst_record.specs.declared.records.Record.{Record}
+use Rattle.zsv_message.specs.zst_record.dnw_codes.DNSClass.{class_number, class_of, named_classes}
+use Rattle.zsv_message.specs.zst_record.dnw_codes.RecordType.{record_type_number}
+use Rattle.zsv_message.specs.zst_record.dnw_codes.declared.dns_class.DNSClass.{DNSClass}
+use Rattle.zsv_message.specs.zst_record.dnw_codes.declared.dns_class.DNSClass.TheVariants.{Unknown}
+use Rattle.zsv_message.specs.zst_record.dnw_codes.declared.error.ProtoError.{ProtoError}
+use Rattle.zsv_message.specs.zst_record.dnw_codes.declared.error.ProtoError.TheVariants.{Message}
+use Rattle.zsv_message.specs.zst_record.dnw_codes.declared.record_type.RecordType.TheVariants as kind
+use Rattle.zsv_message.specs.zst_record.dnw_decoder.Octets.{octets_16, octets_32, Stands}
+use Rattle.zsv_message.specs.zst_record.dnw_decoder.Spelling.{at_end}
+use Rattle.zsv_message.specs.zst_record.dnw_name.DomainName.{domain_name}
+use Rattle.zsv_message.proofs.zst_record_lemmas.dnw_decoder_lemmas.SpellingLaws.{spelled_within}
+use Rattle.zsv_message.proofs.zst_record_lemmas.dnw_decoder_lemmas.Standing.{length-octets_32, stands_split, stands_within}
+use Rattle.zsv_message.specs.zst_record.dnw_encoder.Effects.{IsRefusal}
+use Rattle.zsv_message.proofs.zst_record_lemmas.dnw_encoder_lemmas.Laws.{holds_map, puts_stands}
+use Rattle.zsv_message.specs.zst_record.dnw_encoder.State.{State}
+use Rattle.zsv_message.specs.zst_record.drd_rdata.Reading.{RDataAt}
+use Rattle.zsv_message.specs.zst_record.drd_rdata.declared.rdata.RData.TheVariants as rdata
+use Rattle.zsv_message.specs.zst_record.Records.{RecordAt, ReadsBackAlone, plain}
+use Rattle.zsv_message.specs.zst_record.Writing.{EmitsRecord, RefusesRecord}
+use Rattle.zsv_message.specs.zst_record.declared.records.Record.{Record}
 use Rattle.zsv_message.specs.Messages.{OptAt}
 use Rattle.zsv_message.specs.zst_edns.Edns.{IsEdnsOf, edns_ttl}
 use Rattle.zsv_message.specs.zst_edns.Writing.{EdnsReadsBack, EmitsEdns, FitsFields, RefusesEdns, edns_data, opt_head, opt_octets}

@@ -1,13 +1,13 @@
 -- The sections of a reply, written one behind the other, and the header that is filled in last.
 use Rattle.std.proofs.Common.{◌≡◌, ℕ, ◌+◌, ◌≤◌, ◌||◌, Bool, true, false, List, [], ◌∷◌, ◌++◌, length, drop, refl, sym, ap, subst, ◌∙◌, arith}
 use Rattle.std.specs.Prelude.{IfOk, IfErr, MatchResult, Some, None, Result, Ok, Err, option_to_list}
-use Rattle.zst_record.specs.declared.records.Record.{Record}
-use Rattle.zst_record.specs.dnw_decoder.Octets.{Stands}
-use Rattle.zst_record.specs.dnw_encoder.Effects.{StaysTrue, Writes, WritesOctets, Fills, Sound, place_of}
-use Rattle.zst_record.proofs.dnw_encoder_lemmas.Laws.{holds_more, holds_now, holds_same, holds_written, puts_stands, writes_same, writes_then}
-use Rattle.zst_record.specs.dnw_encoder.Members.{In}
-use Rattle.zst_record.specs.dnw_encoder.State.{State}
-use Rattle.zst_record.specs.Records.{RecordAt, plain}
+use Rattle.zsv_message.specs.zst_record.declared.records.Record.{Record}
+use Rattle.zsv_message.specs.zst_record.dnw_decoder.Octets.{Stands}
+use Rattle.zsv_message.specs.zst_record.dnw_encoder.Effects.{StaysTrue, Writes, WritesOctets, Fills, Sound, place_of}
+use Rattle.zsv_message.proofs.zst_record_lemmas.dnw_encoder_lemmas.Laws.{holds_more, holds_now, holds_same, holds_written, puts_stands, writes_same, writes_then}
+use Rattle.zsv_message.specs.zst_record.dnw_encoder.Members.{In}
+use Rattle.zsv_message.specs.zst_record.dnw_encoder.State.{State}
+use Rattle.zsv_message.specs.zst_record.Records.{RecordAt, plain}
 use Rattle.zsv_message.specs.Messages.{OptAt}
 use Rattle.zsv_message.specs.zst_edns.declared.edns.Edns.{Edns}
 use Rattle.zsv_message.specs.zsv_parts.declared.header.Header.{Header}

@@ -1,9 +1,9 @@
 -- A reply that was written is a reply to its request.
 use Rattle.std.proofs.Common.{ℕ, ◌+◌, ◌≤◌, List, length, refl, subst, arith}
 use Rattle.std.specs.Prelude.{option_to_list}
-use Rattle.zst_record.specs.dnw_decoder.Octets.{Stands}
-use Rattle.zst_record.specs.Records.{RecordAt, ReadsBackAlone, plain}
-use Rattle.zst_record.specs.Writing.{EmitsRecord, RefusesRecord}
+use Rattle.zsv_message.specs.zst_record.dnw_decoder.Octets.{Stands}
+use Rattle.zsv_message.specs.zst_record.Records.{RecordAt, ReadsBackAlone, plain}
+use Rattle.zsv_message.specs.zst_record.Writing.{EmitsRecord, RefusesRecord}
 use Rattle.zsv_message.specs.Messages.{OptAt}
 use Rattle.zsv_message.specs.zst_edns.Writing.{EdnsReadsBack, EmitsEdns, RefusesEdns}
 use Rattle.zsv_message.specs.zsv_parts.Questions.{Asked, AskedAt}

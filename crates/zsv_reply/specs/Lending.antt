@@ -1,7 +1,7 @@
 -- What the iterators of a response lend.
 use Rattle.std.specs.Prelude.{◌≡◌, Option}
 use Rattle.std.specs.Iterator.{AlwaysYields}
-use Rattle.zst_record.specs.declared.records.Record.{Record}
+use Rattle.zsv_message.specs.zst_record.declared.records.Record.{Record}
 use Rattle.zsv_reply.specs.declared.encode.MessageResponse.{MessageResponse}
 use Rattle.zsv_reply.specs.Replies.{ReplyParts}
 

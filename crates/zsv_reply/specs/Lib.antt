@@ -1,5 +1,6 @@
 pub mod Lending
 pub mod Replies
 pub mod Writing
-pub use Rattle.zst_record.specs.drd_rdata
+pub use Rattle.zsv_message.specs.zst_record.drd_rdata
 pub mod zst_record
+pub mod zsv_message

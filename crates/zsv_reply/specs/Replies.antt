@@ -1,9 +1,9 @@
 -- A reply: what it holds in full, and how that stands in octets, cut at a limit (RFC 1035, section
 -- 4.1; RFC 2181, section 9; RFC 6891, section 6.1; RFC 9471, section 3.1).
 use Rattle.std.specs.Prelude.{◌≡◌, ℕ, ◌+◌, ◌<◌, ◌≤◌, Bool, false, ◌||◌, List, [], ◌∷◌, length, nat_lt, Option, option_to_list}
-use Rattle.zst_record.specs.declared.records.Record.{Record}
-use Rattle.zst_record.specs.dnw_decoder.Octets.{Stands}
-use Rattle.zst_record.specs.Records.{RecordAt, plain}
+use Rattle.zsv_message.specs.zst_record.declared.records.Record.{Record}
+use Rattle.zsv_message.specs.zst_record.dnw_decoder.Octets.{Stands}
+use Rattle.zsv_message.specs.zst_record.Records.{RecordAt, plain}
 use Rattle.zsv_message.specs.Messages.{OptAt}
 use Rattle.zsv_message.specs.zst_edns.Writing.{opt_octets}
 use Rattle.zsv_message.specs.zst_edns.declared.edns.Edns.{Edns}

@@ -2,13 +2,13 @@
 -- the header over them.
 use Rattle.std.specs.Prelude.{◌≡◌, ℕ, ◌+◌, ◌*◌, ◌^◌, ◌<◌, ◌≤◌, Bool, true, false, ◌||◌, List, length, Option, option_to_list, Result, Ok, Err}
 use Rattle.std.specs.List.{AllByRecursion}
-use Rattle.zst_record.specs.dnw_codes.declared.error.ProtoError.{ProtoError}
-use Rattle.zst_record.specs.dnw_codes.declared.error.ProtoError.TheVariants.{NotAllRecordsWritten}
-use Rattle.zst_record.specs.dnw_decoder.Octets.{Stands}
-use Rattle.zst_record.specs.dnw_encoder.Effects.{StaysTrue}
-use Rattle.zst_record.specs.dnw_encoder.State.{State}
-use Rattle.zst_record.specs.declared.records.Record.{Record}
-use Rattle.zst_record.specs.Records.{RecordAt, ReadsBackAlone, plain}
+use Rattle.zsv_message.specs.zst_record.dnw_codes.declared.error.ProtoError.{ProtoError}
+use Rattle.zsv_message.specs.zst_record.dnw_codes.declared.error.ProtoError.TheVariants.{NotAllRecordsWritten}
+use Rattle.zsv_message.specs.zst_record.dnw_decoder.Octets.{Stands}
+use Rattle.zsv_message.specs.zst_record.dnw_encoder.Effects.{StaysTrue}
+use Rattle.zsv_message.specs.zst_record.dnw_encoder.State.{State}
+use Rattle.zsv_message.specs.zst_record.declared.records.Record.{Record}
+use Rattle.zsv_message.specs.zst_record.Records.{RecordAt, ReadsBackAlone, plain}
 use Rattle.zsv_message.specs.Messages.{OptAt}
 use Rattle.zsv_message.specs.zst_edns.Writing.{EdnsReadsBack}
 use Rattle.zsv_message.specs.zst_edns.declared.edns.Edns.{Edns}

@@ -1,4 +1,4 @@
-pub use Rattle.zst_record.specs.Lending
-pub use Rattle.zst_record.specs.RecordSets
-pub use Rattle.zst_record.specs.Records
-pub use Rattle.zst_record.specs.declared
+pub use Rattle.zsv_message.specs.zst_record.Lending
+pub use Rattle.zsv_message.specs.zst_record.RecordSets
+pub use Rattle.zsv_message.specs.zst_record.Records
+pub use Rattle.zsv_message.specs.zst_record.declared

@@ -3,16 +3,16 @@
 ghost use Rattle.std.specs.Prelude.{◌≡◌, ◌+◌, ◌*◌, ◌^◌, ◌<◌, ◌≤◌, ◌||◌, ◌∷◌, ◌++◌, [], ℕ, List, Some, false, length, option_to_list, IfOk, IfErr, OnOk, MatchResult};
 ghost use Rattle.std.specs.Iterator.{AlwaysYields};
 ghost use Rattle.std.specs.List.{AllByRecursion};
-ghost use Rattle.zst_record.specs.declared.records.Record.{Record};
-ghost use Rattle.zst_record.specs.dnw_codes.ProtoError.{IsMemory};
-ghost use Rattle.zst_record.specs.dnw_codes.declared.error.ProtoError.{ProtoError};
-ghost use Rattle.zst_record.specs.dnw_encoder.Effects.{Writes};
-ghost use Rattle.zst_record.specs.dnw_encoder.Encoders.{state};
-ghost use Rattle.zst_record.specs.dnw_encoder.State.{State};
-ghost use Rattle.zst_record.specs.drd_rdata.Writing.{WritesInFull};
-ghost use Rattle.zst_record.specs.Lending.{seen};
-ghost use Rattle.zst_record.specs.Records.{RecordAt, ReadsBackAlone, plain};
-ghost use Rattle.zst_record.specs.Writing.{EmitsRecord, RefusesRecord};
+ghost use Rattle.zsv_message.specs.zst_record.declared.records.Record.{Record};
+ghost use Rattle.zsv_message.specs.zst_record.dnw_codes.ProtoError.{IsMemory};
+ghost use Rattle.zsv_message.specs.zst_record.dnw_codes.declared.error.ProtoError.{ProtoError};
+ghost use Rattle.zsv_message.specs.zst_record.dnw_encoder.Effects.{Writes};
+ghost use Rattle.zsv_message.specs.zst_record.dnw_encoder.Encoders.{state};
+ghost use Rattle.zsv_message.specs.zst_record.dnw_encoder.State.{State};
+ghost use Rattle.zsv_message.specs.zst_record.drd_rdata.Writing.{WritesInFull};
+ghost use Rattle.zsv_message.specs.zst_record.Lending.{seen};
+ghost use Rattle.zsv_message.specs.zst_record.Records.{RecordAt, ReadsBackAlone, plain};
+ghost use Rattle.zsv_message.specs.zst_record.Writing.{EmitsRecord, RefusesRecord};
 ghost use Rattle.zsv_message.specs.Messages.{OptAt};
 ghost use Rattle.zsv_message.specs.zst_edns.Writing.{EdnsReadsBack};
 ghost use Rattle.zsv_message.specs.zsv_parts.Headers.{header_of, header_octets, reserved_bit, FitsHeader};
@@ -22,8 +22,10 @@ ghost use Rattle.zsv_reply.specs.Writing.{written_count, AllReadBack, EmitsAddit
 
 use std::alloc::{AllocError, Global};
 use std::iter;
-use zst_record::{BinEncodable, BinEncoder, NameEncoding, ProtoError, Record, RecordRef};
-use zsv_message::{Edns, Header, HeaderCounts, Metadata};
+use zsv_message::{
+    BinEncodable, BinEncoder, Edns, Header, HeaderCounts, Metadata, NameEncoding, ProtoError,
+    Record, RecordRef,
+};
 
 /// What lends a record, as `&Record` does: it is written as the record is. An iterator of `&Record` is bounded by this, as
 /// `I::Item: LendsRecord`.

@@ -4,7 +4,10 @@
 //! `MessageResponse::encode` writes a reply that stands in `IsReply` to what it is to hold.
 #![tactic(auto)]
 
-pub use zst_record::{A, DNSClass, Label, NS, Name, RData, Record, RecordSet, RecordType, SOA};
+pub use zsv_message::{
+    A, DNSClass, DecodeError, Edns, Label, MessageRequest, MessageType, Metadata, NS, Name, OpCode,
+    Queries, Query, RData, Record, RecordSet, RecordType, ResponseCode, SOA,
+};
 
 mod encode;
 

@@ -7,10 +7,10 @@ ghost use Rattle.zst_zone.specs.dnw_codes.declared.record_type.RecordType.{Recor
 ghost use Rattle.zst_zone.specs.zst_handler.Answers.{ShowsAnswer, Tells, answers_in};
 ghost use Rattle.zst_zone.specs.zst_handler.Lookups.{Answer, IsLookup, Outcome, answered};
 ghost use Rattle.zst_zone.specs.zst_handler.Zones.{AreStored, ZoneReadsBack};
-ghost use Rattle.zsv_message.specs.zsv_parts.Headers.{FitsHeader};
+ghost use Rattle.zsv_reply.specs.zsv_message.zsv_parts.Headers.{FitsHeader};
 ghost use Rattle.zsv_reply.specs.Replies.{bare_failure};
 ghost use Rattle.zsv_reply.specs.Writing.{IsWritten};
-ghost use Rattle.zsv_message.specs.Messages.{IsMessage};
+ghost use Rattle.zsv_reply.specs.zsv_message.Messages.{IsMessage};
 ghost use Rattle.authority_server.specs.Serving.{reply_metadata, error_parts, AtOrigin, BesideAnswer, DeniedParts, OutcomeParts, QuestionParts, QueryParts, KindParts, PlainParts, AnswersEdns, Answers, has_other_version, is_referral, with_edns};
 ghost use Rattle.authority_server.specs.Servers.{parts_of, IsSound};
 
@@ -21,10 +21,10 @@ use zst_zone::{
     AuthLookup, InMemoryZoneHandler, LookupControlFlow, LookupError, LookupOptions,
     LookupRecordsIter, NameKey, ProtoError,
 };
-use zsv_message::{
-    Edns, MessageRequest, MessageType, Metadata, OpCode, Queries, Query, ResponseCode,
+use zsv_reply::{
+    Edns, MessageRequest, MessageResponse, MessageType, Metadata, OpCode, Queries, Query,
+    RecordType, ResponseCode, encode_header,
 };
-use zsv_reply::{MessageResponse, RecordType, encode_header};
 
 // What a full reply holds; the zone lends its records.
 #[derive(Drop)]
@@ -207,7 +207,13 @@ fn denied_response<'z, K>(
         → IfOk result (λ r. OutcomeParts zone.now request options.dnssec_ok record_type denied (parts_of r)) }
 {
     match why {
-        LookupError::NameExists => denial_response(zone, alloc, request, options, ResponseCode::NoError),
+        LookupError::NameExists => denial_response(
+            zone,
+            alloc,
+            request,
+            options,
+            ResponseCode::NoError,
+        ),
         LookupError::ResponseCode(ResponseCode::NXDomain) => {
             denial_response(zone, alloc, request, options, ResponseCode::NXDomain)
         }
@@ -238,7 +244,9 @@ fn outcome_response<'z, K>(
         LookupControlFlow::Continue(Ok(found)) => {
             answered_response(zone, alloc, request, options, record_type, found)
         }
-        LookupControlFlow::Continue(Err(why)) => denied_response(zone, alloc, request, options, &why),
+        LookupControlFlow::Continue(Err(why)) => denied_response(
+            zone, alloc, request, options, &why,
+        ),
         _ => Ok(error_response(request, ResponseCode::ServFail)),
     }
 }
@@ -321,13 +329,7 @@ fn response_to<'z, K>(
         return Ok(error_response(metadata, ResponseCode::BADVERS));
     }
     let options = LookupOptions::from_edns(request.edns());
-    kind_response(
-        zone,
-        alloc,
-        metadata,
-        options,
-        request.queries().queries(),
-    )
+    kind_response(zone, alloc, metadata, options, request.queries().queries())
 }
 
 // The options of a reply: the upper bits of its code, DO and the payload as they were asked.

@@ -1,7 +1,7 @@
 use Rattle.std.proofs.Common.{◌+◌, ◌^◌, ◌≤◌, sym, subst}
 use Rattle.std.specs.List.{AllByRecursion}
 use Rattle.std.specs.Prelude.{Option, option_to_list}
-use Rattle.zst_record.specs.dnw_encoder.Encoders.{state}
+use Rattle.zsv_message.specs.zst_record.dnw_encoder.Encoders.{state}
 use Rattle.zsv_message.specs.zst_edns.Writing.{EdnsReadsBack}
 use Rattle.zsv_message.specs.zst_edns.declared.edns.Edns.{Edns}
 use Rattle.zsv_reply.specs.Writing.{EmitsAdditionals}

@@ -1,6 +1,6 @@
 use Rattle.std.proofs.Common.{[], ◌∷◌, Bor}
 use Rattle.std.specs.Iterator.Adapters.{once_steps}
-use Rattle.zst_record.specs.dnw_encoder.Encoders.{state}
+use Rattle.zsv_message.specs.zst_record.dnw_encoder.Encoders.{state}
 use Rattle.zsv_message.specs.Messages.{OptAt}
 use Rattle.zsv_message.specs.zst_edns.Writing.{EdnsReadsBack, EmitsEdns, RefusesEdns}
 use Rattle.zsv_message.specs.zst_edns.declared.edns.Edns.{Edns}

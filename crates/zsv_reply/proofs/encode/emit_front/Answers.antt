@@ -1,6 +1,6 @@
-use Rattle.zst_record.specs.dnw_encoder.Encoders.{state}
-use Rattle.zst_record.specs.Records.{RecordAt, ReadsBackAlone, plain}
-use Rattle.zst_record.specs.Writing.{EmitsRecord, RefusesRecord}
+use Rattle.zsv_message.specs.zst_record.dnw_encoder.Encoders.{state}
+use Rattle.zsv_message.specs.zst_record.Records.{RecordAt, ReadsBackAlone, plain}
+use Rattle.zsv_message.specs.zst_record.Writing.{EmitsRecord, RefusesRecord}
 use Rattle.zsv_reply.proofs.Fronts.{front_kept, front_refused}
 use Rattle.zsv_reply.proofs.OptRecords.{records_stand}
 use Rattle.zsv_reply.proofs.encode.emit_front.Goals as goal

@@ -1,5 +1,5 @@
 use Rattle.std.proofs.Common.{◌∙◌, ◌+◌, ◌<◌, ◌≤◌, length, ap, arith}
-use Rattle.zsv_message.specs.zsv_parts.declared.header.Metadata.{Metadata}
+use Rattle.zsv_reply.specs.zsv_message.zsv_parts.declared.header.Metadata.{Metadata}
 use Rattle.zsv_reply.specs.Replies.{bare_failure}
 use Rattle.zsv_reply.proofs.Written.{reply_of_written}
 use Rattle.authority_server.specs.Servers.{parts_of}

@@ -2,9 +2,9 @@ use Rattle.std.proofs.Common.{◌≡◌, ℕ, ◌∙◌, ◌||◌, ◌++◌, ari
 use Rattle.std.proofs.lemmas.Result.{on_ok_weaker}
 use Rattle.std.specs.List.{AllByRecursion}
 use Rattle.std.specs.Prelude.{Option, option_to_list}
-use Rattle.zst_record.specs.dnw_encoder.Effects.{Fills}
-use Rattle.zst_record.specs.dnw_encoder.Encoders.{state}
-use Rattle.zst_record.proofs.dnw_encoder_lemmas.PlaceLaws.{opens_open}
+use Rattle.zsv_message.specs.zst_record.dnw_encoder.Effects.{Fills}
+use Rattle.zsv_message.specs.zst_record.dnw_encoder.Encoders.{state}
+use Rattle.zsv_message.proofs.zst_record_lemmas.dnw_encoder_lemmas.PlaceLaws.{opens_open}
 use Rattle.zsv_message.specs.zst_edns.declared.edns.Edns.{Edns}
 use Rattle.zsv_message.specs.zst_edns.Writing.{EdnsReadsBack}
 use Rattle.zsv_message.specs.zsv_parts.declared.header.Metadata.{Metadata}

@@ -1,0 +1,2 @@
+pub use Rattle.zst_record.proofs.dnw_decoder_lemmas
+pub use Rattle.zst_record.proofs.dnw_encoder_lemmas

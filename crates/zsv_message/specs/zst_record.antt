@@ -1,0 +1,10 @@
+pub use Rattle.zst_record.specs.Lending
+pub use Rattle.zst_record.specs.RecordSets
+pub use Rattle.zst_record.specs.Records
+pub use Rattle.zst_record.specs.Writing
+pub use Rattle.zst_record.specs.declared
+pub use Rattle.zst_record.specs.dnw_codes
+pub use Rattle.zst_record.specs.dnw_decoder
+pub use Rattle.zst_record.specs.dnw_encoder
+pub use Rattle.zst_record.specs.dnw_name
+pub use Rattle.zst_record.specs.drd_rdata
