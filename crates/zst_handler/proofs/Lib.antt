@@ -1,2 +1,3 @@
 pub mod ShownRecords
 pub mod WorkedRows
+pub mod zst_record_lemmas

@@ -5,9 +5,9 @@ use Rattle.std.specs.Cmp.Lexicographic.{texts_ties}
 use Rattle.std.specs.List.{starts_with}
 use Rattle.std.specs.Ordering.{is_eq}
 use Rattle.std.specs.Str.{bytes_eq}
-use Rattle.zst_record.specs.dnw_name.DomainName.{DomainName, name_eq, is_at_or_below}
+use Rattle.zst_handler.specs.dnw_name.DomainName.{DomainName, name_eq, is_at_or_below}
 use Rattle.zst_key.specs.NameKeys.{labels_key, name_key}
-use Rattle.zst_record.specs.dnw_name.NameOrderLaws.{name_eq-by_cmp}
+use Rattle.zst_handler.specs.dnw_name.NameOrderLaws.{name_eq-by_cmp}
 use Rattle.zst_key.proofs.KeyFronts.{key-front}
 use Rattle.zst_key.proofs.KeyOrder.{key-order}
 

@@ -2,8 +2,8 @@
 use Rattle.std.proofs.Common.{◌≡◌, refl}
 use Rattle.std.specs.Prelude.{Bool, true, false, not, ◌&&◌, ◌||◌, List, [], ◌∷◌}
 use Rattle.std.specs.Bool.{beq}
-use Rattle.zst_record.specs.dnw_name.DomainName.{DomainName, is_at_or_below}
-use Rattle.zst_record.specs.RecordSets.{RRset}
+use Rattle.zst_handler.specs.dnw_name.DomainName.{DomainName, is_at_or_below}
+use Rattle.zst_handler.specs.zst_record.RecordSets.{RRset}
 use Rattle.zst_handler.specs.Zones.{exists_in}
 use Rattle.zst_key.specs.Ancestors.{other_flag}
 use Rattle.zst_map.specs.ZoneMaps.{exists_alike}

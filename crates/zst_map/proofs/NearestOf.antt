@@ -2,7 +2,7 @@
 use Rattle.std.proofs.Common.{◌≡◌, ℕ, ◌≤◌, length, refl, ap, sym, ◌∙◌, arith, subst}
 use Rattle.std.specs.Prelude.{Bool, List, [], ◌∷◌, Option, Some, None, is_some, IsSome, option_map}
 use Rattle.std.proofs.lemmas.Bool.{true≢false}
-use Rattle.zst_record.specs.dnw_name.DomainName.{DomainName, domain_name}
+use Rattle.zst_handler.specs.dnw_name.DomainName.{DomainName, domain_name}
 use Rattle.zst_key.specs.Ancestors.{nearest_from, nearest_in, or_else, parent}
 use Rattle.zst_handler.specs.Found.{above, nearest_above}
 

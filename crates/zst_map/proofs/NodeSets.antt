@@ -5,15 +5,15 @@ use Rattle.std.specs.declared.alloc.AllocError.{AllocError}
 use Rattle.std.specs.Str.{bytes_eq}
 use Rattle.std.specs.List.{AllByRecursion, insert, remove}
 use Rattle.std.proofs.lemmas.Bool.{true≢false, eqb-true, eqb-false, ltb-true, ltb-false, eq-eqb, ne_eqb}
-use Rattle.zst_record.specs.dnw_codes.declared.record_type.RecordType.{RecordType}
-use Rattle.zst_record.specs.declared.records.Record.{Record}
-use Rattle.zst_record.specs.dnw_name.DomainName.{DomainName, name_eq}
-use Rattle.zst_record.specs.dnw_codes.RecordType.{record_type_number, same_record_type}
+use Rattle.zst_handler.specs.dnw_codes.declared.record_type.RecordType.{RecordType}
+use Rattle.zst_handler.specs.zst_record.declared.records.Record.{Record}
+use Rattle.zst_handler.specs.dnw_name.DomainName.{DomainName, name_eq}
+use Rattle.zst_handler.specs.dnw_codes.RecordType.{record_type_number, same_record_type}
 use Rattle.zst_key.specs.NameKeys.{name_key}
-use Rattle.zst_record.specs.RecordLaws.{name_eq_equiv}
-use Rattle.zst_record.specs.drd_rdata.Order.{rdata_eq}
-use Rattle.zst_record.specs.dnw_codes.DNSClass.{same_class}
-use Rattle.zst_record.specs.RecordSets.{RRset, first_of_put, is_single, takes, with_one}
+use Rattle.zst_handler.specs.zst_record.RecordLaws.{name_eq_equiv}
+use Rattle.zst_handler.specs.drd_rdata.Order.{rdata_eq}
+use Rattle.zst_handler.specs.dnw_codes.DNSClass.{same_class}
+use Rattle.zst_handler.specs.zst_record.RecordSets.{RRset, first_of_put, is_single, takes, with_one}
 use Rattle.zst_map.specs.Changes.{alters, is_only, made, owner_of, set_of_type, type_in, with_change, with_set, without_type}
 use Rattle.zst_map.specs.ZoneMaps.{place_from, IsOwnedAt, IsNode, TypesRise}
 use Rattle.zst_map.specs.declared.change.Change.{Change}

@@ -8,12 +8,12 @@ use Rattle.std.specs.Map.{keys_of, lookup, remove_entry, set_value}
 use Rattle.std.specs.Str.{bytes_eq}
 use Rattle.std.specs.declared.cmp.Ordering.{Ordering}
 use Rattle.std.proofs.lemmas.Bool.{true≢false}
-use Rattle.zst_record.specs.dnw_codes.declared.record_type.RecordType.{RecordType}
-use Rattle.zst_record.specs.dnw_codes.RecordType.{same_record_type}
-use Rattle.zst_record.specs.dnw_name.DomainName.{DomainName, name_cmp}
-use Rattle.zst_record.specs.dnw_name.NameOrderLaws.{name_eq-by_cmp}
-use Rattle.zst_record.specs.RecordLaws.{name_eq_equiv}
-use Rattle.zst_record.specs.RecordSets.{RRset}
+use Rattle.zst_handler.specs.dnw_codes.declared.record_type.RecordType.{RecordType}
+use Rattle.zst_handler.specs.dnw_codes.RecordType.{same_record_type}
+use Rattle.zst_handler.specs.dnw_name.DomainName.{DomainName, name_cmp}
+use Rattle.zst_handler.specs.dnw_name.NameOrderLaws.{name_eq-by_cmp}
+use Rattle.zst_handler.specs.zst_record.RecordLaws.{name_eq_equiv}
+use Rattle.zst_handler.specs.zst_record.RecordSets.{RRset}
 use Rattle.zst_key.specs.NameKeys.{name_key}
 use Rattle.zst_key.proofs.KeyOrder.{keys-order}
 use Rattle.zst_handler.specs.Updates.{Replaces}

@@ -6,11 +6,11 @@ use Rattle.std.specs.BTreeMap.{BTreeMap, btree_map_len, get, is_at}
 use Rattle.std.specs.Map.{lookup}
 use Rattle.std.specs.Borrow.{Bor}
 use Rattle.std.proofs.lemmas.Bool.{true≢false}
-use Rattle.zst_record.specs.dnw_codes.declared.record_type.RecordType.{RecordType}
-use Rattle.zst_record.specs.dnw_codes.declared.record_type.RecordType.TheVariants as kind
-use Rattle.zst_record.specs.dnw_codes.RecordType.{same_record_type}
-use Rattle.zst_record.specs.dnw_name.DomainName.{DomainName, domain_name, lowercase_name, name_cmp}
-use Rattle.zst_record.specs.RecordSets.{RRset, renamed}
+use Rattle.zst_handler.specs.dnw_codes.declared.record_type.RecordType.{RecordType}
+use Rattle.zst_handler.specs.dnw_codes.declared.record_type.RecordType.TheVariants as kind
+use Rattle.zst_handler.specs.dnw_codes.RecordType.{same_record_type}
+use Rattle.zst_handler.specs.dnw_name.DomainName.{DomainName, domain_name, lowercase_name, name_cmp}
+use Rattle.zst_handler.specs.zst_record.RecordSets.{RRset, renamed}
 use Rattle.zst_key.specs.Ancestors.{nearest_from, nearest_in, or_else, parent, star}
 use Rattle.zst_handler.specs.Found.{above, cut_at, cut_found, delegation, found, found_set, here, is_address, nearest_above, wildcard_answer}
 use Rattle.zst_handler.specs.Lookups.{sets_of_name}

@@ -6,7 +6,7 @@ use Rattle.std.specs.Char.{to_ascii_lowercase}
 use Rattle.std.specs.Str.{bytes_eq, str_to_ascii_lowercase}
 use Rattle.std.proofs.lemmas.Bool.{and_parts, true≢false}
 use Rattle.std.proofs.lemmas.Bool.Decides.{nat_tests}
-use Rattle.zst_record.specs.dnw_name.DomainName.{DomainName, domain_name, is_wildcard, lowercase_name, name_eq}
+use Rattle.zst_handler.specs.dnw_name.DomainName.{DomainName, domain_name, is_wildcard, lowercase_name, name_eq}
 use Rattle.zst_key.specs.Ancestors.{parent, star}
 use Rattle.zst_key.proofs.KeyLemmas.{eq-lower}
 

@@ -2,12 +2,12 @@
 use Rattle.std.proofs.Common.{◌≡◌, ℕ, refl, sym, ◌∙◌, ap}
 use Rattle.std.specs.Prelude.{Bool, true, false, not, ◌&&◌, ◌||◌, ◌==◌, List, [], ◌∷◌, Option, Some, None, cond, find}
 use Rattle.std.proofs.lemmas.Bool.{and_parts, eqb-true, true≢false}
-use Rattle.zst_record.specs.dnw_codes.declared.record_type.RecordType.{RecordType}
-use Rattle.zst_record.specs.dnw_codes.RecordType.{record_type_number, same_record_type}
-use Rattle.zst_record.specs.dnw_name.DomainName.{DomainName, lowercase_name, name_eq}
-use Rattle.zst_record.specs.drd_rdata.Types.{type_of}
-use Rattle.zst_record.specs.declared.records.Record.{Record}
-use Rattle.zst_record.specs.RecordSets.{RRset, inserted, set_with}
+use Rattle.zst_handler.specs.dnw_codes.declared.record_type.RecordType.{RecordType}
+use Rattle.zst_handler.specs.dnw_codes.RecordType.{record_type_number, same_record_type}
+use Rattle.zst_handler.specs.dnw_name.DomainName.{DomainName, lowercase_name, name_eq}
+use Rattle.zst_handler.specs.drd_rdata.Types.{type_of}
+use Rattle.zst_handler.specs.zst_record.declared.records.Record.{Record}
+use Rattle.zst_handler.specs.zst_record.RecordSets.{RRset, inserted, set_with}
 use Rattle.zst_key.proofs.KeyLemmas.{eq-lower-first}
 use Rattle.zst_handler.specs.Lookups.{sets_of_name}
 use Rattle.zst_handler.specs.Updates.{Replaces, joins, upserted}

@@ -8,12 +8,12 @@ use Rattle.std.specs.Map.{keys_of, lookup}
 use Rattle.std.specs.BTreeMap.{insert_entry, is_at}
 use Rattle.std.specs.Ordering.{is_le}
 use Rattle.std.specs.declared.cmp.Ordering.{Ordering}
-use Rattle.zst_record.specs.dnw_name.DomainName.{DomainName, is_at_or_below, name_cmp}
+use Rattle.zst_handler.specs.dnw_name.DomainName.{DomainName, is_at_or_below, name_cmp}
 use Rattle.zst_key.specs.NameKeys.{name_key}
 use Rattle.zst_key.specs.declared.key.NameKey.{NameKey}
 use Rattle.zst_key.proofs.KeyLemmas.{key-below}
 use Rattle.zst_key.proofs.KeyOrder.{keys-order}
-use Rattle.zst_record.specs.RecordSets.{RRset}
+use Rattle.zst_handler.specs.zst_record.RecordSets.{RRset}
 use Rattle.zst_handler.specs.Lookups.{sets_of_name}
 use Rattle.zst_handler.specs.Zones.{rrset_at}
 use Rattle.zst_map.specs.ZoneMaps.{IsZone, exists_alike, sets_of}

@@ -14,12 +14,12 @@ use Rattle.std.specs.Str.{bytes_eq}
 use Rattle.std.proofs.lemmas.Map.Text.{is_eq-slice_cmp}
 use Rattle.std.proofs.lemmas.Slice.Eq.{bytes_eq-Decides}
 use Rattle.std.proofs.lemmas.Bool.{eqb-true, cases_order, and_parts, true≢false, le-ltb, ne_eqb, eq-eqb}
-use Rattle.zst_record.specs.dnw_codes.declared.record_type.RecordType.{RecordType}
-use Rattle.zst_record.specs.dnw_name.DomainName.{DomainName, name_eq, is_at_or_below}
-use Rattle.zst_record.specs.dnw_codes.RecordType.{same_record_type}
+use Rattle.zst_handler.specs.dnw_codes.declared.record_type.RecordType.{RecordType}
+use Rattle.zst_handler.specs.dnw_name.DomainName.{DomainName, name_eq, is_at_or_below}
+use Rattle.zst_handler.specs.dnw_codes.RecordType.{same_record_type}
 use Rattle.zst_key.specs.NameKeys.{name_key}
 use Rattle.zst_map.proofs.Keys.{begins}
-use Rattle.zst_record.specs.RecordSets.{RRset}
+use Rattle.zst_handler.specs.zst_record.RecordSets.{RRset}
 use Rattle.zst_handler.specs.Zones.{rrset_at}
 use Rattle.zst_map.specs.ZoneMaps.{exists_alike}
 use Rattle.zst_map.specs.ZoneMaps.{IsOwnedAt, IsNode, sets_of}

@@ -8,13 +8,13 @@ use Rattle.std.specs.Ordering.{nat_cmp, is_eq, ordering_reverse, ordering_then}
 use Rattle.std.specs.declared.cmp.Ordering.{Ordering}
 use Rattle.std.specs.declared.cmp.Ordering.TheVariants.{Less, Equal, Greater}
 use Rattle.std.proofs.lemmas.Bool.{and_parts, eqb-true, eq-eqb}
-use Rattle.zst_record.specs.dnw_codes.declared.record_type.RecordType.{RecordType}
-use Rattle.zst_record.specs.dnw_codes.RecordType.{record_type_number, same_record_type}
-use Rattle.zst_record.specs.RecordSets.{RRset}
-use Rattle.zst_record.specs.declared.records.Record.{Record}
-use Rattle.zst_record.specs.dnw_name.DomainName.{DomainName, name_cmp, name_eq}
-use Rattle.zst_record.specs.dnw_name.NameOrderLaws.{name_eq-by_cmp}
-use Rattle.zst_record.specs.RecordLaws.{name_eq_equiv}
+use Rattle.zst_handler.specs.dnw_codes.declared.record_type.RecordType.{RecordType}
+use Rattle.zst_handler.specs.dnw_codes.RecordType.{record_type_number, same_record_type}
+use Rattle.zst_handler.specs.zst_record.RecordSets.{RRset}
+use Rattle.zst_handler.specs.zst_record.declared.records.Record.{Record}
+use Rattle.zst_handler.specs.dnw_name.DomainName.{DomainName, name_cmp, name_eq}
+use Rattle.zst_handler.specs.dnw_name.NameOrderLaws.{name_eq-by_cmp}
+use Rattle.zst_handler.specs.zst_record.RecordLaws.{name_eq_equiv}
 use Rattle.zst_handler.specs.Zones.{AddsTo, AreInOrder, Zone, rrset_at, set_cmp}
 use Rattle.zst_map.proofs.ZoneNodes.{is_set_at}
 

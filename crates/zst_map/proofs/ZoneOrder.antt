@@ -10,9 +10,9 @@ use Rattle.std.specs.Ordering.{nat_cmp, ordering_reverse, ordering_then}
 use Rattle.std.specs.declared.cmp.Ordering.{Ordering}
 use Rattle.std.specs.declared.cmp.Ordering.TheVariants.{Less, Equal, Greater}
 use Rattle.std.proofs.lemmas.Cmp.{nat_list_cmp_total}
-use Rattle.zst_record.specs.dnw_codes.RecordType.{record_type_number}
-use Rattle.zst_record.specs.RecordSets.{RRset}
-use Rattle.zst_record.specs.dnw_name.DomainName.{name_cmp}
+use Rattle.zst_handler.specs.dnw_codes.RecordType.{record_type_number}
+use Rattle.zst_handler.specs.zst_record.RecordSets.{RRset}
+use Rattle.zst_handler.specs.dnw_name.DomainName.{name_cmp}
 use Rattle.zst_key.specs.NameKeys.{name_key}
 use Rattle.zst_key.proofs.KeyOrder.{key-order}
 use Rattle.zst_handler.specs.Zones.{AreInOrder, set_cmp}

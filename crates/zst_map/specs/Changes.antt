@@ -1,10 +1,10 @@
 -- What changes at an owner, and what its sets are then.
 use Rattle.std.specs.Prelude.{Bool, true, false, List, [], ◌∷◌, Option, Some, None, find, nat_lt, if◌then◌else◌}
-use Rattle.zst_record.specs.dnw_codes.declared.record_type.RecordType.{RecordType}
-use Rattle.zst_record.specs.dnw_codes.RecordType.{record_type_number, same_record_type}
-use Rattle.zst_record.specs.dnw_name.DomainName.{DomainName}
-use Rattle.zst_record.specs.drd_rdata.Types.{type_of}
-use Rattle.zst_record.specs.RecordSets.{RRset, inserted, set_of, set_with, takes}
+use Rattle.zst_handler.specs.dnw_codes.declared.record_type.RecordType.{RecordType}
+use Rattle.zst_handler.specs.dnw_codes.RecordType.{record_type_number, same_record_type}
+use Rattle.zst_handler.specs.dnw_name.DomainName.{DomainName}
+use Rattle.zst_handler.specs.drd_rdata.Types.{type_of}
+use Rattle.zst_handler.specs.zst_record.RecordSets.{RRset, inserted, set_of, set_with, takes}
 use Rattle.zst_map.specs.declared.change.Change.{Change}
 use Rattle.zst_map.specs.declared.change.Change.TheVariants as changes
 

@@ -1,11 +1,11 @@
 -- The names at which a search looks for cuts and wildcards.
 use Rattle.std.specs.Prelude.{◌≡◌, Bool, true, false, List, IsSome}
 use Rattle.std.specs.BTreeMap.{BTreeMap, get}
-use Rattle.zst_record.specs.dnw_codes.declared.record_type.RecordType.{RecordType}
-use Rattle.zst_record.specs.dnw_codes.declared.record_type.RecordType.TheVariants as kind
-use Rattle.zst_record.specs.dnw_codes.RecordType.{same_record_type}
-use Rattle.zst_record.specs.dnw_name.DomainName.{DomainName, name_cmp, name_eq}
-use Rattle.zst_record.specs.RecordSets.{RRset}
+use Rattle.zst_handler.specs.dnw_codes.declared.record_type.RecordType.{RecordType}
+use Rattle.zst_handler.specs.dnw_codes.declared.record_type.RecordType.TheVariants as kind
+use Rattle.zst_handler.specs.dnw_codes.RecordType.{same_record_type}
+use Rattle.zst_handler.specs.dnw_name.DomainName.{DomainName, name_cmp, name_eq}
+use Rattle.zst_handler.specs.zst_record.RecordSets.{RRset}
 use Rattle.zst_key.specs.Ancestors.{star}
 use Rattle.zst_handler.specs.Zones.{rrset_at}
 use Rattle.zst_map.specs.declared.index.Index.{Index}

@@ -2,8 +2,8 @@
 use Rattle.std.specs.Prelude.{List, Option, Some, if◌then◌else◌, option_map, option_copied}
 use Rattle.std.specs.Option.{option_flatten}
 use Rattle.std.specs.Borrow.{Bor}
-use Rattle.zst_record.specs.dnw_name.DomainName.{DomainName, lowercase_name}
-use Rattle.zst_record.specs.RecordSets.{RRset, renamed}
+use Rattle.zst_handler.specs.dnw_name.DomainName.{DomainName, lowercase_name}
+use Rattle.zst_handler.specs.zst_record.RecordSets.{RRset, renamed}
 use Rattle.zst_key.specs.Ancestors.{star}
 use Rattle.zst_handler.specs.Found.{cut_at, here}
 use Rattle.zst_map.specs.declared.zone_sets.Match.{Match}

@@ -6,10 +6,10 @@ use Rattle.std.specs.List.Sorted.{IsStrictlySortedBy}
 use Rattle.std.specs.Ordering.{nat_cmp}
 use Rattle.std.specs.Cmp.Lexicographic.{slice_cmp}
 use Rattle.std.specs.Map.{keys_of}
-use Rattle.zst_record.specs.dnw_name.DomainName.{DomainName, is_at_or_below}
-use Rattle.zst_record.specs.dnw_codes.RecordType.{record_type_number}
+use Rattle.zst_handler.specs.dnw_name.DomainName.{DomainName, is_at_or_below}
+use Rattle.zst_handler.specs.dnw_codes.RecordType.{record_type_number}
 use Rattle.zst_key.specs.NameKeys.{name_key}
-use Rattle.zst_record.specs.RecordSets.{RRset}
+use Rattle.zst_handler.specs.zst_record.RecordSets.{RRset}
 
 -- The set's owner has this key.
 pub record IsOwnedAt (key : List ℕ) (set : RRset) : Type 0 where

@@ -1,4 +1,4 @@
-pub use Rattle.zst_record.specs.RecordLaws
-pub use Rattle.zst_record.specs.RecordSets
-pub use Rattle.zst_record.specs.Records
-pub use Rattle.zst_record.specs.declared
+pub use Rattle.zst_handler.specs.zst_record.RecordLaws
+pub use Rattle.zst_handler.specs.zst_record.RecordSets
+pub use Rattle.zst_handler.specs.zst_record.Records
+pub use Rattle.zst_handler.specs.zst_record.declared

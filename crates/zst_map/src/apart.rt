@@ -1,9 +1,9 @@
 //! Which types an owner may have beside each other.
 
 ghost use Rattle.std.specs.Prelude.{◌≡◌, ◌||◌, not, List};
-ghost use Rattle.zst_record.specs.dnw_codes.DNSClass.{same_class};
-ghost use Rattle.zst_record.specs.dnw_codes.declared.dns_class.DNSClass.TheVariants.{IN};
-ghost use Rattle.zst_record.specs.drd_rdata.Types.{type_of};
+ghost use Rattle.zst_handler.specs.dnw_codes.DNSClass.{same_class};
+ghost use Rattle.zst_handler.specs.dnw_codes.declared.dns_class.DNSClass.TheVariants.{IN};
+ghost use Rattle.zst_handler.specs.drd_rdata.Types.{type_of};
 ghost use Rattle.zst_handler.specs.Updates.{are_apart, is_kept_out, may_be_beside_alias};
 
 use zst_handler::{DNSClass, Record, RecordSet, RecordType};

@@ -1,8 +1,8 @@
 //! What changes at an owner.
 
 ghost use Rattle.std.specs.Prelude.{◌≡◌, None, Some, IfOk, OnOk, OnErr, true};
-ghost use Rattle.zst_record.specs.dnw_name.DomainName.{name_eq};
-ghost use Rattle.zst_record.specs.dnw_codes.RecordType.{same_record_type};
+ghost use Rattle.zst_handler.specs.dnw_name.DomainName.{name_eq};
+ghost use Rattle.zst_handler.specs.dnw_codes.RecordType.{same_record_type};
 ghost use Rattle.zst_map.specs.Changes.{alters, made, owner_of, type_in};
 
 use std::alloc::{AllocError, Global};

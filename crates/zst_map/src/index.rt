@@ -2,9 +2,9 @@
 
 ghost use Rattle.std.specs.Prelude.{◌≡◌, ◌&&◌, true, false, not, OnOk, IsSome};
 ghost use Rattle.std.specs.BTreeMap.{get};
-ghost use Rattle.zst_record.specs.dnw_codes.RecordType.{same_record_type};
-ghost use Rattle.zst_record.specs.dnw_codes.declared.record_type.RecordType.TheVariants as kind;
-ghost use Rattle.zst_record.specs.dnw_name.DomainName.{DomainName, lowercase_name, name_cmp};
+ghost use Rattle.zst_handler.specs.dnw_codes.RecordType.{same_record_type};
+ghost use Rattle.zst_handler.specs.dnw_codes.declared.record_type.RecordType.TheVariants as kind;
+ghost use Rattle.zst_handler.specs.dnw_name.DomainName.{DomainName, lowercase_name, name_cmp};
 ghost use Rattle.zst_key.specs.Ancestors.{parent};
 ghost use Rattle.zst_map.specs.Indexes.{Grows, HasName, HasOwnerOf};
 

@@ -20,7 +20,7 @@ pub struct ZoneSetsIter<'z> {
 
 impl<'z> Model for ZoneSetsIter<'z> {
     ghost use Rattle.std.specs.Prelude.{List, ◌++◌};
-    ghost use Rattle.zst_record.specs.RecordSets.{RRset};
+    ghost use Rattle.zst_handler.specs.zst_record.RecordSets.{RRset};
 
     ghost Value = { List RRset };
 

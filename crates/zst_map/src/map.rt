@@ -2,8 +2,8 @@
 
 ghost use Rattle.std.specs.Prelude.{◌≡◌, true, [], None, Some, IfOk, OnOk, OnErr};
 ghost use Rattle.std.specs.List.{AllByRecursion};
-ghost use Rattle.zst_record.specs.dnw_name.DomainName.{name_eq, lowercase_name};
-ghost use Rattle.zst_record.specs.dnw_codes.RecordType.{record_type_number};
+ghost use Rattle.zst_handler.specs.dnw_name.DomainName.{name_eq, lowercase_name};
+ghost use Rattle.zst_handler.specs.dnw_codes.RecordType.{record_type_number};
 ghost use Rattle.zst_handler.specs.Lookups.{sets_of_name};
 ghost use Rattle.zst_handler.specs.Updates.{Replaces};
 ghost use Rattle.zst_handler.specs.Zones.{AreInOrder, rrset_at};
@@ -29,7 +29,7 @@ pub struct ZoneMap {
 
 impl Model for ZoneMap {
     ghost use Rattle.std.specs.Prelude.{List};
-    ghost use Rattle.zst_record.specs.RecordSets.{RRset};
+    ghost use Rattle.zst_handler.specs.zst_record.RecordSets.{RRset};
 
     ghost Value = { List RRset };
 

@@ -1,9 +1,9 @@
 //! The sets of one owner.
 
 ghost use Rattle.std.specs.Prelude.{◌≡◌, List, find, option_copied};
-ghost use Rattle.zst_record.specs.dnw_codes.RecordType.{same_record_type};
-ghost use Rattle.zst_record.specs.dnw_name.DomainName.{DomainName};
-ghost use Rattle.zst_record.specs.RecordSets.{RRset};
+ghost use Rattle.zst_handler.specs.dnw_codes.RecordType.{same_record_type};
+ghost use Rattle.zst_handler.specs.dnw_name.DomainName.{DomainName};
+ghost use Rattle.zst_handler.specs.zst_record.RecordSets.{RRset};
 ghost use Rattle.zst_handler.specs.Found.{cut_at, here, is_address};
 ghost use Rattle.zst_handler.specs.Lookups.{sets_of_name};
 ghost use Rattle.zst_map.specs.Searches.{lent};

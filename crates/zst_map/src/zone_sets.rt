@@ -3,10 +3,10 @@
 ghost use Rattle.std.specs.Prelude.{◌≡◌, [], true, false, Some, None, IfOk, IfSome, OnOk, OnErr, IsSome, is_some, option_copied, option_map};
 ghost use Rattle.std.specs.BTreeMap.{get};
 ghost use Rattle.zst_key.specs.Ancestors.{nearest_in, parent};
-ghost use Rattle.zst_record.specs.dnw_codes.RecordType.{same_record_type};
-ghost use Rattle.zst_record.specs.dnw_codes.declared.record_type.RecordType.TheVariants as kind;
-ghost use Rattle.zst_record.specs.drd_rdata.Types.{type_of};
-ghost use Rattle.zst_record.specs.dnw_name.DomainName.{DomainName, lowercase_name, name_cmp};
+ghost use Rattle.zst_handler.specs.dnw_codes.RecordType.{same_record_type};
+ghost use Rattle.zst_handler.specs.dnw_codes.declared.record_type.RecordType.TheVariants as kind;
+ghost use Rattle.zst_handler.specs.drd_rdata.Types.{type_of};
+ghost use Rattle.zst_handler.specs.dnw_name.DomainName.{DomainName, lowercase_name, name_cmp};
 ghost use Rattle.zst_handler.specs.Answers.{set_in};
 ghost use Rattle.zst_handler.specs.Found.{above, delegation, found};
 ghost use Rattle.zst_handler.specs.Lookups.{sets_of_name};
@@ -78,7 +78,7 @@ pub struct ZoneSets {
 
 impl Model for ZoneSets {
     ghost use Rattle.std.specs.Prelude.{List};
-    ghost use Rattle.zst_record.specs.RecordSets.{RRset};
+    ghost use Rattle.zst_handler.specs.zst_record.RecordSets.{RRset};
     ghost use Rattle.zst_map.specs.Indexes.{IsIndexed};
 
     ghost Value = { List RRset };

@@ -1,9 +1,9 @@
 use Rattle.std.proofs.Common.{◌∙◌, sym, ap, Some, is_some}
 use Rattle.std.specs.Prelude.{Bool, cond}
 use Rattle.std.specs.BTreeMap.{BTreeMap, Updates, get}
-use Rattle.zst_record.specs.dnw_name.DomainName.{DomainName, name_cmp}
-use Rattle.zst_record.specs.dnw_name.NameOrderLaws.{name_eq-by_cmp}
-use Rattle.zst_record.specs.RecordLaws.{name_eq_equiv}
+use Rattle.zst_handler.specs.dnw_name.DomainName.{DomainName, name_cmp}
+use Rattle.zst_handler.specs.dnw_name.NameOrderLaws.{name_eq-by_cmp}
+use Rattle.zst_handler.specs.zst_record.RecordLaws.{name_eq_equiv}
 use Rattle.zst_map.specs.Indexes.{HasName}
 use Rattle.zst_map.proofs.index.put.Goals.{in-Ok, in-Err}
 use Rattle.zst_map.proofs.index.put.Goals as goal

@@ -1,10 +1,10 @@
 use Rattle.std.proofs.Common.{◌∙◌, sym, ap, arith, subst, length, set}
 use Rattle.std.specs.Prelude.{◌≡◌, true, List, Some, None, Result, Ok, Err, OnOk, IfOk}
 use Rattle.std.specs.List.{insert}
-use Rattle.zst_record.specs.dnw_codes.declared.record_type.RecordType.{RecordType}
-use Rattle.zst_record.specs.dnw_codes.RecordType.{record_type_number, same_record_type}
-use Rattle.zst_record.specs.dnw_name.DomainName.{name_eq}
-use Rattle.zst_record.specs.RecordSets.{RRset}
+use Rattle.zst_handler.specs.dnw_codes.declared.record_type.RecordType.{RecordType}
+use Rattle.zst_handler.specs.dnw_codes.RecordType.{record_type_number, same_record_type}
+use Rattle.zst_handler.specs.dnw_name.DomainName.{name_eq}
+use Rattle.zst_handler.specs.zst_record.RecordSets.{RRset}
 use Rattle.zst_map.specs.Changes.{alters, made, owner_of, type_in}
 use Rattle.zst_map.specs.ZoneMaps.{place_from}
 use Rattle.zst_map.proofs.NodeSets.{FoundHere, found_here, MissedHere, missed_here, alters_none, change_type, each_at}

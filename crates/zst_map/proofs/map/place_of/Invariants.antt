@@ -1,5 +1,5 @@
 use Rattle.std.proofs.Common.{◌≡◌, drop}
-use Rattle.zst_record.specs.dnw_codes.RecordType.{record_type_number}
+use Rattle.zst_handler.specs.dnw_codes.RecordType.{record_type_number}
 use Rattle.zst_map.specs.ZoneMaps.{place_from}
 use Rattle.zst_map.proofs.map.place_of.Given as goal
 

@@ -1,9 +1,9 @@
 use Rattle.std.proofs.Common.{◌∙◌, sym, ap, arith, length}
 use Rattle.std.specs.Prelude.{List, [], true, Some}
-use Rattle.zst_record.specs.dnw_codes.declared.record_type.RecordType.TheVariants as kind
-use Rattle.zst_record.specs.dnw_name.DomainName.{domain_name}
-use Rattle.zst_record.specs.dnw_codes.RecordType.{record_type_number}
-use Rattle.zst_record.specs.RecordSets.{RRset, empty_set}
+use Rattle.zst_handler.specs.dnw_codes.declared.record_type.RecordType.TheVariants as kind
+use Rattle.zst_handler.specs.dnw_name.DomainName.{domain_name}
+use Rattle.zst_handler.specs.dnw_codes.RecordType.{record_type_number}
+use Rattle.zst_handler.specs.zst_record.RecordSets.{RRset, empty_set}
 use Rattle.zst_map.specs.ZoneMaps.{place_from}
 use Rattle.zst_map.proofs.NodeSets.{FoundHere, MissedHere, found_here, missed_here, none_without}
 use Rattle.zst_map.proofs.map.take_out.Goals as goal

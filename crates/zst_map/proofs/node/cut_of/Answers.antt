@@ -1,6 +1,6 @@
 use Rattle.std.proofs.Common.{◌≡◌, ◌∙◌, refl, ap, sym}
 use Rattle.std.specs.Prelude.{Some, None, option_copied}
-use Rattle.zst_record.specs.dnw_codes.declared.record_type.RecordType.TheVariants as kind
+use Rattle.zst_handler.specs.dnw_codes.declared.record_type.RecordType.TheVariants as kind
 use Rattle.zst_handler.specs.Zones.{rrset_at}
 use Rattle.zst_map.specs.Searches.{lent}
 use Rattle.zst_map.proofs.Searched.{cut_there, own_found}

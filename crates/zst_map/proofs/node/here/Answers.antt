@@ -1,6 +1,6 @@
 use Rattle.std.proofs.Common.{◌≡◌, ◌∙◌, ap, sym}
 use Rattle.std.specs.Prelude.{true, false, Some, None, option_copied}
-use Rattle.zst_record.specs.dnw_codes.declared.record_type.RecordType.TheVariants as kind
+use Rattle.zst_handler.specs.dnw_codes.declared.record_type.RecordType.TheVariants as kind
 use Rattle.zst_handler.specs.Zones.{rrset_at}
 use Rattle.zst_map.proofs.Searched.{address_here, alias_here, first_here, own_found}
 use Rattle.zst_map.proofs.node.here.Goals as goal

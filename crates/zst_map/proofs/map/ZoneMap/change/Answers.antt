@@ -2,12 +2,12 @@ use Rattle.std.proofs.Common.{◌≡◌, ◌∙◌, refl, sym, ap, subst, rules}
 use Rattle.std.specs.Prelude.{List, Result, Ok, Err, OnOk, OnErr, IfOk, Some, None}
 use Rattle.std.specs.BTreeMap.{BTreeMap}
 use Rattle.std.specs.Map.{keys_of}
-use Rattle.zst_record.specs.RecordSets.{RRset}
+use Rattle.zst_handler.specs.zst_record.RecordSets.{RRset}
 use Rattle.zst_handler.specs.Updates.{Replaces}
 use Rattle.zst_handler.specs.Zones.{AreInOrder, rrset_at}
 use Rattle.zst_map.specs.Changes.{alters, made, owner_of, type_in}
 use Rattle.zst_map.specs.ZoneMaps.{sets_of}
-use Rattle.zst_record.specs.dnw_name.DomainName.{DomainName, lowercase_name}
+use Rattle.zst_handler.specs.dnw_name.DomainName.{DomainName, lowercase_name}
 use Rattle.zst_key.specs.NameKeys.{name_key}
 use Rattle.zst_key.proofs.KeyLemmas.{key-lower}
 use Rattle.zst_key.specs.declared.key.NameKey.{NameKey}

@@ -1,9 +1,9 @@
 use Rattle.std.proofs.Common.{◌≡◌, ◌<◌, ◌-◌, ◌∙◌, sym, ap, subst, arith, length, get_or}
 use Rattle.std.specs.Prelude.{List, [], Some, None, true, false, is_some, vec_len}
 use Rattle.std.specs.BTreeMap.{BTreeMap}
-use Rattle.zst_record.specs.dnw_codes.declared.record_type.RecordType.TheVariants as kind
-use Rattle.zst_record.specs.dnw_name.DomainName.{domain_name}
-use Rattle.zst_record.specs.RecordSets.{RRset, empty_set}
+use Rattle.zst_handler.specs.dnw_codes.declared.record_type.RecordType.TheVariants as kind
+use Rattle.zst_handler.specs.dnw_name.DomainName.{domain_name}
+use Rattle.zst_handler.specs.zst_record.RecordSets.{RRset, empty_set}
 use Rattle.zst_key.specs.NameKeys.{name_key}
 use Rattle.zst_key.specs.declared.key.NameKey.{NameKey}
 use Rattle.zst_handler.specs.Updates.{Replaces}

@@ -1,12 +1,12 @@
 use Rattle.std.proofs.Common.{◌≡◌, ◌∙◌, ap, sym, subst, List}
 use Rattle.std.specs.Prelude.{Bool, true, false, Some, Result, Ok, Err, OnOk, OnErr, is_err, is_some}
 use Rattle.std.proofs.lemmas.Bool.{true≢false}
-use Rattle.zst_record.specs.dnw_codes.declared.record_type.RecordType.{RecordType}
-use Rattle.zst_record.specs.dnw_codes.declared.record_type.RecordType.TheVariants as kind
-use Rattle.zst_record.specs.dnw_codes.RecordType.{same_record_type}
-use Rattle.zst_record.specs.dnw_name.DomainName.{DomainName, name_eq}
-use Rattle.zst_record.specs.RecordSets.{RRset}
-use Rattle.zst_record.specs.RecordLaws.{name_eq_equiv}
+use Rattle.zst_handler.specs.dnw_codes.declared.record_type.RecordType.{RecordType}
+use Rattle.zst_handler.specs.dnw_codes.declared.record_type.RecordType.TheVariants as kind
+use Rattle.zst_handler.specs.dnw_codes.RecordType.{same_record_type}
+use Rattle.zst_handler.specs.dnw_name.DomainName.{DomainName, name_eq}
+use Rattle.zst_handler.specs.zst_record.RecordSets.{RRset}
+use Rattle.zst_handler.specs.zst_record.RecordLaws.{name_eq_equiv}
 use Rattle.zst_key.proofs.KeyLemmas.{eq-lower}
 use Rattle.zst_handler.specs.Updates.{Replaces}
 use Rattle.zst_handler.specs.Zones.{rrset_at}

@@ -1,6 +1,6 @@
 use Rattle.std.proofs.Common.{◌≡◌, ◌∙◌, ap, sym, List, None, Some}
 use Rattle.std.specs.Prelude.{option_copied}
-use Rattle.zst_record.specs.RecordSets.{RRset}
+use Rattle.zst_handler.specs.zst_record.RecordSets.{RRset}
 use Rattle.zst_handler.specs.Found.{cut_at}
 use Rattle.zst_map.specs.Searches.{lent}
 use Rattle.zst_map.proofs.Searched.{cut_itself, cut_right_above}

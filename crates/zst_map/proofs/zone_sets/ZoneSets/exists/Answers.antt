@@ -1,5 +1,5 @@
 use Rattle.std.proofs.Common.{◌∙◌, ap, sym, List}
-use Rattle.zst_record.specs.RecordSets.{RRset}
+use Rattle.zst_handler.specs.zst_record.RecordSets.{RRset}
 use Rattle.zst_key.specs.Ancestors.{other_flag}
 use Rattle.zst_handler.specs.Zones.{exists_in}
 use Rattle.zst_map.specs.ZoneMaps.{exists_alike}

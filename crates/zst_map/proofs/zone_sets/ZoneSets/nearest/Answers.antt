@@ -1,8 +1,8 @@
 use Rattle.std.proofs.Common.{◌≡◌, ◌∙◌, ap, sym, subst, Option}
 use Rattle.std.specs.Prelude.{IfOk, option_map}
 use Rattle.std.specs.BTreeMap.{get}
-use Rattle.zst_record.specs.dnw_name.DomainName.{DomainName, name_cmp}
-use Rattle.zst_record.specs.RecordSets.{RRset}
+use Rattle.zst_handler.specs.dnw_name.DomainName.{DomainName, name_cmp}
+use Rattle.zst_handler.specs.zst_record.RecordSets.{RRset}
 use Rattle.zst_key.specs.Ancestors.{nearest_in}
 use Rattle.zst_handler.specs.Found.{above}
 use Rattle.zst_map.specs.Searches.{lent, sought_in}

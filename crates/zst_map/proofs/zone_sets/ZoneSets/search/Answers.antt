@@ -1,5 +1,5 @@
 use Rattle.std.proofs.Common.{◌∙◌, ap, sym, List, None, ◌≡◌}
-use Rattle.zst_record.specs.RecordSets.{RRset}
+use Rattle.zst_handler.specs.zst_record.RecordSets.{RRset}
 use Rattle.zst_handler.specs.Found.{delegation}
 use Rattle.zst_map.proofs.Searched.{no_delegation}
 use Rattle.zst_map.proofs.zone_sets.ZoneSets.search.Goals as goal

@@ -1,7 +1,7 @@
 use Rattle.std.proofs.Common.{◌≡◌, ◌∙◌, ap, sym, None, List}
 use Rattle.std.specs.Prelude.{option_copied, option_map}
-use Rattle.zst_record.specs.dnw_name.DomainName.{lowercase_name}
-use Rattle.zst_record.specs.RecordSets.{RRset, renamed}
+use Rattle.zst_handler.specs.dnw_name.DomainName.{lowercase_name}
+use Rattle.zst_handler.specs.zst_record.RecordSets.{RRset, renamed}
 use Rattle.zst_handler.specs.Found.{here}
 use Rattle.zst_map.proofs.Searched.{third_found, wildcard_found}
 use Rattle.zst_map.proofs.zone_sets.ZoneSets.search_uncut.Goals as goal

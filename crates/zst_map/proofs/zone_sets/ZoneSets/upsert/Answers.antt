@@ -1,12 +1,12 @@
 use Rattle.std.proofs.Common.{◌≡◌, ◌∙◌, sym, ap, List}
 use Rattle.std.specs.Prelude.{Bool, true, false, not, ◌||◌, Result, Ok, Err, OnOk, IfOk}
 use Rattle.std.proofs.lemmas.Bool.{true≢false}
-use Rattle.zst_record.specs.dnw_codes.DNSClass.{same_class}
-use Rattle.zst_record.specs.dnw_codes.declared.dns_class.DNSClass.TheVariants.{IN}
-use Rattle.zst_record.specs.declared.records.Record.{Record}
-use Rattle.zst_record.specs.dnw_name.DomainName.{DomainName, lowercase_name}
-use Rattle.zst_record.specs.drd_rdata.Types.{type_of}
-use Rattle.zst_record.specs.RecordSets.{RRset}
+use Rattle.zst_handler.specs.dnw_codes.DNSClass.{same_class}
+use Rattle.zst_handler.specs.dnw_codes.declared.dns_class.DNSClass.TheVariants.{IN}
+use Rattle.zst_handler.specs.zst_record.declared.records.Record.{Record}
+use Rattle.zst_handler.specs.dnw_name.DomainName.{DomainName, lowercase_name}
+use Rattle.zst_handler.specs.drd_rdata.Types.{type_of}
+use Rattle.zst_handler.specs.zst_record.RecordSets.{RRset}
 use Rattle.zst_handler.specs.Lookups.{sets_of_name}
 use Rattle.zst_handler.specs.Updates.{is_kept_out, joins}
 use Rattle.zst_handler.specs.Zones.{rrset_at}

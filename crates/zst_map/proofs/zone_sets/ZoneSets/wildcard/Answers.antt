@@ -1,5 +1,5 @@
 use Rattle.std.proofs.Common.{◌∙◌, ap, sym, List}
-use Rattle.zst_record.specs.RecordSets.{RRset}
+use Rattle.zst_handler.specs.zst_record.RecordSets.{RRset}
 use Rattle.zst_handler.specs.Found.{above}
 use Rattle.zst_map.specs.Searches.{looked_for, sought_in}
 use Rattle.zst_map.specs.declared.zone_sets.Sought.TheVariants as seeks
