@@ -107,7 +107,7 @@ def read_counts(path):
 def check_kinds(kinds, names, kind):
     """Hits are to be hits, and misses and deep names misses."""
     wanted = {
-        "hit": {(replies.NO_ERROR, 1, 0)}, "miss": {(replies.NX_DOMAIN, 0, 1)},
+        "hit": {(replies.NO_ERROR, 1, 0)}, "opt": {(replies.NO_ERROR, 1, 0)}, "short": set(), "miss": {(replies.NX_DOMAIN, 0, 1)},
         "deep": {(replies.NX_DOMAIN, 0, 1)}, "empty": set(),
     }
     if kind in wanted and set(kinds) != wanted[kind]:

@@ -5,7 +5,7 @@
     generate.py questions KIND NAMES COUNT a stream of COUNT questions for that zone
     generate.py all FOLDER [COUNT]         all of them, as files in FOLDER
 
-KIND is one of hit, miss, mixed, deep, empty. Everything is written to standard
+KIND is one of hit, opt, miss, mixed, deep, short, empty. Everything is written to standard
 output, but for `all`. The same arguments give the same octets: each file has a
 generator of random numbers of its own, seeded by its arguments.
 """
@@ -17,9 +17,9 @@ import sys
 
 ORIGIN = "example.com."
 SIZES = (2, 1000, 100000)
-KINDS = ("empty", "hit", "miss", "mixed", "deep")
+KINDS = ("empty", "hit", "opt", "miss", "mixed", "deep", "short")
 
-TYPE_A, TYPE_NS, TYPE_SOA, TYPE_AAAA = 1, 2, 6, 28
+TYPE_A, TYPE_NS, TYPE_SOA, TYPE_AAAA, TYPE_OPT = 1, 2, 6, 28, 41
 CLASS_IN = 1
 
 # A question of so many one-octet labels under the origin has 253 of the 255 octets of a name.
@@ -56,6 +56,12 @@ def question(number, name, record_type, flags=0):
     """A query for one name and type."""
     header = struct.pack("!6H", number & 0xFFFF, flags, 1, 0, 0, 0)
     return header + wire_name(name) + struct.pack("!2H", record_type, CLASS_IN)
+
+
+def with_options(message, payload=1232):
+    """A query without further records, with an OPT record behind its question (RFC 6891 section 6.1.2)."""
+    options = struct.pack("!BHHIH", 0, TYPE_OPT, payload, 0, 0)
+    return message[:10] + struct.pack("!H", 1) + message[12:] + options
 
 
 def missing(dice, names):
@@ -97,6 +103,11 @@ def questions(kind, names, count):
         return []
     if kind == "hit":
         return [question(n, host(dice.randrange(names)), TYPE_A) for n in range(count)]
+    if kind == "opt":
+        return [with_options(question(n, host(dice.randrange(names)), TYPE_A)) for n in range(count)]
+    if kind == "short":
+        # One octet is missing of the header.
+        return [question(n, host(dice.randrange(names)), TYPE_A)[:11] for n in range(count)]
     if kind == "miss":
         return [question(n, missing(dice, names), TYPE_A) for n in range(count)]
     if kind == "deep":

@@ -17,6 +17,7 @@ import generate
 
 NO_ERROR, NX_DOMAIN, REFUSED = 0, 3, 5
 QR, AA, RD = 0x8000, 0x0400, 0x0100
+HEADER, DO = 12, 0x8000
 
 Record = collections.namedtuple("Record", "owner type rclass ttl data")
 Message = collections.namedtuple("Message", "id flags questions question_octets answers authorities additionals")
@@ -57,6 +58,8 @@ def read_data(message, record_type, place, end):
     """The data of a record as a tuple."""
     if record_type == generate.TYPE_A and end - place == 4:
         return (str(ipaddress.IPv4Address(message[place:end])),)
+    if record_type == generate.TYPE_OPT:
+        return (message[place:end],)
     if record_type == generate.TYPE_NS:
         data, place = read_name(message, place)
         data = (data,)
@@ -87,17 +90,17 @@ def read_record(message, place):
 
 def decode(message):
     """A message, whole; octets behind its last record are refused."""
-    if len(message) < 12:
+    if len(message) < HEADER:
         raise Wrong("shorter than a header")
     number, flags, *counts = struct.unpack_from("!6H", message)
-    place, asked = 12, []
+    place, asked = HEADER, []
     for _ in range(counts[0]):
         name, place = read_name(message, place)
         if place + 4 > len(message):
             raise Wrong("a question ends behind the message")
         asked.append((name, *struct.unpack_from("!2H", message, place)))
         place += 4
-    question_octets, sections = message[12:place], []
+    question_octets, sections = message[HEADER:place], []
     for count in counts[1:]:
         records = []
         for _ in range(count):
@@ -158,12 +161,22 @@ def expected(origin, zone, asked):
     return QR | AA | NO_ERROR, answers, beside
 
 
+def expected_options(asked):
+    """The OPT record of a reply, where its question has one: the payload and DO as asked, no options."""
+    return [
+        Record(".", generate.TYPE_OPT, record.rclass, record.ttl & DO, (b"",))
+        for record in asked.additionals
+        if record.type == generate.TYPE_OPT
+    ]
+
+
 def check_reply(origin, zone, question, reply):
     """Raises Wrong where a reply is not the question's."""
     asked, said = decode(question), decode(reply)
     flags, answers, authorities = expected(origin, zone, asked)
     wanted = Message(
-        asked.id, flags | asked.flags & RD, asked.questions, asked.question_octets, answers, authorities, []
+        asked.id, flags | asked.flags & RD, asked.questions, asked.question_octets, answers, authorities,
+        expected_options(asked),
     )
     for field, want, got in zip(Message._fields, wanted, said):
         if want != got:
@@ -174,7 +187,8 @@ def check_stream(zone_text, questions, replies):
     """Raises Wrong where a stream of replies is not the one that the questions have to get; counts the
     replies by code and number of answers."""
     origin, zone = read_zone(zone_text)
-    asked, said = frames(questions), frames(replies)
+    # A frame without a whole header gets no reply.
+    asked, said = [it for it in frames(questions) if len(it) >= HEADER], frames(replies)
     if len(asked) != len(said):
         raise Wrong(f"{len(said)} replies to {len(asked)} questions")
     kinds = collections.Counter()
