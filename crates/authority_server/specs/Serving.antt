@@ -194,7 +194,7 @@ pub record PartsOf (zone : Zone) (request : Message) (parts : ReplyParts) : Type
 abbrev pub Answers : Zone → List ℕ → Message → List ℕ → ℕ → Type 0
 Answers zone message request reply limit =
     (parts : ReplyParts) × PartsOf zone request parts
-    × IsReply message reply parts request.metadata.id request.asked limit
+    × IsReply message reply parts request.asked request.metadata.id limit
 
 -- What a server is: the zone that it serves.
 pub record World : Type 0 where

@@ -27,7 +27,7 @@ pub enum Protocol {
 impl Protocol {
     /// How many octets a reply may have, to a request with these options (RFC 6891 section 6.2.5).
     pub fn limit(self, edns: Option<&Edns>) -> u16
-        ensures value { result ≡ limit_of self (option_copied edns) }
+        ensures value { result ≡ limit_of self (option_copied edns.entry) }
         ensures lower { 512 ≤ result }
     {
         match (self, edns) {

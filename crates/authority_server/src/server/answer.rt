@@ -308,7 +308,7 @@ fn kind_response<'z, K>(
 
 // Whether a request has EDNS of another version than the one that is served.
 fn has_other_version(edns: Option<&Edns>) -> bool
-    ensures { result ≡ has_other_version (option_copied edns) }
+    ensures { result ≡ has_other_version (option_copied edns.entry) }
 {
     match edns {
         Some(edns) => edns.version() > 0,
@@ -334,7 +334,7 @@ fn response_to<'z, K>(
 
 // The options of a reply: the upper bits of its code, DO and the payload as they were asked.
 fn reply_edns(alloc: Global, asked: Option<&Edns>, response_code: ResponseCode) -> Option<Edns>
-    ensures { AnswersEdns (option_copied asked) response_code result }
+    ensures { AnswersEdns (option_copied asked.entry) response_code result }
 {
     let asked = asked?;
     let mut edns = Edns::new(alloc);
