@@ -110,14 +110,17 @@ plain_sound zone request parts back fits is = by (has_other_version request.edns
     by true e = error_sound request.metadata responses.BADVERS parts fits (is.other_version e)
     by false e = kind_sound zone request.metadata (asks_for_dnssec request.edns) request.metadata.message_type request.asked.questions parts back fits (is.answered e)
 
+-- No options take no octets.
+no_data : (edns : Edns) → edns.options.options.items ≡ [] → length (edns_data edns) ≡ 0
+no_data edns none = rw none refl
+
 -- The options of a reply read back.
 edns_back : (asked : Option Edns) (code : ResponseCode) (edns : Option Edns) → AnswersEdns asked code edns → AllByRecursion EdnsReadsBack (option_to_list edns)
 edns_back None code None answers = tt
 edns_back None code (Some edns) answers = absurd answers
 edns_back (Some asked) code None answers = absurd answers
 edns_back (Some asked) code (Some edns) answers =
-    let few : length (edns_data edns) ≡ 0 = ap (λ es. length (edns_data (record edns { options = record edns.options { options = record edns.options.options { items = es } } }))) answers.options in
-    (record { flags = omega (arith, answers.other_flags); options = inl answers.options; counted = omega (arith, few) }, tt)
+    (record { flags = omega (arith, answers.other_flags); options = inl answers.options; counted = omega (arith, no_data edns answers.options) }, tt)
 
 pub parts_sound : (zone : Zone) (request : Message) (parts : ReplyParts) (edns : Option Edns) → ZoneIsSound zone → FitsOpCode request.metadata → PlainParts zone request parts → AnswersEdns request.edns parts.metadata.response_code edns → IsSound (with_edns edns parts)
 parts_sound zone request parts edns back fits is answers =

@@ -1,5 +1,5 @@
 -- A full reply to each request holds something, in every zone.
-use Rattle.std.proofs.Common.{◌≡◌, ◌∙◌, refl, sym}
+use Rattle.std.proofs.Common.{◌≡◌, ◌∙◌, refl, sym, arith}
 use Rattle.std.specs.Prelude.{Bool, true, false, List, [], ◌∷◌, Option, Some, None}
 use Rattle.std.proofs.lemmas.Bool.{true≢false}
 use Rattle.zst_zone.specs.dnw_codes.declared.record_type.RecordType.{RecordType}
@@ -89,7 +89,7 @@ edns_of (Some asked) code = (
     rcode_high = high_bits code;
     version = 0;
     flags = record { dnssec_ok = asked.flags.dnssec_ok; z = 0 };
-    options = record asked.options { options = record asked.options.options { items = [] } };
+    options = record asked.options { options = record asked.options.options { len = 0; items = []; ok = (refl, omega arith) } };
   }),
   record { rcode_high = refl; version = refl; dnssec_ok = refl; other_flags = refl; max_payload = refl; options = refl },
 )

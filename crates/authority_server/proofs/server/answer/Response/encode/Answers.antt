@@ -9,7 +9,7 @@ use Rattle.authority_server.proofs.server.answer.Response.encode.Goals as goal
 pub returns-clause-written : goal.returns-clause-written
 returns-clause-written c =
     let parts = with_edns c.args.edns (parts_of c.args.self.now) in
-    IfOk-weaker c.encode.result _ _ (λ reply told. told parts (record {
+    IfOk-weaker c.encode.result _ _ (λ reply told. rw (c.len.ensures, c.as_bytes.ensures) at told parts (record {
       metadata = refl;
       answers = lent_yielded (λ (rs : List Record). rs) c.answers.result parts.answers c.answers.ensures;
       authorities = lent_yielded (λ (rs : List Record). rs) c.authorities.result parts.authorities c.authorities.ensures;
