@@ -4,8 +4,10 @@ use Rattle.std.specs.declared.net.SocketAddr.{SocketAddr}
 use Rattle.zsv_message.specs.zst_edns.declared.edns.Edns.{Edns}
 use Rattle.zsv_message.specs.zst_edns.zst_codes.declared.lookup_error.LookupError.{LookupError}
 use Rattle.zsv_message.specs.zst_edns.zst_codes.declared.lookup_error.LookupError.TheVariants.{BadQueryCount}
+use Rattle.zsv_message.specs.zst_record.dnw_codes.declared.error.DecodeError.TheVariants as causes
 use Rattle.zsv_message.specs.zst_record.dnw_codes.declared.error.ProtoError.{ProtoError}
 use Rattle.zsv_message.specs.zst_record.dnw_codes.declared.error.ProtoError.TheVariants as failures
+use Rattle.zsv_message.specs.zst_record.dnw_decoder.Reading.{IsWantOfMemory}
 use Rattle.zsv_message.specs.zsv_parts.declared.question.Query.{Query}
 use Rattle.zsv_message.specs.Messages.{Message, ReadsMessage}
 use Rattle.zsv_request.specs.declared.protocol.Protocol.{Protocol}
@@ -34,12 +36,15 @@ requested message octets source transport = record {
   transport = transport;
 }
 
--- What reading a request answers, both ways: as its octets are read.
+-- What reading a request answers, both ways: as its octets are read, want of memory apart.
 abbrev pub ReadsRequest : List ℕ → SocketAddr → Protocol → Result Requested ProtoError → Type 0
 ReadsRequest octets source transport (Ok request) =
     ReadsMessage octets (Ok request.message)
     × (request ≡ requested request.message octets source transport)
-ReadsRequest octets source transport (Err (failures.Decode e)) = ReadsMessage octets (Err e)
+ReadsRequest octets source transport (Err (failures.Decode e)) =
+    ReadsMessage octets (Err e) × (IsWantOfMemory e → ⊥)
+ReadsRequest octets source transport (Err (failures.Memory cause)) =
+    ReadsMessage octets (Err causes.Memory)
 ReadsRequest octets source transport (Err other) = ⊥
 
 -- One question is asked.

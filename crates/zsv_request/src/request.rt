@@ -6,10 +6,10 @@ ghost use Rattle.zsv_request.specs.Requests.{CountsQueries, InformsOf, ReadsRequ
 use crate::one_query::one_query;
 use crate::protocol::Protocol;
 use crate::request_info::RequestInfo;
-use std::alloc::Global;
+use std::alloc::{AllocError, Global};
 use std::marker::Model;
 use std::net::SocketAddr;
-use zsv_message::{LookupError, MessageRequest, ProtoError};
+use zsv_message::{DecodeError, LookupError, MessageRequest, ProtoError};
 
 /// A message with its octets, who sent it and how.
 #[derive(Drop)]
@@ -29,8 +29,8 @@ impl<'m> Model for Request<'m> {
 }
 
 impl<'m> Request<'m> {
-    /// The request that octets hold, who sent it and how. Octets that are no message are refused as
-    /// `MessageRequest::read` refuses them.
+    /// The request that octets hold, who sent it and how. Octets that are no message are refused by `Decode` of the error of
+    /// `MessageRequest::read`; want of memory is told as `Memory`.
     pub fn from_bytes(
         alloc: Global,
         raw: &'m [u8],
@@ -41,6 +41,7 @@ impl<'m> Request<'m> {
     {
         match MessageRequest::read(alloc, raw) {
             Ok(message) => Ok(Request::from_message(message, raw, src, protocol)),
+            Err(DecodeError::Memory) => Err(ProtoError::Memory(AllocError)),
             Err(refused) => Err(ProtoError::Decode(refused)),
         }
     }

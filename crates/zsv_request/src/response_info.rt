@@ -6,7 +6,7 @@ use std::marker::Model;
 use zsv_message::{Header, HeaderCounts, Metadata};
 
 /// The header of a reply, as it was written. A contract sees it as the header.
-#[derive(Clone, Copy)]
+#[derive(Clone, Copy, Debug)]
 pub struct ResponseInfo {
     header: Header,
 }
