@@ -85,6 +85,17 @@ joined_metadata m None = m
 joined_metadata m (Some edns) =
     record m { response_code = joined_code edns.rcode_high (low_bits m.response_code) }
 
+-- How many octets a sender takes in a datagram: what its options say, which is 512 at least (RFC
+-- 6891, section 6.2.3); 512 without options (RFC 1035, section 4.2.1).
+abbrev pub payload_taken : Option Edns → ℕ
+payload_taken None = 512
+payload_taken (Some edns) = edns.max_payload
+
+-- The version of EDNS that a sender speaks (RFC 6891, section 6.1.3).
+abbrev pub edns_version : Option Edns → ℕ
+edns_version None = 0
+edns_version (Some edns) = edns.version
+
 abbrev pub is_update : OpCode → Bool
 is_update operations.Update = true
 is_update other = false

@@ -4,10 +4,10 @@
 //! `MessageRequest::read` reads exactly what `IsMessage` says, and refuses all else by its cause (`RefusesMessage`).
 #![tactic(auto)]
 
-pub use zst_edns::Edns;
+pub use zst_edns::{Edns, LookupError};
 pub use zst_record::{
-    A, BinEncodable, BinEncoder, DNSClass, DecodeError, Label, NS, Name, NameEncoding, ProtoError,
-    RData, Record, RecordRef, RecordSet, RecordType, SOA,
+    A, BinDecodable, BinDecoder, BinEncodable, BinEncoder, DNSClass, DecodeError, Label, LowerName,
+    NS, Name, NameEncoding, ProtoError, RData, Record, RecordRef, RecordSet, RecordType, SOA,
 };
 pub use zsv_parts::{
     Header, HeaderCounts, MessageType, Metadata, OpCode, Queries, Query, ResponseCode, Tsig,

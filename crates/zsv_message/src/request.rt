@@ -1,7 +1,7 @@
 //! Messages that are read (RFC 1035 section 4.1, RFC 6891 section 6.1, RFC 8945 section 4.2).
 
-ghost use Rattle.std.specs.Prelude.{◌≡◌, option_copied};
-ghost use Rattle.zsv_message.specs.Messages.{ReadsMessage, is_update, joined_metadata};
+ghost use Rattle.std.specs.Prelude.{◌≡◌, ◌≤◌, option_copied};
+ghost use Rattle.zsv_message.specs.Messages.{ReadsMessage, edns_version, is_update, joined_metadata, payload_taken};
 
 use crate::additionals::Additionals;
 use crate::placing::Placing;
@@ -130,6 +130,28 @@ impl<'m> MessageRequest<'m> {
         ensures { option_copied result ≡ self.now.edns }
     {
         self.edns.as_ref()
+    }
+
+    /// How many octets the sender takes in a datagram, at least 512, and 512 where it has no options (RFC 6891 sections
+    /// 6.2.3 and 6.2.5).
+    pub fn max_payload(&self) -> u16
+        ensures value { result ≡ payload_taken self.now.edns }
+        ensures least { 512 ≤ result }
+    {
+        match &self.edns {
+            None => 512,
+            Some(edns) => edns.max_payload(),
+        }
+    }
+
+    /// The version of EDNS that the sender speaks, 0 where it has no options (RFC 6891 section 6.1.3).
+    pub fn version(&self) -> u8
+        ensures { result ≡ edns_version self.now.edns }
+    {
+        match &self.edns {
+            None => 0,
+            Some(edns) => edns.version(),
+        }
     }
 
     /// The signature of the message by a shared key (RFC 8945 section 4.2).
