@@ -1,11 +1,13 @@
 -- What a request that was read says: a header that can be written.
-use Rattle.std.proofs.Common.{◌≡◌, ℕ, ◌/◌, ◌%◌, List, Option, Some, None, sym, ap, subst, arith}
+use Rattle.std.proofs.Common.{◌≡◌, ℕ, ◌/◌, ◌%◌, ◌≤◌, List, length, Option, Some, None, ◌⊎◌, inl, inr, sym, ap, subst, arith}
 use Rattle.std.specs.Prelude.{get_or}
 use Rattle.zsv_reply.specs.zsv_message.zsv_parts.dnw_decoder.Octets.{number_16}
 use Rattle.zsv_reply.specs.zsv_message.zsv_parts.Headers.{header_of, metadata_of, op_code_of, op_code_number}
 use Rattle.zsv_reply.specs.zsv_message.zsv_parts.declared.header.Metadata.{Metadata}
 use Rattle.zsv_reply.specs.Writing.{FitsOpCode}
-use Rattle.zsv_reply.specs.zsv_message.Messages.{IsMessage, Message, joined_metadata}
+use Rattle.zsv_reply.specs.zsv_message.Messages.{IsMessage, Message, RefusesMessage, joined_metadata, no_additionals, no_answers, no_authorities, no_header, no_questions}
+use Rattle.zsv_reply.specs.zsv_message.zsv_parts.dnw_decoder.Reading.{IsWantOfMemory}
+use Rattle.zst_zone.specs.dnw_codes.declared.error.DecodeError.TheVariants.{Memory}
 use Rattle.zsv_reply.specs.zsv_message.zst_edns.declared.edns.Edns.{Edns}
 
 op_code_back : (n : ℕ) → op_code_number (op_code_of n) ≡ n
@@ -23,3 +25,12 @@ pub fits_request : (octets : List ℕ) (request : Message) → IsMessage octets 
 fits_request octets request is =
     subst FitsOpCode (sym is.metadata)
     (fits_joined (header_of octets).metadata request.edns (fits_metadata (number_16 octets 0) (get_or octets 2 0) (get_or octets 3 0)))
+
+-- Memory is wanted only behind a whole header.
+pub memory_behind_header : (octets : List ℕ) → (IsWantOfMemory Memory × (12 ≤ length octets)) ⊎ RefusesMessage octets Memory → 12 ≤ length octets
+memory_behind_header octets (inl (memory, long)) = long
+memory_behind_header octets (inr (no_header (is, cut))) = absurd is
+memory_behind_header octets (inr (no_questions long refused)) = long
+memory_behind_header octets (inr (no_answers long asked place there refused)) = long
+memory_behind_header octets (inr (no_authorities long asked answers first place there found refused)) = long
+memory_behind_header octets (inr (no_additionals long asked answers authorities first second place there found more refused)) = long

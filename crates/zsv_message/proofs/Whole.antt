@@ -57,7 +57,7 @@ pub questions_err : (octets : List ℕ) (h : Header) (e : DecodeError) → h ≡
 questions_err octets h e means long refused none =
     let refused = subst (λ (h : Header). IsWantOfMemory e ⊎ RefusesQuestions octets 12 h.counts.queries e) means refused in
     let none = subst (λ (h : Header). IsWantOfMemory e ⊎ ((asked : Asked) (end : ℕ) → AskedAt octets 12 h.counts.queries asked end → ⊥)) means none in (
-      behind_header octets e long (or_map (λ r. no_questions r) refused),
+      behind_header octets e long (or_map (λ r. no_questions long r) refused),
       or_map (λ (none : (asked : Asked) (end : ℕ) → AskedAt octets 12 (header_of octets).counts.queries asked end → ⊥) (m : Message) (is : IsMessage octets m). none m.asked is.questions_end is.questions) none,
     )
 
@@ -75,7 +75,7 @@ answers_err octets h asked place e a refused none =
     let there = asked_there octets h asked place a in
     let refused = subst (λ (h : Header). IsWantOfMemory e ⊎ RefusesSection (before_additionals h.metadata.op_code) octets place h.counts.answers e) a.means refused in
     let none = subst (λ (h : Header). IsWantOfMemory e ⊎ ((records : List Record) (end : ℕ) → SectionAt (before_additionals h.metadata.op_code) octets place h.counts.answers records end → ⊥)) a.means none in (
-      behind_header octets e a.long (or_map (λ r. no_answers asked place there r) refused),
+      behind_header octets e a.long (or_map (λ r. no_answers a.long asked place there r) refused),
       or_map (λ (none : (records : List Record) (end : ℕ) → SectionAt (before_additionals (header_of octets).metadata.op_code) octets place (header_of octets).counts.answers records end → ⊥) (m : Message) (is : IsMessage octets m).
           none m.answers is.answers_end (subst (λ (p : ℕ). SectionAt (before_additionals (header_of octets).metadata.op_code) octets p (header_of octets).counts.answers m.answers is.answers_end)
           (asked_end octets 12 (header_of octets).counts.queries m.asked asked is.questions_end place is.questions there) is.answers)) none,
@@ -87,7 +87,7 @@ authorities_err octets h asked answers first place e a found refused none =
     let found = subst (λ (h : Header). SectionAt (before_additionals h.metadata.op_code) octets first h.counts.answers answers place) a.means found in
     let refused = subst (λ (h : Header). IsWantOfMemory e ⊎ RefusesSection (before_additionals h.metadata.op_code) octets place h.counts.authorities e) a.means refused in
     let none = subst (λ (h : Header). IsWantOfMemory e ⊎ ((records : List Record) (end : ℕ) → SectionAt (before_additionals h.metadata.op_code) octets place h.counts.authorities records end → ⊥)) a.means none in (
-      behind_header octets e a.long (or_map (λ r. no_authorities asked answers first place there found r) refused),
+      behind_header octets e a.long (or_map (λ r. no_authorities a.long asked answers first place there found r) refused),
       or_map (λ (none : (records : List Record) (end : ℕ) → SectionAt (before_additionals (header_of octets).metadata.op_code) octets place (header_of octets).counts.authorities records end → ⊥) (m : Message) (is : IsMessage octets m).
           let questions = asked_end octets 12 (header_of octets).counts.queries m.asked asked is.questions_end first is.questions there in
           let answers_end = section_end (before_additionals (header_of octets).metadata.op_code) octets first (header_of octets).counts.answers m.answers answers is.answers_end place
@@ -102,7 +102,7 @@ additionals_err octets h asked answers authorities first second place e a found 
     let more = subst (λ (h : Header). SectionAt (before_additionals h.metadata.op_code) octets second h.counts.authorities authorities place) a.means more in
     let refused = subst (λ (h : Header). IsWantOfMemory e ⊎ RefusesAdditionals h.metadata.op_code octets place h.counts.additionals e) a.means refused in
     let none = subst (λ (h : Header). IsWantOfMemory e ⊎ ((rs : List Record) (o : Option Edns) (t : Option TsigRecord) (end : ℕ) → AdditionalsAt octets h.metadata.op_code place h.counts.additionals rs o t end → ⊥)) a.means none in (
-      behind_header octets e a.long (or_map (λ r. no_additionals asked answers authorities first second place there found more r) refused),
+      behind_header octets e a.long (or_map (λ r. no_additionals a.long asked answers authorities first second place there found more r) refused),
       or_map (λ (none : (rs : List Record) (o : Option Edns) (t : Option TsigRecord) (end : ℕ) → AdditionalsAt octets (header_of octets).metadata.op_code place (header_of octets).counts.additionals rs o t end → ⊥) (m : Message) (is : IsMessage octets m).
           let questions = asked_end octets 12 (header_of octets).counts.queries m.asked asked is.questions_end first is.questions there in
           let answers_end = section_end (before_additionals (header_of octets).metadata.op_code) octets first (header_of octets).counts.answers m.answers answers is.answers_end second

@@ -167,23 +167,23 @@ RefusesAdditionals op message place count e =
     RefusesSection (in_additionals op) message place count e
     ⊎ RefusesSignature op message place count e
 
--- Octets are no message, as the error says: of what stands one behind the other, this is the first
--- that can't be read.
+-- Octets are no message, as the error says: of what stands one behind the other, the header first,
+-- this is the first that can't be read.
 pub data RefusesMessage (octets : List ℕ) (e : DecodeError) : Type 0 where
   no_header : IsCut 12 octets 0 e → RefusesMessage octets e
-  no_questions : RefusesQuestions octets 12 (header_of octets).counts.queries e
-      → RefusesMessage octets e
-  no_answers : (asked : Asked) (place : ℕ)
+  no_questions : 12 ≤ length octets
+      → RefusesQuestions octets 12 (header_of octets).counts.queries e → RefusesMessage octets e
+  no_answers : 12 ≤ length octets → (asked : Asked) (place : ℕ)
       → AskedAt octets 12 (header_of octets).counts.queries asked place
       → RefusesSection (before_additionals (header_of octets).metadata.op_code) octets place
       (header_of octets).counts.answers e → RefusesMessage octets e
-  no_authorities : (asked : Asked) (answers : List Record) (first place : ℕ)
+  no_authorities : 12 ≤ length octets → (asked : Asked) (answers : List Record) (first place : ℕ)
       → AskedAt octets 12 (header_of octets).counts.queries asked first
       → SectionAt (before_additionals (header_of octets).metadata.op_code) octets first
       (header_of octets).counts.answers answers place
       → RefusesSection (before_additionals (header_of octets).metadata.op_code) octets place
       (header_of octets).counts.authorities e → RefusesMessage octets e
-  no_additionals : (asked : Asked) (answers authorities : List Record)
+  no_additionals : 12 ≤ length octets → (asked : Asked) (answers authorities : List Record)
       (first second place : ℕ)
       → AskedAt octets 12 (header_of octets).counts.queries asked first
       → SectionAt (before_additionals (header_of octets).metadata.op_code) octets first
