@@ -13,8 +13,8 @@ use Rattle.zsv_reply.specs.zsv_message.zsv_parts.declared.header.OpCode.TheVaria
 use Rattle.zsv_reply.specs.zsv_message.zsv_parts.zst_codes.declared.response_code.ResponseCode.{ResponseCode}
 use Rattle.zsv_reply.specs.zsv_message.zsv_parts.zst_codes.declared.response_code.ResponseCode.TheVariants as responses
 use Rattle.zsv_reply.specs.zsv_message.zsv_parts.declared.question.Query.{Query}
-use Rattle.authority_server.specs.declared.server.Protocol.{Protocol}
-use Rattle.authority_server.specs.declared.server.Protocol.TheVariants as protocols
+use Rattle.zsv_request.specs.declared.protocol.Protocol.{Protocol}
+use Rattle.zsv_request.specs.Requests.{limit_of}
 use Rattle.zst_zone.specs.dnw_name.DomainName.{is_at_or_below}
 use Rattle.zst_zone.specs.dnw_codes.RecordType.{same_record_type}
 use Rattle.zsv_reply.specs.zst_record.RecordSets.{RRset}
@@ -206,13 +206,6 @@ pub record Received : Type 0 where
   pub source : SocketAddr
   pub transport : Protocol
   pub now : ℕ
-
--- How long a reply may be (RFC 1035, sections 4.2.1 and 4.2.2): of a datagram as long as the sender
--- says that it takes (RFC 6891, section 6.2.5).
-abbrev pub limit_of : Protocol → Option Edns → ℕ
-limit_of protocols.Udp None = 512
-limit_of protocols.Udp (Some edns) = edns.max_payload
-limit_of protocols.Tcp edns = 65535
 
 -- One message served: outside the request grammar there is no answer; inside it there is one reply,
 -- of the parts that the zone gives. Nothing changes the server.

@@ -5,6 +5,7 @@
 #![tactic(auto)]
 
 pub use zsv_reply::{A, DNSClass, Label, NS, Name, RData, Record, RecordSet, RecordType, SOA};
+pub use zsv_request::Protocol;
 
 mod back;
 mod faults;
@@ -13,5 +14,5 @@ mod stream;
 
 pub use back::{record_reads_back, zone_reads_back};
 pub use faults::Faults;
-pub use server::{Arrival, Authority, NoSuite, Protocol, ServeError};
+pub use server::{Arrival, Authority, NoSuite, ServeError};
 pub use stream::StreamError;

@@ -1,7 +1,7 @@
 //! The server: one message in, one reply out.
 
-ghost use Rattle.std.specs.Prelude.{◌≡◌, ◌+◌, ◌<◌, ◌≤◌, option_copied, vec_len, vec_capacity, length, map, IfOk, IfErr, OnOk, false};
-ghost use Rattle.authority_server.specs.Serving.{limit_of, Serves};
+ghost use Rattle.std.specs.Prelude.{◌≡◌, ◌+◌, ◌<◌, ◌≤◌, vec_len, vec_capacity, length, map, IfOk, IfErr, OnOk, false};
+ghost use Rattle.authority_server.specs.Serving.{Serves};
 ghost use Rattle.authority_server.specs.Runs.{octets_of, received_of, ServesNext, ServesFront};
 
 use crate::server::answer::reply_to;
@@ -10,33 +10,11 @@ use std::marker::Model;
 use std::net::SocketAddr;
 use thiserror::Error;
 use zst_zone::{InMemoryZoneHandler, ZoneType};
-use zsv_reply::{DecodeError, Edns, MessageRequest};
+use zsv_reply::{DecodeError, MessageRequest};
+use zsv_request::Protocol;
 
 pub mod answer;
 mod sections;
-
-/// How a message came.
-#[derive(Clone, Copy, Debug, PartialEq, Eq)]
-pub enum Protocol {
-    /// A datagram (RFC 1035 section 4.2.1).
-    Udp,
-    /// A framed stream (RFC 1035 section 4.2.2).
-    Tcp,
-}
-
-impl Protocol {
-    /// How many octets a reply may have, to a request with these options (RFC 6891 section 6.2.5).
-    pub fn limit(self, edns: Option<&Edns>) -> u16
-        ensures value { result ≡ limit_of self (option_copied edns.entry) }
-        ensures lower { 512 ≤ result }
-    {
-        match (self, edns) {
-            (Protocol::Udp, None) => 512,
-            (Protocol::Udp, Some(edns)) => edns.max_payload(),
-            (Protocol::Tcp, _) => 65535,
-        }
-    }
-}
 
 /// A server without keys: it verifies and signs nothing.
 #[derive(Clone, Copy, Debug)]

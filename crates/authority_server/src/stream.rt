@@ -7,10 +7,11 @@ ghost use Rattle.authority_server.specs.Faults.{IsFaultOf, NoneFailed, WriterFai
 ghost use Rattle.authority_server.specs.Frames.{frame_of, stream_message, ReadsLess, IsMessageFault, IsReadFault, WritesFront, IsServeFault, ServesFrame, ServesFrames, ServesUntil};
 
 use crate::faults::Faults;
-use crate::server::{Authority, Protocol, ServeError};
+use crate::server::{Authority, ServeError};
 use std::io::{Read, Write};
 use std::net::SocketAddr;
 use thiserror::Error;
+use zsv_request::Protocol;
 
 /// Why a stream was left. The frames that were whole before are answered.
 #[derive(Clone, Copy, Debug, Error)]

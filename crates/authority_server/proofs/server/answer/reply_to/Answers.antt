@@ -26,9 +26,11 @@ returns g c =
     let room : 12 + length request.asked.octets ≤ c.args.limit = omega (arith, ap length c.as_bytes.ensures, asked_size c.queries-queries.ensures, c.if-room-as_bytes.false, c.from-room.ensures, c.requires.lower) in
     let plain = parts_of c.in_ok-response.response in
     let parts = with_edns c.reply_edns-edns.result plain in
-    value_told _ _ c.encode-encoded.result c.or_memory.result c.or_memory.ensures c.encode-encoded.ensures.written (λ reply written.
-    (parts, record { plain = plain; gives = c.in_ok-response.ensures; edns = c.reply_edns-edns.ensures; whole = refl },
-    reply_of_written c.args.message.now reply.items parts request.asked request.metadata.id c.args.limit _ _ c.requires.message.questions room (rw c.queries-queries.ensures at written)))
+    value_told _ _ c.encode-encoded.result c.or_memory.result c.or_memory.ensures c.encode-encoded.ensures.written (λ reply written. (
+      parts,
+      record { plain = plain; gives = c.in_ok-response.ensures; edns = c.reply_edns-edns.ensures; whole = refl },
+      reply_of_written c.args.message.now reply.items parts request.asked request.metadata.id c.args.limit _ _ c.requires.message.questions room (rw c.queries-queries.ensures at written),
+    ))
 
 pub returns-then-room-as_bytes : goal.returns-then-room-as_bytes
 returns-then-room-as_bytes g c =
