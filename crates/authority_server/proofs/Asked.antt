@@ -7,7 +7,7 @@ use Rattle.zsv_reply.specs.zsv_message.zsv_parts.declared.header.Metadata.{Metad
 use Rattle.zsv_reply.specs.Writing.{FitsOpCode}
 use Rattle.zsv_reply.specs.zsv_message.Messages.{IsMessage, Message, RefusesMessage, joined_metadata, no_additionals, no_answers, no_authorities, no_header, no_questions}
 use Rattle.zsv_reply.specs.zsv_message.zsv_parts.dnw_decoder.Reading.{IsWantOfMemory}
-use Rattle.zst_zone.specs.dnw_codes.declared.error.DecodeError.TheVariants.{Memory}
+use Rattle.zst_zone.specs.dnw_codes.declared.error.DecodeError.{DecodeError}
 use Rattle.zsv_reply.specs.zsv_message.zst_edns.declared.edns.Edns.{Edns}
 
 op_code_back : (n : ℕ) → op_code_number (op_code_of n) ≡ n
@@ -27,10 +27,10 @@ fits_request octets request is =
     (fits_joined (header_of octets).metadata request.edns (fits_metadata (number_16 octets 0) (get_or octets 2 0) (get_or octets 3 0)))
 
 -- Memory is wanted only behind a whole header.
-pub memory_behind_header : (octets : List ℕ) → (IsWantOfMemory Memory × (12 ≤ length octets)) ⊎ RefusesMessage octets Memory → 12 ≤ length octets
-memory_behind_header octets (inl (memory, long)) = long
-memory_behind_header octets (inr (no_header (is, cut))) = absurd is
-memory_behind_header octets (inr (no_questions long refused)) = long
-memory_behind_header octets (inr (no_answers long asked place there refused)) = long
-memory_behind_header octets (inr (no_authorities long asked answers first place there found refused)) = long
-memory_behind_header octets (inr (no_additionals long asked answers authorities first second place there found more refused)) = long
+pub memory_behind_header : (octets : List ℕ) (e : DecodeError) → IsWantOfMemory e → (IsWantOfMemory e × (12 ≤ length octets)) ⊎ RefusesMessage octets e → 12 ≤ length octets
+memory_behind_header octets e wanted (inl (memory, long)) = long
+memory_behind_header octets e wanted (inr (no_header (is, cut))) = absurd (subst IsWantOfMemory is wanted)
+memory_behind_header octets e wanted (inr (no_questions long refused)) = long
+memory_behind_header octets e wanted (inr (no_answers long asked place there refused)) = long
+memory_behind_header octets e wanted (inr (no_authorities long asked answers first place there found refused)) = long
+memory_behind_header octets e wanted (inr (no_additionals long asked answers authorities first second place there found more refused)) = long

@@ -1,6 +1,6 @@
 -- What a full reply holds in a zone whose sets read back can be written and read back.
-use Rattle.std.proofs.Common.{◌≡◌, refl, subst, sym, ap, inl, arith}
-use Rattle.std.specs.Prelude.{ℕ, Bool, true, false, List, [], ◌∷◌, length, Option, Some, None, option_to_list}
+use Rattle.std.proofs.Common.{◌≡◌, refl, subst, sym, inl, arith}
+use Rattle.std.specs.Prelude.{Bool, true, false, List, [], ◌∷◌, length, Option, Some, None, option_to_list}
 use Rattle.std.specs.List.{AllByRecursion}
 use Rattle.zst_zone.specs.dnw_codes.declared.record_type.RecordType.{RecordType}
 use Rattle.zst_zone.specs.dnw_codes.declared.record_type.RecordType.TheVariants as types

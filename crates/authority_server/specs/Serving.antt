@@ -1,6 +1,6 @@
 -- What a server answers: RFC 1034, section 4.3.2; RFC 2308, section 3; RFC 6891, sections 6 and 7.
 -- One message, and a list of them.
-use Rattle.std.specs.Prelude.{◌≡◌, ℕ, ◌<◌, Bool, true, false, not, ◌&&◌, ◌||◌, List, [], ◌∷◌, ◌++◌, Option, Some, None, if◌then◌else◌, nat_lt, unwrap_or, option_map}
+use Rattle.std.specs.Prelude.{◌≡◌, ℕ, Bool, true, false, not, ◌&&◌, ◌||◌, List, [], ◌∷◌, ◌++◌, Option, Some, None, if◌then◌else◌, nat_lt, unwrap_or, option_map}
 use Rattle.std.specs.declared.net.SocketAddr.{SocketAddr}
 use Rattle.zst_zone.specs.dnw_codes.declared.record_type.RecordType.{RecordType}
 use Rattle.zst_zone.specs.dnw_codes.declared.record_type.RecordType.TheVariants as types
@@ -17,7 +17,6 @@ use Rattle.zsv_request.specs.declared.protocol.Protocol.{Protocol}
 use Rattle.zsv_request.specs.Requests.{limit_of}
 use Rattle.zst_zone.specs.dnw_name.DomainName.{is_at_or_below}
 use Rattle.zst_zone.specs.dnw_codes.RecordType.{same_record_type}
-use Rattle.zsv_reply.specs.zst_record.RecordSets.{RRset}
 use Rattle.zst_zone.specs.zst_handler.Answers.{sets_shown}
 use Rattle.zst_zone.specs.zst_handler.Lookups.{Answer, IsLookup, Outcome, answered, name_exists, name_error, out_of_zone}
 use Rattle.zst_zone.specs.zst_handler.Zones.{Zone}

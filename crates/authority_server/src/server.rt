@@ -1,6 +1,7 @@
 //! The server: one message in, one reply out.
 
-ghost use Rattle.std.specs.Prelude.{◌≡◌, ◌+◌, ◌<◌, ◌≤◌, vec_len, vec_capacity, length, map, IfOk, IfErr, OnOk, false};
+ghost use Rattle.std.specs.Prelude.{◌≡◌, ◌+◌, ◌<◌, ◌≤◌, vec_len, vec_capacity, length, map, IfOk, IfErr, OnOk, None, false};
+ghost use Rattle.zsv_reply.specs.zsv_message.zsv_parts.dnw_decoder.Reading.{IsWantOfMemory};
 ghost use Rattle.authority_server.specs.Serving.{Serves};
 ghost use Rattle.authority_server.specs.Runs.{octets_of, received_of, ServesNext, ServesFront};
 
@@ -42,6 +43,17 @@ pub enum ServeError {
         /// Whether a change that the message asked for stands.
         applied: bool,
     },
+}
+
+// What octets get that are refused: no reply, where it wasn't for want of memory.
+fn answer_refused(refused: DecodeError) -> Result<Option<Vec<u8>>, ServeError>
+    ensures none { IfOk result (λ answer. (answer ≡ None) × (IsWantOfMemory refused → ⊥)) }
+    ensures memory { IfErr result (λ e. (e ≡ ServeError.OutOfMemory false) × IsWantOfMemory refused) }
+{
+    match refused {
+        DecodeError::Memory => Err(ServeError::OutOfMemory { applied: false }),
+        _ => Ok(None),
+    }
 }
 
 /// A server of one zone. `S` verifies and signs messages, `K` signs the zone.
@@ -100,8 +112,7 @@ impl<S, K> Authority<S, K> {
     {
         let request = match MessageRequest::read(self.alloc, message) {
             Ok(request) => request,
-            Err(DecodeError::Memory) => return Err(ServeError::OutOfMemory { applied: false }),
-            Err(_) => return Ok(None),
+            Err(refused) => return answer_refused(refused),
         };
         let limit = protocol.limit(request.edns());
         match reply_to(&self.zone, self.alloc, message, &request, limit) {

@@ -1,11 +1,18 @@
-use Rattle.std.proofs.Common.{refl, ⊎_elim, absurd}
+use Rattle.std.proofs.Common.{refl, sym, subst, ⊎_elim, Vec, Global}
+use Rattle.std.specs.Prelude.{ℕ, Option}
+use Rattle.std.proofs.lemmas.Result.{IfOk-weaker, IfErr-weaker}
+use Rattle.authority_server.specs.Runs.{octets_of}
+use Rattle.authority_server.specs.Serving.{Received, Serves}
 use Rattle.authority_server.proofs.Asked.{memory_behind_header}
 use Rattle.authority_server.proofs.server.Authority.serve.Goals as goal
 
-pub returns-in-Err-Memory-clause-refused : goal.returns-in-Err-Memory-clause-refused
-returns-in-Err-Memory-clause-refused g c =
-    let (causes, none) = rw c.in-Err-Memory.field-0-is at c.in-Err-Memory.ensures in
-    (refl, memory_behind_header c.args.message.now causes, refl)
-
 pub returns-in-Err : goal.returns-in-Err
-returns-in-Err g c = ?
+returns-in-Err g c =
+    let server = c.args.self.now in
+    let received : Received = record { message = c.args.message.now; source = c.args.src; transport = c.args.protocol; now = c.args.now } in
+    let (causes, none) = c.in-Err.ensures in
+    record {
+      served = IfOk-weaker c.answer_refused.result _ _ (λ answer told. subst (λ (a : Option (Vec ℕ Global)). Serves server received (octets_of a) server) (sym told.0)
+          (⊎_elim (λ memory. absurd (told.1 memory)) (λ no_message. no_message) none, refl)) c.answer_refused.ensures.none;
+      refused = IfErr-weaker c.answer_refused.result _ _ (λ e told. (told.0, memory_behind_header c.args.message.now c.in-Err.refused told.1 causes, refl)) c.answer_refused.ensures.memory;
+    }

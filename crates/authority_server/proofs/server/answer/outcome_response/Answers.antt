@@ -1,4 +1,4 @@
-use Rattle.std.proofs.Common.{◌∙◌, false, Result, ap, subst}
+use Rattle.std.proofs.Common.{◌∙◌, Result, ap, subst}
 use Rattle.std.proofs.lemmas.Result.{IfOk-weaker}
 use Rattle.zst_zone.specs.zst_codes.declared.lookup_control_flow.LookupControlFlow.{LookupControlFlow}
 use Rattle.zst_zone.specs.zst_codes.declared.lookup_control_flow.LookupControlFlow.TheVariants.{Continue}

@@ -18,7 +18,7 @@ asked_size same = ap (λ (asked : Asked). length asked.octets) same
 pub encode-encoded-requires-clause-sound : goal.encode-encoded-requires-clause-sound
 encode-encoded-requires-clause-sound g c =
     parts_sound c.args.zone.now c.args.request.now (parts_of c.in_ok-response.response) c.reply_edns-edns.result (zone_sound c.args.zone.now c.requires.stored c.requires.back)
-    (fits_request c.args.message.now c.args.request.now c.requires.message) c.in_ok-response.ensures c.reply_edns-edns.ensures
+    (fits_request c.args.message.now c.args.request.now c.requires.message) c.in_ok-response.ensures (rw c.edns.ensures at c.reply_edns-edns.ensures)
 
 pub returns : goal.returns
 returns g c =
@@ -28,7 +28,7 @@ returns g c =
     let parts = with_edns c.reply_edns-edns.result plain in
     value_told _ _ c.encode-encoded.result c.or_memory.result c.or_memory.ensures c.encode-encoded.ensures.written (λ reply written. (
       parts,
-      record { plain = plain; gives = c.in_ok-response.ensures; edns = c.reply_edns-edns.ensures; whole = refl },
+      record { plain = plain; gives = c.in_ok-response.ensures; edns = rw c.edns.ensures at c.reply_edns-edns.ensures; whole = refl },
       reply_of_written c.args.message.now reply.items parts request.asked request.metadata.id c.args.limit _ _ c.requires.message.questions room (rw c.queries-queries.ensures at written),
     ))
 
