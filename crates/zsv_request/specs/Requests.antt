@@ -1,5 +1,5 @@
 -- Requests, as they came: RFC 1035, section 4.2; RFC 6891, section 6.2.5.
-use Rattle.std.specs.Prelude.{◌≡◌, ℕ, List, [], ◌∷◌, length, Option, Some, None, Result, Ok, Err}
+use Rattle.std.specs.Prelude.{◌≡◌, ℕ, List, [], ◌∷◌, length, Option, Result, Ok, Err}
 use Rattle.std.specs.declared.net.SocketAddr.{SocketAddr}
 use Rattle.zsv_message.specs.zst_edns.declared.edns.Edns.{Edns}
 use Rattle.zsv_message.specs.zst_edns.zst_codes.declared.lookup_error.LookupError.{LookupError}
@@ -9,7 +9,7 @@ use Rattle.zsv_message.specs.zst_record.dnw_codes.declared.error.ProtoError.{Pro
 use Rattle.zsv_message.specs.zst_record.dnw_codes.declared.error.ProtoError.TheVariants as failures
 use Rattle.zsv_message.specs.zst_record.dnw_decoder.Reading.{IsWantOfMemory}
 use Rattle.zsv_message.specs.zsv_parts.declared.question.Query.{Query}
-use Rattle.zsv_message.specs.Messages.{Message, ReadsMessage}
+use Rattle.zsv_message.specs.Messages.{Message, ReadsMessage, payload_taken}
 use Rattle.zsv_request.specs.declared.protocol.Protocol.{Protocol}
 use Rattle.zsv_request.specs.declared.protocol.Protocol.TheVariants as protocols
 use Rattle.zsv_request.specs.declared.request_info.RequestInfo.{RequestInfo}
@@ -17,8 +17,7 @@ use Rattle.zsv_request.specs.declared.request_info.RequestInfo.{RequestInfo}
 -- How long a reply may be (RFC 1035, sections 4.2.1 and 4.2.2): of a datagram as long as the sender
 -- says that it takes (RFC 6891, section 6.2.5).
 abbrev pub limit_of : Protocol → Option Edns → ℕ
-limit_of protocols.Udp None = 512
-limit_of protocols.Udp (Some edns) = edns.max_payload
+limit_of protocols.Udp edns = payload_taken edns
 limit_of protocols.Tcp edns = 65535
 
 -- A message with its octets, who sent it and how.

@@ -72,7 +72,8 @@ impl Response<'_> {
         requires sound { IsSound (with_edns edns (parts_of self.now)) }
         requires few { length queries.now.questions < 2 ^ 16 }
         requires room { 12 + length queries.now.octets ≤ limit }
-        ensures written { IfOk result (λ reply. IsWritten reply.items (with_edns edns (parts_of self.now)) (length queries.now.questions) queries.now.octets limit) }
+        ensures written { IfOk result (λ reply.
+            IsWritten reply.items (with_edns edns (parts_of self.now)) (length queries.now.questions) queries.now.octets limit) }
         ensures cause { IfErr result IsMemory }
     {
         let response = MessageResponse {
