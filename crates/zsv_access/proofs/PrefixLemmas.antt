@@ -1,11 +1,11 @@
 -- The longest of prefixes.
-use Rattle.std.proofs.Common.{ℕ, ◌≡◌, ◌≤◌, ◌<◌, ◌/◌, ◌-◌, ◌^◌, ◌⊎◌, inl, inr, Bool, true, false, ◌||◌, List, [], ◌∷◌, map, All, arith, refl, sym, ap,  subst, ◌∙◌, rules}
-use Rattle.std.specs.Prelude.{max, filter, cond, Option, Some, None, ◌==◌}
+use Rattle.std.proofs.Common.{ℕ, ◌≡◌, ◌≤◌, ◌<◌, ◌/◌, ◌-◌, ◌^◌, ◌⊎◌, inl, inr, Bool, true, false, List, [], ◌∷◌, map, All, arith, refl, sym, ap, ◌∙◌}
+use Rattle.std.specs.Prelude.{max, filter, Some, None, ◌==◌}
 use Rattle.std.specs.List.{fold, reduce, list_any}
-use Rattle.std.specs.Ordering.{is_lt, is_eq}
+use Rattle.std.specs.Ordering.{is_lt}
 use Rattle.std.specs.declared.cmp.Ordering.TheVariants.{Less}
 use Rattle.std.specs.BTreeMap.{is_at}
-use Rattle.std.proofs.lemmas.Bool.{eqb-true}
+use Rattle.std.proofs.lemmas.Bool.{cases_lt, eqb-true}
 use Rattle.std.proofs.lemmas.Grind.{common_steps}
 use Rattle.std.proofs.lemmas.List.Elements.{All-head, All-tail, All-nil, All-cons}
 use Rattle.zsv_access.specs.declared.prefix_set.Prefix.{Prefix}
@@ -49,7 +49,7 @@ pub shorter-less : (p : Prefix) (len bits : ℕ) → p.len < len → prefix_cmp 
 shorter-less p len bits h = grind (arith, common_steps)
 
 -- A prefix with which an address begins is its prefix of that length.
-pub is-prefix : (addr : ℕ) (p : Prefix) → begins_with addr p ≡ true → p ≡ prefix_of addr p.len
+is-prefix : (addr : ℕ) (p : Prefix) → begins_with addr p ≡ true → p ≡ prefix_of addr p.len
 is-prefix addr p h =
     let bits : addr / 2 ^ (128 - p.len) ≡ p.bits = eqb-true (addr / 2 ^ (128 - p.len)) p.bits h in
     let same : ℕ → Prefix = λ b. record { len = p.len; bits = b } in
@@ -105,3 +105,17 @@ module _ (addr : ℕ) where
   pub longest-here : (len : ℕ) (ps : List Prefix) → has_prefix ps (prefix_of addr len) ≡ true
       → ((q : Prefix) → has_prefix ps q ≡ true → begins_with addr q ≡ true → q.len ≤ len) → longest addr ps ≡ Some len
   longest-here len ps here all = reduce_max (lens ps) len (lens-all len ps all) (lens-any len ps here)
+
+-- Where an address's prefix of a length isn't there, those with which it begins are shorter.
+pub begin-shorter : (addr len : ℕ) (ps : List Prefix) → has_prefix ps (prefix_of addr len) ≡ false
+    → ((q : Prefix) → has_prefix ps q ≡ true → begins_with addr q ≡ true → q.len ≤ len)
+    → (q : Prefix) → has_prefix ps q ≡ true → begins_with addr q ≡ true → q.len < len
+begin-shorter addr len ps missing all q there begin = by_place (cases_lt q.len len)
+  where
+    by_place : (q.len < len) ⊎ (len ≤ q.len) → q.len < len
+    by_place (inl shorter) = shorter
+    by_place (inr long) =
+        let same : q.len ≡ len = omega (arith, all q there begin) in
+        let it : has_prefix ps q ≡ has_prefix ps (prefix_of addr len) =
+            ap (has_prefix ps) (is-prefix addr q begin ∙ ap (prefix_of addr) same) in
+        absurd (cc (it, there, missing))
