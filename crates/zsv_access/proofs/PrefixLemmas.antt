@@ -49,73 +49,73 @@ pub shorter-less : (p : Prefix) (len bits : ℕ) → p.len < len → prefix_cmp 
 shorter-less p len bits h = grind (arith, common_steps)
 
 -- A prefix with which an address begins is its prefix of that length.
-is-prefix : (addr : ℕ) (p : Prefix) → begins_with addr p ≡ true → p ≡ prefix_of addr p.len
-is-prefix addr p h =
-    let bits : addr / 2 ^ (128 - p.len) ≡ p.bits = eqb-true (addr / 2 ^ (128 - p.len)) p.bits h in
+is-prefix : (width addr : ℕ) (p : Prefix) → begins_with width addr p ≡ true → p ≡ prefix_of width addr p.len
+is-prefix width addr p h =
+    let bits : addr / 2 ^ (width - p.len) ≡ p.bits = eqb-true (addr / 2 ^ (width - p.len)) p.bits h in
     let same : ℕ → Prefix = λ b. record { len = p.len; bits = b } in
     ap same (sym bits)
 
-begins : (addr : ℕ) (p : Prefix) → addr / 2 ^ (128 - p.len) ≡ p.bits → begins_with addr p ≡ true
-begins addr p e = grind (arith, common_steps)
+begins : (width addr : ℕ) (p : Prefix) → addr / 2 ^ (width - p.len) ≡ p.bits → begins_with width addr p ≡ true
+begins width addr p e = grind (arith, common_steps)
 
 -- The query finds a prefix that is equal to it.
 at-same : (p q : Prefix) → is_at (prefix_cmp p) q ≡ true → (p.len ≡ q.len) × (p.bits ≡ q.bits)
 at-same p q h = grind (arith, common_steps)
 
-module _ (addr : ℕ) where
+module _ (width addr : ℕ) where
   abbrev lens : List Prefix → List ℕ
-  lens ps = map (λ prefix. prefix.len) (filter (begins_with addr) ps)
+  lens ps = map (λ prefix. prefix.len) (filter (begins_with width addr) ps)
 
-  pub longest-none : (ps : List Prefix) → ((q : Prefix) → has_prefix ps q ≡ true → begins_with addr q ≡ true → ⊥) → longest addr ps ≡ None
+  pub longest-none : (ps : List Prefix) → ((q : Prefix) → has_prefix ps q ≡ true → begins_with width addr q ≡ true → ⊥) → longest width addr ps ≡ None
   longest-none [] none = refl
-  longest-none (p ∷ ps) none = by_first (begins_with addr p) refl (longest-none ps (λ q h. none q (has-more q p ps h)))
+  longest-none (p ∷ ps) none = by_first (begins_with width addr p) refl (longest-none ps (λ q h. none q (has-more q p ps h)))
     where
-      by_first : (b : Bool) → begins_with addr p ≡ b → longest addr ps ≡ None → longest addr (p ∷ ps) ≡ None
+      by_first : (b : Bool) → begins_with width addr p ≡ b → longest width addr ps ≡ None → longest width addr (p ∷ ps) ≡ None
       by_first true e rest = absurd (none p (has-itself p ps) e)
       by_first false e rest = rw e rest
 
-  lens-all : (m : ℕ) (ps : List Prefix) → ((q : Prefix) → has_prefix ps q ≡ true → begins_with addr q ≡ true → q.len ≤ m) → All (λ x. x ≤ m) (lens ps)
+  lens-all : (m : ℕ) (ps : List Prefix) → ((q : Prefix) → has_prefix ps q ≡ true → begins_with width addr q ≡ true → q.len ≤ m) → All (λ x. x ≤ m) (lens ps)
   lens-all m [] all = All-nil (λ x. x ≤ m)
-  lens-all m (p ∷ ps) all = by_first (begins_with addr p) refl (lens-all m ps (λ q h. all q (has-more q p ps h)))
+  lens-all m (p ∷ ps) all = by_first (begins_with width addr p) refl (lens-all m ps (λ q h. all q (has-more q p ps h)))
     where
-      by_first : (b : Bool) → begins_with addr p ≡ b → All (λ x. x ≤ m) (lens ps) → All (λ x. x ≤ m) (lens (p ∷ ps))
+      by_first : (b : Bool) → begins_with width addr p ≡ b → All (λ x. x ≤ m) (lens ps) → All (λ x. x ≤ m) (lens (p ∷ ps))
       by_first true e rest = rw e (All-cons (λ x. x ≤ m) p.len (lens ps) (all p (has-itself p ps) e) rest)
       by_first false e rest = rw e rest
 
-  lens-any : (len : ℕ) (ps : List Prefix) → has_prefix ps (prefix_of addr len) ≡ true → list_any (λ x. x == len) (lens ps) ≡ true
+  lens-any : (len : ℕ) (ps : List Prefix) → has_prefix ps (prefix_of width addr len) ≡ true → list_any (λ x. x == len) (lens ps) ≡ true
   lens-any len [] here = absurd (cc)
-  lens-any len (p ∷ ps) here = by_first (begins_with addr p) refl (is_at (prefix_cmp (prefix_of addr len)) p) refl (lens-any len ps)
+  lens-any len (p ∷ ps) here = by_first (begins_with width addr p) refl (is_at (prefix_cmp (prefix_of width addr len)) p) refl (lens-any len ps)
     where
-      by_first : (b : Bool) → begins_with addr p ≡ b → (found : Bool) → is_at (prefix_cmp (prefix_of addr len)) p ≡ found
-          → (has_prefix ps (prefix_of addr len) ≡ true → list_any (λ x. x == len) (lens ps) ≡ true)
+      by_first : (b : Bool) → begins_with width addr p ≡ b → (found : Bool) → is_at (prefix_cmp (prefix_of width addr len)) p ≡ found
+          → (has_prefix ps (prefix_of width addr len) ≡ true → list_any (λ x. x == len) (lens ps) ≡ true)
           → list_any (λ x. x == len) (lens (p ∷ ps)) ≡ true
       by_first true e true at rest =
-          let len_is : len ≡ p.len = (at-same (prefix_of addr len) p at).0 in
+          let len_is : len ≡ p.len = (at-same (prefix_of width addr len) p at).0 in
           let one : list_any (λ x. x == len) (p.len ∷ lens ps) ≡ true = grind (arith, common_steps) in
           rw e one
       by_first true e false at rest =
           let more : list_any (λ x. x == len) (p.len ∷ lens ps) ≡ true = grind (arith, common_steps, rest (rw at at here)) in
           rw e more
       by_first false e true at rest =
-          let same = at-same (prefix_of addr len) p at in
-          absurd (cc (e, begins addr p (ap (λ n. addr / 2 ^ (128 - n)) (sym same.0) ∙ same.1)))
+          let same = at-same (prefix_of width addr len) p at in
+          absurd (cc (e, begins width addr p (ap (λ n. addr / 2 ^ (width - n)) (sym same.0) ∙ same.1)))
       by_first false e false at rest = rw e (rest (rw at at here))
 
   -- A prefix that is there, where no longer one begins the address, is the longest.
-  pub longest-here : (len : ℕ) (ps : List Prefix) → has_prefix ps (prefix_of addr len) ≡ true
-      → ((q : Prefix) → has_prefix ps q ≡ true → begins_with addr q ≡ true → q.len ≤ len) → longest addr ps ≡ Some len
+  pub longest-here : (len : ℕ) (ps : List Prefix) → has_prefix ps (prefix_of width addr len) ≡ true
+      → ((q : Prefix) → has_prefix ps q ≡ true → begins_with width addr q ≡ true → q.len ≤ len) → longest width addr ps ≡ Some len
   longest-here len ps here all = reduce_max (lens ps) len (lens-all len ps all) (lens-any len ps here)
 
 -- Where an address's prefix of a length isn't there, those with which it begins are shorter.
-pub begin-shorter : (addr len : ℕ) (ps : List Prefix) → has_prefix ps (prefix_of addr len) ≡ false
-    → ((q : Prefix) → has_prefix ps q ≡ true → begins_with addr q ≡ true → q.len ≤ len)
-    → (q : Prefix) → has_prefix ps q ≡ true → begins_with addr q ≡ true → q.len < len
-begin-shorter addr len ps missing all q there begin = by_place (cases_lt q.len len)
+pub begin-shorter : (width addr len : ℕ) (ps : List Prefix) → has_prefix ps (prefix_of width addr len) ≡ false
+    → ((q : Prefix) → has_prefix ps q ≡ true → begins_with width addr q ≡ true → q.len ≤ len)
+    → (q : Prefix) → has_prefix ps q ≡ true → begins_with width addr q ≡ true → q.len < len
+begin-shorter width addr len ps missing all q there begin = by_place (cases_lt q.len len)
   where
     by_place : (q.len < len) ⊎ (len ≤ q.len) → q.len < len
     by_place (inl shorter) = shorter
     by_place (inr long) =
         let same : q.len ≡ len = omega (arith, all q there begin) in
-        let it : has_prefix ps q ≡ has_prefix ps (prefix_of addr len) =
-            ap (has_prefix ps) (is-prefix addr q begin ∙ ap (prefix_of addr) same) in
+        let it : has_prefix ps q ≡ has_prefix ps (prefix_of width addr len) =
+        ap (has_prefix ps) (is-prefix width addr q begin ∙ ap (prefix_of width addr) same) in
         absurd (cc (it, there, missing))

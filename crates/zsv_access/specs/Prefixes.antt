@@ -7,13 +7,13 @@ use Rattle.std.specs.BTreeSet.{insert_key}
 use Rattle.std.specs.declared.cmp.Ordering.{Ordering}
 use Rattle.zsv_access.specs.declared.prefix_set.Prefix.{Prefix}
 
--- The first bits, so many, of an address of 128 bits.
-abbrev pub prefix_of : ℕ → ℕ → Prefix
-prefix_of addr len = record { len = len; bits = addr / 2 ^ (128 - len) }
+-- The first bits, so many, of an address of width bits.
+abbrev pub prefix_of : ℕ → ℕ → ℕ → Prefix
+prefix_of width addr len = record { len = len; bits = addr / 2 ^ (width - len) }
 
--- Whether the address begins with the prefix.
-abbrev pub begins_with : ℕ → Prefix → Bool
-begins_with addr prefix = addr / 2 ^ (128 - prefix.len) == prefix.bits
+-- Whether the address, of width bits, begins with the prefix.
+abbrev pub begins_with : ℕ → ℕ → Prefix → Bool
+begins_with width addr prefix = addr / 2 ^ (width - prefix.len) == prefix.bits
 
 -- By their lengths, and then by their bits.
 abbrev pub prefix_cmp : Prefix → Prefix → Ordering
@@ -24,8 +24,9 @@ abbrev pub has_prefix : List Prefix → Prefix → Bool
 has_prefix prefixes prefix = list_any (is_at (prefix_cmp prefix)) prefixes
 
 -- How long the longest of these prefixes is with which the address begins (RFC 4632 5.1).
-abbrev pub longest : ℕ → List Prefix → Option ℕ
-longest addr prefixes = reduce max (map (λ prefix. prefix.len) (filter (begins_with addr) prefixes))
+abbrev pub longest : ℕ → ℕ → List Prefix → Option ℕ
+longest width addr prefixes =
+    reduce max (map (λ prefix. prefix.len) (filter (begins_with width addr) prefixes))
 
 -- The prefixes with this one in its place, unless it is there.
 abbrev pub with_prefix : List Prefix → Prefix → List Prefix

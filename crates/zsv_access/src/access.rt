@@ -1,6 +1,6 @@
 //! Which addresses may ask a server.
-ghost use Rattle.std.specs.Prelude.{◌≡◌, [], OnOk, OnErr};
-ghost use Rattle.zsv_access.specs.Access.{allows, is_allowed, leading_bits, no_networks, with_allowed, with_denied};
+ghost use Rattle.std.specs.Prelude.{◌≡◌, ◌≤◌, [], OnOk, OnErr};
+ghost use Rattle.zsv_access.specs.Access.{allows, is_allowed, network_prefix, no_networks, with_allowed, with_denied};
 
 use crate::prefix_set::{Prefix, PrefixSet};
 use dnw_net::IpNet;
@@ -31,10 +31,10 @@ impl AccessControl {
 
     /// Allows the addresses of a network.
     pub fn insert_allow(&mut self, network: IpNet) -> Result<(), AllocError>
-        ensures ok { OnOk result (self.new ≡ with_allowed self.old network) }
+        ensures ok { OnOk result (self.new ≡ with_allowed self.old network.addr network.prefix_len) }
         ensures err { OnErr result (self.new ≡ self.old) }
     {
-        let prefix = Prefix::of(bits_of(network.addr()), network.prefix_len());
+        let prefix = prefix_of_network(network);
         match network.addr() {
             IpAddr::V4(_) => self.ipv4.allow.insert(prefix),
             IpAddr::V6(_) => self.ipv6.allow.insert(prefix),
@@ -43,10 +43,10 @@ impl AccessControl {
 
     /// Denies the addresses of a network.
     pub fn insert_deny(&mut self, network: IpNet) -> Result<(), AllocError>
-        ensures ok { OnOk result (self.new ≡ with_denied self.old network) }
+        ensures ok { OnOk result (self.new ≡ with_denied self.old network.addr network.prefix_len) }
         ensures err { OnErr result (self.new ≡ self.old) }
     {
-        let prefix = Prefix::of(bits_of(network.addr()), network.prefix_len());
+        let prefix = prefix_of_network(network);
         match network.addr() {
             IpAddr::V4(_) => self.ipv4.deny.insert(prefix),
             IpAddr::V6(_) => self.ipv6.deny.insert(prefix),
@@ -57,22 +57,27 @@ impl AccessControl {
     pub fn allow(&self, ip: IpAddr) -> bool
         ensures { result ≡ is_allowed self.now ip }
     {
-        let bits = bits_of(ip);
         match ip {
-            IpAddr::V4(_) => self.ipv4.allow(bits),
-            IpAddr::V6(_) if bits >> 32 == 0xffff => self.ipv4.allow(bits << 96),
-            IpAddr::V6(_) => self.ipv6.allow(bits),
+            IpAddr::V4(ip) => self.ipv4.allow(32, u128::from(ip.to_bits())),
+            IpAddr::V6(ip) => {
+                let bits = ip.to_bits();
+                if bits >> 32 == 0xffff {
+                    self.ipv4.allow(32, bits % (1 << 32))
+                } else {
+                    self.ipv6.allow(128, bits)
+                }
+            }
         }
     }
 }
 
-// The bits of an address, the first one in front of all.
-fn bits_of(ip: IpAddr) -> u128
-    ensures { result ≡ leading_bits ip }
+// The first bits of a network's address, those that its addresses share.
+fn prefix_of_network(network: IpNet) -> Prefix
+    ensures { result ≡ network_prefix network.addr network.prefix_len }
 {
-    match ip {
-        IpAddr::V4(ip) => u128::from(ip.to_bits()) << 96,
-        IpAddr::V6(ip) => ip.to_bits(),
+    match network.addr() {
+        IpAddr::V4(ip) => Prefix::of(32, u128::from(ip.to_bits()), network.prefix_len()),
+        IpAddr::V6(ip) => Prefix::of(128, ip.to_bits(), network.prefix_len()),
     }
 }
 
@@ -94,11 +99,15 @@ impl InnerAccessControl {
         }
     }
 
-    // Whether the address of these bits may ask.
-    fn allow(&self, addr: u128) -> bool
-        ensures { result ≡ allows self.now addr }
+    // Whether an address of `width` bits may ask.
+    fn allow(&self, width: u8, addr: u128) -> bool
+        requires { width ≤ 128 }
+        ensures { result ≡ allows self.now width addr }
     {
-        match (self.deny.longest(addr), self.allow.longest(addr)) {
+        match (
+            self.deny.longest(width, addr),
+            self.allow.longest(width, addr),
+        ) {
             (Some(denied), Some(allowed)) => denied < allowed,
             (Some(_), None) => false,
             (None, Some(_)) => true,

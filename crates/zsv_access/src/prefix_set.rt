@@ -6,7 +6,7 @@ use std::alloc::{AllocError, Global};
 use std::collections::BTreeSet;
 use std::marker::Model;
 
-/// The first bits of an address: how many, and the number that they are. Shorter ones come first.
+/// The first bits of an address: how many, and the number that they are.
 #[derive(Clone, Copy, PartialEq, Eq, PartialOrd, Ord)]
 pub(crate) struct Prefix {
     pub(crate) len: u8,
@@ -14,15 +14,13 @@ pub(crate) struct Prefix {
 }
 
 impl Prefix {
-    /// The first bits, so many, of an address of 128 bits.
-    pub(crate) fn of(addr: u128, len: u8) -> Prefix
-        ensures { result ≡ prefix_of addr len }
+    /// The first bits, so many, of an address of `width` bits.
+    pub(crate) fn of(width: u8, addr: u128, len: u8) -> Prefix
+        requires { width ≤ 128 }
+        ensures { result ≡ prefix_of width addr len }
     {
-        let bits = match len {
-            0 => 0,
-            1..=127 => addr >> (128 - u32::from(len)),
-            _ => addr,
-        };
+        let rest = width.saturating_sub(len);
+        let bits = if rest == 128 { 0 } else { addr >> rest };
         Prefix { len, bits }
     }
 }
@@ -68,15 +66,16 @@ impl PrefixSet {
         Ok(())
     }
 
-    /// How long the longest prefix is with which an address begins, if there is one.
+    /// How long the longest prefix is with which an address of `width` bits begins, if there is one.
     ///
     /// It asks for one prefix of each length that is in use, the longest one first.
-    pub(crate) fn longest(&self, addr: u128) -> Option<u8>
-        ensures { result ≡ longest addr self.now }
+    pub(crate) fn longest(&self, width: u8, addr: u128) -> Option<u8>
+        requires { width ≤ 128 }
+        ensures { result ≡ longest width addr self.now }
     {
         let mut len = self.prefixes.last()?.len;
         'lengths: loop {
-            if self.prefixes.contains(&Prefix::of(addr, len)) {
+            if self.prefixes.contains(&Prefix::of(width, addr, len)) {
                 return Some(len);
             }
             len = self.below(len)?;
