@@ -1,1 +1,2 @@
+pub mod AccessLaws
 mod PrefixLemmas

@@ -29,7 +29,7 @@ impl AccessControl {
         }
     }
 
-    /// Allows the addresses of a network.
+    /// Adds an allowed network.
     pub fn insert_allow(&mut self, network: IpNet) -> Result<(), AllocError>
         ensures ok { OnOk result (self.new ≡ with_allowed self.old network.addr network.prefix_len) }
         ensures err { OnErr result (self.new ≡ self.old) }
@@ -41,7 +41,7 @@ impl AccessControl {
         }
     }
 
-    /// Denies the addresses of a network.
+    /// Adds a denied network.
     pub fn insert_deny(&mut self, network: IpNet) -> Result<(), AllocError>
         ensures ok { OnOk result (self.new ≡ with_denied self.old network.addr network.prefix_len) }
         ensures err { OnErr result (self.new ≡ self.old) }
@@ -53,7 +53,8 @@ impl AccessControl {
         }
     }
 
-    /// Whether an address may ask. An IPv4 address that is mapped to an IPv6 one counts as IPv4 (RFC 4291 2.5.5.2).
+    /// Whether an address may ask. An IPv4 address that is mapped to an IPv6 one counts as IPv4 (RFC 4291 2.5.5.2), so that
+    /// no IPv6 network holds it.
     pub fn allow(&self, ip: IpAddr) -> bool
         ensures { result ≡ is_allowed self.now ip }
     {

@@ -8,3 +8,4 @@ mod access;
 mod prefix_set;
 
 pub use access::AccessControl;
+pub use dnw_net::IpNet;
