@@ -1,0 +1,2 @@
+pub mod AccessLaws
+mod PrefixLemmas
