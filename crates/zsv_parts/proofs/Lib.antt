@@ -2,5 +2,6 @@ pub mod Flags
 pub mod Pieces
 pub mod Questions
 pub mod QuestionsOver
+pub mod SignatureWriting
 pub mod TsigLaws
 pub mod TsigWriting

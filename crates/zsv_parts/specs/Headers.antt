@@ -8,6 +8,7 @@ use Rattle.zsv_parts.specs.declared.header.Metadata.{Metadata}
 use Rattle.zsv_parts.specs.declared.header.HeaderCounts.{HeaderCounts}
 use Rattle.zsv_parts.specs.declared.header.Header.{Header}
 use Rattle.dnw_encoder.specs.dnw_decoder.Octets.{number_16, octets_16}
+use Rattle.zst_codes.specs.declared.response_code.ResponseCode.TheVariants as responses
 use Rattle.zst_codes.specs.ResponseCode.{low_bits, response_code_number, response_code_of}
 
 -- The number of an operation, and the operation of a number.
@@ -47,6 +48,29 @@ metadata_of id high low = record {
   checking_disabled = bit low 4;
   response_code = response_code_of (low % 16);
 }
+
+-- No flag is set.
+abbrev pub plain_metadata : ℕ → MessageType → OpCode → Metadata
+plain_metadata id message_type op_code = record {
+  id = id;
+  message_type = message_type;
+  op_code = op_code;
+  authoritative = false;
+  truncation = false;
+  recursion_desired = false;
+  recursion_available = false;
+  authentic_data = false;
+  checking_disabled = false;
+  response_code = responses.NoError;
+}
+
+-- A reply repeats the identifier, the operation, RD and CD.
+abbrev pub response_metadata : Metadata → Metadata
+response_metadata request =
+    record (plain_metadata request.id types.Response request.op_code) {
+      recursion_desired = request.recursion_desired;
+      checking_disabled = request.checking_disabled;
+    }
 
 -- How many entries each section has.
 abbrev pub counts_of : List ℕ → HeaderCounts

@@ -1,5 +1,6 @@
 pub mod Headers
 pub mod Questions
+pub mod SignatureRecords
 pub mod Signatures
 pub mod Signed
 pub mod Wire

@@ -4,7 +4,7 @@ ghost use Rattle.std.specs.Prelude.{◌≡◌, ◌+◌, ◌<◌, ◌≤◌, ◌%
 ghost use Rattle.dnw_encoder.specs.dnw_decoder.Reading.{IsCut};
 ghost use Rattle.dnw_encoder.specs.Effects.{Writes, WritesOctets, IsRefusal};
 ghost use Rattle.dnw_encoder.specs.Encoders.{state};
-ghost use Rattle.zsv_parts.specs.Headers.{op_code_of, op_code_number, bit, metadata_of, counts_of, header_of, high_octet, low_octet, header_octets, HeaderAt, FitsHeader};
+ghost use Rattle.zsv_parts.specs.Headers.{op_code_of, op_code_number, bit, metadata_of, counts_of, header_of, high_octet, low_octet, header_octets, plain_metadata, response_metadata, HeaderAt, FitsHeader};
 
 use dnw_encoder::{BinDecoder, BinEncodable, BinEncoder, DecodeError, EncodedSize, ProtoError};
 use zst_codes::ResponseCode;
@@ -117,6 +117,36 @@ fn is_set(octet: u8, place: u8) -> bool
 }
 
 impl Metadata {
+    /// What the header of a message says that has this identifier, type and operation: no flag is set, and the code is
+    /// NoError.
+    pub fn new(id: u16, message_type: MessageType, op_code: OpCode) -> Metadata
+        ensures { result ≡ plain_metadata id message_type op_code }
+    {
+        Metadata {
+            id,
+            message_type,
+            op_code,
+            authoritative: false,
+            truncation: false,
+            recursion_desired: false,
+            recursion_available: false,
+            authentic_data: false,
+            checking_disabled: false,
+            response_code: ResponseCode::NoError,
+        }
+    }
+
+    /// What the header of a reply says: it repeats the request's identifier, its operation, RD and CD (RFC 1035 section
+    /// 4.1.1, RFC 4035 section 3.2.2). No other flag is set, and the code is NoError.
+    pub fn response_from_request(request: &Metadata) -> Metadata
+        ensures { result ≡ response_metadata request.now }
+    {
+        let mut response = Metadata::new(request.id, MessageType::Response, request.op_code);
+        response.recursion_desired = request.recursion_desired;
+        response.checking_disabled = request.checking_disabled;
+        response
+    }
+
     // QR, the operation, AA, TC and RD.
     fn high_octet(&self) -> u8
         ensures { result ≡ high_octet self.now }

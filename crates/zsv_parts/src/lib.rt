@@ -8,6 +8,7 @@ pub use zst_codes::ResponseCode;
 
 mod header;
 mod question;
+mod signature;
 mod tsig;
 
 pub use header::{Header, HeaderCounts, MessageType, Metadata, OpCode};

@@ -1,6 +1,6 @@
 //! Questions (RFC 1035 section 4.1.2).
 
-ghost use Rattle.std.specs.Prelude.{◌≡◌, ◌==◌, ◌≤◌, ◌⊎◌, ℕ, List, length, IfOk, IfErr};
+ghost use Rattle.std.specs.Prelude.{◌≡◌, ◌==◌, ◌<◌, ◌≤◌, ◌^◌, ◌⊎◌, ℕ, List, length, IfOk, IfErr};
 ghost use Rattle.dnw_encoder.specs.dnw_decoder.Reading.{IsWantOfMemory};
 ghost use Rattle.zsv_parts.specs.declared.question.Query.{Query as Question};
 ghost use Rattle.zsv_parts.specs.Questions.{Asked, AskedAt, QuestionAt, QuestionsAt, RefusesQuestion, RefusesQuestions};
@@ -105,11 +105,14 @@ pub struct Queries<'m> {
 }
 
 impl<'m> Model for Queries<'m> {
+    ghost use Rattle.std.specs.Prelude.{◌<◌, ◌^◌, length};
     ghost use Rattle.zsv_parts.specs.Questions.{Asked};
 
     ghost Value = { Asked };
 
     ghost view = { λ asked. record { questions = asked.queries.items; octets = asked.original.now } };
+
+    ghost invariant = { λ asked. length asked.queries.items < 2 ^ 16 };
 }
 
 impl<'m> Queries<'m> {
@@ -129,15 +132,14 @@ impl<'m> Queries<'m> {
     {
         let start = decoder.index();
         let queries = read_questions(alloc, decoder, count)?;
-        match decoder.slice_from(start) {
-            Ok(original) => Ok(Queries { queries, original }),
-            Err(_) => unreachable!(),
-        }
+        let original = decoder.slice_from(start)?;
+        Ok(Queries { queries, original })
     }
 
-    /// How many questions there are.
+    /// How many questions there are, as 16 bits count them.
     pub fn len(&self) -> usize
-        ensures { result ≡ length self.now.questions }
+        ensures value { result ≡ length self.now.questions }
+        ensures few { result < 2 ^ 16 }
     {
         self.queries.len()
     }

@@ -306,7 +306,11 @@ impl Tsig {
 }
 
 // Writes octets behind others.
-fn emit_two(encoder: &mut BinEncoder<'_>, front: &[u8], rest: &[u8]) -> Result<(), ProtoError>
+pub(crate) fn emit_two(
+    encoder: &mut BinEncoder<'_>,
+    front: &[u8],
+    rest: &[u8],
+) -> Result<(), ProtoError>
     ensures same_reference { encoder.new.buffer.ghost_name ≡ encoder.old.buffer.ghost_name }
     ensures writes { Writes (state encoder.old) (state encoder.new) }
     ensures ok { OnOk result (WritesOctets (front.now ++ rest.now) (state encoder.old) (state encoder.new)) }
@@ -319,7 +323,7 @@ fn emit_two(encoder: &mut BinEncoder<'_>, front: &[u8], rest: &[u8]) -> Result<(
 }
 
 // The number of octets, which two octets can hold.
-fn count_of(octets: &[u8]) -> Result<u16, ProtoError>
+pub(crate) fn count_of(octets: &[u8]) -> Result<u16, ProtoError>
     ensures ok { IfOk result (λ count. (count ≡ length octets.now) × (length octets.now < 2 ^ 16)) }
     ensures err { IfErr result (IsTooLong octets.now) }
 {
@@ -396,7 +400,7 @@ impl Tsig {
     }
 
     // Writes the data, whose lengths these are.
-    fn emit_data(
+    pub(crate) fn emit_data(
         &self,
         encoder: &mut BinEncoder<'_>,
         mac_size: u16,
