@@ -5,6 +5,4 @@ pub mod ShownBack
 pub mod Sound
 pub mod StreamFaults
 pub mod StreamRuns
-pub mod TotalLookup
-pub mod TotalReply
 pub mod WorkedRows

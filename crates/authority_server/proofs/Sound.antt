@@ -35,14 +35,14 @@ fits_reply m authoritative code fits = record { op_code = fits.op_code; small = 
 -- ---- parts of records that read back
 error_sound : (m : Metadata) (code : ResponseCode) (parts : ReplyParts) → FitsOpCode m → parts ≡ error_parts m code → IsSound parts
 error_sound m code parts fits is =
-    subst IsSound (sym is) (record { metadata = fits_reply m false code fits; reads_back = record { answers = tt; authorities = tt; additionals = tt; edns = tt } })
+    subst IsSound (sym is) (record { metadata = fits_reply m false code fits; reads_back = record { answers = tt; authorities = tt; additionals = tt; edns = tt; signature = tt } })
 
 with_sound : (m : Metadata) (referral : Bool) (records additionals beside : List Record) → FitsOpCode m → AllByRecursion ReadsBackAlone records → AllByRecursion ReadsBackAlone additionals → AllByRecursion ReadsBackAlone beside
     → IsSound (parts_with m referral records additionals beside)
 with_sound m true records additionals beside fits first more later =
-    record { metadata = fits; reads_back = record { answers = tt; authorities = append_back records beside first later; additionals = more; edns = tt } }
+    record { metadata = fits; reads_back = record { answers = tt; authorities = append_back records beside first later; additionals = more; edns = tt; signature = tt } }
 with_sound m false records additionals beside fits first more later =
-    record { metadata = fits; reads_back = record { answers = first; authorities = later; additionals = more; edns = tt } }
+    record { metadata = fits; reads_back = record { answers = first; authorities = later; additionals = more; edns = tt; signature = tt } }
 
 -- ---- the zone's own answers
 records_back : (dnssec : Bool) (outcome : Outcome) → OutcomeReadsBack outcome → AllByRecursion ReadsBackAlone (answer_records dnssec outcome)
@@ -132,5 +132,6 @@ parts_sound zone request parts edns back fits is answers =
         authorities = plain.reads_back.authorities;
         additionals = plain.reads_back.additionals;
         edns = edns_back request.edns parts.metadata.response_code edns answers;
+        signature = plain.reads_back.signature;
       };
     }

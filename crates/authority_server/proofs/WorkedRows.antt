@@ -251,23 +251,23 @@ looked_up name parts outcome inside is shown = record {
   looked_up = λ here e. (outcome, is, shown);
 }
 
-address_parts : Gives (one (below (codes "www")) ∷ []) (record { metadata = answer_metadata true responses.NoError; answers = address ∷ []; authorities = []; additionals = []; edns = None })
+address_parts : Gives (one (below (codes "www")) ∷ []) (record { metadata = answer_metadata true responses.NoError; answers = address ∷ []; authorities = []; additionals = []; edns = None; signature = None })
 address_parts = gives _ _ refl (looked_up (below (codes "www")) _ (one_set set_of_address []) refl (lookup_of_one (below (codes "www")) types.A set_of_address [] refl refl refl refl refl) ([], (λ e. absurd (false≢true e), λ _. refl), refl))
 
 at_start : AtOrigin zone false types.SOA (start ∷ [])
 at_start = (one_set set_of_start [], lookup_of_one example types.SOA set_of_start [] refl refl refl refl refl, refl)
 
-missing_parts : Gives (one (below (codes "z")) ∷ []) (record { metadata = answer_metadata true responses.NXDomain; answers = []; authorities = start ∷ []; additionals = []; edns = None })
+missing_parts : Gives (one (below (codes "z")) ∷ []) (record { metadata = answer_metadata true responses.NXDomain; answers = []; authorities = start ∷ []; additionals = []; edns = None; signature = None })
 missing_parts = gives _ _ refl (looked_up (below (codes "z")) _ name_error refl a_missing_name (start ∷ [], at_start, refl))
 
-outside_parts : Gives (one elsewhere ∷ []) (record { metadata = answer_metadata false responses.Refused; answers = []; authorities = []; additionals = []; edns = None })
+outside_parts : Gives (one elsewhere ∷ []) (record { metadata = answer_metadata false responses.Refused; answers = []; authorities = []; additionals = []; edns = None; signature = None })
 outside_parts = gives _ _ refl (record { outside = λ _. refl; transfer = λ here e. absurd (false≢true here); looked_up = λ here e. absurd (false≢true here) })
 
-no_question_parts : Gives [] (record { metadata = answer_metadata false responses.FormErr; answers = []; authorities = []; additionals = []; edns = None })
+no_question_parts : Gives [] (record { metadata = answer_metadata false responses.FormErr; answers = []; authorities = []; additionals = []; edns = None; signature = None })
 no_question_parts = gives _ _ refl refl
 
 -- A referral's name servers are authority, with the address of the first one.
-referral_parts : Gives (one (two_below (codes "www") (codes "sub")) ∷ []) (record { metadata = answer_metadata true responses.NoError; answers = []; authorities = server ∷ []; additionals = glue ∷ []; edns = None })
+referral_parts : Gives (one (two_below (codes "www") (codes "sub")) ∷ []) (record { metadata = answer_metadata true responses.NoError; answers = []; authorities = server ∷ []; additionals = glue ∷ []; edns = None; signature = None })
 referral_parts = gives _ _ refl (looked_up (two_below (codes "www") (codes "sub")) _ (one_set set_of_servers (set_of_glue ∷ [])) refl below_a_cut ([], (λ e. absurd (false≢true e), λ _. refl), refl))
 
 -- Names rise in the canonical order: the nine names of RFC 4034, section 6.1.

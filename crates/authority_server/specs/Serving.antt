@@ -49,6 +49,7 @@ error_parts m code = record {
   authorities = [];
   additionals = [];
   edns = None;
+  signature = None;
 }
 
 -- The records that a lookup answers with, signatures only where they are asked for (RFC 4035,
@@ -88,6 +89,7 @@ parts_with m referral records additionals beside = record {
   authorities = (if referral then records else []) ++ beside;
   additionals = additionals;
   edns = None;
+  signature = None;
 }
 
 abbrev pub answered_parts : Metadata → Bool → RecordType → Answer → List Record → ReplyParts

@@ -15,7 +15,6 @@ use zsv_reply::{DecodeError, MessageRequest};
 use zsv_request::Protocol;
 
 pub mod answer;
-mod sections;
 
 /// A server without keys: it verifies and signs nothing.
 #[derive(Clone, Copy, Debug)]
@@ -114,8 +113,7 @@ impl<S, K> Authority<S, K> {
             Ok(request) => request,
             Err(refused) => return answer_refused(refused),
         };
-        let limit = protocol.limit(request.edns());
-        match reply_to(&self.zone, self.alloc, message, &request, limit) {
+        match reply_to(&self.zone, self.alloc, message, &request, protocol) {
             Ok(reply) => Ok(Some(reply)),
             Err(_) => Err(ServeError::OutOfMemory { applied: false }),
         }

@@ -1,5 +1,6 @@
 -- The header of a message: RFC 1035, section 4.1.1; RFC 4035, section 3.2 for AD and CD.
 use Rattle.std.specs.Prelude.{◌≡◌, ℕ, ◌+◌, ◌/◌, ◌%◌, ◌^◌, ◌*◌, ◌<◌, ◌≤◌, ◌==◌, ◌++◌, Bool, true, false, List, ◌∷◌, get_or, drop, length, if◌then◌else◌}
+use Rattle.std.specs.Ordering.{on}
 use Rattle.zsv_parts.specs.declared.header.MessageType.{MessageType}
 use Rattle.zsv_parts.specs.declared.header.MessageType.TheVariants as types
 use Rattle.zsv_parts.specs.declared.header.OpCode.{OpCode}
@@ -24,6 +25,10 @@ op_code_of n =
     if n == 0 then operations.Query else if n == 2 then operations.Status else if n
     == 4 then operations.Notify
     else if n == 5 then operations.Update else operations.Unknown n
+
+-- Two operations are the same where their numbers are.
+abbrev pub same_op_code : OpCode → OpCode → Bool
+same_op_code = on op_code_number ◌==◌
 
 -- Whether the bit of weight 2 ^ k is set.
 abbrev pub bit : ℕ → ℕ → Bool

@@ -1,6 +1,8 @@
 //! The header of a message (RFC 1035 section 4.1.1).
 
 ghost use Rattle.std.specs.Prelude.{◌≡◌, ◌+◌, ◌<◌, ◌≤◌, ◌%◌, ◌/◌, ◌++◌, ℕ, List, IfOk, IfErr, OnOk, OnErr};
+ghost use Rattle.std.specs.Cmp.Rules.{comparing};
+ghost use Rattle.std.proofs.Common.{rules};
 ghost use Rattle.dnw_encoder.specs.dnw_decoder.Reading.{IsCut};
 ghost use Rattle.dnw_encoder.specs.Effects.{Writes, WritesOctets, IsRefusal};
 ghost use Rattle.dnw_encoder.specs.Encoders.{state};
@@ -18,7 +20,7 @@ pub enum MessageType {
     Response,
 }
 
-/// What a request asks for.
+/// What a request asks for. Two operations are equal where their numbers are.
 #[derive(Clone, Copy, Debug)]
 pub enum OpCode {
     /// A question.
@@ -61,8 +63,24 @@ impl OpCode {
     }
 }
 
+impl PartialEq for OpCode {
+    ghost use Rattle.zsv_parts.specs.Headers.{same_op_code};
+
+    ghost eq = { same_op_code };
+
+    ghost laws = { Prim.search (comparing, rules) };
+
+    fn eq(&self, other: &OpCode) -> bool {
+        self.code() == other.code()
+    }
+}
+
+impl Eq for OpCode {
+    ghost laws = { Prim.search (comparing, rules) };
+}
+
 /// What a header says beside the counts.
-#[derive(Clone, Copy, Debug)]
+#[derive(Clone, Copy, Debug, PartialEq, Eq)]
 pub struct Metadata {
     /// The identifier, which a reply repeats.
     pub id: u16,
@@ -100,7 +118,7 @@ pub struct HeaderCounts {
 }
 
 /// A message's first twelve octets.
-#[derive(Clone, Copy, Debug)]
+#[derive(Clone, Copy, Debug, PartialEq, Eq)]
 pub struct Header {
     /// The identifier, the flags and the codes.
     pub metadata: Metadata,

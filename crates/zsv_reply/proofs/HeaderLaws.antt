@@ -1,15 +1,13 @@
 -- The header of a reply is read as its fields, its response code as the last four bits.
-use Rattle.std.proofs.Common.{◌≡◌, ℕ, ◌+◌, ◌*◌, ◌%◌, ◌^◌, ◌<◌, ◌==◌, Bool, true, false, List, [], ◌∷◌, ◌++◌, refl, sym, ap, ◌∙◌, arith}
+use Rattle.std.proofs.Common.{◌≡◌, ℕ, ◌+◌, ◌*◌, ◌%◌, ◌^◌, ◌<◌, ◌==◌, Bool, true, false, List, [], ◌∷◌, ◌++◌, refl, ap, ◌∙◌, arith}
 use Rattle.std.proofs.lemmas.Bool.{eqb-true}
 use Rattle.std.specs.Prelude.{Option, Some, unwrap_or, find, if◌then◌else◌}
-use Rattle.zsv_message.specs.zst_record.dnw_decoder.Octets.{octets_16}
-use Rattle.zsv_message.specs.zsv_parts.declared.header.Header.{Header}
-use Rattle.zsv_message.specs.zsv_parts.declared.header.Metadata.{Metadata}
-use Rattle.zsv_message.specs.zsv_parts.Headers.{flag, header_of, header_octets, high_octet}
-use Rattle.zsv_message.specs.zsv_parts.zst_codes.ResponseCode.{joined_code, low_bits, named_response_codes, response_code_number, response_code_of}
-use Rattle.zsv_message.specs.zsv_parts.zst_codes.declared.response_code.ResponseCode.{ResponseCode}
-use Rattle.zsv_message.specs.zsv_parts.zst_codes.declared.response_code.ResponseCode.TheVariants.{Unknown}
-use Rattle.zsv_message.proofs.zsv_parts_lemmas.Flags.{octets_back}
+use Rattle.zsv_request.specs.zsv_message.zsv_parts.declared.header.Metadata.{Metadata}
+use Rattle.zsv_request.specs.zsv_message.zsv_parts.Headers.{header_of, header_octets}
+use Rattle.zsv_request.specs.zsv_message.zsv_parts.zst_codes.ResponseCode.{joined_code, low_bits, named_response_codes, response_code_number, response_code_of}
+use Rattle.zsv_request.specs.zsv_message.zsv_parts.zst_codes.declared.response_code.ResponseCode.{ResponseCode}
+use Rattle.zsv_request.specs.zsv_message.zsv_parts.zst_codes.declared.response_code.ResponseCode.TheVariants.{Unknown}
+use Rattle.zsv_request.proofs.zsv_message_lemmas.zsv_parts_lemmas.Flags.{octets_back}
 use Rattle.zsv_reply.specs.Replies.{header_of_reply}
 use Rattle.zsv_reply.specs.Writing.{FitsOpCode}
 
@@ -30,25 +28,17 @@ code_back n = code_found n named_response_codes
 low_number : (code : ResponseCode) → response_code_number (joined_code 0 (low_bits code)) ≡ low_bits code
 low_number code = code_back (16 * 0 + low_bits code % 16) ∙ omega arith
 
--- A header with so many entries, as it is written.
-abbrev pub header_with : Metadata → Bool → ℕ → ℕ → ℕ → ℕ → Header
-header_with m truncated questions answers authorities additionals = record {
-  metadata = record m { truncation = truncated };
-  counts = record { queries = questions; answers = answers; authorities = authorities; additionals = additionals };
-}
+-- The code of the last four bits is that of its number.
+low_back : (code : ResponseCode) → response_code_of (response_code_number (joined_code 0 (low_bits code))) ≡ joined_code 0 (low_bits code)
+low_back code = ap response_code_of (code_back (16 * 0 + low_bits code % 16))
 
-pub low_octets_back : (m : Metadata) (truncated : Bool) (questions answers authorities additionals : ℕ) (rest : List ℕ) → FitsOpCode m → m.id < 2 ^ 16 → questions < 2 ^ 16 → answers < 2 ^ 16 → authorities < 2 ^ 16 → additionals < 2 ^ 16 →
-    header_of (header_octets (header_with m truncated questions answers authorities additionals) ++ rest) ≡ header_of_reply m truncated questions answers authorities additionals
-low_octets_back m truncated questions answers authorities additionals rest fits id q a n d =
-    let low : low_bits (joined_code 0 (low_bits m.response_code)) ≡ low_bits m.response_code = omega (arith, low_number m.response_code) in
-    let same : header_octets (header_with m truncated questions answers authorities additionals) ≡ header_octets (header_of_reply m truncated questions answers authorities additionals) =
-    ap (λ (bits : ℕ). octets_16 m.id
-    ++ high_octet (record m { truncation = truncated }) ∷ (128 * flag m.recursion_available + 32 * flag m.authentic_data + 16 * flag m.checking_disabled + bits) ∷ octets_16 questions
-    ++ octets_16 answers ++ octets_16 authorities ++ octets_16 additionals) (sym low) in
-    ap (λ (octets : List ℕ). header_of (octets ++ rest)) same
-    ∙ octets_back (header_of_reply m truncated questions answers authorities additionals) rest (record {
+-- The header of a reply is read as itself.
+pub reply_header_back : (m : Metadata) (truncated : Bool) (questions answers authorities additionals : ℕ) (rest : List ℕ) → FitsOpCode m → m.id < 2 ^ 16 → questions < 2 ^ 16 → answers < 2 ^ 16 → authorities < 2 ^ 16 → additionals < 2 ^ 16 →
+    header_of (header_octets (header_of_reply m truncated questions answers authorities additionals) ++ rest) ≡ header_of_reply m truncated questions answers authorities additionals
+reply_header_back m truncated questions answers authorities additionals rest fits id q a n d =
+    octets_back (header_of_reply m truncated questions answers authorities additionals) rest (record {
       op_code = fits.op_code;
       small_op_code = fits.small;
-      response_code = ap response_code_of (code_back (16 * 0 + low_bits m.response_code % 16));
+      response_code = low_back m.response_code;
       small_response_code = omega (arith, low_number m.response_code);
     }) id q a n d

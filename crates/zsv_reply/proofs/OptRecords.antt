@@ -1,34 +1,36 @@
--- Records, and options of EDNS, stand where they were written.
+-- Records, options of EDNS and signatures stand where they were written.
 use Rattle.std.proofs.Common.{◌≡◌, ℕ, ◌+◌, ◌≤◌, ◌==◌, Bool, true, false, inl, inr, List, [], ◌∷◌, ◌++◌, length, refl, sym, subst, arith}
 use Rattle.std.proofs.lemmas.Bool.{eqb-true}
 use Rattle.std.specs.Prelude.{Option, Some, unwrap_or, find, if◌then◌else◌}
-use Rattle.zsv_message.specs.zst_record.dnw_codes.DNSClass.{class_number, class_of, named_classes}
-use Rattle.zsv_message.specs.zst_record.dnw_codes.RecordType.{record_type_number}
-use Rattle.zsv_message.specs.zst_record.dnw_codes.declared.dns_class.DNSClass.{DNSClass}
-use Rattle.zsv_message.specs.zst_record.dnw_codes.declared.dns_class.DNSClass.TheVariants.{Unknown}
-use Rattle.zsv_message.specs.zst_record.dnw_codes.declared.error.ProtoError.{ProtoError}
-use Rattle.zsv_message.specs.zst_record.dnw_codes.declared.error.ProtoError.TheVariants.{Message}
-use Rattle.zsv_message.specs.zst_record.dnw_codes.declared.record_type.RecordType.TheVariants as kind
-use Rattle.zsv_message.specs.zst_record.dnw_decoder.Octets.{octets_16, octets_32, Stands}
-use Rattle.zsv_message.specs.zst_record.dnw_decoder.Spelling.{at_end}
-use Rattle.zsv_message.specs.zst_record.dnw_name.DomainName.{domain_name}
-use Rattle.zsv_message.proofs.zst_record_lemmas.dnw_decoder_lemmas.SpellingLaws.{spelled_within}
-use Rattle.zsv_message.proofs.zst_record_lemmas.dnw_decoder_lemmas.Standing.{length-octets_32, stands_split, stands_within}
-use Rattle.zsv_message.specs.zst_record.dnw_encoder.Effects.{IsRefusal}
-use Rattle.zsv_message.proofs.zst_record_lemmas.dnw_encoder_lemmas.Laws.{holds_map, puts_stands}
-use Rattle.zsv_message.specs.zst_record.dnw_encoder.State.{State}
-use Rattle.zsv_message.specs.zst_record.drd_rdata.Reading.{RDataAt}
-use Rattle.zsv_message.specs.zst_record.drd_rdata.declared.rdata.RData.TheVariants as rdata
-use Rattle.zsv_message.specs.zst_record.Records.{RecordAt, ReadsBackAlone, plain}
-use Rattle.zsv_message.specs.zst_record.Writing.{EmitsRecord, RefusesRecord}
-use Rattle.zsv_message.specs.zst_record.declared.records.Record.{Record}
-use Rattle.zsv_message.specs.Messages.{OptAt}
-use Rattle.zsv_message.specs.zst_edns.Edns.{IsEdnsOf, edns_ttl}
-use Rattle.zsv_message.specs.zst_edns.Writing.{EdnsReadsBack, EmitsEdns, FitsFields, RefusesEdns, edns_data, opt_head, opt_octets}
-use Rattle.zsv_message.specs.zst_edns.declared.edns.Edns.{Edns}
-use Rattle.zsv_message.proofs.zst_edns_lemmas.WritingLaws.{options_read}
-use Rattle.zsv_reply.specs.Replies.{opt_plain}
-use Rattle.zsv_reply.proofs.Fronts.{Standing}
+use Rattle.zsv_request.specs.zsv_message.zst_record.dnw_codes.DNSClass.{class_number, class_of, named_classes}
+use Rattle.zsv_request.specs.zsv_message.zst_record.dnw_codes.RecordType.{record_type_number}
+use Rattle.zsv_request.specs.zsv_message.zst_record.dnw_codes.declared.dns_class.DNSClass.{DNSClass}
+use Rattle.zsv_request.specs.zsv_message.zst_record.dnw_codes.declared.dns_class.DNSClass.TheVariants.{Unknown}
+use Rattle.zsv_request.specs.zsv_message.zst_record.dnw_codes.declared.error.ProtoError.{ProtoError}
+use Rattle.zsv_request.specs.zsv_message.zst_record.dnw_codes.declared.error.ProtoError.TheVariants.{Message}
+use Rattle.zsv_request.specs.zsv_message.zst_record.dnw_codes.declared.record_type.RecordType.TheVariants as kind
+use Rattle.zsv_request.specs.zsv_message.zst_record.dnw_decoder.Octets.{octets_16, octets_32, Stands}
+use Rattle.zsv_request.specs.zsv_message.zst_record.dnw_decoder.Spelling.{at_end}
+use Rattle.zsv_request.specs.zsv_message.zst_record.dnw_name.DomainName.{domain_name}
+use Rattle.zsv_request.proofs.zsv_message_lemmas.zst_record_lemmas.dnw_decoder_lemmas.SpellingLaws.{spelled_within}
+use Rattle.zsv_request.proofs.zsv_message_lemmas.zst_record_lemmas.dnw_decoder_lemmas.Standing.{length-octets_32, stands_split, stands_within}
+use Rattle.zsv_request.specs.zsv_message.zst_record.dnw_encoder.Effects.{IsRefusal}
+use Rattle.zsv_request.proofs.zsv_message_lemmas.zst_record_lemmas.dnw_encoder_lemmas.Laws.{holds_map, puts_stands}
+use Rattle.zsv_request.specs.zsv_message.zst_record.dnw_encoder.State.{State}
+use Rattle.zsv_request.specs.zsv_message.zst_record.drd_rdata.Reading.{RDataAt}
+use Rattle.zsv_request.specs.zsv_message.zst_record.drd_rdata.declared.rdata.RData.TheVariants as rdata
+use Rattle.zsv_request.specs.zsv_message.zst_record.Records.{RecordAt, ReadsBackAlone, plain}
+use Rattle.zsv_request.specs.zsv_message.zst_record.Writing.{EmitsRecord, RefusesRecord}
+use Rattle.zsv_request.specs.zsv_message.zst_record.declared.records.Record.{Record}
+use Rattle.zsv_request.specs.zsv_message.Messages.{OptAt}
+use Rattle.zsv_request.specs.zsv_message.zst_edns.Edns.{IsEdnsOf, edns_ttl}
+use Rattle.zsv_request.specs.zsv_message.zst_edns.Writing.{EdnsReadsBack, EmitsEdns, FitsFields, RefusesEdns, edns_data, opt_head, opt_octets}
+use Rattle.zsv_request.specs.zsv_message.zst_edns.declared.edns.Edns.{Edns}
+use Rattle.zsv_request.proofs.zsv_message_lemmas.zst_edns_lemmas.WritingLaws.{options_read}
+use Rattle.zsv_request.specs.zsv_message.zsv_parts.declared.tsig.TsigRecord.{TsigRecord}
+use Rattle.zsv_request.specs.zsv_message.zsv_parts.SignatureRecords.{EmitsTsigRecord, RefusesTsigRecord, TsigReadsBack, TsigRecordAt}
+use Rattle.zsv_reply.specs.Replies.{opt_plain, tsig_plain}
+use Rattle.zsv_reply.proofs.FrontLaws.{Standing}
 
 -- A record takes at least eleven octets.
 record_long : (message : List ℕ) (place : ℕ) (r : Record) (end : ℕ) → RecordAt message place r end → place + 11 ≤ end
@@ -120,4 +122,24 @@ options_stand = record {
   fits = λ edns old new one. one.fits;
   refused = λ edns old e refused back small. room_wanted edns old e refused back;
   long = edns_long;
+}
+
+-- A signature takes at least eleven octets.
+tsig_long : (message : List ℕ) (place : ℕ) (r : TsigRecord) (end : ℕ) → TsigRecordAt message place r end → place + 11 ≤ end
+tsig_long message place r end at =
+    let name = spelled_within message place (length message) place r.name.labels at.owner_end at.owner.spelled in
+    omega (arith, name.0, at.record_type.there.behind, at.dns_class.there.behind, at.ttl.behind, length-octets_32 r.ttl, at.count.behind, at.filled)
+
+-- A signature that reads back is refused for room or for want of memory.
+sign_wanted : (r : TsigRecord) (old : State) (e : ProtoError) → RefusesTsigRecord r old e → TsigReadsBack r → IsRefusal old (tsig_plain r) e
+sign_wanted r old e (inl refused) back = refused
+sign_wanted r old e (inr long) back = absurd (omega (arith, long.0, back.counted))
+
+pub signature_stands : Standing TsigRecordAt tsig_plain TsigReadsBack EmitsTsigRecord RefusesTsigRecord
+signature_stands = record {
+  stays = λ r old new one back full small. one.stays full.sound back;
+  size = λ r old new one back. omega (arith, one.exact.offset);
+  fits = λ r old new one. one.fits;
+  refused = λ r old e refused back small. sign_wanted r old e refused back;
+  long = tsig_long;
 }

@@ -1,48 +1,52 @@
 -- A reply that was written is a reply to its request.
-use Rattle.std.proofs.Common.{ℕ, ◌+◌, ◌≤◌, List, length, refl, subst, arith}
+use Rattle.std.proofs.Common.{ℕ, ◌+◌, ◌≤◌, ◌∙◌, List, length, refl, subst, sym, arith}
 use Rattle.std.specs.Prelude.{option_to_list}
-use Rattle.zsv_message.specs.zst_record.dnw_decoder.Octets.{Stands}
-use Rattle.zsv_message.specs.zst_record.Records.{RecordAt, ReadsBackAlone, plain}
-use Rattle.zsv_message.specs.zst_record.Writing.{EmitsRecord, RefusesRecord}
-use Rattle.zsv_message.specs.Messages.{OptAt}
-use Rattle.zsv_message.specs.zst_edns.Writing.{EdnsReadsBack, EmitsEdns, RefusesEdns}
-use Rattle.zsv_message.specs.zsv_parts.Questions.{Asked, AskedAt}
-use Rattle.zsv_message.proofs.zsv_parts_lemmas.Pieces.{SameThere}
-use Rattle.zsv_message.proofs.zsv_parts_lemmas.QuestionsOver.{questions_over}
-use Rattle.zsv_reply.specs.Replies.{Fronts, FrontsAt, ReplyParts, IsReply, opt_plain}
-use Rattle.zsv_reply.specs.Writing.{IsWritten}
-use Rattle.zsv_reply.proofs.Fronts.{front_forward}
-use Rattle.zsv_reply.proofs.OptRecords.{options_stand, records_stand}
+use Rattle.zsv_request.specs.zsv_message.zst_record.dnw_decoder.Octets.{Stands}
+use Rattle.zsv_request.specs.zsv_message.zst_record.Records.{RecordAt, ReadsBackAlone, plain}
+use Rattle.zsv_request.specs.zsv_message.zst_record.Writing.{EmitsRecord, RefusesRecord}
+use Rattle.zsv_request.specs.zsv_message.Messages.{OptAt}
+use Rattle.zsv_request.specs.zsv_message.zst_edns.Writing.{EdnsReadsBack, EmitsEdns, RefusesEdns}
+use Rattle.zsv_request.specs.zsv_message.zsv_parts.Questions.{Asked, AskedAt}
+use Rattle.zsv_request.proofs.zsv_message_lemmas.zsv_parts_lemmas.Pieces.{SameThere}
+use Rattle.zsv_request.proofs.zsv_message_lemmas.zsv_parts_lemmas.QuestionsOver.{questions_over}
+use Rattle.zsv_request.specs.zsv_message.zsv_parts.SignatureRecords.{EmitsTsigRecord, RefusesTsigRecord, TsigReadsBack, TsigRecordAt}
+use Rattle.zsv_request.specs.zsv_message.zsv_parts.declared.header.Header.{Header}
+use Rattle.zsv_reply.specs.Replies.{Fronts, FrontsAt, ReplyParts, IsReply, opt_plain, tsig_plain}
+use Rattle.zsv_reply.specs.Writing.{IsEncoded}
+use Rattle.zsv_reply.proofs.FrontLaws.{front_forward}
+use Rattle.zsv_reply.proofs.OptRecords.{options_stand, records_stand, signature_stands}
 
 -- A reply ends at the place of its fronts or behind it.
-fronts_forward : (reply : List ℕ) (limit place : ℕ) (parts : ReplyParts) (kept : Fronts) → FrontsAt reply limit place parts kept → place ≤ length reply
+pub fronts_forward : (reply : List ℕ) (limit place : ℕ) (parts : ReplyParts) (kept : Fronts) → FrontsAt reply limit place parts kept → place ≤ length reply
 fronts_forward reply limit place parts kept f =
     omega (
       arith,
       front_forward RecordAt plain ReadsBackAlone EmitsRecord RefusesRecord records_stand reply limit place parts.answers kept.answers f.answers_end f.answers,
       front_forward RecordAt plain ReadsBackAlone EmitsRecord RefusesRecord records_stand reply limit f.answers_end parts.authorities kept.authorities f.authorities_end f.authorities,
       front_forward RecordAt plain ReadsBackAlone EmitsRecord RefusesRecord records_stand reply limit f.authorities_end parts.additionals kept.additionals f.additionals_end f.additionals,
-      front_forward OptAt opt_plain EdnsReadsBack EmitsEdns RefusesEdns options_stand reply limit f.additionals_end (option_to_list parts.edns) kept.edns (length reply) f.edns,
+      front_forward OptAt opt_plain EdnsReadsBack EmitsEdns RefusesEdns options_stand reply limit f.additionals_end (option_to_list parts.edns) kept.edns f.edns_end f.edns,
+      front_forward TsigRecordAt tsig_plain TsigReadsBack EmitsTsigRecord RefusesTsigRecord signature_stands reply limit f.edns_end (option_to_list parts.signature) kept.signature (length reply) f.signature,
     )
 
--- Where the questions of a message fit.
-pub reply_of_written : (message reply : List ℕ) (parts : ReplyParts) (asked : Asked) (id limit count end : ℕ) → AskedAt message 12 count asked end →
-    12 + length asked.octets ≤ limit → IsWritten reply parts (length asked.questions) asked.octets limit →
-    IsReply message reply parts asked id limit
-reply_of_written message reply parts asked id limit count end is room w =
+-- A reply that was encoded, to the questions of a message.
+pub reply_of_encoded : (message reply : List ℕ) (info : Header) (parts : ReplyParts) (asked : Asked) (limit count end : ℕ) → AskedAt message 12 count asked end →
+    IsEncoded info reply parts asked limit → IsReply message reply parts asked parts.metadata.id limit
+reply_of_encoded message reply info parts asked limit count end is e =
     let first = 12 + length asked.octets in
-    let same : SameThere message reply 12 first = record { octets = asked.octets; in_m = subst (λ (k : ℕ). Stands message 12 asked.octets k) is.octets.behind is.octets; in_n = w.asked } in
-    let long = fronts_forward reply limit first parts w.kept w.fronts in
     record {
-      within = w.within;
-      reserved = w.reserved;
-      whole = λ _. record {
-        questions_end = first;
-        kept = w.kept;
-        question_octets = w.asked;
-        questions = λ there far. (questions_over message reply first same long 12 asked.questions first (omega arith) (omega arith) there far, refl);
-        fronts = w.fronts;
-        header = w.header;
-      };
-      bare = λ less. absurd (omega (arith, less, room));
+      within = e.within;
+      reserved = e.reserved;
+      whole = λ room.
+          let w = (e.whole room).written in
+          let same : SameThere message reply 12 first = record { octets = asked.octets; in_m = subst (λ (k : ℕ). Stands message 12 asked.octets k) is.octets.behind is.octets; in_n = w.asked } in
+          let long = fronts_forward reply limit first parts w.kept w.fronts in
+          record {
+            questions_end = first;
+            kept = w.kept;
+            question_octets = w.asked;
+            questions = λ there far. (questions_over message reply first same long 12 asked.questions first (omega arith) (omega arith) there far, refl);
+            fronts = w.fronts;
+            header = w.header;
+          };
+      bare = λ less. let b = e.bare less in (b.long, sym b.header ∙ b.says);
     }

@@ -1,34 +1,40 @@
 -- A reply: what it holds in full, and how that stands in octets, cut at a limit (RFC 1035, section
--- 4.1; RFC 2181, section 9; RFC 6891, section 6.1; RFC 9471, section 3.1).
+-- 4.1; RFC 2181, section 9; RFC 6891, section 6.1; RFC 8945, section 5.1; RFC 9471, section 3.1).
 use Rattle.std.specs.Prelude.{◌≡◌, ℕ, ◌+◌, ◌<◌, ◌≤◌, Bool, false, ◌||◌, List, [], ◌∷◌, length, nat_lt, Option, option_to_list}
-use Rattle.zsv_message.specs.zst_record.declared.records.Record.{Record}
-use Rattle.zsv_message.specs.zst_record.dnw_decoder.Octets.{Stands}
-use Rattle.zsv_message.specs.zst_record.Records.{RecordAt, plain}
-use Rattle.zsv_message.specs.Messages.{OptAt}
-use Rattle.zsv_message.specs.zst_edns.Writing.{opt_octets}
-use Rattle.zsv_message.specs.zst_edns.declared.edns.Edns.{Edns}
-use Rattle.zsv_message.specs.zsv_parts.declared.header.Metadata.{Metadata}
-use Rattle.zsv_message.specs.zsv_parts.declared.header.Header.{Header}
-use Rattle.zsv_message.specs.zsv_parts.declared.header.MessageType.TheVariants as messages
-use Rattle.zsv_message.specs.zsv_parts.declared.header.OpCode.TheVariants as operations
-use Rattle.zsv_message.specs.zsv_parts.zst_codes.ResponseCode.{joined_code, low_bits}
-use Rattle.zsv_message.specs.zsv_parts.zst_codes.declared.response_code.ResponseCode.TheVariants as responses
-use Rattle.zsv_message.specs.zsv_parts.Headers.{header_of, reserved_bit}
-use Rattle.zsv_message.specs.zsv_parts.Questions.{Asked, QuestionAt, QuestionsAt, AvoidsHeader}
-use Rattle.zsv_message.specs.zsv_parts.Wire.{Entries}
+use Rattle.zsv_request.specs.zsv_message.zst_record.declared.records.Record.{Record}
+use Rattle.zsv_request.specs.zsv_message.zst_record.dnw_decoder.Octets.{Stands}
+use Rattle.zsv_request.specs.zsv_message.zst_record.Records.{RecordAt, plain}
+use Rattle.zsv_request.specs.zsv_message.Messages.{OptAt}
+use Rattle.zsv_request.specs.zsv_message.zst_edns.Writing.{opt_octets}
+use Rattle.zsv_request.specs.zsv_message.zst_edns.declared.edns.Edns.{Edns}
+use Rattle.zsv_request.specs.zsv_message.zsv_parts.declared.header.Metadata.{Metadata}
+use Rattle.zsv_request.specs.zsv_message.zsv_parts.declared.header.Header.{Header}
+use Rattle.zsv_request.specs.zsv_message.zsv_parts.declared.header.MessageType.TheVariants as messages
+use Rattle.zsv_request.specs.zsv_message.zsv_parts.declared.header.OpCode.TheVariants as operations
+use Rattle.zsv_request.specs.zsv_message.zsv_parts.zst_codes.ResponseCode.{joined_code, low_bits}
+use Rattle.zsv_request.specs.zsv_message.zsv_parts.zst_codes.declared.response_code.ResponseCode.TheVariants as responses
+use Rattle.zsv_request.specs.zsv_message.zsv_parts.Headers.{header_of, reserved_bit}
+use Rattle.zsv_request.specs.zsv_message.zsv_parts.Questions.{Asked, QuestionAt, QuestionsAt, AvoidsHeader}
+use Rattle.zsv_request.specs.zsv_message.zsv_parts.SignatureRecords.{TsigRecordAt, tsig_record_octets}
+use Rattle.zsv_request.specs.zsv_message.zsv_parts.Wire.{Entries}
+use Rattle.zsv_request.specs.zsv_message.zsv_parts.declared.tsig.TsigRecord.{TsigRecord}
 
--- What a reply holds in full: the records of its three sections behind the questions, and options
--- of EDNS behind the additional records.
+-- What a reply holds in full: the records of its three sections behind the questions, options of
+-- EDNS behind the additional records, and a signature behind all.
 pub record ReplyParts : Type 0 where
   pub metadata : Metadata
   pub answers : List Record
   pub authorities : List Record
   pub additionals : List Record
   pub edns : Option Edns
+  pub signature : Option TsigRecord
 
--- How many octets an OPT record takes.
+-- How many octets an OPT record takes, and a TSIG record.
 abbrev pub opt_plain : Edns → ℕ
 opt_plain edns = length (opt_octets edns)
+
+abbrev pub tsig_plain : TsigRecord → ℕ
+tsig_plain signature = length (tsig_record_octets signature)
 
 -- The front of a list that stands in a reply from a place on: it ends early only at an item that
 -- would pass the limit, even written plainly, and no item takes more than that.
@@ -61,26 +67,31 @@ header_of_reply m truncated questions answers authorities additionals = record {
 abbrev pub is_cut : {X : Type 0} → List X → List X → Bool
 is_cut items kept = nat_lt (length kept) (length items)
 
--- The fronts that are kept of a reply's lists, its options as a list of none or one.
+-- The fronts that are kept of a reply's lists, its options and its signature as lists of none or
+-- one.
 pub record Fronts : Type 0 where
   pub answers : List Record
   pub authorities : List Record
   pub additionals : List Record
   pub edns : List Edns
+  pub signature : List TsigRecord
 
 -- Something was left out.
 abbrev pub is_truncated : ReplyParts → Fronts → Bool
 is_truncated parts kept =
     is_cut parts.answers kept.answers || is_cut parts.authorities kept.authorities
-    || (is_cut parts.additionals kept.additionals || is_cut (option_to_list parts.edns) kept.edns)
+    || ((is_cut parts.additionals kept.additionals || is_cut (option_to_list parts.edns) kept.edns)
+    || is_cut (option_to_list parts.signature) kept.signature)
 
 -- The header over so many questions and the fronts that are kept of a reply's lists: it counts
--- them, the OPT record among the additional records (RFC 6891, section 6.1.1), and says that the
--- reply is truncated exactly where one of them is cut (RFC 2181, section 9; RFC 9471, section 3.1).
+-- them, options and signature among the additional records (RFC 6891, section 6.1.1; RFC 8945,
+-- section 5.1), and says that the reply is truncated exactly where one of them is cut (RFC 2181,
+-- section 9; RFC 9471, section 3.1).
 abbrev pub header_of_fronts : ReplyParts → ℕ → Fronts → Header
 header_of_fronts parts questions kept =
     header_of_reply parts.metadata (is_truncated parts kept) questions (length kept.answers)
-    (length kept.authorities) (length kept.additionals + length kept.edns)
+    (length kept.authorities)
+    (length kept.additionals + length kept.edns + length kept.signature)
 
 -- The fronts stand one behind the other, from a place on up to the end of the reply.
 pub record FrontsAt (reply : List ℕ) (limit place : ℕ) (parts : ReplyParts) (kept : Fronts) :
@@ -88,13 +99,16 @@ pub record FrontsAt (reply : List ℕ) (limit place : ℕ) (parts : ReplyParts) 
   pub answers_end : ℕ
   pub authorities_end : ℕ
   pub additionals_end : ℕ
+  pub edns_end : ℕ
   pub answers : Front RecordAt plain reply limit place parts.answers kept.answers answers_end
   pub authorities : Front RecordAt plain reply limit answers_end parts.authorities kept.authorities
       authorities_end
   pub additionals : Front RecordAt plain reply limit authorities_end parts.additionals
       kept.additionals additionals_end
   pub edns : Front OptAt opt_plain reply limit additionals_end (option_to_list parts.edns) kept.edns
-      (length reply)
+      edns_end
+  pub signature : Front TsigRecordAt tsig_plain reply limit edns_end
+      (option_to_list parts.signature) kept.signature (length reply)
 
 -- The reply in which the question section fits: its octets as sent, which are the same questions
 -- unless a pointer of theirs goes into the message's header; a front of each list; and nothing

@@ -1,3 +1,3 @@
-pub use Rattle.zsv_message.specs.Messages
-pub use Rattle.zsv_message.specs.zst_edns
-pub use Rattle.zsv_message.specs.zsv_parts
+pub use Rattle.zsv_request.specs.zsv_message.Messages
+pub use Rattle.zsv_request.specs.zsv_message.zst_edns
+pub use Rattle.zsv_request.specs.zsv_message.zsv_parts

@@ -1,14 +1,21 @@
 //! Replies: what a reply holds, and its octets, cut at a limit (RFC 1035 section 4, RFC 2181 section 9, RFC 6891 section
-//! 6.1).
+//! 6.1, RFC 8945 section 5.1).
 //!
 //! `MessageResponse::encode` writes a reply that stands in `IsReply` to what it is to hold.
 #![tactic(auto)]
 
-pub use zsv_message::{
+pub use zsv_request::{
     A, DNSClass, DecodeError, Edns, Label, MessageRequest, MessageType, Metadata, NS, Name, OpCode,
-    Queries, Query, RData, Record, RecordSet, RecordType, ResponseCode, SOA,
+    Protocol, Queries, Query, RData, Record, RecordSet, RecordType, ResponseCode, ResponseInfo,
+    SOA, TsigRecord,
 };
 
-mod encode;
+mod builder;
+mod fronts;
+mod header;
+mod lends;
+mod message_response;
 
-pub use encode::{LendsRecord, MessageResponse, encode_header};
+pub use builder::{MessageResponseBuilder, NoRecords};
+pub use lends::LendsRecord;
+pub use message_response::MessageResponse;

@@ -1,1 +1,2 @@
 pub mod WantOfMemory
+pub mod zsv_message_lemmas

@@ -5,8 +5,10 @@
 #![tactic(auto)]
 
 pub use zsv_message::{
-    BinDecodable, BinDecoder, DecodeError, Edns, Header, HeaderCounts, LookupError, LowerName,
-    MessageRequest, Metadata, Name, ProtoError, Queries, Query, Record, TsigRecord,
+    A, BinDecodable, BinDecoder, BinEncodable, BinEncoder, DNSClass, DecodeError, Edns, Header,
+    HeaderCounts, Label, LookupError, LowerName, MessageRequest, MessageType, Metadata, NS, Name,
+    NameEncoding, OpCode, ProtoError, Queries, Query, RData, Record, RecordRef, RecordSet,
+    RecordType, ResponseCode, SOA, Tsig, TsigRecord,
 };
 
 mod lower_query;

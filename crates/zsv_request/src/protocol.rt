@@ -15,7 +15,8 @@ pub enum Protocol {
 }
 
 impl Protocol {
-    /// How many octets a reply may have, to a request with these options (RFC 6891 section 6.2.5).
+    /// How many octets a reply may have that has these options, or answers a request that has them: in a datagram as many
+    /// as `MessageRequest::max_payload` tells of the request (RFC 6891 section 6.2.5).
     pub fn limit(self, edns: Option<&Edns>) -> u16
         ensures value { result ≡ limit_of self (option_copied edns.entry) }
         ensures lower { 512 ≤ result }

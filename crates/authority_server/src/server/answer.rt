@@ -1,30 +1,28 @@
 //! What a zone answers to a request (RFC 1034 section 4.3.2).
 
-ghost use Rattle.std.specs.Prelude.{◌≡◌, ◌+◌, ◌<◌, ◌≤◌, ◌^◌, ◌++◌, [], length, Ok, Err, IfOk, IfErr, if◌then◌else◌, option_copied};
-ghost use Rattle.zst_zone.specs.dnw_codes.ProtoError.{IsMemory};
+ghost use Rattle.std.specs.Prelude.{◌≡◌, [], Err, IfOk, if◌then◌else◌, option_copied};
 ghost use Rattle.zst_zone.specs.dnw_name.DomainName.{lowercase_name};
 ghost use Rattle.zst_zone.specs.dnw_codes.declared.record_type.RecordType.{RecordType};
 ghost use Rattle.zst_zone.specs.zst_handler.Answers.{ShowsAnswer, Tells, answers_in};
 ghost use Rattle.zst_zone.specs.zst_handler.Lookups.{Answer, IsLookup, Outcome, answered};
 ghost use Rattle.zst_zone.specs.zst_handler.Zones.{AreStored, ZoneReadsBack};
-ghost use Rattle.zsv_reply.specs.zsv_message.zsv_parts.Headers.{FitsHeader};
-ghost use Rattle.zsv_reply.specs.Replies.{bare_failure};
-ghost use Rattle.zsv_reply.specs.Writing.{IsWritten};
+ghost use Rattle.zsv_reply.specs.zsv_message.zsv_parts.declared.header.Header.{Header};
+ghost use Rattle.zsv_reply.specs.Writing.{IsEncoded};
 ghost use Rattle.zsv_reply.specs.zsv_message.Messages.{IsMessage};
+ghost use Rattle.zsv_request.specs.Requests.{limit_of};
 ghost use Rattle.authority_server.specs.Serving.{reply_metadata, error_parts, AtOrigin, BesideAnswer, DeniedParts, OutcomeParts, QuestionParts, QueryParts, KindParts, PlainParts, AnswersEdns, Answers, has_other_version, is_referral, with_edns};
 ghost use Rattle.authority_server.specs.Servers.{parts_of, IsSound};
 
-use crate::server::sections::Authorities;
 use std::alloc::{AllocError, Global};
-use std::mem;
 use zst_zone::{
     AuthLookup, InMemoryZoneHandler, LookupControlFlow, LookupError, LookupOptions,
-    LookupRecordsIter, NameKey, ProtoError,
+    LookupRecordsIter, NameKey,
 };
 use zsv_reply::{
-    Edns, MessageRequest, MessageResponse, MessageType, Metadata, OpCode, Queries, Query,
-    RecordType, ResponseCode, encode_header,
+    Edns, MessageRequest, MessageResponseBuilder, MessageType, Metadata, OpCode, Queries, Query,
+    RecordType, ResponseCode,
 };
+use zsv_request::Protocol;
 
 // What a full reply holds; the zone lends its records.
 #[derive(Drop)]
@@ -49,41 +47,37 @@ impl Response<'_> {
         }
     }
 
-    // The records of authority.
-    fn authorities(&self) -> Authorities<'_>
-        ensures { result ≡ (if self.now.is_referral then answers_in self.now.found else []) ++ answers_in self.now.beside }
+    // The records of authority: those of a referral.
+    fn authorities(&self) -> LookupRecordsIter<'_>
+        ensures { result ≡ (if self.now.is_referral then answers_in self.now.found else []) }
     {
-        let beside = self.beside.iter();
-        if self.is_referral {
-            Authorities::new(self.found.iter(), beside)
-        } else {
-            Authorities::new(LookupRecordsIter::of_records(&[]), beside)
+        if !self.is_referral {
+            return LookupRecordsIter::of_records(&[]);
         }
+        self.found.iter()
     }
 
-    // The octets of the reply with these options, of at most `limit`. Only memory may be wanting.
+    // The octets of the reply with these options, within the limit of its transport.
     fn encode(
         &self,
         alloc: Global,
-        edns: Option<Edns>,
+        edns: Option<&Edns>,
         queries: &Queries<'_>,
-        limit: u16,
-    ) -> Result<Vec<u8>, ProtoError>
-        requires sound { IsSound (with_edns edns (parts_of self.now)) }
-        requires few { length queries.now.questions < 2 ^ 16 }
-        requires room { 12 + length queries.now.octets ≤ limit }
-        ensures written { IfOk result (λ reply.
-            IsWritten reply.items (with_edns edns (parts_of self.now)) (length queries.now.questions) queries.now.octets limit) }
-        ensures cause { IfErr result IsMemory }
+        protocol: Protocol,
+    ) -> Result<Vec<u8>, AllocError>
+        requires { IsSound (with_edns (option_copied edns) (parts_of self.now)) }
+        ensures { IfOk result (λ reply. (info : Header) × IsEncoded info reply.items (with_edns (option_copied edns.entry) (parts_of self.now))
+            queries.now (limit_of protocol (option_copied edns.entry))) }
     {
-        let response = MessageResponse {
-            metadata: self.metadata,
-            answers: self.answers(),
-            authorities: self.authorities(),
-            additionals: self.found.additional_records(),
-            edns,
-        };
-        response.encode(alloc, queries.len() as u16, queries.as_bytes(), limit)
+        let response = MessageResponseBuilder::new(queries, edns).build(
+            self.metadata,
+            self.answers(),
+            self.authorities(),
+            self.beside.iter(),
+            self.found.additional_records(),
+        );
+        let sent = response.encode(alloc, protocol)?;
+        Ok(sent.1)
     }
 }
 
@@ -345,59 +339,20 @@ fn reply_edns(alloc: Global, asked: Option<&Edns>, response_code: ResponseCode) 
     Some(edns)
 }
 
-// What is left to say where not even the questions fit.
-fn bare_header(id: u16) -> Metadata
-    ensures value { result ≡ bare_failure id }
-    ensures fits { FitsHeader result }
-{
-    Metadata {
-        id,
-        message_type: MessageType::Response,
-        op_code: OpCode::Query,
-        authoritative: false,
-        truncation: false,
-        recursion_desired: false,
-        recursion_available: false,
-        authentic_data: false,
-        checking_disabled: false,
-        response_code: ResponseCode::ServFail,
-    }
-}
-
-// A reply of records that read back alone, for which only memory may be wanting.
-fn or_memory(encoded: Result<Vec<u8>, ProtoError>) -> Result<Vec<u8>, AllocError>
-    requires { IfErr encoded IsMemory }
-    ensures { IfOk result (λ reply. encoded ≡ Ok reply) }
-{
-    match encoded {
-        Ok(reply) => Ok(reply),
-        Err(ProtoError::Memory(refused)) => Err(refused),
-        Err(_) => unreachable!(),
-    }
-}
-
-/// The reply to a request, which a message is, within a limit.
+/// The reply to a request, which a message is, within the limit of its transport.
 pub fn reply_to<K>(
     zone: &InMemoryZoneHandler<K>,
     alloc: Global,
     message: &[u8],
     request: &MessageRequest<'_>,
-    limit: u16,
+    protocol: Protocol,
 ) -> Result<Vec<u8>, AllocError>
     requires back { ZoneReadsBack zone.now }
     requires stored { AreStored zone.now.sets }
     requires message { IsMessage message.now request.now }
-    requires lower { 12 ≤ limit }
-    ensures { IfOk result (λ reply. Answers zone.now message.now request.now reply.items limit) }
+    ensures { IfOk result (λ reply. Answers zone.now message.now request.now reply.items (limit_of protocol request.now.edns)) }
 {
-    let queries = request.queries();
-    let room = usize::from(limit - 12);
-    if room < queries.as_bytes().len() {
-        return encode_header(alloc, bare_header(request.metadata().id));
-    }
     let response = response_to(zone, alloc, request)?;
     let edns = reply_edns(alloc, request.edns(), response.metadata.response_code);
-    let encoded = response.encode(alloc, edns, queries, limit);
-    mem::drop(response);
-    or_memory(encoded)
+    response.encode(alloc, edns.as_ref(), request.queries(), protocol)
 }
