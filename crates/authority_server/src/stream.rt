@@ -38,6 +38,7 @@ pub enum StreamError {
 }
 
 // Reads until the buffer is full or the input ends; how many octets came.
+#[inline(always)]
 fn fill<R: Read>(
     reader: &mut R,
     faults: &mut Faults,
@@ -139,6 +140,7 @@ fn read_frame<R: Read>(
 }
 
 // Writes octets.
+#[inline(always)]
 fn put<W: Write>(writer: &mut W, faults: &mut Faults, octets: &[u8]) -> Result<(), StreamError>
     requires { NoneFailed faults.old }
     ensures written { OnOk result (Appends (W.contents writer.old) (W.contents writer.new) octets.now) }

@@ -1,3 +1,4 @@
+pub mod ChainLaws
 pub mod SpellingLaws
 pub mod Standing
 pub mod Progress

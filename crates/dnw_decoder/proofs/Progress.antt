@@ -10,6 +10,7 @@ use Rattle.dnw_name.specs.dnw_codes.declared.error.DecodeError.TheVariants.{Doma
 use Rattle.dnw_name.specs.dnw_label.Label.{IsLabel}
 use Rattle.dnw_name.specs.dnw_label.Labels.{label_octets}
 use Rattle.dnw_name.proofs.dnw_label_lemmas.LabelsLemmas.{length-label_octets}
+use Rattle.dnw_decoder.specs.Elements.{Run, begins, goes_on}
 use Rattle.dnw_decoder.specs.Octets.{Stands}
 use Rattle.dnw_decoder.specs.Spelling.{NameAt, Spells, pointer_octets, at_end}
 use Rattle.dnw_decoder.specs.Refusals.{Reaches, at_start, behind_label, at_target, Refuses, IsCause}
@@ -127,6 +128,28 @@ walking_label message start built len segment bound place run resume next w befo
       inside = stands_within message place (length next ∷ next) (place + (1 + length next)) (omega arith) there;
       counted = omega (arith, size, w.counted);
     }
+
+run_ahead : (message : List ℕ) (bound place : ℕ) (labels : List (List ℕ)) (end : ℕ) → Run message bound place labels end → place ≤ end
+run_ahead message bound place _ _ begins = omega arith
+run_ahead message bound place _ end (goes_on {labels = labels} {middle = middle} {next = next} before inside is there) =
+    omega (arith, run_ahead message bound place labels middle before, there.behind)
+
+-- Labels more, one behind the other.
+pub walking_run : (message : List ℕ) (start : ℕ) (built : DomainName) (len segment bound place run : ℕ) (resume : Option ℕ) (labels : List (List ℕ)) (end size : ℕ) → IsWalking message start built len segment bound place run resume → Run message bound place labels end → size ≡ len + (end - place) → size ≤ 255 → IsWalking message start built size segment bound end run resume
+walking_run message start built len segment bound place run resume _ _ size w begins sum few =
+    subst (λ (n : ℕ). IsWalking message start built n segment bound place run resume) (omega (arith, sum)) w
+walking_run message start built len segment bound place run resume _ end size w (goes_on {labels = labels} {middle = middle} {next = next} before inside is there) sum few =
+    let ahead : place ≤ middle = run_ahead message bound place labels middle before in
+    let last : end ≡ middle + (1 + length next) = omega (arith, there.behind) in
+    let one = walking_run message start built len segment bound place run resume labels middle (len + (middle - place)) w before refl (omega (arith, sum, few, ahead, last)) in
+    let whole = walking_label message start built (len + (middle - place)) segment bound middle run resume next one inside is (subst (λ (e : ℕ). Stands message middle (length next ∷ next) e) last there) (omega (arith, sum, few, ahead, last)) in
+    let total : size ≡ len + (middle - place) + (1 + length next) = omega (arith, sum, ahead, last) in
+    rw (total, last) whole
+
+-- As many labels more as there is room for.
+pub walking_on : {message : List ℕ} {start : ℕ} {built : DomainName} {len segment bound place run : ℕ} {resume : Option ℕ} {end : ℕ} → IsWalking message start built len segment bound place run resume → ((labels : List (List ℕ)) × Run message bound place labels end) → place ≤ end → end ≤ place + (255 - len) → IsWalking message start built (len + (end - place)) segment bound end run resume
+walking_on {message} {start} {built} {len} {segment} {bound} {place} {run} {resume} {end} w labels ahead room =
+    walking_run message start built len segment bound place run resume labels.0 end (len + (end - place)) w labels.1 refl (omega (arith, ahead, room, w.counted, w.reading.size))
 
 -- The run's octets are those of its labels.
 pub record HasRun (message : List ℕ) (built : DomainName) (place run : ℕ) (pending : List (List ℕ)) : Type 0 where

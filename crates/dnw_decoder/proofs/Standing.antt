@@ -1,6 +1,6 @@
 -- What stands in a message: fronts and heads.
 use Rattle.std.proofs.Common.{◌≡◌, ℕ, ◌+◌, ◌/◌, ◌%◌, ◌<◌, ◌≤◌, List, [], ◌∷◌, ◌++◌, length, get_or, take, drop, refl, sym, ap, ◌∙◌, arith, add-zero, append_assoc}
-use Rattle.std.proofs.lemmas.List.{length-take, length-drop, length-append, get_or-drop, drop-drop, take-append-drop, take_at, drop_at}
+use Rattle.std.proofs.lemmas.List.{length-take, length-drop, length-append, get_or-drop, drop-drop, drop_more, take-append-drop, take_at, drop_at}
 use Rattle.dnw_decoder.specs.Octets.{Stands, octets_32}
 use Rattle.dnw_decoder.specs.Spelling.{pointer_octets}
 
@@ -71,3 +71,21 @@ stands_joined message place front middle rest end s t = record {
   there = s.there ∙ ap (λ (o : List ℕ). front ++ o) t.there ∙ sym (append_assoc front rest (drop end message));
   behind = omega (arith, s.behind, t.behind, length-append front rest);
 }
+
+-- Where an octet below 64 stands before as many others, a label stands.
+pub record LabelStands (message : List ℕ) (place : ℕ) (label : List ℕ) (n : ℕ) : Type 0 where
+  pub long : length label ≡ n
+  pub there : Stands message place (length label ∷ label) (place + (1 + n))
+
+pub label_stands : (message : List ℕ) (place n : ℕ) → get_or message place 0 ≡ n → place + 1 + n ≤ length message → LabelStands message place (take n (drop (place + 1) message)) n
+label_stands message place n head fits =
+    let long : length (take n (drop (place + 1) message)) ≡ n = omega (arith, length-take n (drop (place + 1) message), length-drop (place + 1) message) in
+    let first : drop place message ≡ n ∷ drop (place + 1) message = drop_more message place 0 (omega (arith, fits)) ∙ ap (λ (k : ℕ). k ∷ drop (place + 1) message) head in
+    let rest : drop (place + 1) message ≡ take n (drop (place + 1) message) ++ drop (place + (1 + n)) message = sym (take-append-drop n (drop (place + 1) message)) ∙ ap (λ (r : List ℕ). take n (drop (place + 1) message) ++ r) (drop-drop n (place + 1) message ∙ ap (λ (k : ℕ). drop k message) (omega arith)) in
+    record {
+      long = long;
+      there = record {
+        there = first ∙ ap (λ (r : List ℕ). n ∷ r) rest ∙ ap (λ (k : ℕ). k ∷ (take n (drop (place + 1) message) ++ drop (place + (1 + n)) message)) (sym long);
+        behind = omega (arith, long);
+      };
+    }

@@ -9,7 +9,6 @@ ghost use Rattle.dnw_decoder.specs.Refusals.{Refuses};
 ghost use Rattle.dnw_decoder.specs.Spelling.{NameAt, Spells, pointers};
 
 use crate::decoder::BinDecoder;
-use crate::name::read_name;
 use dnw_name::{DNSClass, DecodeError, LowerName, Name, RecordType};
 use std::alloc::Global;
 
@@ -69,9 +68,7 @@ impl BinDecodable for Name {
         ensures none { IfErr result (λ e. IsWantOfMemory e
             ⊎ ((name : DomainName) (end : ℕ) → NameAt decoder.old.octets decoder.old.index name end → ⊥)) }
     {
-        let (name, end) = read_name(alloc, decoder.octets(), decoder.index())?;
-        decoder.set_index(end);
-        Ok(name)
+        decoder.read_name(alloc)
     }
 }
 

@@ -1,12 +1,16 @@
 //! The decoder.
-ghost use Rattle.std.specs.Prelude.{◌≡◌, ◌+◌, ◌-◌, ◌<◌, ◌≤◌, ◌^◌, ◌==◌, ◌∷◌, [], length, get_or, IfOk, IfErr, ◌⊎◌, slice_get, slice_range};
+ghost use Rattle.std.specs.Prelude.{◌≡◌, ◌+◌, ◌-◌, ◌<◌, ◌≤◌, ◌^◌, ◌==◌, ◌∷◌, [], ℕ, length, get_or, min, IfOk, IfErr, OnErr, ◌⊎◌, slice_get, slice_range};
 ghost use Rattle.std.specs.Option.{option_copied};
 ghost use Rattle.std.specs.Int.{w32, cast_unsigned};
+ghost use Rattle.dnw_name.specs.DomainName.{DomainName};
 ghost use Rattle.dnw_name.specs.dnw_codes.declared.error.DecodeError.TheVariants.{InvalidPreviousIndex};
 ghost use Rattle.dnw_decoder.specs.Octets.{octets_16, octets_32};
+ghost use Rattle.dnw_decoder.specs.Refusals.{Refuses};
+ghost use Rattle.dnw_decoder.specs.Spelling.{NameAt, Spells, pointers};
 ghost use Rattle.dnw_decoder.specs.Reading.{reading, TakesOctets, LacksOctets, IsWantOfMemory};
 
-use dnw_name::{DecodeError, Restrict};
+use crate::name::read_name;
+use dnw_name::{DecodeError, Name, Restrict};
 use std::alloc::Global;
 use std::marker::Model;
 
@@ -17,17 +21,21 @@ use std::marker::Model;
 pub struct BinDecoder<'a> {
     octets: &'a [u8],
     index: usize,
+    // Where chains of pointers end, once one was followed.
+    chains: Option<Vec<u16>>,
 }
 
 impl<'a> Model for BinDecoder<'a> {
     ghost use Rattle.std.specs.Prelude.{◌≤◌, length};
+    ghost use Rattle.dnw_decoder.specs.Chains.{AreChains};
     ghost use Rattle.dnw_decoder.specs.Reading.{Reading, reading};
 
     ghost Value = { Reading };
 
     ghost view = { λ decoder. reading decoder.octets.now decoder.index };
 
-    ghost invariant = { λ decoder. decoder.index ≤ length decoder.octets.now };
+    ghost invariant = { λ decoder. (decoder.index ≤ length decoder.octets.now)
+        × AreChains decoder.octets.now decoder.chains };
 }
 
 impl<'a> BinDecoder<'a> {
@@ -38,6 +46,7 @@ impl<'a> BinDecoder<'a> {
         BinDecoder {
             octets: buffer,
             index: 0,
+            chains: None,
         }
     }
 
@@ -49,6 +58,7 @@ impl<'a> BinDecoder<'a> {
         BinDecoder {
             octets: self.octets,
             index: usize::from(index_at),
+            chains: None,
         }
     }
 
@@ -77,11 +87,23 @@ impl<'a> BinDecoder<'a> {
         self.len() == 0
     }
 
-    /// The octets of the message.
-    pub(crate) fn octets(&self) -> &'a [u8]
-        ensures { result.now ≡ self.now.octets }
+    // The name that is spelled at the index, which moves behind it.
+    pub(crate) fn read_name(&mut self, alloc: Global) -> Result<Name, DecodeError>
+        ensures ok { IfOk result (λ name. NameAt self.old.octets self.old.index name self.new.index) }
+        ensures pointers { IfOk result (λ name.
+            (spelled : Spells self.old.octets self.old.index name.labels self.new.index)
+            → pointers spelled ≤ min self.old.index 16384) }
+        ensures same { self.new.octets ≡ self.old.octets }
+        ensures forward { self.old.index ≤ self.new.index }
+        ensures within { self.new.index ≤ length self.new.octets }
+        ensures err { OnErr result (self.new ≡ self.old) }
+        ensures refused { IfErr result (Refuses self.old.octets self.old.index) }
+        ensures none { IfErr result (λ e. IsWantOfMemory e
+            ⊎ ((name : DomainName) (end : ℕ) → NameAt self.old.octets self.old.index name end → ⊥)) }
     {
-        self.octets
+        let (name, end) = read_name(alloc, self.octets, &mut self.chains, self.index)?;
+        self.index = end;
+        Ok(name)
     }
 
     /// Goes to another index, which is at most the number of octets.

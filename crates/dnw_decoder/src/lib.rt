@@ -9,6 +9,7 @@ pub use dnw_name::{
     LowerName, Name, PrefixLenError, RrKey,
 };
 
+mod chains;
 mod decodable;
 mod decoder;
 mod name;

@@ -4,12 +4,14 @@ ghost use Rattle.dnw_name.specs.dnw_codes.declared.error.DecodeError.TheVariants
 ghost use Rattle.dnw_name.specs.DomainName.{domain_name, labels_len, IsDomainName};
 ghost use Rattle.dnw_name.specs.dnw_label.Label.{IsLabel};
 ghost use Rattle.dnw_name.specs.dnw_label.Labels.{label_octets};
-ghost use Rattle.dnw_decoder.specs.Elements.{ElementAt};
+ghost use Rattle.dnw_decoder.specs.Chains.{AreChains};
+ghost use Rattle.dnw_decoder.specs.Elements.{ElementAt, Run};
 ghost use Rattle.dnw_decoder.specs.Octets.{Stands};
 ghost use Rattle.dnw_decoder.specs.Reading.{IsWantOfMemory};
 ghost use Rattle.dnw_decoder.specs.Refusals.{IsCause, Refuses};
 ghost use Rattle.dnw_decoder.specs.Spelling.{NameAt};
 
+use crate::chains::follow;
 use dnw_name::{DecodeError, Name};
 use std::alloc::Global;
 
@@ -117,16 +119,51 @@ fn push_run(name: &mut Name, spelled: &[u8]) -> Result<(), DecodeError>
     name.push_spelled(spelled)
 }
 
+// Where the labels end that stand from a place on, one behind the other: as far as they begin before the bound, are
+// whole, and take no more octets than there is room.
+fn run_end(octets: &[u8], bound: usize, place: usize, room: usize) -> usize
+    requires within { bound ≤ length octets.now }
+    requires inside { place ≤ length octets.now }
+    requires room { room ≤ 255 }
+    ensures run { (labels : List (List ℕ)) × Run octets.now bound place labels result }
+    ensures ahead { place ≤ result }
+    ensures inside { result ≤ length octets.now }
+    ensures room { result ≤ place + room }
+{
+    let most = octets.len().min(place + room);
+    let mut end = place;
+    'labels: loop {
+        if bound <= end {
+            return end;
+        }
+        let length = usize::from(octets[end]);
+        if length == 0 {
+            return end;
+        }
+        if length > 63 {
+            return end;
+        }
+        let next = end + 1 + length;
+        if most < next {
+            return end;
+        }
+        end = next;
+    }
+}
+
 /// The name that is spelled from a start on, and the index behind it.
 pub(crate) fn read_name(
     alloc: Global,
     octets: &[u8],
+    chains: &mut Option<Vec<u16>>,
     start: usize,
 ) -> Result<(Name, usize), DecodeError>
-    requires { start ≤ length octets.now }
+    requires start { start ≤ length octets.now }
+    requires chains { AreChains octets.now chains.old }
     ensures ok { IfOk result (λ found. NameAt octets.now start found.0 found.1) }
     ensures within { IfOk result (λ found. (start ≤ found.1) × (found.1 ≤ length octets.now)) }
     ensures refused { IfErr result (Refuses octets.now start) }
+    ensures chains { AreChains octets.now chains.new }
 {
     let mut name = Name::root(alloc);
     let mut segment = start;
@@ -137,25 +174,29 @@ pub(crate) fn read_name(
     let mut run = start;
     let mut len = 1;
     'elements: loop {
-        match element_at(octets, segment, bound, place)? {
+        let end = run_end(octets, bound, place, Name::MAX_LENGTH - len);
+        let size = len + (end - place);
+        match element_at(octets, segment, bound, end)? {
             Element::End => {
-                push_run(&mut name, &octets[run..place])?;
-                return Ok((name, resume.unwrap_or(place + 1)));
+                push_run(&mut name, &octets[run..end])?;
+                return Ok((name, resume.unwrap_or(end + 1)));
             }
             Element::Label(label) => {
-                len += 1 + label.len();
+                len = size + 1 + label.len();
                 if len > Name::MAX_LENGTH {
                     return Err(DecodeError::DomainNameTooLong(len));
                 }
-                place += 1 + label.len();
+                place = end + 1 + label.len();
             }
             Element::Pointer(target) => {
-                push_run(&mut name, &octets[run..place])?;
-                resume = Some(resume.unwrap_or(place + 2));
-                bound = segment;
-                segment = target;
-                place = target;
-                run = target;
+                push_run(&mut name, &octets[run..end])?;
+                resume = Some(resume.unwrap_or(end + 2));
+                let led = follow(alloc, octets, chains, segment, target);
+                bound = led.0;
+                segment = led.1;
+                place = segment;
+                run = segment;
+                len = size;
             }
         }
     }

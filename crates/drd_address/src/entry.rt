@@ -10,7 +10,7 @@ use drd_fields::{BinDecodable, BinDecoder, BinEncoder};
 use drd_param_keys::Entry;
 use drd_words::{DecodeError, ParseError, ProtoError};
 use std::alloc::Global;
-use std::fmt;
+use std::{fmt, mem};
 
 impl Entry for A {
     ghost use Rattle.drd_address.specs.EntryLaws.{a_laws, a_told};
@@ -38,11 +38,11 @@ impl Entry for A {
 
     fn split(alloc: Global, octets: &[u8]) -> Result<(A, &[u8]), DecodeError> {
         let mut decoder = BinDecoder::new(octets);
-        match A::read(alloc, &mut decoder) {
-            Ok(address) => {
-                let end = decoder.index();
-                Ok((address, &octets[end..]))
-            }
+        let read = A::read(alloc, &mut decoder);
+        let end = decoder.index();
+        mem::drop(decoder);
+        match read {
+            Ok(address) => Ok((address, &octets[end..])),
             Err(refused) => Err(refused),
         }
     }
@@ -97,11 +97,11 @@ impl Entry for AAAA {
 
     fn split(alloc: Global, octets: &[u8]) -> Result<(AAAA, &[u8]), DecodeError> {
         let mut decoder = BinDecoder::new(octets);
-        match AAAA::read(alloc, &mut decoder) {
-            Ok(address) => {
-                let end = decoder.index();
-                Ok((address, &octets[end..]))
-            }
+        let read = AAAA::read(alloc, &mut decoder);
+        let end = decoder.index();
+        mem::drop(decoder);
+        match read {
+            Ok(address) => Ok((address, &octets[end..])),
             Err(refused) => Err(refused),
         }
     }

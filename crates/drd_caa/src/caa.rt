@@ -5,8 +5,8 @@ ghost use Rattle.drd_plain.specs.dnw_encoder.declared.modes.RDataEncoding.TheVar
 ghost use Rattle.drd_plain.specs.drd_fields.Fields.{octet, string, rest};
 ghost use Rattle.drd_plain.specs.drd_fields.Equality.{AreFull, Tells, fields_eq};
 ghost use Rattle.drd_plain.specs.drd_fields.Order.{fields_input};
-ghost use Rattle.drd_fields.proofs.EqualityLaws.{data_equiv};
-ghost use Rattle.drd_fields.proofs.OrderLaws.{fields-alike};
+ghost use Rattle.drd_plain.proofs.drd_fields_lemmas.EqualityLaws.{data_equiv};
+ghost use Rattle.drd_plain.proofs.drd_fields_lemmas.OrderLaws.{fields-alike};
 ghost use Rattle.drd_plain.specs.drd_fields.Writing.{EmitsData, RefusesFields, canonical_octets};
 ghost use Rattle.drd_caa.specs.Fields.{IsCaa, caa_fields, caa_flags};
 ghost use Rattle.drd_caa.specs.Print.{caa_print};

@@ -48,8 +48,8 @@ abbrev pub joins : Option RRset → Record → Bool
 joins None r = true
 joins (Some set) r = takes set r
 
--- Adding a record to a zone changes it: the record is of class IN, may stand at its owner, and isn't
--- there (RFC 2136, section 3.4.2.2).
+-- Adding a record to a zone changes it: the record is of class IN, may stand at its owner, and
+-- isn't there (RFC 2136, section 3.4.2.2).
 abbrev pub upsert_changes : List RRset → Record → Bool
 upsert_changes sets r =
     same_class r.dns_class IN

@@ -129,6 +129,7 @@ impl<'r> Iterator for LookupRecordsIter<'r> {
 
     ghost remaining = { item_count (λ records. records) };
 
+    #[inline(always)]
     fn next(&mut self) -> Option<RecordRef<'r>> {
         'sets: loop {
             if let Some(own) = self.current.next() {

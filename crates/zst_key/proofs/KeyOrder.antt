@@ -29,7 +29,7 @@ pub rank_behind_end : (a : ℕ) → nat_cmp (rank a) 0 ≡ Greater
 unfolding rank
 rank_behind_end a = grind (arith, nat_tests)
 
-then-assoc : (o p q : Ordering) → ordering_then o (ordering_then p q) ≡ ordering_then (ordering_then o p) q
+pub then-assoc : (o p q : Ordering) → ordering_then o (ordering_then p q) ≡ ordering_then (ordering_then o p) q
 then-assoc Less p q = refl
 then-assoc Equal p q = refl
 then-assoc Greater p q = refl

@@ -1,3 +1,4 @@
+mod WordOrder
 pub mod Climbing
 pub mod KeyFronts
 pub mod KeyLemmas

@@ -9,7 +9,7 @@ ghost use Rattle.dnw_name.specs.DomainName.{name_eq, name_cmp, name_len, is_at_o
 ghost use Rattle.dnw_name.specs.NameOrderLaws.{name_eq-by_cmp};
 ghost use Rattle.zst_key.specs.Ancestors.{other_flag, parent, star, GoesToShared};
 
-use crate::octets::{INLINE, octets_of, parent_end};
+use crate::octets::{INLINE, octets_of, order, parent_end};
 use dnw_name::Name;
 use smallvec::SmallVec;
 use std::alloc::{AllocError, Global};
@@ -158,7 +158,7 @@ impl Ord for NameKey {
     ghost matches_eq = { name_eq-by_cmp };
 
     fn cmp(&self, other: &NameKey) -> Ordering {
-        self.octets.as_slice().cmp(other.octets.as_slice())
+        order(self.octets.as_slice(), other.octets.as_slice())
     }
 }
 

@@ -1,5 +1,8 @@
 //! Octets whose plain order is the canonical order of names.
-ghost use Rattle.std.specs.Prelude.{◌≡◌, ◌+◌, ◌++◌, ◌<◌, ◌≤◌, length, take, IfOk, IsOk};
+ghost use Rattle.std.specs.Prelude.{◌≡◌, ◌+◌, ◌++◌, ◌<◌, ◌≤◌, length, take, drop, IfOk, IsOk};
+ghost use Rattle.std.specs.Cmp.Lexicographic.{slice_cmp};
+ghost use Rattle.std.specs.Int.{from_be_bytes, w64};
+ghost use Rattle.std.specs.Ordering.{nat_cmp};
 ghost use Rattle.smallvec.specs.SmallVec.{HasRoomFor, small_vec_len};
 ghost use Rattle.dnw_name.specs.DomainName.{DomainName, name_len};
 ghost use Rattle.zst_key.specs.Ancestors.{parent};
@@ -8,6 +11,7 @@ ghost use Rattle.zst_key.specs.NameKeys.{rank, label_key, name_key};
 use dnw_name::Name;
 use smallvec::SmallVec;
 use std::alloc::{AllocError, Global};
+use std::cmp::Ordering;
 
 /// How many octets of a key stand where the key does, and take no memory of their own: names of up to 39 octets.
 pub(crate) const INLINE: usize = 40;
@@ -82,4 +86,47 @@ fn rank(octet: u8) -> u8
     ensures { result ≡ rank octet }
 {
     RANKS[usize::from(octet)]
+}
+
+// Eight octets from a place on, as one number of which the first counts most.
+#[inline(always)]
+fn word(octets: &[u8], at: usize) -> u64
+    requires { at + 8 ≤ length octets.now }
+    ensures { result ≡ from_be_bytes w64 (take 8 (drop at octets.now)) }
+{
+    u64::from_be_bytes([
+        octets[at],
+        octets[at + 1],
+        octets[at + 2],
+        octets[at + 3],
+        octets[at + 4],
+        octets[at + 5],
+        octets[at + 6],
+        octets[at + 7],
+    ])
+}
+
+// The order of octets, eight at a time; the last eight that both have may overlap those before.
+#[inline]
+pub(crate) fn order(first: &[u8], second: &[u8]) -> Ordering
+    ensures { result ≡ slice_cmp nat_cmp first.now second.now }
+{
+    let both = first.len().min(second.len());
+    if both < 8 {
+        return first.cmp(second);
+    }
+    let last = both - 8;
+    let mut at = 0;
+    'words: while at < last {
+        let (x, y) = (word(first, at), word(second, at));
+        if x != y {
+            return x.cmp(&y);
+        }
+        at += 8;
+    }
+    let (x, y) = (word(first, last), word(second, last));
+    if x != y {
+        return x.cmp(&y);
+    }
+    first.len().cmp(&second.len())
 }

@@ -24,8 +24,8 @@ pub record Grows (old new : Index) : Type 0 where
   pub uncut : new.has_cuts ≡ false → old.has_cuts ≡ false
   pub absolute : new.has_relative ≡ false → old.has_relative ≡ false
 
--- The owner of a set of this type, which may own an SOA, stands where a search for the set looks: as
--- owner of NS, as a wildcard.
+-- The owner of a set of this type, which may own an SOA, stands where a search for the set looks:
+-- as owner of NS, as a wildcard.
 pub record HasOwnerOf (owner : DomainName) (record_type : RecordType) (owns_soa : Bool)
     (index : Index) : Type 0 where
   pub cut : same_record_type record_type kind.NS ≡ true → (name : DomainName)

@@ -53,6 +53,7 @@ impl ZoneMap {
 
     /// All sets at the name of a key, by rising type. Where this is the first of all keys, as the origin's is among those
     /// of its zone, the map is not searched.
+    #[inline(always)]
     pub fn sets_at(&self, key: &NameKey) -> &[RecordSet]
         ensures { result.now ≡ sets_of_name self.now key.now }
     {

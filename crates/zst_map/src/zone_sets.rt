@@ -49,6 +49,7 @@ impl<'z> Match<'z> {
     }
 
     /// The set as it answers the name asked for: a wildcard's stands under that name in lower case.
+    #[inline(always)]
     pub fn answer(self, alloc: Global, name: &Name) -> Result<AnswerSet<'z>, AllocError>
         ensures { IfOk result (λ answer. set_in answer ≡ match_set name.now self.entry) }
     {
@@ -242,6 +243,7 @@ impl ZoneSets {
     /// Which set answers the name of a key and a type: that of the cut at or above it; else what its own sets answer;
     /// else what the nearest wildcard answers (RFC 1034 section 4.3.2 step 3). The map is searched once for the name, and
     /// once for a cut that is found. For a name right below the zone's start no cut is searched.
+    #[inline(always)]
     pub fn search(
         &self,
         key: &NameKey,
@@ -290,6 +292,7 @@ impl ZoneSets {
     }
 
     // Which set answers the name of a key, whose own sets these are, and a type, where no cut is at or above the name.
+    #[inline(always)]
     fn search_uncut<'z>(
         &'z self,
         key: &NameKey,
