@@ -34,10 +34,10 @@ reduce_max : (xs : List ℕ) (m : ℕ) → All (λ x. x ≤ m) xs → list_any (
 reduce_max [] m all reached = absurd (cc)
 reduce_max (x ∷ xs) m all reached = ap Some (fold_max xs x m (All-head (λ y. y ≤ m) x xs all) (All-tail (λ y. y ≤ m) x xs all) (any-cases x m xs reached))
 
-has-itself : (p : Prefix) (ps : List Prefix) → has_prefix (p ∷ ps) p ≡ true
+pub has-itself : (p : Prefix) (ps : List Prefix) → has_prefix (p ∷ ps) p ≡ true
 has-itself p ps = grind (arith, common_steps)
 
-has-more : (q p : Prefix) (ps : List Prefix) → has_prefix ps q ≡ true → has_prefix (p ∷ ps) q ≡ true
+pub has-more : (q p : Prefix) (ps : List Prefix) → has_prefix ps q ≡ true → has_prefix (p ∷ ps) q ≡ true
 has-more q p ps h = grind (arith, common_steps)
 
 -- A prefix that stands not before another is at least as long.
@@ -49,7 +49,7 @@ pub shorter-less : (p : Prefix) (len bits : ℕ) → p.len < len → prefix_cmp 
 shorter-less p len bits h = grind (arith, common_steps)
 
 -- A prefix with which an address begins is its prefix of that length.
-is-prefix : (width addr : ℕ) (p : Prefix) → begins_with width addr p ≡ true → p ≡ prefix_of width addr p.len
+pub is-prefix : (width addr : ℕ) (p : Prefix) → begins_with width addr p ≡ true → p ≡ prefix_of width addr p.len
 is-prefix width addr p h =
     let bits : addr / 2 ^ (width - p.len) ≡ p.bits = eqb-true (addr / 2 ^ (width - p.len)) p.bits h in
     let same : ℕ → Prefix = λ b. record { len = p.len; bits = b } in
@@ -59,7 +59,7 @@ begins : (width addr : ℕ) (p : Prefix) → addr / 2 ^ (width - p.len) ≡ p.bi
 begins width addr p e = grind (arith, common_steps)
 
 -- The query finds a prefix that is equal to it.
-at-same : (p q : Prefix) → is_at (prefix_cmp p) q ≡ true → (p.len ≡ q.len) × (p.bits ≡ q.bits)
+pub at-same : (p q : Prefix) → is_at (prefix_cmp p) q ≡ true → (p.len ≡ q.len) × (p.bits ≡ q.bits)
 at-same p q h = grind (arith, common_steps)
 
 module _ (width addr : ℕ) where

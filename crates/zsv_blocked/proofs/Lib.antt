@@ -1,0 +1,4 @@
+mod AddsLemmas
+mod NamesLemmas
+mod ReadLemmas
+mod TextLemmas

@@ -1,0 +1,3 @@
+pub mod BlockedNames
+pub mod ListText
+pub mod Reading
