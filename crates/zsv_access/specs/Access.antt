@@ -34,7 +34,10 @@ is_allowed access (V6 ip) =
 
 -- No networks.
 abbrev pub no_networks : AccessControl
-no_networks = record { ipv4 = record { allow = []; deny = [] }; ipv6 = record { allow = []; deny = [] } }
+no_networks = record {
+  ipv4 = record { allow = []; deny = [] };
+  ipv6 = record { allow = []; deny = [] };
+}
 
 -- The first bits of a network's address, those that its addresses share.
 abbrev pub network_prefix : IpAddr → ℕ → Prefix

@@ -1,5 +1,5 @@
--- The text of a list of names, a name on a line, alone or behind the address 0.0.0.0 as in a file of
--- hosts.
+-- The text of a list of names, a name on a line, alone or behind the address 0.0.0.0 as in a file
+-- of hosts.
 use Rattle.std.specs.Prelude.{ℕ, ◌==◌, ◌&&◌, Bool, not, List, length, Option, Some, None, if◌then◌else◌, codes}
 use Rattle.std.specs.List.{after_first, before_first, list_any}
 use Rattle.std.specs.Str.{bytes_eq, trim}
