@@ -151,6 +151,7 @@ class Trial:
                 self.fail(body, f"NOT REFUSED: with it {names} is {'not judged by itself' if told is None else 'proved'}")
             else:
                 again.append([body])
+        self.say(f"{self.crate.name}: {len(self.refused)} refused so far")
         return again
 
     def check(self, texts, paths):
