@@ -1,0 +1,71 @@
+-- The headers and lists of replies: RFC 1035, section 4.1.1.
+use Rattle.std.specs.Prelude.{ℕ, Bool, true, false, List, [], ◌++◌, Option, None, if◌then◌else◌}
+use Rattle.zsv_reply.specs.Replies.{ReplyParts}
+use Rattle.zsv_reply.specs.Writing.{AllReadBack, IsEncoded}
+use Rattle.zsv_reply.specs.zst_record.declared.records.Record.{Record}
+use Rattle.zsv_reply.specs.zsv_message.zst_edns.declared.edns.Edns.{Edns}
+use Rattle.zsv_reply.specs.zsv_message.zsv_parts.Questions.{Asked}
+use Rattle.zsv_reply.specs.zsv_message.zsv_parts.declared.header.Header.{Header}
+use Rattle.zsv_reply.specs.zsv_message.zsv_parts.declared.header.MessageType.TheVariants as messages
+use Rattle.zsv_reply.specs.zsv_message.zsv_parts.declared.header.Metadata.{Metadata}
+use Rattle.zsv_request.specs.Requests.{limit_of}
+use Rattle.zsv_request.specs.declared.protocol.Protocol.{Protocol}
+use Rattle.zst_request.specs.zst_codes.declared.response_code.ResponseCode.{ResponseCode}
+use Rattle.zst_request.specs.zst_handler.Answers.{additionals_in, answers_in}
+use Rattle.zsv_answer.specs.Shown.{shown_if}
+use Rattle.zsv_answer.specs.declared.response.Response.{Response}
+
+-- The header of a reply repeats the identifier, the operation, RD and CD.
+abbrev pub reply_metadata : Metadata → Bool → ResponseCode → Metadata
+reply_metadata m authoritative code = record {
+  id = m.id;
+  message_type = messages.Response;
+  op_code = m.op_code;
+  authoritative = authoritative;
+  truncation = false;
+  recursion_desired = m.recursion_desired;
+  recursion_available = false;
+  authentic_data = false;
+  checking_disabled = m.checking_disabled;
+  response_code = code;
+}
+
+-- An error has no records.
+abbrev pub error_parts : Metadata → ResponseCode → ReplyParts
+error_parts m code = record {
+  metadata = reply_metadata m false code;
+  answers = [];
+  authorities = [];
+  additionals = [];
+  edns = None;
+  signature = None;
+}
+
+-- The records that answer; those of a referral stand as authority, before those beside.
+abbrev pub parts_with : Metadata → Bool → List Record → List Record → List Record → ReplyParts
+parts_with m referral records additionals beside = record {
+  metadata = m;
+  answers = if referral then [] else records;
+  authorities = (if referral then records else []) ++ beside;
+  additionals = additionals;
+  edns = None;
+  signature = None;
+}
+
+-- With these options.
+abbrev pub with_edns : Option Edns → ReplyParts → ReplyParts
+with_edns edns parts = record parts { edns = edns }
+
+-- What is sent for these parts and options, and its header: the reply to the questions, where each
+-- record can be read back.
+abbrev pub Sends : ReplyParts → Option Edns → Asked → Protocol → Header → List ℕ → Type 0
+Sends parts edns asked transport info reply =
+    AllReadBack (with_edns edns parts)
+    → IsEncoded info reply (with_edns edns parts) asked (limit_of transport edns)
+
+-- What a response holds: of an answer that is forwarded the records that are shown, and nothing that
+-- goes with them.
+abbrev pub parts_of : Response → ReplyParts
+parts_of r =
+    parts_with r.metadata r.is_referral (shown_if r.asked (answers_in r.found))
+    (if r.is_forwarded then [] else additionals_in r.found) (answers_in r.beside)

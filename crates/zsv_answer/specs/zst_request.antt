@@ -1,0 +1,8 @@
+pub use Rattle.zst_request.specs.Blocking
+pub use Rattle.zst_request.specs.Handling
+pub use Rattle.zst_request.specs.Views
+pub use Rattle.zst_request.specs.declared
+pub use Rattle.zst_request.specs.dnw_codes
+pub use Rattle.zst_request.specs.dnw_name
+pub use Rattle.zst_request.specs.zst_codes
+pub use Rattle.zst_request.specs.zst_handler

@@ -1,0 +1,151 @@
+//! What is answered for a zone that this server answers for (RFC 1034 section 4.3.2).
+
+ghost use Rattle.std.specs.Prelude.{◌≡◌, IfOk};
+ghost use Rattle.zst_request.specs.zst_handler.Answers.{additionals_in, answers_in};
+ghost use Rattle.zsv_answer.specs.Consulting.{found_by};
+ghost use Rattle.zsv_answer.specs.Parts.{AtOrigin, AuthoritativeParts, BesideAnswer, DeniedParts, is_referral};
+ghost use Rattle.zsv_answer.specs.Resolution.{reason_in, resolution_in, resolved};
+ghost use Rattle.zsv_answer.specs.Responses.{parts_of};
+
+use crate::response::{Response, bare_response, reply_header};
+use std::alloc::{AllocError, Global};
+use zst_request::{AuthLookup, LookupControlFlow, LookupError, LookupOptions, ZoneHandler};
+use zsv_reply::{Metadata, RecordType, ResponseCode};
+
+// What a handler found that continues.
+fn found_by<'z>(flow: LookupControlFlow<AuthLookup<'z>>) -> AuthLookup<'z>
+    ensures { answers_in result ≡ found_by flow.entry }
+{
+    match flow {
+        LookupControlFlow::Continue(Ok(found)) => found,
+        _ => AuthLookup::Empty,
+    }
+}
+
+// What the handler answers at its origin to a type.
+fn at_origin<'z, H: ZoneHandler>(
+    handler: &'z H,
+    alloc: Global,
+    options: LookupOptions,
+    record_type: RecordType,
+) -> Result<AuthLookup<'z>, AllocError>
+    ensures { IfOk result (λ found. AtOrigin (H.view handler.now) options.dnssec_ok record_type (answers_in found)) }
+{
+    let flow = handler.lookup(alloc, handler.origin(), record_type, options)?;
+    Ok(found_by(flow))
+}
+
+// With an answer for the zone's start come its name servers.
+fn beside_answer<'z, H: ZoneHandler>(
+    handler: &'z H,
+    alloc: Global,
+    options: LookupOptions,
+    record_type: RecordType,
+) -> Result<AuthLookup<'z>, AllocError>
+    ensures { IfOk result (λ found. BesideAnswer (H.view handler.now) options.dnssec_ok record_type (answers_in found)) }
+{
+    if record_type == RecordType::SOA {
+        at_origin(handler, alloc, options, RecordType::NS)
+    } else {
+        Ok(AuthLookup::Empty)
+    }
+}
+
+// Whether what was found is a referral: name servers that weren't asked for.
+fn is_referral(record_type: RecordType, found: &AuthLookup<'_>) -> bool
+    ensures { result ≡ is_referral record_type (answers_in found.now) }
+{
+    found.first_type() == Some(RecordType::NS)
+        && !(record_type == RecordType::NS || record_type == RecordType::ANY)
+}
+
+// An answer: what was found, and the name servers beside the zone's start.
+fn answered_response<'z, H: ZoneHandler>(
+    handler: &'z H,
+    alloc: Global,
+    request: Metadata,
+    options: LookupOptions,
+    record_type: RecordType,
+    found: AuthLookup<'z>,
+) -> Result<Response<'z>, AllocError>
+    ensures parts { IfOk result (λ r. AuthoritativeParts (H.view handler.now) request options.dnssec_ok record_type
+        (resolved (answers_in found.entry) (additionals_in found.entry)) (parts_of r)) }
+    ensures operation { IfOk result (λ r. r.metadata.op_code ≡ request.op_code) }
+{
+    let beside = beside_answer(handler, alloc, options, record_type)?;
+    Ok(Response {
+        metadata: reply_header(request, true, ResponseCode::NoError),
+        is_referral: is_referral(record_type, &found),
+        is_forwarded: false,
+        asked: None,
+        found,
+        beside,
+    })
+}
+
+// A denial: the zone's start.
+fn denial_response<'z, H: ZoneHandler>(
+    handler: &'z H,
+    alloc: Global,
+    request: Metadata,
+    options: LookupOptions,
+    response_code: ResponseCode,
+) -> Result<Response<'z>, AllocError>
+    ensures parts { IfOk result (λ r. DeniedParts (H.view handler.now) request options.dnssec_ok response_code (parts_of r)) }
+    ensures operation { IfOk result (λ r. r.metadata.op_code ≡ request.op_code) }
+{
+    let beside = at_origin(handler, alloc, options, RecordType::SOA)?;
+    Ok(Response {
+        metadata: reply_header(request, true, response_code),
+        found: AuthLookup::Empty,
+        is_referral: false,
+        is_forwarded: false,
+        asked: None,
+        beside,
+    })
+}
+
+// Why nothing was found: the zone's start, with or without a name error; or that the name is outside.
+fn denied_response<'z, H: ZoneHandler>(
+    handler: &'z H,
+    alloc: Global,
+    request: Metadata,
+    options: LookupOptions,
+    record_type: RecordType,
+    why: &LookupError,
+) -> Result<Response<'z>, AllocError>
+    ensures parts { IfOk result (λ r. AuthoritativeParts (H.view handler.now) request options.dnssec_ok record_type (reason_in why.now) (parts_of r)) }
+    ensures operation { IfOk result (λ r. r.metadata.op_code ≡ request.op_code) }
+{
+    match why {
+        LookupError::NameExists => denial_response(
+            handler,
+            alloc,
+            request,
+            options,
+            ResponseCode::NoError,
+        ),
+        LookupError::ResponseCode(ResponseCode::NXDomain) => {
+            denial_response(handler, alloc, request, options, ResponseCode::NXDomain)
+        }
+        _ => Ok(bare_response(reply_header(request, true, ResponseCode::Refused))),
+    }
+}
+
+// The zone's own answer, of what was found for the question, or why there is nothing.
+pub(crate) fn authoritative_response<'z, H: ZoneHandler>(
+    handler: &'z H,
+    alloc: Global,
+    request: Metadata,
+    options: LookupOptions,
+    record_type: RecordType,
+    told: Result<AuthLookup<'z>, LookupError>,
+) -> Result<Response<'z>, AllocError>
+    ensures parts { IfOk result (λ r. AuthoritativeParts (H.view handler.now) request options.dnssec_ok record_type (resolution_in told.entry) (parts_of r)) }
+    ensures operation { IfOk result (λ r. r.metadata.op_code ≡ request.op_code) }
+{
+    match told {
+        Ok(found) => answered_response(handler, alloc, request, options, record_type, found),
+        Err(why) => denied_response(handler, alloc, request, options, record_type, &why),
+    }
+}

@@ -1,0 +1,4 @@
+pub mod Catalogs
+pub mod Chains
+pub mod Sinks
+pub mod zsv_answer

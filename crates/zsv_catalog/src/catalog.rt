@@ -1,0 +1,139 @@
+//! A catalog of boxed handlers.
+
+ghost use Rattle.std.specs.Prelude.{◌≡◌, ℕ, List, [], IfErr, IfOk, None, OnErr, OnOk, is_some, option_copied, option_map};
+ghost use Rattle.zst_key.specs.dnw_name.DomainName.{lowercase_name};
+ghost use Rattle.zsv_answer.specs.zsv_reply.Writing.{FitsOpCode};
+ghost use Rattle.zsv_answer.specs.zsv_reply.zsv_message.zsv_parts.declared.header.Header.{Header};
+ghost use Rattle.zsv_catalog.specs.Catalogs.{RepliesBy};
+ghost use Rattle.zsv_catalog.specs.Chains.{chain_at, chain_for, views_of, with_chain, without_chain};
+ghost use Rattle.zsv_catalog.specs.Sinks.{HandsOver};
+
+use crate::chains::Chains;
+use crate::reply::reply_by;
+use crate::sink::{ResponseHandler, ServiceFault, hand_over};
+use drd_types::NSIDPayload;
+use std::alloc::{AllocError, Global};
+use std::net::SocketAddr;
+use zsv_answer::{MessageRequest, Name, Protocol, Request, ResponseInfo, ZoneHandler};
+
+/// Zones of one server: chains of boxed handlers, each under the name from which on it answers. `S` verifies and signs
+/// messages.
+#[derive(Drop)]
+pub struct Catalog<S> {
+    alloc: Global,
+    suite: S,
+    chains: Chains<Box<dyn ZoneHandler>>,
+    // By what the server tells itself apart from others that answer under its address.
+    nsid: Option<NSIDPayload>,
+}
+
+impl<S> Catalog<S> {
+    /// No zones, and no identifier.
+    pub fn new(alloc: Global, suite: S) -> Catalog<S>
+        ensures chains { result.chains.chains.entries ≡ [] }
+        ensures nsid { result.nsid ≡ None }
+    {
+        Catalog {
+            alloc,
+            suite,
+            chains: Chains::new(alloc),
+            nsid: None,
+        }
+    }
+
+    /// Puts a chain in place of the one under a name, which is dropped.
+    pub fn upsert(
+        &mut self,
+        name: &Name,
+        handlers: Vec<Box<dyn ZoneHandler>>,
+    ) -> Result<(), AllocError>
+        ensures ok { OnOk result (self.new.chains.chains.entries ≡ with_chain self.old.chains.chains.entries name.now handlers) }
+        ensures err { OnErr result (self.new.chains.chains.entries ≡ self.old.chains.chains.entries) }
+        ensures nsid { self.new.nsid ≡ self.old.nsid }
+    {
+        self.chains.upsert(self.alloc, name, handlers)
+    }
+
+    /// Takes out the chain under a name, and hands its boxes back.
+    pub fn remove(&mut self, name: &Name) -> Result<Option<Vec<Box<dyn ZoneHandler>>>, AllocError>
+        ensures value { IfOk result (λ chain. chain ≡ chain_at self.old.chains.chains.entries (lowercase_name name.now)) }
+        ensures ok { OnOk result (self.new.chains.chains.entries ≡ without_chain self.old.chains.chains.entries name.now) }
+        ensures err { OnErr result (self.new.chains.chains.entries ≡ self.old.chains.chains.entries) }
+        ensures nsid { self.new.nsid ≡ self.old.nsid }
+    {
+        self.chains.remove(self.alloc, name)
+    }
+
+    /// The chain for a name: that under the name, or else under the nearest name above it.
+    pub fn find(&self, name: &Name) -> Result<Option<&[Box<dyn ZoneHandler>]>, AllocError>
+        ensures { IfOk result (λ found. option_map (λ chain. chain.now) found
+            ≡ option_map (λ chain. chain.items) (chain_for self.now.chains.chains.entries name.now)) }
+    {
+        self.chains.find(self.alloc, name)
+    }
+
+    /// Whether a name has a chain: that under the name, or one under a name above it.
+    pub fn contains(&self, name: &Name) -> Result<bool, AllocError>
+        ensures { IfOk result (λ there. there ≡ is_some (chain_for self.now.chains.chains.entries name.now)) }
+    {
+        Ok(self.chains.find(self.alloc, name)?.is_some())
+    }
+
+    /// Sets the identifier that is told to those who ask for it (RFC 5001), or none.
+    pub fn set_nsid(&mut self, nsid: Option<NSIDPayload>)
+        ensures nsid { self.new.nsid ≡ nsid.entry }
+        ensures chains { self.new.chains ≡ self.old.chains }
+    {
+        self.nsid = nsid;
+    }
+
+    /// The identifier that is told to those who ask for it.
+    pub fn nsid(&self) -> Option<&NSIDPayload>
+        ensures { option_copied result ≡ self.now.nsid }
+    {
+        self.nsid.as_ref()
+    }
+
+    /// The reply to a request, and its header as it was written, within the limit of its transport. A request has an
+    /// operation that four bits hold, as each that is read.
+    pub fn reply_to(
+        &self,
+        message: &MessageRequest<'_>,
+        src: SocketAddr,
+        protocol: Protocol,
+    ) -> Result<(ResponseInfo, Vec<u8>), AllocError>
+        requires { FitsOpCode message.now.metadata }
+        ensures { IfOk result (λ sent. RepliesBy (views_of (λ handler. view handler) self.now.chains.chains.entries)
+            self.now.nsid message.now protocol sent.0 sent.1.items) }
+    {
+        reply_by(
+            &self.chains,
+            self.nsid.as_ref(),
+            self.alloc,
+            message,
+            src,
+            protocol,
+        )
+    }
+    /// Answers a request: its reply is handed to a sink. What is told is the header of the reply as it was written; where the
+    /// sink didn't take it, that the server failed. The moment is given in seconds since 1970; no reply needs it yet.
+    pub fn handle_request<R: ResponseHandler>(
+        &self,
+        request: &Request<'_>,
+        _now: u64,
+        handle: &mut R,
+    ) -> Result<ResponseInfo, ServiceFault>
+        requires { FitsOpCode request.now.message.metadata }
+        ensures replied { IfOk result (λ told. (reply : List ℕ) × (sent : Header)
+            × RepliesBy (views_of (λ handler. view handler) self.now.chains.chains.entries) self.now.nsid request.now.message request.now.transport sent reply
+            × HandsOver (R.sink handle.old) reply sent request.now.message.metadata (R.sink handle.new) told) }
+        ensures refused { IfErr result (λ fault. fault ≡ ServiceFault.OutOfMemory false) }
+        ensures untouched { OnErr result (R.sink handle.new ≡ R.sink handle.old) }
+    {
+        let message = request.message();
+        match self.reply_to(message, request.src(), request.protocol()) {
+            Ok(sent) => Ok(hand_over(&message.metadata(), sent, handle)),
+            Err(_) => Err(ServiceFault::OutOfMemory { applied: false }),
+        }
+    }
+}

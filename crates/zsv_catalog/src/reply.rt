@@ -1,0 +1,198 @@
+//! What chains of handlers answer to a request (RFC 1034 section 4.3.2).
+
+ghost use Rattle.std.specs.Prelude.{◌≡◌, IfOk, option_copied};
+ghost use Rattle.zsv_answer.specs.Responses.{parts_of};
+ghost use Rattle.zsv_answer.specs.zsv_reply.Writing.{FitsOpCode};
+ghost use Rattle.zsv_catalog.specs.Catalogs.{AnswersEdns, IsReplyEdns, KindParts, PlainParts, QueryParts, QuestionParts, RepliesBy, has_other_version, nsid_for};
+ghost use Rattle.zsv_catalog.specs.Chains.{views_of};
+
+use crate::chains::Chains;
+use drd_types::{EdnsCode, EdnsOption, NSIDPayload};
+use std::alloc::{AllocError, Global};
+use std::net::SocketAddr;
+use zsv_answer::{
+    Edns, LookupOptions, MessageRequest, MessageType, OpCode, Protocol, Query, RecordType,
+    RequestTsig, Response, ResponseCode, ResponseInfo, TsigRecord, TsigVerdict, ZoneHandler,
+    ZoneRequest, chain_response, error_response,
+};
+
+// What a signature says.
+fn tsig_of(signature: &TsigRecord) -> RequestTsig<'_> {
+    RequestTsig {
+        key_name: &signature.name,
+        algorithm: &signature.rdata.algorithm,
+        mac: &signature.rdata.mac,
+    }
+}
+
+// A question as the handlers of its name are asked it. No signature is tested of a query.
+fn asked<'q>(
+    message: &'q MessageRequest<'_>,
+    question: &'q Query,
+    src: SocketAddr,
+) -> ZoneRequest<'q>
+    ensures name { result.name.now ≡ question.now.name }
+    ensures query_type { result.query_type ≡ question.now.query_type }
+{
+    let tsig = match message.signature() {
+        Some(signature) => Some(tsig_of(signature)),
+        None => None,
+    };
+    ZoneRequest {
+        name: &question.name,
+        query_type: question.query_type,
+        id: message.metadata().id,
+        source: src,
+        tsig,
+        verdict: TsigVerdict::UnknownKey,
+        prerequisites: &[],
+        updates: &[],
+    }
+}
+
+// One question: refused where there is no chain for the name; transfers are not served.
+fn question_response<'z, H: ZoneHandler>(
+    chains: &'z Chains<H>,
+    alloc: Global,
+    message: &MessageRequest<'_>,
+    src: SocketAddr,
+    options: LookupOptions,
+    question: &Query,
+) -> Result<Response<'z>, AllocError>
+    ensures parts { IfOk result (λ r. QuestionParts (views_of H.view chains.now.chains.entries) message.now.metadata options.dnssec_ok question.now (parts_of r)) }
+    ensures operation { IfOk result (λ r. r.metadata.op_code ≡ message.now.metadata.op_code) }
+{
+    let metadata = message.metadata();
+    let Some(handlers) = chains.find(alloc, &question.name)? else {
+        return Ok(error_response(metadata, ResponseCode::Refused));
+    };
+    if question.query_type == RecordType::AXFR {
+        return Ok(error_response(metadata, ResponseCode::ServFail));
+    }
+    let request = asked(message, question, src);
+    chain_response(handlers, alloc, metadata, options, &request)
+}
+
+// A query asks one question.
+fn query_response<'z, H: ZoneHandler>(
+    chains: &'z Chains<H>,
+    alloc: Global,
+    message: &MessageRequest<'_>,
+    src: SocketAddr,
+    options: LookupOptions,
+) -> Result<Response<'z>, AllocError>
+    ensures parts { IfOk result (λ r. QueryParts (views_of H.view chains.now.chains.entries) message.now.metadata options.dnssec_ok message.now.asked.questions (parts_of r)) }
+    ensures operation { IfOk result (λ r. r.metadata.op_code ≡ message.now.metadata.op_code) }
+{
+    match message.queries().queries() {
+        [question] => question_response(chains, alloc, message, src, options, question),
+        _ => Ok(error_response(message.metadata(), ResponseCode::FormErr)),
+    }
+}
+
+// What a full reply to a message holds beside its options, whose version is served: only queries are answered.
+fn kind_response<'z, H: ZoneHandler>(
+    chains: &'z Chains<H>,
+    alloc: Global,
+    message: &MessageRequest<'_>,
+    src: SocketAddr,
+    options: LookupOptions,
+) -> Result<Response<'z>, AllocError>
+    ensures parts { IfOk result (λ r. KindParts (views_of H.view chains.now.chains.entries) message.now.metadata options.dnssec_ok
+        message.now.metadata.message_type message.now.asked.questions (parts_of r)) }
+    ensures operation { IfOk result (λ r. r.metadata.op_code ≡ message.now.metadata.op_code) }
+{
+    let metadata = message.metadata();
+    match (metadata.message_type, metadata.op_code) {
+        (MessageType::Response, _) => Ok(error_response(metadata, ResponseCode::FormErr)),
+        (MessageType::Query, OpCode::Query) => {
+            query_response(chains, alloc, message, src, options)
+        }
+        (MessageType::Query, _) => Ok(error_response(metadata, ResponseCode::NotImp)),
+    }
+}
+
+// Whether a request has EDNS of another version than the one that is served.
+fn has_other_version(edns: Option<&Edns>) -> bool
+    ensures { result ≡ has_other_version (option_copied edns.entry) }
+{
+    match edns {
+        Some(edns) => edns.version() > 0,
+        None => false,
+    }
+}
+
+// What a full reply to a request holds beside its options.
+fn response_to<'z, H: ZoneHandler>(
+    chains: &'z Chains<H>,
+    alloc: Global,
+    message: &MessageRequest<'_>,
+    src: SocketAddr,
+) -> Result<Response<'z>, AllocError>
+    ensures parts { IfOk result (λ r. PlainParts (views_of H.view chains.now.chains.entries) message.now (parts_of r)) }
+    ensures operation { IfOk result (λ r. r.metadata.op_code ≡ message.now.metadata.op_code) }
+{
+    if has_other_version(message.edns()) {
+        return Ok(error_response(message.metadata(), ResponseCode::BADVERS));
+    }
+    let options = LookupOptions::from_edns(message.edns());
+    kind_response(chains, alloc, message, src, options)
+}
+
+// The options of a reply: the upper bits of its code, DO and the payload as they were asked, and the server's identifier where
+// it has one and is asked for it.
+fn edns_of(
+    alloc: Global,
+    asked: &Edns,
+    nsid: Option<&NSIDPayload>,
+    response_code: ResponseCode,
+) -> Result<Edns, AllocError>
+    ensures { IfOk result (IsReplyEdns asked.now (option_copied nsid) response_code) }
+{
+    let mut edns = Edns::new(alloc);
+    edns.set_rcode_high(response_code.high());
+    edns.set_dnssec_ok(asked.flags().dnssec_ok);
+    edns.set_max_payload(asked.max_payload());
+    if let Some(payload) = nsid {
+        if asked.option(EdnsCode::NSID).is_some() {
+            edns.options_mut()
+                .insert(EdnsOption::NSID(payload.clone()?))?;
+        }
+    }
+    Ok(edns)
+}
+
+// The options of a reply, where the request has some. Who asks in another version is not told the identifier.
+fn reply_edns(
+    alloc: Global,
+    asked: Option<&Edns>,
+    nsid: Option<&NSIDPayload>,
+    response_code: ResponseCode,
+) -> Result<Option<Edns>, AllocError>
+    ensures { IfOk result (AnswersEdns (option_copied asked.entry) (nsid_for (option_copied asked.entry) (option_copied nsid)) response_code) }
+{
+    let Some(asked) = asked else {
+        return Ok(None);
+    };
+    let nsid = if asked.version() > 0 { None } else { nsid };
+    Ok(Some(edns_of(alloc, asked, nsid, response_code)?))
+}
+
+/// The reply of these chains to a request, and its header as it was written, within the limit of its transport. A request has
+/// an operation that four bits hold, as each that is read.
+pub fn reply_by<H: ZoneHandler>(
+    chains: &Chains<H>,
+    nsid: Option<&NSIDPayload>,
+    alloc: Global,
+    message: &MessageRequest<'_>,
+    src: SocketAddr,
+    protocol: Protocol,
+) -> Result<(ResponseInfo, Vec<u8>), AllocError>
+    requires { FitsOpCode message.now.metadata }
+    ensures { IfOk result (λ sent. RepliesBy (views_of H.view chains.now.chains.entries) (option_copied nsid.entry) message.now protocol sent.0 sent.1.items) }
+{
+    let response = response_to(chains, alloc, message, src)?;
+    let code = response.metadata.response_code;
+    let edns = reply_edns(alloc, message.edns(), nsid, code)?;
+    response.encode(alloc, edns.as_ref(), message.queries(), protocol)
+}
