@@ -2,7 +2,7 @@
 use Rattle.std.proofs.Common.{◌≡◌, ◌∙◌, ◌+◌, ◌<◌, ℕ, zero, suc, refl, sym, subst, ap, arith, drop, length, map, IsSomeAnd, slice_get, slice_index_or}
 use Rattle.std.proofs.lemmas.Bool.{true≢false}
 use Rattle.std.proofs.lemmas.List.{drop_more}
-use Rattle.std.specs.Prelude.{Bool, true, false, cond, List, [], ◌∷◌, Option, Some, None, Result, Ok, Err}
+use Rattle.std.specs.Prelude.{Bool, true, false, cond, List, [], ◌∷◌, Option, Some, None, Result, Ok}
 use Rattle.zst_request.specs.zst_record.declared.records.Record.{Record}
 use Rattle.zst_request.specs.Blocking.{BlockedAnswer, blocked_answer, is_blocked}
 use Rattle.zst_request.specs.Handling.{AnswersQuestion, Blocks, Consults, Flow, GivesWay, HandlerAnswers, ShowsBlocked}
@@ -13,14 +13,14 @@ use Rattle.zst_request.specs.dnw_codes.RecordType.{same_record_type}
 use Rattle.zst_request.specs.dnw_name.DomainName.{DomainName}
 use Rattle.zst_request.specs.zst_codes.declared.lookup_control_flow.LookupControlFlow.TheVariants as flows
 use Rattle.zst_request.specs.zst_codes.declared.lookup_error.LookupError.{LookupError}
-use Rattle.zst_request.specs.zst_handler.Answers.{ShowsAnswer, Tells, additionals_in, answers_in, sets_shown}
+use Rattle.zst_request.specs.zst_handler.Answers.{Tells, additionals_in, answers_in, sets_shown}
 use Rattle.zst_request.specs.zst_handler.Lookups.{IsLookup, Outcome, answered, name_error, name_exists, out_of_zone}
 use Rattle.zst_request.specs.zst_handler.Zones.{Zone}
 use Rattle.zst_request.specs.zst_handler.declared.auth_lookup.AuthLookup.{AuthLookup}
 use Rattle.zst_request.specs.zst_handler.declared.lookup_options.LookupOptions.{LookupOptions}
 use Rattle.zsv_answer.specs.Consulting.{Settles, found_by}
 use Rattle.zsv_answer.specs.Parts.{AtOrigin}
-use Rattle.zsv_answer.specs.Resolution.{GivesBlocked, ListResolves, LooksUp, Resolution, Resolves, ZoneResolves, answering, answers_name, enforced, enforced_by, last_of, resolution_in, resolved}
+use Rattle.zsv_answer.specs.Resolution.{GivesBlocked, ListResolves, LooksUp, Resolves, ZoneResolves, answering, answers_name, enforced, enforced_by, last_of, resolution_in, resolved}
 
 -- ---- what a flow holds
 abbrev pub is_skip : Flow → Bool

@@ -1,5 +1,5 @@
 -- What the reply to a question holds: RFC 1034, section 4.3.2; RFC 2308; RFC 4035, section 3.1.
-use Rattle.std.specs.Prelude.{◌≡◌, Bool, true, false, not, ◌&&◌, ◌||◌, List, [], ◌∷◌, ◌++◌, Option, Some, None, if◌then◌else◌}
+use Rattle.std.specs.Prelude.{◌≡◌, Bool, true, false, not, ◌&&◌, ◌||◌, List, [], ◌∷◌, Some, None}
 use Rattle.zsv_reply.specs.Replies.{ReplyParts}
 use Rattle.zsv_reply.specs.drd_rdata.Types.{type_of}
 use Rattle.zsv_reply.specs.zst_record.declared.records.Record.{Record}

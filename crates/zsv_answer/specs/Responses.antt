@@ -1,5 +1,5 @@
 -- The headers and lists of replies: RFC 1035, section 4.1.1.
-use Rattle.std.specs.Prelude.{ℕ, Bool, true, false, List, [], ◌++◌, Option, None, if◌then◌else◌}
+use Rattle.std.specs.Prelude.{ℕ, Bool, false, List, [], ◌++◌, Option, None, if◌then◌else◌}
 use Rattle.zsv_reply.specs.Replies.{ReplyParts}
 use Rattle.zsv_reply.specs.Writing.{AllReadBack, IsEncoded}
 use Rattle.zsv_reply.specs.zst_record.declared.records.Record.{Record}

@@ -36,8 +36,7 @@ fn consulted_of<'z, H: ZoneHandler>(
 ) -> Result<LookupControlFlow<AuthLookup<'z>>, AllocError>
     ensures { IfOk result (Consults (H.view handler.now) request.now.name.now request.now.query_type last.entry) }
 {
-    let (flow, _context) =
-        handler.consult(alloc, request.name, request.query_type, options, last)?;
+    let (flow, _context) = handler.consult(alloc, request.name, request.query_type, options, last)?;
     Ok(flow)
 }
 

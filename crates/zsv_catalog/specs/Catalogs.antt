@@ -1,8 +1,7 @@
 -- What a catalog of zones answers to a request: RFC 1034, section 4.3.2; RFC 5001; RFC 6891, sections 6 and 7.
-use Rattle.std.specs.Prelude.{◌≡◌, ℕ, Bool, true, false, List, [], ◌∷◌, Option, Some, None, IsSome, is_some, nat_lt, slice_get, unwrap_or, option_map, if◌then◌else◌}
-use Rattle.drd_types.specs.drd_opt.Entries.{Entry, options_of}
-use Rattle.drd_types.specs.drd_option.declared.code.EdnsCode.TheVariants.{NSID}
-use Rattle.drd_types.specs.drd_option.declared.option.EdnsOption.TheVariants as option_with
+use Rattle.std.specs.Prelude.{◌≡◌, ℕ, Bool, true, false, List, [], ◌∷◌, Option, Some, None, IsSome, map, nat_lt, ◌==◌, unwrap_or, option_map, if◌then◌else◌}
+use Rattle.std.specs.List.{list_any}
+use Rattle.drd_types.specs.drd_opt.Entries.{RawOption, raw_of, raw_option}
 use Rattle.zsv_answer.specs.Parts.{ChainParts}
 use Rattle.zsv_answer.specs.Responses.{error_parts, with_edns}
 use Rattle.zsv_answer.specs.zst_request.Views.{View}
@@ -76,14 +75,15 @@ pub record PlainParts (chains : List (DomainName × List View)) (request : Messa
       → KindParts chains request.metadata (asks_for_dnssec request.edns)
       request.metadata.message_type request.asked.questions parts
 
--- A server's identifier, where it has one and is asked for it (RFC 5001, section 2.1).
+-- An option of code 3 asks for the server's identifier, which it tells if it has one (RFC 5001,
+-- section 2).
 abbrev pub asks_for_nsid : Edns → Bool
-asks_for_nsid edns = is_some (slice_get (options_of NSID edns.options.options.items) 0)
+asks_for_nsid edns = list_any (λ entry. (raw_of entry).code == 3) edns.options.options.items
 
-abbrev pub identifier : Edns → Option (List ℕ) → List Entry
+abbrev pub identifier : Edns → Option (List ℕ) → List RawOption
 identifier asked None = []
 identifier asked (Some payload) =
-    if asks_for_nsid asked then (NSID, option_with.NSID payload) ∷ [] else []
+    if asks_for_nsid asked then raw_option 3 payload ∷ [] else []
 
 -- The options of a reply (RFC 6891, sections 6.1.3 and 6.2.3; RFC 3225, section 3): the upper bits
 -- of its code, version 0, DO as it was asked, no other flag, the payload as it was asked, which is
@@ -95,7 +95,7 @@ pub record IsReplyEdns (asked : Edns) (nsid : Option (List ℕ)) (code : Respons
   pub dnssec_ok : edns.flags.dnssec_ok ≡ asked.flags.dnssec_ok
   pub other_flags : edns.flags.z ≡ 0
   pub max_payload : edns.max_payload ≡ asked.max_payload
-  pub options : edns.options.options.items ≡ identifier asked nsid
+  pub options : map raw_of edns.options.options.items ≡ identifier asked nsid
 
 -- They are there where the request has some (RFC 6891, section 6.1.1).
 abbrev pub AnswersEdns : Option Edns → Option (List ℕ) → ResponseCode → Option Edns → Type 0

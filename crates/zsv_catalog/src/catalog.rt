@@ -1,6 +1,6 @@
 //! A catalog of boxed handlers.
 
-ghost use Rattle.std.specs.Prelude.{◌≡◌, ℕ, List, [], IfErr, IfOk, None, OnErr, OnOk, is_some, option_copied, option_map};
+ghost use Rattle.std.specs.Prelude.{◌≡◌, ℕ, false, List, [], IfErr, IfOk, None, OnErr, OnOk, is_some, option_copied, option_map};
 ghost use Rattle.zst_key.specs.dnw_name.DomainName.{lowercase_name};
 ghost use Rattle.zsv_answer.specs.zsv_reply.Writing.{FitsOpCode};
 ghost use Rattle.zsv_answer.specs.zsv_reply.zsv_message.zsv_parts.declared.header.Header.{Header};
@@ -81,7 +81,7 @@ impl<S> Catalog<S> {
 
     /// Sets the identifier that is told to those who ask for it (RFC 5001), or none.
     pub fn set_nsid(&mut self, nsid: Option<NSIDPayload>)
-        ensures nsid { self.new.nsid ≡ nsid.entry }
+        ensures nsid { self.new.nsid ≡ nsid }
         ensures chains { self.new.chains ≡ self.old.chains }
     {
         self.nsid = nsid;

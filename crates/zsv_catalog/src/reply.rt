@@ -1,9 +1,10 @@
 //! What chains of handlers answer to a request (RFC 1034 section 4.3.2).
 
-ghost use Rattle.std.specs.Prelude.{◌≡◌, IfOk, option_copied};
+ghost use Rattle.std.specs.Prelude.{◌≡◌, [], IfOk, OnOk, map, option_copied};
+ghost use Rattle.drd_types.specs.drd_opt.Entries.{raw_of};
 ghost use Rattle.zsv_answer.specs.Responses.{parts_of};
 ghost use Rattle.zsv_answer.specs.zsv_reply.Writing.{FitsOpCode};
-ghost use Rattle.zsv_catalog.specs.Catalogs.{AnswersEdns, IsReplyEdns, KindParts, PlainParts, QueryParts, QuestionParts, RepliesBy, has_other_version, nsid_for};
+ghost use Rattle.zsv_catalog.specs.Catalogs.{AnswersEdns, IsReplyEdns, KindParts, PlainParts, QueryParts, QuestionParts, RepliesBy, has_other_version, identifier, nsid_for};
 ghost use Rattle.zsv_catalog.specs.Chains.{views_of};
 
 use crate::chains::Chains;
@@ -63,8 +64,9 @@ fn question_response<'z, H: ZoneHandler>(
     ensures operation { IfOk result (λ r. r.metadata.op_code ≡ message.now.metadata.op_code) }
 {
     let metadata = message.metadata();
-    let Some(handlers) = chains.find(alloc, &question.name)? else {
-        return Ok(error_response(metadata, ResponseCode::Refused));
+    let handlers = match chains.find(alloc, &question.name)? {
+        Some(handlers) => handlers,
+        None => return Ok(error_response(metadata, ResponseCode::Refused)),
     };
     if question.query_type == RecordType::AXFR {
         return Ok(error_response(metadata, ResponseCode::ServFail));
@@ -139,6 +141,37 @@ fn response_to<'z, H: ZoneHandler>(
     kind_response(chains, alloc, message, src, options)
 }
 
+// The same identifier once more. It has no more octets than an identifier may have, so memory alone can be wanted.
+fn copy_of(alloc: Global, nsid: &NSIDPayload) -> Result<NSIDPayload, AllocError>
+    ensures { IfOk result (λ copy. copy ≡ nsid.now) }
+{
+    match NSIDPayload::new(Vec::from_slice(alloc, nsid.as_ref())?) {
+        Ok(copy) => Ok(copy),
+        Err(_) => Err(AllocError),
+    }
+}
+
+// Tells the server's identifier among the options of a reply, which has none yet, where it has one and is asked for it.
+fn identify(
+    alloc: Global,
+    edns: &mut Edns,
+    asked: &Edns,
+    nsid: Option<&NSIDPayload>,
+) -> Result<(), AllocError>
+    requires { edns.old.options.options.items ≡ [] }
+    ensures options { OnOk result (map raw_of edns.new.options.options.items ≡ identifier asked.now (option_copied nsid.entry)) }
+    ensures others { OnOk result (edns.new ≡ record edns.old { options = edns.new.options }) }
+{
+    let Some(payload) = nsid else {
+        return Ok(());
+    };
+    if asked.option(EdnsCode::NSID).is_none() {
+        return Ok(());
+    }
+    let copy = copy_of(alloc, payload)?;
+    edns.options_mut().insert(EdnsOption::NSID(copy))
+}
+
 // The options of a reply: the upper bits of its code, DO and the payload as they were asked, and the server's identifier where
 // it has one and is asked for it.
 fn edns_of(
@@ -147,18 +180,13 @@ fn edns_of(
     nsid: Option<&NSIDPayload>,
     response_code: ResponseCode,
 ) -> Result<Edns, AllocError>
-    ensures { IfOk result (IsReplyEdns asked.now (option_copied nsid) response_code) }
+    ensures { IfOk result (IsReplyEdns asked.now (option_copied nsid.entry) response_code) }
 {
     let mut edns = Edns::new(alloc);
     edns.set_rcode_high(response_code.high());
     edns.set_dnssec_ok(asked.flags().dnssec_ok);
     edns.set_max_payload(asked.max_payload());
-    if let Some(payload) = nsid {
-        if asked.option(EdnsCode::NSID).is_some() {
-            edns.options_mut()
-                .insert(EdnsOption::NSID(payload.clone()?))?;
-        }
-    }
+    identify(alloc, &mut edns, asked, nsid)?;
     Ok(edns)
 }
 
@@ -169,7 +197,7 @@ fn reply_edns(
     nsid: Option<&NSIDPayload>,
     response_code: ResponseCode,
 ) -> Result<Option<Edns>, AllocError>
-    ensures { IfOk result (AnswersEdns (option_copied asked.entry) (nsid_for (option_copied asked.entry) (option_copied nsid)) response_code) }
+    ensures { IfOk result (AnswersEdns (option_copied asked.entry) (nsid_for (option_copied asked.entry) (option_copied nsid.entry)) response_code) }
 {
     let Some(asked) = asked else {
         return Ok(None);

@@ -17,7 +17,7 @@ pub trait ResponseHandler {
 
     /// Takes a reply.
     fn send_response(&mut self, message: Vec<u8>) -> Result<(), SendFault>
-        ensures ok { OnOk result (sink self.new ≡ with_reply (sink self.old) message.entry.items) }
+        ensures ok { OnOk result (sink self.new ≡ with_reply (sink self.old) message.items) }
         ensures err { OnErr result (sink self.new ≡ with_fault (sink self.old)) };
 }
 
@@ -50,7 +50,7 @@ pub(crate) fn hand_over<R: ResponseHandler>(
     sent: (ResponseInfo, Vec<u8>),
     handle: &mut R,
 ) -> ResponseInfo
-    ensures { HandsOver (R.sink handle.old) sent.entry.1.items sent.entry.0 request.now (R.sink handle.new) result }
+    ensures { HandsOver (R.sink handle.old) sent.1.items sent.0 request.now (R.sink handle.new) result }
 {
     let (info, reply) = sent;
     match handle.send_response(reply) {

@@ -1,4 +1,4 @@
-use Rattle.std.proofs.Common.{ap, map, subst}
+use Rattle.std.proofs.Common.{map, subst}
 use Rattle.zst_request.specs.Handling.{AnswersQuestion, Flow}
 use Rattle.zsv_answer.specs.Consulting.{FirstAnswers}
 use Rattle.zsv_answer.proofs.Answering.{continues_resolve}

@@ -19,10 +19,10 @@ handlers-preserved g c =
     let handler = c.index-handlers-at.result in
     let ahead = subst (λ (chain : List View). Ahead all chain name t c.args.answer c.handlers.last) (views_more view handlers c.handlers.at handler c.handlers-test.true c.index-handlers-at.is) c.handlers.invariant in
     elim c.if-at-place.branch [
-      then-at-place+in_ok-last w ↦ subst (λ (flow : Flow). Ahead all rest name t c.args.answer flow) (sym w.last-is) (ahead_goes all rest (view handler) name t c.args.answer c.handlers.last _ ahead w.in_ok-last.ensures)
-    | else-at-place w ↦
-        let placed = slice_get_read handlers (length handlers) c.handlers.at handler refl c.handlers-test.true c.index-handlers-at.is in
-        let at_place = subst (λ (place : ℕ). slice_get handlers place ≡ Some handler) w.if-at-place.false placed in
-        let none = subst (λ (o : Option _). IsSomeAnd o (λ h. enforced_by (view h) name t ≡ None)) at_place c.requires in
-        subst (λ (flow : Flow). Ahead all rest name t c.args.answer flow) (sym w.last-is) (ahead_passes all rest (view handler) name t c.args.answer c.handlers.last ahead none)
+      | then-at-place+in_ok-last w ↦ subst (λ (flow : Flow). Ahead all rest name t c.args.answer flow) (sym w.last-is) (ahead_goes all rest (view handler) name t c.args.answer c.handlers.last _ ahead w.in_ok-last.ensures)
+      | else-at-place w ↦
+          let placed = slice_get_read handlers (length handlers) c.handlers.at handler refl c.handlers-test.true c.index-handlers-at.is in
+          let at_place = subst (λ (place : ℕ). slice_get handlers place ≡ Some handler) w.if-at-place.false placed in
+          let none = subst (λ (o : Option _). IsSomeAnd o (λ h. enforced_by (view h) name t ≡ None)) at_place c.requires in
+          subst (λ (flow : Flow). Ahead all rest name t c.args.answer flow) (sym w.last-is) (ahead_passes all rest (view handler) name t c.args.answer c.handlers.last ahead none)
     ]

@@ -15,8 +15,9 @@ returns-in_default g c =
     let asks = c.in_ok-flow.ensures in
     let told = no_skip c.in_ok-flow.flow c.in_default.not-Skip in
     let more = views_more view handlers c.handlers.place handler c.handlers-test.true c.index-handlers-place.is in
-    let first = first_answers (map view (drop (c.handlers.place + 1) handlers)) name (view handler) (answers (view handler) name request.query_type c.args.options c.in_ok-flow.flow told asks) in
-    (slice_get_read handlers (length handlers) c.handlers.place handler refl c.handlers-test.true c.index-handlers-place.is,
-    sym c.handlers.invariant ∙ ap (λ (chain : List View). answering chain name) more ∙ first,
-    asks,
-    c.in_default.not-Skip)
+    let first = first_answers (map view (drop (c.handlers.place + 1) handlers)) name (view handler) (answers (view handler) name request.query_type c.args.options c.in_ok-flow.flow told asks) in (
+      slice_get_read handlers (length handlers) c.handlers.place handler refl c.handlers-test.true c.index-handlers-place.is,
+      sym c.handlers.invariant ∙ ap (λ (chain : List View). answering chain name) more ∙ first,
+      asks,
+      c.in_default.not-Skip,
+    )

@@ -1,0 +1,57 @@
+-- The chain for a name, by handlers and by what they mean.
+use Rattle.std.proofs.Common.{◌≡◌, ◌∙◌, Vec, Global, refl, sym, ap, map}
+use Rattle.std.specs.Prelude.{Bool, true, false, cond, List, [], ◌∷◌, Option, Some, None, option_map}
+use Rattle.std.specs.Ordering.{is_eq}
+use Rattle.zst_key.specs.Ancestors.{nearest_from, or_else}
+use Rattle.zst_key.specs.dnw_name.DomainName.{DomainName, domain_name, lowercase_name, name_cmp}
+use Rattle.zsv_answer.specs.zst_request.Views.{View}
+use Rattle.zsv_catalog.specs.Chains.{chain_at, chain_for, views_of}
+
+-- ---- functions over what is found
+map_cond : {X Y : Type 0} (f : X → Y) (b : Bool) (x : X) (o : Option X) (p : Option Y) → p ≡ option_map f o → cond b (Some (f x)) p ≡ option_map f (cond b (Some x) o)
+map_cond f true x o p same = refl
+map_cond f false x o p same = same
+
+map_or_else : {X Y : Type 0} (f : X → Y) (a b : Option X) → or_else (option_map f a) (option_map f b) ≡ option_map f (or_else a b)
+map_or_else f (Some x) b = refl
+map_or_else f None b = refl
+
+map_twice : {X Y Z : Type 0} (f : X → Y) (h : Y → Z) (o : Option X) → option_map h (option_map f o) ≡ option_map (λ (x : X). h (f x)) o
+map_twice f h (Some x) = refl
+map_twice f h None = refl
+
+-- ---- what is found, and what it means
+abbrev pub views : {H : Type 0} → (H → View) → Vec H Global → List View
+views view chain = map view chain.items
+
+at_views : {H : Type 0} (view : H → View) (chains : List (DomainName × Vec H Global)) (name : DomainName) → chain_at (views_of view chains) name ≡ option_map (views view) (chain_at chains name)
+at_views view [] name = refl
+at_views view (e ∷ chains) name = map_cond (views view) (is_eq (name_cmp name e.0)) e.1 (chain_at chains name) (chain_at (views_of view chains) name) (at_views view chains name)
+
+abbrev with_value : {X Y : Type 0} → (X → Y) → DomainName × X → DomainName × Y
+with_value f entry = (entry.0, f entry.1)
+
+module _ {X Y : Type 0} (f : X → Y) (at : DomainName → Option X) (other : DomainName → Option Y) (same : (name : DomainName) → other name ≡ option_map f (at name)) where
+  here_same : (name : DomainName) → option_map (λ (y : Y). (name, y)) (other name) ≡ option_map (with_value f) (option_map (λ (x : X). (name, x)) (at name))
+  here_same name =
+      ap (option_map (λ (y : Y). (name, y))) (same name) ∙ map_twice f (λ (y : Y). (name, y)) (at name) ∙ sym (map_twice (λ (x : X). (name, x)) (with_value f) (at name))
+
+  nearest_same : (fqdn : Bool) (labels : List (List _)) → nearest_from other fqdn labels ≡ option_map (with_value f) (nearest_from at fqdn labels)
+  nearest_same fqdn [] = here_same (domain_name fqdn [])
+  nearest_same fqdn (label ∷ labels) =
+      ap (λ (o : Option (DomainName × Y)). or_else o (nearest_from other fqdn labels)) (here_same (domain_name fqdn (label ∷ labels)))
+      ∙ ap (or_else _) (nearest_same fqdn labels)
+      ∙ map_or_else (with_value f) (option_map (λ (x : X). (domain_name fqdn (label ∷ labels), x)) (at (domain_name fqdn (label ∷ labels)))) (nearest_from at fqdn labels)
+
+for_views : {H : Type 0} (view : H → View) (chains : List (DomainName × Vec H Global)) (name : DomainName) → chain_for (views_of view chains) name ≡ option_map (views view) (chain_for chains name)
+for_views view chains name =
+    let lower = lowercase_name name in
+    let near = nearest_from (chain_at chains) lower.fqdn lower.labels in
+    ap (option_map (λ (e : DomainName × List View). e.1)) (nearest_same (views view) (chain_at chains) (chain_at (views_of view chains)) (at_views view chains) lower.fqdn lower.labels)
+    ∙ map_twice (with_value (views view)) (λ (e : DomainName × List View). e.1) near ∙ sym (map_twice (λ (e : DomainName × Vec _ Global). e.1) (views view) near)
+
+-- The chain that was found means the chain for the name.
+pub found_views : {H : Type 0} (view : H → View) (chains : List (DomainName × Vec H Global)) (name : DomainName) (found : Option (List H)) → found ≡ option_map (λ chain. chain.items) (chain_for chains name)
+    → chain_for (views_of view chains) name ≡ option_map (map view) found
+found_views view chains name found is =
+    for_views view chains name ∙ sym (map_twice (λ (chain : Vec _ Global). chain.items) (map view) (chain_for chains name)) ∙ ap (option_map (map view)) (sym is)
