@@ -3,7 +3,7 @@ use Rattle.std.specs.Prelude.{◌≡◌, ℕ, Bool, true, false, List, [], ◌�
 use Rattle.std.specs.List.{list_any}
 use Rattle.drd_types.specs.drd_opt.Entries.{RawOption, raw_of, raw_option}
 use Rattle.zsv_answer.specs.Parts.{ChainParts}
-use Rattle.zsv_answer.specs.Responses.{error_parts, with_edns}
+use Rattle.zsv_answer.specs.Responses.{Sends, error_parts, with_edns}
 use Rattle.zsv_answer.specs.zst_request.Views.{View}
 use Rattle.zsv_answer.specs.zst_request.dnw_codes.declared.record_type.RecordType.TheVariants.{AXFR}
 use Rattle.zsv_answer.specs.zst_request.dnw_codes.RecordType.{same_record_type}
@@ -125,3 +125,12 @@ RepliesBy chains nsid request transport info reply =
     (parts : ReplyParts) × PartsOf chains nsid request parts
     × (AllReadBack parts
     → IsEncoded info reply parts request.asked (limit_of transport parts.edns))
+
+-- The octets of a reply to a query with these options, and its header: of the parts that the chains
+-- give to its question, whatever its operation.
+abbrev pub AnswersQuery : List (DomainName × List View) → Message → Option Edns → Protocol → Header
+    → List ℕ → Type 0
+AnswersQuery chains request edns transport info reply =
+    (plain : ReplyParts)
+    × QueryParts chains request.metadata (asks_for_dnssec request.edns) request.asked.questions plain
+    × Sends plain edns request.asked transport info reply

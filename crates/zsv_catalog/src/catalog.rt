@@ -4,17 +4,17 @@ ghost use Rattle.std.specs.Prelude.{◌≡◌, ℕ, false, List, [], IfErr, IfOk
 ghost use Rattle.zst_key.specs.dnw_name.DomainName.{lowercase_name};
 ghost use Rattle.zsv_answer.specs.zsv_reply.Writing.{FitsOpCode};
 ghost use Rattle.zsv_answer.specs.zsv_reply.zsv_message.zsv_parts.declared.header.Header.{Header};
-ghost use Rattle.zsv_catalog.specs.Catalogs.{RepliesBy};
+ghost use Rattle.zsv_catalog.specs.Catalogs.{AnswersQuery, RepliesBy};
 ghost use Rattle.zsv_catalog.specs.Chains.{chain_at, chain_for, views_of, with_chain, without_chain};
 ghost use Rattle.zsv_catalog.specs.Sinks.{HandsOver};
 
 use crate::chains::Chains;
-use crate::reply::reply_by;
+use crate::reply::{lookup_by, reply_by};
 use crate::sink::{ResponseHandler, ServiceFault, hand_over};
 use drd_types::NSIDPayload;
 use std::alloc::{AllocError, Global};
 use std::net::SocketAddr;
-use zsv_answer::{MessageRequest, Name, Protocol, Request, ResponseInfo, ZoneHandler};
+use zsv_answer::{Edns, MessageRequest, Name, Protocol, Request, ResponseInfo, ZoneHandler};
 
 /// Zones of one server: chains of boxed handlers, each under the name from which on it answers. `S` verifies and signs
 /// messages.
@@ -132,6 +132,35 @@ impl<S> Catalog<S> {
     {
         let message = request.message();
         match self.reply_to(message, request.src(), request.protocol()) {
+            Ok(sent) => Ok(hand_over(&message.metadata(), sent, handle)),
+            Err(_) => Err(ServiceFault::OutOfMemory { applied: false }),
+        }
+    }
+    /// Answers a query with these options, whatever its operation: its reply is handed to a sink, as `handle_request` does. The
+    /// moment is given in seconds since 1970; no reply needs it yet.
+    pub fn lookup<R: ResponseHandler>(
+        &self,
+        request: &Request<'_>,
+        edns: Option<&Edns>,
+        _now: u64,
+        handle: &mut R,
+    ) -> Result<ResponseInfo, ServiceFault>
+        requires { FitsOpCode request.now.message.metadata }
+        ensures replied { IfOk result (λ told. (reply : List ℕ) × (sent : Header)
+            × AnswersQuery (views_of (λ handler. view handler) self.now.chains.chains.entries) request.now.message (option_copied edns.entry) request.now.transport sent reply
+            × HandsOver (R.sink handle.old) reply sent request.now.message.metadata (R.sink handle.new) told) }
+        ensures refused { IfErr result (λ fault. fault ≡ ServiceFault.OutOfMemory false) }
+        ensures untouched { OnErr result (R.sink handle.new ≡ R.sink handle.old) }
+    {
+        let message = request.message();
+        match lookup_by(
+            &self.chains,
+            edns,
+            self.alloc,
+            message,
+            request.src(),
+            request.protocol(),
+        ) {
             Ok(sent) => Ok(hand_over(&message.metadata(), sent, handle)),
             Err(_) => Err(ServiceFault::OutOfMemory { applied: false }),
         }

@@ -20,5 +20,5 @@ mod sink;
 
 pub use catalog::Catalog;
 pub use chains::Chains;
-pub use reply::reply_by;
+pub use reply::{lookup_by, reply_by};
 pub use sink::{ResponseHandler, SendFault, ServiceFault};

@@ -4,7 +4,7 @@ ghost use Rattle.std.specs.Prelude.{◌≡◌, [], IfOk, OnOk, map, option_copie
 ghost use Rattle.drd_types.specs.drd_opt.Entries.{raw_of};
 ghost use Rattle.zsv_answer.specs.Responses.{parts_of};
 ghost use Rattle.zsv_answer.specs.zsv_reply.Writing.{FitsOpCode};
-ghost use Rattle.zsv_catalog.specs.Catalogs.{AnswersEdns, IsReplyEdns, KindParts, PlainParts, QueryParts, QuestionParts, RepliesBy, has_other_version, identifier, nsid_for};
+ghost use Rattle.zsv_catalog.specs.Catalogs.{AnswersEdns, AnswersQuery, IsReplyEdns, KindParts, PlainParts, QueryParts, QuestionParts, RepliesBy, has_other_version, identifier, nsid_for};
 ghost use Rattle.zsv_catalog.specs.Chains.{views_of};
 
 use crate::chains::Chains;
@@ -223,4 +223,22 @@ pub fn reply_by<H: ZoneHandler>(
     let code = response.metadata.response_code;
     let edns = reply_edns(alloc, message.edns(), nsid, code)?;
     response.encode(alloc, edns.as_ref(), message.queries(), protocol)
+}
+
+/// The reply of these chains to a query with these options, and its header as it was written, within the limit of its
+/// transport. A request has an operation that four bits hold, as each that is read.
+pub fn lookup_by<H: ZoneHandler>(
+    chains: &Chains<H>,
+    edns: Option<&Edns>,
+    alloc: Global,
+    message: &MessageRequest<'_>,
+    src: SocketAddr,
+    protocol: Protocol,
+) -> Result<(ResponseInfo, Vec<u8>), AllocError>
+    requires { FitsOpCode message.now.metadata }
+    ensures { IfOk result (λ sent. AnswersQuery (views_of H.view chains.now.chains.entries) message.now (option_copied edns.entry) protocol sent.0 sent.1.items) }
+{
+    let options = LookupOptions::from_edns(message.edns());
+    let response = query_response(chains, alloc, message, src, options)?;
+    response.encode(alloc, edns, message.queries(), protocol)
 }
