@@ -68,8 +68,11 @@ impl BlocklistZoneHandler {
         ensures { OnOk result (PutsText (lowercase_name name.now) self.now.ttl message.now records.old.items records.new.items) }
     {
         let text = TXT::from_bytes(alloc, &[message.as_bytes()])?;
-        let owner = name.to_lowercase()?;
-        records.push(Record::from_rdata(owner, self.config.ttl, RData::TXT(text)))?;
+        records.push(Record::from_rdata(
+            name.to_lowercase()?,
+            self.config.ttl,
+            RData::TXT(text),
+        ))?;
         Ok(())
     }
 }
