@@ -33,4 +33,5 @@ pub record PutsText (owner : DomainName) (ttl : ℕ) (octets : List ℕ) (old ne
 -- The answer to a blocked name, or that none is.
 abbrev pub ShowsIf : Option BlockedAnswer → Option AuthLookup → Type 0
 ShowsIf None found = found ≡ None
-ShowsIf (Some answer) found = (shown : AuthLookup) × (found ≡ Some shown) × ShowsBlocked answer shown
+ShowsIf (Some answer) found =
+    (shown : AuthLookup) × (found ≡ Some shown) × ShowsBlocked answer shown

@@ -39,11 +39,7 @@ impl BlocklistZoneHandler {
         ensures { OnOk result (records.new.items ≡ records.old.items ++ address_record self.now name.now record_type ∷ []) }
     {
         let owner = name.to_lowercase()?;
-        records.push(Record::from_rdata(
-            owner,
-            self.config.ttl,
-            self.sinkhole(record_type),
-        ))?;
+        records.push(Record::from_rdata(owner, self.config.ttl, self.sinkhole(record_type)))?;
         Ok(())
     }
 
@@ -68,11 +64,7 @@ impl BlocklistZoneHandler {
         ensures { OnOk result (PutsText (lowercase_name name.now) self.now.ttl message.now records.old.items records.new.items) }
     {
         let text = TXT::from_bytes(alloc, &[message.as_bytes()])?;
-        records.push(Record::from_rdata(
-            name.to_lowercase()?,
-            self.config.ttl,
-            RData::TXT(text),
-        ))?;
+        records.push(Record::from_rdata(name.to_lowercase()?, self.config.ttl, RData::TXT(text)))?;
         Ok(())
     }
 }
