@@ -84,6 +84,7 @@ impl BlocklistZoneHandler {
         ensures ok { OnOk result (AddsRead self.old.names (R.remaining reader.old) (R.remaining reader.new) self.new.names) }
         ensures kept { self.new ≡ record self.old { names = self.new.names } }
         ensures err { OnErr result (self.new ≡ self.old) }
+        // Nothing tells here whether the reader answered a fault.
         ensures cause { IfErr result (IsListFault true (R.remaining reader.old) (R.remaining reader.new)) }
     {
         self.add_with(alloc, reader, &mut ReadFaults::none())
