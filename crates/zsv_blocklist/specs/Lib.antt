@@ -1,0 +1,4 @@
+pub mod Answers
+pub mod Blocklists
+pub mod Configs
+pub mod zsv_blocked

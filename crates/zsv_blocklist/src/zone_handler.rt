@@ -1,0 +1,151 @@
+//! A list of blocked names, as a server asks its handler.
+
+ghost use Rattle.std.specs.Prelude.{◌≡◌, IfOk};
+ghost use Rattle.zst_request.specs.Blocking.{blocked_answer};
+ghost use Rattle.zst_request.specs.Handling.{Blocks, enforced_answer, is_enforced};
+ghost use Rattle.zsv_blocklist.specs.Answers.{ShowsIf};
+
+use crate::handler::BlocklistZoneHandler;
+use std::alloc::{AllocError, Global};
+use std::mem;
+use zst_request::{
+    AuthLookup, AxfrPolicy, BlocklistConsultAction, LookupControlFlow, LookupOptions,
+    LookupRecords, Name, NxProofKind, RecordType, TSigResponseContext, ZoneHandler, ZoneRequest,
+    ZoneType,
+};
+
+impl ZoneHandler for BlocklistZoneHandler {
+    ghost use Rattle.zst_request.specs.Views.{Blocked};
+
+    ghost view = { λ list. Blocked list };
+
+    fn zone_type(&self) -> ZoneType {
+        ZoneType::External
+    }
+
+    fn axfr_policy(&self) -> AxfrPolicy {
+        AxfrPolicy::Deny
+    }
+
+    fn origin(&self) -> &Name {
+        &self.origin
+    }
+
+    fn nx_proof_kind(&self) -> Option<&NxProofKind> {
+        None
+    }
+
+    /// What `lookup` answers.
+    fn search<'z>(
+        &'z self,
+        alloc: Global,
+        request: &ZoneRequest<'_>,
+        options: LookupOptions,
+    ) -> Result<
+        (
+            LookupControlFlow<AuthLookup<'z>>,
+            Option<TSigResponseContext>,
+        ),
+        AllocError,
+    > {
+        let flow = self.flow(alloc, request.name, request.query_type)?;
+        Ok((flow, None))
+    }
+
+    /// It breaks off with its own records for a name that it blocks, and skips any other.
+    fn lookup<'z>(
+        &'z self,
+        alloc: Global,
+        name: &Name,
+        record_type: RecordType,
+        options: LookupOptions,
+    ) -> Result<LookupControlFlow<AuthLookup<'z>>, AllocError> {
+        self.flow(alloc, name, record_type)
+    }
+
+    /// The last result, but where the list is enforced and blocks the name: then what `lookup` answers.
+    fn consult<'z>(
+        &'z self,
+        alloc: Global,
+        name: &Name,
+        record_type: RecordType,
+        options: LookupOptions,
+        last: LookupControlFlow<AuthLookup<'z>>,
+    ) -> Result<
+        (
+            LookupControlFlow<AuthLookup<'z>>,
+            Option<TSigResponseContext>,
+        ),
+        AllocError,
+    > {
+        match self.enforced(alloc, name, record_type) {
+            Ok(Some(found)) => {
+                mem::drop(last);
+                Ok((LookupControlFlow::Break(Ok(found)), None))
+            }
+            Ok(None) => Ok((last, None)),
+            Err(refused) => {
+                mem::drop(last);
+                Err(refused)
+            }
+        }
+    }
+}
+
+impl BlocklistZoneHandler {
+    // The answer to a blocked name, or on to the next handler.
+    fn flow(
+        &self,
+        alloc: Global,
+        name: &Name,
+        record_type: RecordType,
+    ) -> Result<LookupControlFlow<AuthLookup<'_>>, AllocError>
+        ensures { IfOk result (λ flow. Blocks (blocked_answer self.now name.now record_type) flow) }
+    {
+        match self.answer(alloc, name, record_type)? {
+            Some(found) => Ok(LookupControlFlow::Break(Ok(found))),
+            None => Ok(LookupControlFlow::Skip),
+        }
+    }
+
+    // The answer in place of other handlers', if the list is enforced and blocks the name.
+    fn enforced(
+        &self,
+        alloc: Global,
+        name: &Name,
+        record_type: RecordType,
+    ) -> Result<Option<AuthLookup<'_>>, AllocError>
+        ensures { IfOk result (λ found. ShowsIf (enforced_answer self.now name.now record_type) found) }
+    {
+        if !is_enforced(self.config.consult_action) {
+            return Ok(None);
+        }
+        self.answer(alloc, name, record_type)
+    }
+
+    // The answer to a blocked name.
+    fn answer(
+        &self,
+        alloc: Global,
+        name: &Name,
+        record_type: RecordType,
+    ) -> Result<Option<AuthLookup<'_>>, AllocError>
+        ensures { IfOk result (λ found. ShowsIf (blocked_answer self.now name.now record_type) found) }
+    {
+        if !self.is_blocked(alloc, name)? {
+            return Ok(None);
+        }
+        let records = self.records(alloc, name, record_type)?;
+        Ok(Some(AuthLookup::Records {
+            answers: LookupRecords::Section(records),
+            additionals: None,
+        }))
+    }
+}
+
+// Whether other handlers' answers give way.
+fn is_enforced(action: BlocklistConsultAction) -> bool
+    ensures { result ≡ is_enforced action }
+{
+    matches!(action, BlocklistConsultAction::Enforce)
+}
