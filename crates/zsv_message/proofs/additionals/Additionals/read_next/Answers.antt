@@ -1,9 +1,9 @@
 use Rattle.std.proofs.Common.{ℕ, ◌-◌, List, refl, sym, subst, inr, ◌∙◌, ◌⊎◌}
 use Rattle.std.proofs.lemmas.Result.{err_from_is_err_and}
-use Rattle.zst_record.specs.dnw_decoder.Reading.{IsWantOfMemory}
-use Rattle.zst_record.specs.declared.records.Record.{Record}
-use Rattle.zsv_parts.specs.declared.tsig.TsigRecord.{TsigRecord}
-use Rattle.zsv_parts.specs.Signatures.{RefusesTsig}
+use Rattle.zsv_sections.specs.zst_record.dnw_decoder.Reading.{IsWantOfMemory}
+use Rattle.zsv_sections.specs.zst_record.declared.records.Record.{Record}
+use Rattle.zsv_sections.specs.zsv_parts.declared.tsig.TsigRecord.{TsigRecord}
+use Rattle.zsv_sections.specs.zsv_parts.Signatures.{RefusesTsig}
 use Rattle.zsv_message.specs.Messages.{IsSigned}
 use Rattle.zsv_message.proofs.Gathered.{gathers_opt, gathers_other, gathers_tsig, placed_none_of, signature_data, signature_none, signature_refused}
 use Rattle.zsv_message.proofs.additionals.Additionals.read_next.Goals as goal

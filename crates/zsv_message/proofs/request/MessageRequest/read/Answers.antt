@@ -1,9 +1,9 @@
 use Rattle.std.proofs.Common.{◌≡◌, ℕ, List, refl, ap, subst, ◌∙◌, ◌⊎◌}
 use Rattle.std.proofs.lemmas.Result.{err_from_is_err_and}
-use Rattle.zst_record.specs.dnw_decoder.Reading.{IsWantOfMemory, Reading}
-use Rattle.zst_record.specs.declared.records.Record.{Record}
-use Rattle.zsv_message.specs.declared.placing.Placing.{Placing}
-use Rattle.zsv_message.specs.Sections.{RefusesSection, SectionAt}
+use Rattle.zsv_sections.specs.zst_record.dnw_decoder.Reading.{IsWantOfMemory, Reading}
+use Rattle.zsv_sections.specs.zst_record.declared.records.Record.{Record}
+use Rattle.zsv_sections.specs.declared.placing.Placing.{Placing}
+use Rattle.zsv_sections.specs.Sections.{RefusesSection, SectionAt}
 use Rattle.zsv_message.proofs.Whole.{additionals_err, answers_err, asks_of, authorities_err, before_of, is_message}
 use Rattle.zsv_message.proofs.request.MessageRequest.read.Goals as goal
 

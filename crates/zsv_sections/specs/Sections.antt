@@ -10,7 +10,7 @@ use Rattle.zst_record.specs.drd_rdata.Types.{is_update0, type_of}
 use Rattle.zst_record.specs.declared.records.Record.{Record}
 use Rattle.zst_record.specs.Reading.{RefusesRecordAt}
 use Rattle.zst_record.specs.Records.{RecordAt}
-use Rattle.zsv_message.specs.declared.placing.Placing.{Placing}
+use Rattle.zsv_sections.specs.declared.placing.Placing.{Placing}
 
 -- The options of a message (RFC 6891, section 6.1.1).
 abbrev pub is_opt : Record → Bool
