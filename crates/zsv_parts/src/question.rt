@@ -72,9 +72,8 @@ impl BinDecodable for Query {
     }
 }
 
-// So many questions from the decoder's index on, which moves behind them. One, as nearly every request asks, takes no
-// memory for the list.
-fn read_questions(
+// So many questions from the decoder's index on, which moves behind them, in a list that grows.
+fn read_list(
     alloc: Global,
     decoder: &mut BinDecoder<'_>,
     count: u16,
@@ -95,6 +94,28 @@ fn read_questions(
         };
     }
     Ok(questions)
+}
+
+// So many questions from the decoder's index on, which moves behind them. One, as nearly every request asks, is the list's
+// own, and takes no memory for it.
+fn read_questions(
+    alloc: Global,
+    decoder: &mut BinDecoder<'_>,
+    count: u16,
+) -> Result<SmallVec<Query, 1>, DecodeError>
+    ensures ok { IfOk result (λ questions. QuestionsAt decoder.old.octets decoder.old.index count questions.items decoder.new.index) }
+    ensures same { decoder.new.octets ≡ decoder.old.octets }
+    ensures forward { decoder.old.index ≤ decoder.new.index }
+    ensures within { decoder.old.index ≤ length decoder.old.octets → decoder.new.index ≤ length decoder.new.octets }
+    ensures refused { IfErr result (λ e. IsWantOfMemory e ⊎ RefusesQuestions decoder.old.octets decoder.old.index count e) }
+    ensures none { IfErr result (λ e. IsWantOfMemory e ⊎ ((questions : List Question) (end : ℕ)
+        → QuestionsAt decoder.old.octets decoder.old.index count questions end → ⊥)) }
+{
+    if count == 1 {
+        let question = Query::read(alloc, decoder)?;
+        return Ok(SmallVec::from_buf(alloc, [question]));
+    }
+    read_list(alloc, decoder, count)
 }
 
 /// The questions of a message, and the octets in which they stand.
