@@ -1,7 +1,7 @@
 use Rattle.std.proofs.Common.{◌≡◌, ◌≤◌, length}
 use Rattle.zsv_parts.specs.Questions.{QuestionAt}
 use Rattle.zsv_parts.proofs.Questions.{EntriesAhead}
-use Rattle.zsv_parts.proofs.question.read_list.Given as goal
+use Rattle.zsv_parts.proofs.question.read_questions.Given as goal
 
 abbrev pub invariant-questions : goal.invariant-questions
 invariant-questions l = record {
