@@ -4,7 +4,7 @@ use Rattle.std.proofs.Common.{◌≡◌, ℕ, ◌+◌, false, List, refl, sym, a
 use Rattle.zst_record.specs.dnw_codes.declared.record_type.RecordType.{RecordType}
 use Rattle.zst_record.specs.dnw_codes.declared.record_type.RecordType.TheVariants as kind
 use Rattle.zst_record.specs.dnw_decoder.Codes.{RecordTypeAt}
-use Rattle.zst_record.specs.dnw_decoder.Octets.{octets_16, octets_32, Stands}
+use Rattle.zst_record.specs.dnw_decoder.Octets.{octets_16, Stands}
 use Rattle.zst_record.specs.drd_rdata.Reading.{IsEmptyOf, RDataAt, ReadsAs}
 use Rattle.zst_record.specs.drd_rdata.Types.{is_update0, type_of}
 use Rattle.zst_record.specs.drd_rdata.declared.rdata.RData.{RData}

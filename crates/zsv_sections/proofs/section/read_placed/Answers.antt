@@ -1,4 +1,4 @@
-use Rattle.std.proofs.Common.{sym, ◌∙◌}
+use Rattle.std.proofs.Common.{sym}
 use Rattle.std.proofs.lemmas.Result.{err_from_is_err_and}
 use Rattle.zsv_sections.proofs.Sectioning.{no_other_may, none_may}
 use Rattle.zsv_sections.proofs.section.read_placed.Goals as goal

@@ -1,6 +1,5 @@
-use Rattle.std.proofs.Common.{arith, inr, ◌∙◌, subst, ℕ, List}
+use Rattle.std.proofs.Common.{arith, inr, ◌∙◌}
 use Rattle.std.proofs.lemmas.Result.{err_from_is_err_and}
-use Rattle.zsv_sections.specs.Sections.{RefusesPlaced}
 use Rattle.zsv_sections.proofs.Sectioning.{ordinary_more, ordinary_none, ordinary_refused}
 use Rattle.zsv_sections.proofs.section.read_records.Goals as goal
 
