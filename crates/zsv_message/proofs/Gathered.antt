@@ -3,9 +3,8 @@ use Rattle.std.proofs.Common.{◌≡◌, ℕ, ◌+◌, ◌-◌, ◌^◌, ◌<◌
 use Rattle.std.proofs.lemmas.Bool.{eqb-true}
 use Rattle.std.proofs.lemmas.List.Elements.{filter-append}
 use Rattle.std.proofs.lemmas.List.Folds.{find-append}
-use Rattle.std.specs.List.{filter}
 use Rattle.std.specs.Option.{option_or}
-use Rattle.std.specs.Prelude.{cond, ◌==◌, find, slice_get}
+use Rattle.std.specs.Prelude.{cond, find, slice_get}
 use Rattle.zst_edns.specs.declared.edns.Edns.{Edns}
 use Rattle.zsv_sections.specs.zst_record.dnw_codes.RecordType.{record_type_number, same_record_type}
 use Rattle.zsv_sections.specs.zst_record.dnw_codes.declared.error.DecodeError.{DecodeError}

@@ -1,5 +1,5 @@
 -- A message is read, or refused by what stands first that can't be read.
-use Rattle.std.proofs.Common.{◌≡◌, ℕ, ◌+◌, ◌<◌, ◌≤◌, Bool, true, false, List, [], ◌∷◌, ◌++◌, length, Option, Some, None, Err, refl, sym, ap, subst, inl, inr, ◌∙◌, ◌⊎◌, arith, length-append}
+use Rattle.std.proofs.Common.{◌≡◌, ℕ, ◌≤◌, Bool, false, List, [], ◌∷◌, length, Option, Err, sym, ap, subst, inl, inr, ◌∙◌, ◌⊎◌, arith}
 use Rattle.zst_edns.specs.declared.edns.Edns.{Edns}
 use Rattle.zsv_sections.specs.zst_record.dnw_codes.declared.error.DecodeError.{DecodeError}
 use Rattle.zsv_sections.specs.zst_record.dnw_decoder.Reading.{IsCut, IsWantOfMemory, Reading, reading}
@@ -13,9 +13,8 @@ use Rattle.zsv_sections.specs.zsv_parts.Headers.{HeaderAt, header_of}
 use Rattle.zsv_sections.specs.zsv_parts.Questions.{Asked, AskedAt, QuestionAt, RefusesQuestions}
 use Rattle.zsv_sections.specs.zsv_parts.Wire.{Entries}
 use Rattle.zsv_sections.proofs.zsv_parts_lemmas.Questions.{question_once}
-use Rattle.zsv_sections.specs.declared.placing.Placing.{Placing}
 use Rattle.zsv_message.specs.Messages.{AdditionalsAt, IsMessage, Message, ReadsMessage, RefusesAdditionals, RefusesMessage, before_additionals, is_update, joined_metadata, no_additionals, no_answers, no_authorities, no_header, no_questions}
-use Rattle.zsv_sections.specs.Sections.{PlacedRecords, RefusesSection, SectionAt, past_all}
+use Rattle.zsv_sections.specs.Sections.{RefusesSection, SectionAt}
 use Rattle.zsv_sections.proofs.Sectioning.{section_end}
 
 -- As many questions from one place end at one place, and as many records.
