@@ -3,29 +3,29 @@ use Rattle.std.proofs.Common.{◌≡◌, ℕ, ◌+◌, ◌-◌, ◌^◌, ◌<◌
 use Rattle.std.proofs.lemmas.Bool.{eqb-true}
 use Rattle.std.proofs.lemmas.List.Elements.{filter-append}
 use Rattle.std.proofs.lemmas.List.Folds.{find-append}
-use Rattle.std.specs.List.{filter}
 use Rattle.std.specs.Option.{option_or}
-use Rattle.std.specs.Prelude.{cond, ◌==◌, find}
+use Rattle.std.specs.Prelude.{cond, find, slice_get}
 use Rattle.zst_edns.specs.declared.edns.Edns.{Edns}
-use Rattle.zst_record.specs.dnw_codes.RecordType.{record_type_number, same_record_type}
-use Rattle.zst_record.specs.dnw_codes.declared.error.DecodeError.{DecodeError}
-use Rattle.zst_record.specs.dnw_codes.declared.record_type.RecordType.{RecordType}
-use Rattle.zst_record.specs.dnw_codes.declared.record_type.RecordType.TheVariants as kind
-use Rattle.zst_record.specs.dnw_decoder.Reading.{IsWantOfMemory}
-use Rattle.zst_record.specs.drd_rdata.Types.{type_of}
-use Rattle.zst_record.specs.declared.records.Record.{Record}
-use Rattle.zst_record.specs.Records.{RecordAt}
-use Rattle.zsv_parts.specs.declared.header.OpCode.{OpCode}
-use Rattle.zsv_parts.specs.declared.tsig.TsigRecord.{TsigRecord}
-use Rattle.zsv_parts.specs.declared.tsig.Tsig.{Tsig}
-use Rattle.zsv_parts.specs.Signatures.{RefusesTsig, TsigAt}
+use Rattle.zsv_sections.specs.zst_record.dnw_codes.RecordType.{record_type_number, same_record_type}
+use Rattle.zsv_sections.specs.zst_record.dnw_codes.declared.error.DecodeError.{DecodeError}
+use Rattle.zsv_sections.specs.zst_record.dnw_codes.declared.record_type.RecordType.{RecordType}
+use Rattle.zsv_sections.specs.zst_record.dnw_codes.declared.record_type.RecordType.TheVariants as kind
+use Rattle.zsv_sections.specs.zst_record.dnw_decoder.Reading.{IsWantOfMemory}
+use Rattle.zsv_sections.specs.zst_record.drd_rdata.Types.{type_of}
+use Rattle.zsv_sections.specs.zst_record.declared.records.Record.{Record}
+use Rattle.zsv_sections.specs.zst_record.Records.{RecordAt}
+use Rattle.zsv_sections.specs.zsv_parts.declared.header.OpCode.{OpCode}
+use Rattle.zsv_sections.specs.zsv_parts.declared.tsig.TsigRecord.{TsigRecord}
+use Rattle.zsv_sections.specs.zsv_parts.declared.tsig.Tsig.{Tsig}
+use Rattle.zsv_sections.specs.zsv_parts.Signatures.{RefusesTsig, TsigAt}
 use Rattle.zsv_message.specs.declared.additionals.Additionals.{Additionals}
-use Rattle.zsv_message.specs.declared.placing.Placing.{Placing}
+use Rattle.zsv_sections.specs.declared.placing.Placing.{Placing}
 use Rattle.zsv_message.specs.Gathering.{Gathers}
 use Rattle.zsv_message.specs.Messages.{AdditionalsAt, IsEdnsFor, IsEdnsRecord, IsSignatureFor, IsSigned, RefusesAdditionals, data_octets, in_additionals, is_update, other_records}
-use Rattle.zsv_message.specs.Sections.{PlacedRecords, RefusesPlaced, SectionAt, is_opt, is_signature, is_tsig, misplaced, past, past_all}
-use Rattle.zsv_message.proofs.Alike.{are_alike, tsig_holds}
-use Rattle.zsv_message.proofs.Sectioning.{goes_on, may_stand, past_more, placed_more, section_none, section_refused}
+use Rattle.zsv_sections.specs.Sections.{PlacedRecords, RefusesPlaced, SectionAt, is_opt, is_signature, is_tsig, misplaced, past, past_all}
+use Rattle.zsv_message.proofs.Held.{tsig_holds}
+use Rattle.zsv_sections.proofs.Alike.{are_alike}
+use Rattle.zsv_sections.proofs.Sectioning.{goes_on, may_stand, past_more, placed_more, section_none, section_refused}
 
 -- The first of a list and one more that passes a test.
 find_more : (test : Record → Bool) (rs : List Record) (r : Record) → test r ≡ false → find test (rs ++ r ∷ []) ≡ find test rs
@@ -80,6 +80,21 @@ no_signature message at end found signature none is = by signature (subst (λ (f
   by None is = tt
   by (Some s) is = is
 
+-- The signature that was kept.
+abbrev first_of : Additionals → Option TsigRecord
+first_of found = slice_get found.signature.items 0
+
+first_same : (old new : Additionals) → new.signature.items ≡ old.signature.items → first_of new ≡ first_of old
+first_same old new same = ap (λ (ts : List TsigRecord). slice_get ts 0) same
+
+no_first : (message : List ℕ) (at : ℕ) (signature : Option TsigRecord) → IsSignatureFor message at None signature → signature ≡ None
+no_first message at None is = refl
+no_first message at (Some s) is = absurd is
+
+first_last : (ts : List TsigRecord) (t : TsigRecord) → slice_get ts 0 ≡ None → slice_get (ts ++ t ∷ []) 0 ≡ Some t
+first_last [] t none = refl
+first_last (x ∷ xs) t none = absurd (cc none)
+
 -- The records that stand behind one more.
 standing_more : (op : OpCode) (message : List ℕ) (place n : ℕ) (found : Additionals) (at : ℕ) (r : Record) (end : ℕ) (g : Gathers op message place n found at) → RecordAt message at r end → misplaced found.next r ≡ None → SectionAt (in_additionals op) message place (n + 1) (g.standing ++ r ∷ []) end
 standing_more op message place n found at r end g here may = (
@@ -100,7 +115,7 @@ others_same standing r is = filter-append (λ r. not (is_opt r || is_tsig r)) st
 others_more : (standing : List Record) (r : Record) → (is_opt r || is_tsig r) ≡ false → other_records (standing ++ r ∷ []) ≡ other_records standing ++ r ∷ []
 others_more standing r is = filter-append (λ r. not (is_opt r || is_tsig r)) standing (r ∷ []) ∙ ap (λ (b : Bool). other_records standing ++ cond (not b) (r ∷ []) []) is
 
-pub gathers_opt : (op : OpCode) (message : List ℕ) (place n : ℕ) (old new : Additionals) (at : ℕ) (r : Record) (end : ℕ) (edns : Edns) → Gathers op message place n old at → RecordAt message at r end → misplaced old.next r ≡ None → is_opt r ≡ true → IsEdnsRecord r edns → new.next ≡ past old.next r → new.records.items ≡ old.records.items → new.edns ≡ Some edns → new.signature ≡ old.signature → Gathers op message place (n + 1) new end
+pub gathers_opt : (op : OpCode) (message : List ℕ) (place n : ℕ) (old new : Additionals) (at : ℕ) (r : Record) (end : ℕ) (edns : Edns) → Gathers op message place n old at → RecordAt message at r end → misplaced old.next r ≡ None → is_opt r ≡ true → IsEdnsRecord r edns → new.next ≡ past old.next r → new.records.items ≡ old.records.items → new.edns ≡ Some edns → new.signature.items ≡ old.signature.items → Gathers op message place (n + 1) new end
 gathers_opt op message place n old new at r end edns g here may is says next records options signature =
     let other : is_tsig r ≡ false = opt_no_tsig (type_of r.rdata) is in
     let none = unsigned op message place n old at r g may in
@@ -112,24 +127,26 @@ gathers_opt op message place n old new at r end edns g here may is says next rec
       next = next_more op message place n old at r new.next g next;
       additionals = records ∙ g.additionals ∙ sym (others_same g.standing r (ap (λ (b : Bool). b || is_tsig r) is));
       edns = subst (λ (o : Option Record). IsEdnsFor o new.edns) (sym first) (subst (λ (o : Option Edns). IsEdnsFor (Some r) o) (sym options) says);
-      signature = subst (λ (o : Option Record). IsSignatureFor message end o new.signature) (sym (find_more is_tsig g.standing r other ∙ none))
-          (subst (λ (s : Option TsigRecord). IsSignatureFor message end None s) (sym signature) (no_signature message at end (find is_tsig g.standing) old.signature none g.signature));
+      signature = subst (λ (o : Option Record). IsSignatureFor message end o (first_of new)) (sym (find_more is_tsig g.standing r other ∙ none))
+          (subst (λ (s : Option TsigRecord). IsSignatureFor message end None s) (sym (first_same old new signature)) (no_signature message at end (find is_tsig g.standing) (first_of old) none g.signature));
     }
 
-pub gathers_tsig : (op : OpCode) (message : List ℕ) (place n : ℕ) (old new : Additionals) (at : ℕ) (r : Record) (end : ℕ) (octets : List ℕ) (tsig : TsigRecord) → Gathers op message place n old at → RecordAt message at r end → misplaced old.next r ≡ None → is_opt r ≡ false → is_tsig r ≡ true → data_octets r.rdata ≡ Some octets → IsSigned message (end - length octets) (length octets) r tsig → new.next ≡ past old.next r → new.records.items ≡ old.records.items → new.edns ≡ old.edns → new.signature ≡ Some tsig → Gathers op message place (n + 1) new end
+pub gathers_tsig : (op : OpCode) (message : List ℕ) (place n : ℕ) (old new : Additionals) (at : ℕ) (r : Record) (end : ℕ) (octets : List ℕ) (tsig : TsigRecord) → Gathers op message place n old at → RecordAt message at r end → misplaced old.next r ≡ None → is_opt r ≡ false → is_tsig r ≡ true → data_octets r.rdata ≡ Some octets → IsSigned message (end - length octets) (length octets) r tsig → new.next ≡ past old.next r → new.records.items ≡ old.records.items → new.edns ≡ old.edns → new.signature.items ≡ old.signature.items ++ tsig ∷ [] → Gathers op message place (n + 1) new end
 gathers_tsig op message place n old new at r end octets tsig g here may other is whole signed next records options signature =
-    let last : find is_tsig (g.standing ++ r ∷ []) ≡ Some r = find_last is_tsig g.standing r (unsigned op message place n old at r g may) is in
+    let none = unsigned op message place n old at r g may in
+    let last : find is_tsig (g.standing ++ r ∷ []) ≡ Some r = find_last is_tsig g.standing r none is in
+    let unsigned_yet = no_first message at (first_of old) (subst (λ (f : Option Record). IsSignatureFor message at f (first_of old)) none g.signature) in
     record {
       standing = g.standing ++ r ∷ [];
       there = standing_more op message place n old at r end g here may;
       next = next_more op message place n old at r new.next g next;
       additionals = records ∙ g.additionals ∙ sym (others_same g.standing r (λ i. (other i || is i)));
       edns = subst (λ (o : Option Record). IsEdnsFor o new.edns) (sym (find_more is_opt g.standing r other)) (subst (λ (o : Option Edns). IsEdnsFor (find is_opt g.standing) o) (sym options) g.edns);
-      signature = subst (λ (o : Option Record). IsSignatureFor message end o new.signature) (sym last)
-          (subst (λ (s : Option TsigRecord). IsSignatureFor message end (Some r) s) (sym signature) (record { octets = octets; whole = whole; there = signed }));
+      signature = subst (λ (o : Option Record). IsSignatureFor message end o (first_of new)) (sym last)
+          (subst (λ (s : Option TsigRecord). IsSignatureFor message end (Some r) s) (sym (ap (λ (ts : List TsigRecord). slice_get ts 0) signature ∙ first_last old.signature.items tsig unsigned_yet)) (record { octets = octets; whole = whole; there = signed }));
     }
 
-pub gathers_other : (op : OpCode) (message : List ℕ) (place n : ℕ) (old new : Additionals) (at : ℕ) (r : Record) (end : ℕ) → Gathers op message place n old at → RecordAt message at r end → misplaced old.next r ≡ None → is_opt r ≡ false → is_tsig r ≡ false → new.next ≡ past old.next r → new.records.items ≡ old.records.items ++ r ∷ [] → new.edns ≡ old.edns → new.signature ≡ old.signature → Gathers op message place (n + 1) new end
+pub gathers_other : (op : OpCode) (message : List ℕ) (place n : ℕ) (old new : Additionals) (at : ℕ) (r : Record) (end : ℕ) → Gathers op message place n old at → RecordAt message at r end → misplaced old.next r ≡ None → is_opt r ≡ false → is_tsig r ≡ false → new.next ≡ past old.next r → new.records.items ≡ old.records.items ++ r ∷ [] → new.edns ≡ old.edns → new.signature.items ≡ old.signature.items → Gathers op message place (n + 1) new end
 gathers_other op message place n old new at r end g here may other is next records options signature =
     let none = unsigned op message place n old at r g may in
     record {
@@ -138,22 +155,22 @@ gathers_other op message place n old new at r end g here may other is next recor
       next = next_more op message place n old at r new.next g next;
       additionals = records ∙ ap (λ (rs : List Record). rs ++ r ∷ []) g.additionals ∙ sym (others_more g.standing r (λ i. (other i || is i)));
       edns = subst (λ (o : Option Record). IsEdnsFor o new.edns) (sym (find_more is_opt g.standing r other)) (subst (λ (o : Option Edns). IsEdnsFor (find is_opt g.standing) o) (sym options) g.edns);
-      signature = subst (λ (o : Option Record). IsSignatureFor message end o new.signature) (sym (find_more is_tsig g.standing r is ∙ none))
-          (subst (λ (s : Option TsigRecord). IsSignatureFor message end None s) (sym signature) (no_signature message at end (find is_tsig g.standing) old.signature none g.signature));
+      signature = subst (λ (o : Option Record). IsSignatureFor message end o (first_of new)) (sym (find_more is_tsig g.standing r is ∙ none))
+          (subst (λ (s : Option TsigRecord). IsSignatureFor message end None s) (sym (first_same old new signature)) (no_signature message at end (find is_tsig g.standing) (first_of old) none g.signature));
     }
 
 -- Nothing is kept of no records.
-pub gathers_none : (op : OpCode) (message : List ℕ) (place : ℕ) (new : Additionals) → new.next ≡ in_additionals op → new.records.items ≡ [] → new.edns ≡ None → new.signature ≡ None → Gathers op message place 0 new place
+pub gathers_none : (op : OpCode) (message : List ℕ) (place : ℕ) (new : Additionals) → new.next ≡ in_additionals op → new.records.items ≡ [] → new.edns ≡ None → new.signature.items ≡ [] → Gathers op message place 0 new place
 gathers_none op message place new next records options signature = record {
   standing = [];
   there = (refl, refl);
   next = next;
   additionals = records;
   edns = subst (λ (o : Option Edns). IsEdnsFor None o) (sym options) tt;
-  signature = subst (λ (s : Option TsigRecord). IsSignatureFor message place None s) (sym signature) tt;
+  signature = subst (λ (s : Option TsigRecord). IsSignatureFor message place None s) (sym (ap (λ (ts : List TsigRecord). slice_get ts 0) signature)) tt;
 }
 
-pub gathers_all : (op : OpCode) (message : List ℕ) (place n : ℕ) (found : Additionals) (at : ℕ) → Gathers op message place n found at → AdditionalsAt message op place n found.records.items found.edns found.signature at
+pub gathers_all : (op : OpCode) (message : List ℕ) (place n : ℕ) (found : Additionals) (at : ℕ) → Gathers op message place n found at → AdditionalsAt message op place n found.records.items found.edns (slice_get found.signature.items 0) at
 gathers_all op message place n found at g = record {
   standing = g.standing;
   there = g.there;

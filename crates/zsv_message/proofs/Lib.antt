@@ -1,7 +1,6 @@
-pub mod Alike
 pub mod Gathered
-pub mod Sectioning
+pub mod Held
 pub mod Whole
 pub mod zst_edns_lemmas
-pub mod zsv_parts_lemmas
-pub mod zst_record_lemmas
+pub use Rattle.zsv_sections.proofs.zst_record_lemmas
+pub use Rattle.zsv_sections.proofs.zsv_parts_lemmas

@@ -1,22 +1,21 @@
 -- A message is read, or refused by what stands first that can't be read.
-use Rattle.std.proofs.Common.{◌≡◌, ℕ, ◌+◌, ◌<◌, ◌≤◌, Bool, true, false, List, [], ◌∷◌, ◌++◌, length, Option, Some, None, Err, refl, sym, ap, subst, inl, inr, ◌∙◌, ◌⊎◌, arith, length-append}
+use Rattle.std.proofs.Common.{◌≡◌, ℕ, ◌≤◌, Bool, false, List, [], ◌∷◌, length, Option, Err, sym, ap, subst, inl, inr, ◌∙◌, ◌⊎◌, arith}
 use Rattle.zst_edns.specs.declared.edns.Edns.{Edns}
-use Rattle.zst_record.specs.dnw_codes.declared.error.DecodeError.{DecodeError}
-use Rattle.zst_record.specs.dnw_decoder.Reading.{IsCut, IsWantOfMemory, Reading, reading}
-use Rattle.zst_record.specs.declared.records.Record.{Record}
-use Rattle.zsv_parts.specs.declared.header.Header.{Header}
-use Rattle.zsv_parts.specs.declared.header.Metadata.{Metadata}
-use Rattle.zsv_parts.specs.declared.header.OpCode.{OpCode}
-use Rattle.zsv_parts.specs.declared.question.Query.{Query}
-use Rattle.zsv_parts.specs.declared.tsig.TsigRecord.{TsigRecord}
-use Rattle.zsv_parts.specs.Headers.{HeaderAt, header_of}
-use Rattle.zsv_parts.specs.Questions.{Asked, AskedAt, QuestionAt, RefusesQuestions}
-use Rattle.zsv_parts.specs.Wire.{Entries}
-use Rattle.zsv_parts.proofs.Questions.{question_once}
-use Rattle.zsv_message.specs.declared.placing.Placing.{Placing}
+use Rattle.zsv_sections.specs.zst_record.dnw_codes.declared.error.DecodeError.{DecodeError}
+use Rattle.zsv_sections.specs.zst_record.dnw_decoder.Reading.{IsCut, IsWantOfMemory, Reading, reading}
+use Rattle.zsv_sections.specs.zst_record.declared.records.Record.{Record}
+use Rattle.zsv_sections.specs.zsv_parts.declared.header.Header.{Header}
+use Rattle.zsv_sections.specs.zsv_parts.declared.header.Metadata.{Metadata}
+use Rattle.zsv_sections.specs.zsv_parts.declared.header.OpCode.{OpCode}
+use Rattle.zsv_sections.specs.zsv_parts.declared.question.Query.{Query}
+use Rattle.zsv_sections.specs.zsv_parts.declared.tsig.TsigRecord.{TsigRecord}
+use Rattle.zsv_sections.specs.zsv_parts.Headers.{HeaderAt, header_of}
+use Rattle.zsv_sections.specs.zsv_parts.Questions.{Asked, AskedAt, QuestionAt, RefusesQuestions}
+use Rattle.zsv_sections.specs.zsv_parts.Wire.{Entries}
+use Rattle.zsv_sections.proofs.zsv_parts_lemmas.Questions.{question_once}
 use Rattle.zsv_message.specs.Messages.{AdditionalsAt, IsMessage, Message, ReadsMessage, RefusesAdditionals, RefusesMessage, before_additionals, is_update, joined_metadata, no_additionals, no_answers, no_authorities, no_header, no_questions}
-use Rattle.zsv_message.specs.Sections.{PlacedRecords, RefusesSection, SectionAt, past_all}
-use Rattle.zsv_message.proofs.Sectioning.{continues}
+use Rattle.zsv_sections.specs.Sections.{RefusesSection, SectionAt}
+use Rattle.zsv_sections.proofs.Sectioning.{section_end}
 
 -- As many questions from one place end at one place, and as many records.
 questions_end : (message : List ℕ) (place : ℕ) (a b : List Query) (e f : ℕ) → length a ≡ length b → Entries (QuestionAt message) place a e → Entries (QuestionAt message) place b f → e ≡ f
@@ -29,15 +28,6 @@ questions_end message place (x ∷ xs) (y ∷ ys) e f long p q =
 
 asked_end : (message : List ℕ) (place n : ℕ) (a b : Asked) (e f : ℕ) → AskedAt message place n a e → AskedAt message place n b f → e ≡ f
 asked_end message place n a b e f p q = questions_end message place a.questions b.questions e f (p.questions.1 ∙ sym q.questions.1) p.questions.0 q.questions.0
-
-no_rest : (at : Placing) (message : List ℕ) (next : ℕ) (rest : List Record) (end : ℕ) → length rest ≡ 0 → PlacedRecords at message next rest end → end ≡ next
-no_rest at message next [] end none there = there
-no_rest at message next (r ∷ rs) end none there = absurd (omega (arith, none))
-
-section_end : (at : Placing) (message : List ℕ) (place n : ℕ) (a b : List Record) (e f : ℕ) → SectionAt at message place n a e → SectionAt at message place n b f → e ≡ f
-section_end at message place n a b e f p q =
-    let c = continues at message place b f a e q.0 p.0 (omega (arith, p.1, q.1)) in
-    no_rest (past_all at b) message f c.rest e (omega (arith, p.1, q.1, c.long, ap length c.whole, length-append c.front c.rest)) c.there
 
 or_map : {A B C : Type 0} → (B → C) → A ⊎ B → A ⊎ C
 or_map f (inl a) = inl a

@@ -1,12 +1,12 @@
 -- What is kept of the first records of an additional section.
-use Rattle.std.specs.Prelude.{◌≡◌, ℕ, Bool, true, false, List, find}
-use Rattle.zst_record.specs.drd_rdata.declared.rdata.RData.{RData}
-use Rattle.zst_record.specs.drd_rdata.declared.rdata.RData.TheVariants as rdata
-use Rattle.zst_record.specs.declared.records.Record.{Record}
-use Rattle.zsv_parts.specs.declared.header.OpCode.{OpCode}
+use Rattle.std.specs.Prelude.{◌≡◌, ℕ, Bool, true, false, List, find, slice_get}
+use Rattle.zsv_sections.specs.zst_record.drd_rdata.declared.rdata.RData.{RData}
+use Rattle.zsv_sections.specs.zst_record.drd_rdata.declared.rdata.RData.TheVariants as rdata
+use Rattle.zsv_sections.specs.zst_record.declared.records.Record.{Record}
+use Rattle.zsv_sections.specs.zsv_parts.declared.header.OpCode.{OpCode}
 use Rattle.zsv_message.specs.declared.additionals.Additionals.{Additionals}
 use Rattle.zsv_message.specs.Messages.{IsEdnsFor, IsSignatureFor, in_additionals, other_records}
-use Rattle.zsv_message.specs.Sections.{SectionAt, is_opt, is_tsig, past_all}
+use Rattle.zsv_sections.specs.Sections.{SectionAt, is_opt, is_tsig, past_all}
 
 -- Data that are options.
 abbrev pub holds_options : RData → Bool
@@ -21,4 +21,5 @@ pub record Gathers (op : OpCode) (message : List ℕ) (place count : ℕ) (found
   pub next : found.next ≡ past_all (in_additionals op) standing
   pub additionals : found.records.items ≡ other_records standing
   pub edns : IsEdnsFor (find is_opt standing) found.edns
-  pub signature : IsSignatureFor message at (find is_tsig standing) found.signature
+  pub signature : IsSignatureFor message at (find is_tsig standing)
+      (slice_get found.signature.items 0)

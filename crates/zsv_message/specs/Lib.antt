@@ -1,6 +1,6 @@
 pub mod Gathering
 pub mod Messages
-pub mod Sections
+pub use Rattle.zsv_sections.specs.zst_record
+pub use Rattle.zsv_sections.specs.zsv_parts
 pub mod zst_edns
-pub mod zst_record
-pub mod zsv_parts
+pub mod zsv_sections

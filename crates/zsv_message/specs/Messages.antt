@@ -1,25 +1,25 @@
 -- Messages: RFC 1035, section 4.1; RFC 6891, section 6.1; RFC 8945, section 4.2.
 use Rattle.std.specs.Prelude.{◌≡◌, ℕ, ◌-◌, ◌<◌, ◌≤◌, Bool, true, false, not, ◌||◌, ◌⊎◌, ◌++◌, List, [], ◌∷◌, length, Option, Some, None, find, Result, Ok, Err}
 use Rattle.std.specs.List.{filter}
-use Rattle.zst_record.specs.dnw_codes.declared.error.DecodeError.{DecodeError}
-use Rattle.zst_record.specs.dnw_codes.DNSClass.{class_number}
-use Rattle.zst_record.specs.dnw_decoder.Reading.{IsCut, IsWantOfMemory}
-use Rattle.zst_record.specs.drd_rdata.declared.rdata.RData.{RData}
-use Rattle.zst_record.specs.drd_rdata.declared.rdata.RData.TheVariants as rdata
-use Rattle.zst_record.specs.declared.records.Record.{Record}
-use Rattle.zst_record.specs.Records.{RecordAt}
+use Rattle.zsv_sections.specs.zst_record.dnw_codes.declared.error.DecodeError.{DecodeError}
+use Rattle.zsv_sections.specs.zst_record.dnw_codes.DNSClass.{class_number}
+use Rattle.zsv_sections.specs.zst_record.dnw_decoder.Reading.{IsCut, IsWantOfMemory}
+use Rattle.zsv_sections.specs.zst_record.drd_rdata.declared.rdata.RData.{RData}
+use Rattle.zsv_sections.specs.zst_record.drd_rdata.declared.rdata.RData.TheVariants as rdata
+use Rattle.zsv_sections.specs.zst_record.declared.records.Record.{Record}
+use Rattle.zsv_sections.specs.zst_record.Records.{RecordAt}
 use Rattle.zst_edns.specs.Edns.{IsEdnsOf}
 use Rattle.zst_edns.specs.declared.edns.Edns.{Edns}
-use Rattle.zsv_parts.specs.declared.header.Metadata.{Metadata}
-use Rattle.zsv_parts.specs.declared.header.OpCode.{OpCode}
-use Rattle.zsv_parts.specs.declared.header.OpCode.TheVariants as operations
-use Rattle.zsv_parts.specs.declared.tsig.TsigRecord.{TsigRecord}
-use Rattle.zsv_parts.specs.zst_codes.ResponseCode.{joined_code, low_bits}
-use Rattle.zsv_parts.specs.Headers.{header_of}
-use Rattle.zsv_parts.specs.Questions.{Asked, AskedAt, RefusesQuestions}
-use Rattle.zsv_parts.specs.Signatures.{RefusesTsig, TsigAt}
-use Rattle.zsv_message.specs.declared.placing.Placing.{Placing}
-use Rattle.zsv_message.specs.Sections.{PlacedRecords, RefusesSection, SectionAt, is_opt, is_root, is_tsig}
+use Rattle.zsv_sections.specs.zsv_parts.declared.header.Metadata.{Metadata}
+use Rattle.zsv_sections.specs.zsv_parts.declared.header.OpCode.{OpCode}
+use Rattle.zsv_sections.specs.zsv_parts.declared.header.OpCode.TheVariants as operations
+use Rattle.zsv_sections.specs.zsv_parts.declared.tsig.TsigRecord.{TsigRecord}
+use Rattle.zsv_sections.specs.zsv_parts.zst_codes.ResponseCode.{joined_code, low_bits}
+use Rattle.zsv_sections.specs.zsv_parts.Headers.{header_of}
+use Rattle.zsv_sections.specs.zsv_parts.Questions.{Asked, AskedAt, RefusesQuestions}
+use Rattle.zsv_sections.specs.zsv_parts.Signatures.{RefusesTsig, TsigAt}
+use Rattle.zsv_sections.specs.declared.placing.Placing.{Placing}
+use Rattle.zsv_sections.specs.Sections.{PlacedRecords, RefusesSection, SectionAt, is_opt, is_root, is_tsig}
 
 -- What a message holds. The response code is the one that header and options give together. A
 -- signature by a public key stays among the additional records.

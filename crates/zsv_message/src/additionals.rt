@@ -1,23 +1,22 @@
 //! The additional section: the options and the signature of a message stand among its records (RFC 6891 section 6.1.1,
 //! RFC 8945 section 5.1).
 
-ghost use Rattle.std.specs.Prelude.{◌≡◌, ◌+◌, ◌-◌, ◌<◌, ◌≤◌, ◌^◌, ◌⊎◌, ℕ, List, [], Option, Some, None, true, false, length, IfOk, IfErr, OnOk};
+ghost use Rattle.std.specs.Prelude.{◌≡◌, ◌+◌, ◌-◌, ◌<◌, ◌≤◌, ◌^◌, ◌⊎◌, ℕ, List, [], Option, Some, None, true, false, length, slice_get, IfOk, IfErr, OnOk};
 ghost use Rattle.zst_edns.specs.declared.edns.Edns.{Edns as Options};
-ghost use Rattle.zst_record.specs.dnw_decoder.Reading.{IsWantOfMemory};
-ghost use Rattle.zst_record.specs.declared.records.Record.{Record as Entry};
-ghost use Rattle.zsv_parts.specs.declared.header.OpCode.{OpCode};
-ghost use Rattle.zsv_parts.specs.declared.tsig.TsigRecord.{TsigRecord as Signature};
-ghost use Rattle.zsv_parts.specs.Signatures.{RefusesTsig, TsigAt};
+ghost use Rattle.zsv_sections.specs.zst_record.dnw_decoder.Reading.{IsWantOfMemory};
+ghost use Rattle.zsv_sections.specs.zst_record.declared.records.Record.{Record as Entry};
+ghost use Rattle.zsv_sections.specs.zsv_parts.declared.header.OpCode.{OpCode};
+ghost use Rattle.zsv_sections.specs.zsv_parts.declared.tsig.TsigRecord.{TsigRecord as Signature};
+ghost use Rattle.zsv_sections.specs.zsv_parts.Signatures.{RefusesTsig, TsigAt};
 ghost use Rattle.zsv_message.specs.Gathering.{Gathers, holds_options};
 ghost use Rattle.zsv_message.specs.Messages.{AdditionalsAt, IsEdnsRecord, IsSigned, RefusesAdditionals, data_octets, is_update as updates};
 
-use crate::placing::{Placing, is_opt, is_tsig};
-use crate::section::read_placed;
 use std::alloc::Global;
 use std::mem;
 use zst_edns::Edns;
-use zst_record::{BinDecoder, DecodeError, RData, Record};
-use zsv_parts::{Tsig, TsigRecord};
+use zsv_sections::{
+    BinDecoder, DecodeError, Placing, RData, Record, Tsig, TsigRecord, is_opt, is_tsig, read_placed,
+};
 
 /// What is kept of an additional section.
 #[derive(Drop)]
@@ -26,8 +25,8 @@ pub(crate) struct Additionals {
     pub(crate) records: Vec<Record>,
     /// The options.
     pub(crate) edns: Option<Edns>,
-    /// The signature by a shared key.
-    pub(crate) signature: Option<TsigRecord>,
+    /// The signature by a shared key, in a list of at most one: it is large, and few messages have one.
+    pub(crate) signature: Vec<TsigRecord>,
     /// Where the next record stands.
     next: Placing,
 }
@@ -97,16 +96,17 @@ fn signature_of(
 
 impl Additionals {
     // Nothing yet.
+    #[inline(always)]
     fn new(alloc: Global, is_update: bool) -> Additionals
         ensures records { result.records.items ≡ [] }
         ensures edns { result.edns ≡ None }
-        ensures signature { result.signature ≡ None }
+        ensures signature { result.signature.items ≡ [] }
         ensures next { result.next ≡ record { is_update = is_update; is_additional = true; is_signed = false; has_options = false } }
     {
         Additionals {
             records: Vec::new(alloc),
             edns: None,
-            signature: None,
+            signature: Vec::new(alloc),
             next: Placing {
                 is_update,
                 is_additional: true,
@@ -136,7 +136,10 @@ impl Additionals {
         }
         if is_tsig(&standing) {
             let len = data_len(&standing.rdata);
-            self.signature = Some(signature_of(alloc, decoder, standing, len)?);
+            let signature = signature_of(alloc, decoder, standing, len)?;
+            let Ok(()) = self.signature.push(signature) else {
+                return Err(DecodeError::Memory);
+            };
             return Ok(());
         }
         let Ok(()) = self.records.push(standing) else {
@@ -146,6 +149,7 @@ impl Additionals {
     }
 
     /// What is kept of so many records from the decoder's index on, which moves behind them.
+    #[inline(always)]
     pub(crate) fn read(
         alloc: Global,
         decoder: &mut BinDecoder<'_>,
@@ -153,7 +157,7 @@ impl Additionals {
         is_update: bool,
     ) -> Result<Additionals, DecodeError>
         ensures ok { (op : OpCode) → is_update ≡ updates op → IfOk result
-            (λ a. AdditionalsAt decoder.old.octets op decoder.old.index count a.records.items a.edns a.signature decoder.new.index) }
+            (λ a. AdditionalsAt decoder.old.octets op decoder.old.index count a.records.items a.edns (slice_get a.signature.items 0) decoder.new.index) }
         ensures same { decoder.new.octets ≡ decoder.old.octets }
         ensures refused { (op : OpCode) → is_update ≡ updates op → IfErr result
             (λ e. IsWantOfMemory e ⊎ RefusesAdditionals op decoder.old.octets decoder.old.index count e) }

@@ -5,18 +5,14 @@
 #![tactic(auto)]
 
 pub use zst_edns::{Edns, LookupError};
-pub use zst_record::{
-    A, BinDecodable, BinDecoder, BinEncodable, BinEncoder, DNSClass, DecodeError, Label, LowerName,
-    NS, Name, NameEncoding, ProtoError, RData, Record, RecordRef, RecordSet, RecordType, SOA,
-};
-pub use zsv_parts::{
-    Header, HeaderCounts, MessageType, Metadata, OpCode, Queries, Query, ResponseCode, Tsig,
-    TsigRecord,
+pub use zsv_sections::{
+    A, BinDecodable, BinDecoder, BinEncodable, BinEncoder, DNSClass, DecodeError, Header,
+    HeaderCounts, Label, LowerName, MessageType, Metadata, NS, Name, NameEncoding, OpCode,
+    ProtoError, Queries, Query, RData, Record, RecordRef, RecordSet, RecordType, ResponseCode, SOA,
+    Tsig, TsigRecord,
 };
 
 mod additionals;
-mod placing;
 mod request;
-mod section;
 
 pub use request::MessageRequest;

@@ -4,13 +4,13 @@ ghost use Rattle.std.specs.Prelude.{◌≡◌, ◌≤◌, option_copied};
 ghost use Rattle.zsv_message.specs.Messages.{ReadsMessage, edns_version, is_update, joined_metadata, payload_taken};
 
 use crate::additionals::Additionals;
-use crate::placing::Placing;
-use crate::section::read_section;
 use std::alloc::Global;
 use std::marker::Model;
 use zst_edns::Edns;
-use zst_record::{BinDecoder, DecodeError, Record};
-use zsv_parts::{Header, Metadata, OpCode, Queries, ResponseCode, TsigRecord};
+use zsv_sections::{
+    BinDecoder, DecodeError, Header, Metadata, OpCode, Placing, Queries, Record, ResponseCode,
+    TsigRecord, read_section,
+};
 
 /// A message: what header and options say, its questions, and its records by section.
 #[derive(Drop)]
@@ -21,15 +21,17 @@ pub struct MessageRequest<'m> {
     authorities: Vec<Record>,
     additionals: Vec<Record>,
     edns: Option<Edns>,
-    signature: Option<TsigRecord>,
+    // The signature, in a list of at most one: it is large, and few messages have one.
+    signature: Vec<TsigRecord>,
 }
 
 impl<'m> Model for MessageRequest<'m> {
+    ghost use Rattle.std.specs.Prelude.{slice_get};
     ghost use Rattle.zsv_message.specs.Messages.{Message};
 
     ghost Value = { Message };
 
-    ghost view = { λ m. record { metadata = m.metadata; asked = m.queries; answers = m.answers.items; authorities = m.authorities.items; additionals = m.additionals.items; edns = m.edns; signature = m.signature } };
+    ghost view = { λ m. record { metadata = m.metadata; asked = m.queries; answers = m.answers.items; authorities = m.authorities.items; additionals = m.additionals.items; edns = m.edns; signature = slice_get m.signature.items 0 } };
 }
 
 // Whether an operation changes a zone (RFC 2136 section 1.3).
@@ -158,6 +160,6 @@ impl<'m> MessageRequest<'m> {
     pub fn signature(&self) -> Option<&TsigRecord>
         ensures { option_copied result ≡ self.now.signature }
     {
-        self.signature.as_ref()
+        self.signature.first()
     }
 }

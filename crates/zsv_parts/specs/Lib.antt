@@ -1,4 +1,5 @@
 pub mod Headers
+pub mod QuestionLaws
 pub mod Questions
 pub mod SignatureRecords
 pub mod Signatures

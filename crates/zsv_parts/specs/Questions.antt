@@ -1,7 +1,11 @@
 -- Questions: RFC 1035, section 4.1.2.
-use Rattle.std.specs.Prelude.{◌≡◌, ℕ, ◌<◌, ◌⊎◌, List, [], ◌∷◌, length}
+use Rattle.std.specs.Prelude.{◌≡◌, ℕ, ◌<◌, ◌⊎◌, Bool, List, [], ◌∷◌, length, nat_eq}
+use Rattle.std.specs.Cmp.Lexicographic.{pointwise}
+use Rattle.std.specs.Ordering.{eq_of_both, on}
+use Rattle.dnw_codes.specs.DNSClass.{same_class}
+use Rattle.dnw_codes.specs.RecordType.{same_record_type}
 use Rattle.dnw_codes.specs.declared.error.DecodeError.{DecodeError}
-use Rattle.dnw_encoder.specs.dnw_name.DomainName.{DomainName}
+use Rattle.dnw_encoder.specs.dnw_name.DomainName.{DomainName, name_eq}
 use Rattle.dnw_encoder.specs.dnw_decoder.Codes.{RecordTypeAt, ClassAt}
 use Rattle.dnw_encoder.specs.dnw_decoder.Octets.{Stands}
 use Rattle.dnw_encoder.specs.dnw_decoder.Reading.{IsCut}
@@ -18,6 +22,13 @@ pub record QuestionAt (message : List ℕ) (place : ℕ) (question : Query) (end
   pub query_type : RecordTypeAt message middle question.query_type last
   pub query_class : ClassAt message last question.query_class end
 
+-- Two questions are equal where name, type and class are, the name up to the case of its ASCII
+-- letters (RFC 4343).
+abbrev pub question_eq : Query → Query → Bool
+question_eq =
+    eq_of_both (on (λ q. q.name) name_eq)
+    (eq_of_both (on (λ q. q.query_type) same_record_type) (on (λ q. q.query_class) same_class))
+
 -- So many questions from a place on.
 abbrev pub QuestionsAt : List ℕ → ℕ → ℕ → List Query → ℕ → Type 0
 QuestionsAt message place count questions end =
@@ -27,6 +38,12 @@ QuestionsAt message place count questions end =
 pub record Asked : Type 0 where
   pub questions : List Query
   pub octets : List ℕ
+
+-- Two question sections are equal where their questions and their octets are.
+abbrev pub asked_eq : Asked → Asked → Bool
+asked_eq =
+    eq_of_both (on (λ a. a.questions) (pointwise question_eq))
+    (on (λ a. a.octets) (pointwise nat_eq))
 
 pub record AskedAt (message : List ℕ) (place count : ℕ) (asked : Asked) (end : ℕ) : Type 0 where
   pub questions : QuestionsAt message place count asked.questions end

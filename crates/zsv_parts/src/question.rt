@@ -1,9 +1,11 @@
 //! Questions (RFC 1035 section 4.1.2).
 
 ghost use Rattle.std.specs.Prelude.{◌≡◌, ◌==◌, ◌<◌, ◌≤◌, ◌^◌, ◌⊎◌, ℕ, List, length, IfOk, IfErr};
+ghost use Rattle.std.specs.Cmp.{partial_equiv_from_equiv};
 ghost use Rattle.dnw_encoder.specs.dnw_decoder.Reading.{IsWantOfMemory};
 ghost use Rattle.zsv_parts.specs.declared.question.Query.{Query as Question};
-ghost use Rattle.zsv_parts.specs.Questions.{Asked, AskedAt, QuestionAt, QuestionsAt, RefusesQuestion, RefusesQuestions};
+ghost use Rattle.zsv_parts.specs.QuestionLaws.{asked_equiv, question_equiv};
+ghost use Rattle.zsv_parts.specs.Questions.{Asked, AskedAt, QuestionAt, QuestionsAt, RefusesQuestion, RefusesQuestions, asked_eq, question_eq};
 
 use dnw_codes::{DNSClass, DecodeError, RecordType};
 use dnw_encoder::{BinDecodable, BinDecoder, Name};
@@ -13,7 +15,7 @@ use std::default::MadeWith;
 use std::marker::Model;
 
 /// A question: a name, a type and a class.
-#[derive(Drop)]
+#[derive(Debug, Drop)]
 pub struct Query {
     /// The name asked for.
     pub name: Name,
@@ -21,6 +23,23 @@ pub struct Query {
     pub query_type: RecordType,
     /// The class asked for.
     pub query_class: DNSClass,
+}
+
+/// Whether two questions have the same name, type and class, the name without regard to case (RFC 4343).
+impl PartialEq for Query {
+    ghost eq = { question_eq };
+
+    ghost laws = { partial_equiv_from_equiv question_equiv };
+
+    fn eq(&self, other: &Query) -> bool {
+        self.name == other.name
+            && self.query_type == other.query_type
+            && self.query_class == other.query_class
+    }
+}
+
+impl Eq for Query {
+    ghost laws = { question_equiv };
 }
 
 // What stands in the inline place of a list of questions where none is: it takes no memory.
@@ -98,7 +117,7 @@ fn read_questions(
 }
 
 /// The questions of a message, and the octets in which they stand.
-#[derive(Drop)]
+#[derive(Debug, Drop)]
 pub struct Queries<'m> {
     queries: SmallVec<Query, 1>,
     original: &'m [u8],
@@ -164,4 +183,19 @@ impl<'m> Queries<'m> {
     {
         self.original
     }
+}
+
+/// Whether the questions are the same, and the octets in which they stand.
+impl PartialEq for Queries<'_> {
+    ghost eq = { asked_eq };
+
+    ghost laws = { partial_equiv_from_equiv asked_equiv };
+
+    fn eq(&self, other: &Queries<'_>) -> bool {
+        self.queries == other.queries && self.original == other.original
+    }
+}
+
+impl Eq for Queries<'_> {
+    ghost laws = { asked_equiv };
 }

@@ -18,7 +18,7 @@ use dnw_encoder::{
 use std::alloc::Global;
 
 /// The data of a signature.
-#[derive(Drop)]
+#[derive(Debug, Drop, PartialEq, Eq)]
 pub struct Tsig {
     /// The name of the algorithm that made the MAC.
     pub algorithm: Name,
@@ -37,7 +37,7 @@ pub struct Tsig {
 }
 
 /// A signature as a record of its message.
-#[derive(Drop)]
+#[derive(Debug, Drop, PartialEq, Eq)]
 pub struct TsigRecord {
     /// The name of the key.
     pub name: Name,

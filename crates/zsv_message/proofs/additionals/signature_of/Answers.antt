@@ -1,4 +1,3 @@
-use Rattle.std.proofs.Common.{ℕ, ◌-◌, List, ap, subst, ◌∙◌, ◌⊎◌, arith}
 use Rattle.std.proofs.lemmas.Result.{err_from_is_err_and}
 use Rattle.zsv_message.proofs.Gathered.{none_signed}
 use Rattle.zsv_message.proofs.additionals.signature_of.Goals as goal

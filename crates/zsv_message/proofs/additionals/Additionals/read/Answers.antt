@@ -1,7 +1,6 @@
-use Rattle.std.proofs.Common.{List, refl, ap, inr, sym, subst, ◌∙◌, arith}
+use Rattle.std.proofs.Common.{refl, ◌∙◌, arith}
 use Rattle.std.proofs.lemmas.Result.{err_from_is_err_and}
-use Rattle.zsv_message.specs.Messages.{in_additionals, is_update}
-use Rattle.zsv_message.proofs.Gathered.{gathers_all, gathers_none, starts_additionals}
+use Rattle.zsv_message.proofs.Gathered.{gathers_none, starts_additionals}
 use Rattle.zsv_message.proofs.additionals.Additionals.read.Goals as goal
 
 pub records-init : goal.records-init

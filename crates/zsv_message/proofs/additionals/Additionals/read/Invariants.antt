@@ -1,5 +1,5 @@
 use Rattle.std.proofs.Common.{◌≡◌}
-use Rattle.zsv_parts.specs.declared.header.OpCode.{OpCode}
+use Rattle.zsv_sections.specs.zsv_parts.declared.header.OpCode.{OpCode}
 use Rattle.zsv_message.specs.Gathering.{Gathers}
 use Rattle.zsv_message.specs.Messages.{is_update}
 use Rattle.zsv_message.proofs.additionals.Additionals.read.Given as goal

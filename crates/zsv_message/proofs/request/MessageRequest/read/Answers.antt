@@ -1,9 +1,10 @@
-use Rattle.std.proofs.Common.{◌≡◌, ℕ, List, refl, ap, subst, ◌∙◌, ◌⊎◌}
+use Rattle.std.proofs.Common.{ℕ, List, ap, subst, ◌∙◌, ◌⊎◌}
+use Rattle.std.specs.Prelude.{slice_get}
 use Rattle.std.proofs.lemmas.Result.{err_from_is_err_and}
-use Rattle.zst_record.specs.dnw_decoder.Reading.{IsWantOfMemory, Reading}
-use Rattle.zst_record.specs.declared.records.Record.{Record}
-use Rattle.zsv_message.specs.declared.placing.Placing.{Placing}
-use Rattle.zsv_message.specs.Sections.{RefusesSection, SectionAt}
+use Rattle.zsv_sections.specs.zst_record.dnw_decoder.Reading.{IsWantOfMemory, Reading}
+use Rattle.zsv_sections.specs.zst_record.declared.records.Record.{Record}
+use Rattle.zsv_sections.specs.declared.placing.Placing.{Placing}
+use Rattle.zsv_sections.specs.Sections.{RefusesSection, SectionAt}
 use Rattle.zsv_message.proofs.Whole.{additionals_err, answers_err, asks_of, authorities_err, before_of, is_message}
 use Rattle.zsv_message.proofs.request.MessageRequest.read.Goals as goal
 
@@ -73,5 +74,5 @@ returns c =
     let found = subst (λ (a : Placing). SectionAt a octets start h.counts.answers c.in_ok-answers.answers.items middle) at (rw first at c.in_ok-answers.ensures.ok) in
     let more = subst (λ (a : Placing). SectionAt a octets middle h.counts.authorities c.in_ok-authorities.authorities.items place) at (rw second at c.in_ok-authorities.ensures.ok) in
     let last = (rw same at c.in_ok-found.ensures.ok) h.metadata.op_code c.is_update-is_update.ensures in
-    is_message octets h c.in_ok-queries.queries c.in_ok-answers.answers.items c.in_ok-authorities.authorities.items c.in_ok-found.found.records.items c.in_ok-found.found.edns c.in_ok-found.found.signature
+    is_message octets h c.in_ok-queries.queries c.in_ok-answers.answers.items c.in_ok-authorities.authorities.items c.in_ok-found.found.records.items c.in_ok-found.found.edns (slice_get c.in_ok-found.found.signature.items 0)
     c.joined.result start middle place c.read-3.new.decoder.index asks found more last c.joined.ensures

@@ -1,7 +1,7 @@
-use Rattle.std.proofs.Common.{sym, ◌∙◌}
+use Rattle.std.proofs.Common.{sym}
 use Rattle.std.proofs.lemmas.Result.{err_from_is_err_and}
-use Rattle.zsv_message.proofs.Sectioning.{no_other_may, none_may}
-use Rattle.zsv_message.proofs.section.read_placed.Goals as goal
+use Rattle.zsv_sections.proofs.Sectioning.{no_other_may, none_may}
+use Rattle.zsv_sections.proofs.section.read_placed.Goals as goal
 
 pub returns-in_err-standing-clause-none : goal.returns-in_err-standing-clause-none
 returns-in_err-standing-clause-none c =

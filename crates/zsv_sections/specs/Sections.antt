@@ -1,6 +1,6 @@
 -- The records of a message, section by section, each where it may stand: RFC 1035, section 4.1.3;
 -- RFC 2136, section 2; RFC 2931, section 3; RFC 6891, section 6.1.1; RFC 8945, section 5.1.
-use Rattle.std.specs.Prelude.{◌≡◌, ℕ, ◌<◌, Bool, true, false, not, ◌&&◌, ◌||◌, ◌==◌, ◌⊎◌, List, [], ◌∷◌, length, Option, Some, None, if◌then◌else◌}
+use Rattle.std.specs.Prelude.{◌≡◌, ℕ, ◌<◌, Bool, not, ◌&&◌, ◌||◌, ◌==◌, ◌⊎◌, List, [], ◌∷◌, length, Option, Some, None, if◌then◌else◌}
 use Rattle.zst_record.specs.dnw_codes.declared.error.DecodeError.{DecodeError}
 use Rattle.zst_record.specs.dnw_codes.declared.error.DecodeError.TheVariants.{DuplicateEdns, EdnsNameNotRoot, InvalidEmptyRecord, RecordAfterSig, RecordNotInAdditionalSection}
 use Rattle.zst_record.specs.dnw_codes.declared.record_type.RecordType.TheVariants as kind
@@ -10,7 +10,7 @@ use Rattle.zst_record.specs.drd_rdata.Types.{is_update0, type_of}
 use Rattle.zst_record.specs.declared.records.Record.{Record}
 use Rattle.zst_record.specs.Reading.{RefusesRecordAt}
 use Rattle.zst_record.specs.Records.{RecordAt}
-use Rattle.zsv_message.specs.declared.placing.Placing.{Placing}
+use Rattle.zsv_sections.specs.declared.placing.Placing.{Placing}
 
 -- The options of a message (RFC 6891, section 6.1.1).
 abbrev pub is_opt : Record → Bool

@@ -1,8 +1,7 @@
-use Rattle.std.proofs.Common.{arith, inr, ◌∙◌, subst, ℕ, List}
+use Rattle.std.proofs.Common.{arith, inr, ◌∙◌}
 use Rattle.std.proofs.lemmas.Result.{err_from_is_err_and}
-use Rattle.zsv_message.specs.Sections.{RefusesPlaced}
-use Rattle.zsv_message.proofs.Sectioning.{ordinary_more, ordinary_none, ordinary_refused}
-use Rattle.zsv_message.proofs.section.read_section.Goals as goal
+use Rattle.zsv_sections.proofs.Sectioning.{ordinary_more, ordinary_none, ordinary_refused}
+use Rattle.zsv_sections.proofs.section.read_records.Goals as goal
 
 pub returns-in_err-standing-clause-refused : goal.returns-in_err-standing-clause-refused
 returns-in_err-standing-clause-refused c =

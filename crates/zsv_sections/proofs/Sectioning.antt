@@ -1,6 +1,6 @@
 -- Records one behind the other, each where it may stand: all lists that stand from one place on go through the same places.
-use Rattle.std.proofs.Common.{◌≡◌, ℕ, ◌+◌, ◌<◌, ◌≤◌, Bool, true, false, not, ◌&&◌, ◌||◌, List, [], ◌∷◌, ◌++◌, length, Option, Some, None, refl, sym, ap, subst, inl, inr, ◌∙◌, ◌⊎◌, arith, true≢false, length-append}
-use Rattle.std.specs.Prelude.{cond, ◌==◌}
+use Rattle.std.proofs.Common.{◌≡◌, ℕ, ◌<◌, ◌≤◌, Bool, true, false, not, ◌&&◌, ◌||◌, List, [], ◌∷◌, ◌++◌, length, Option, Some, None, refl, sym, ap, subst, inl, inr, ◌∙◌, ◌⊎◌, arith, true≢false, length-append}
+use Rattle.std.specs.Prelude.{cond}
 use Rattle.zst_record.specs.dnw_codes.RecordType.{same_record_type}
 use Rattle.zst_record.specs.dnw_codes.declared.error.DecodeError.{DecodeError}
 use Rattle.zst_record.specs.dnw_codes.declared.error.DecodeError.TheVariants.{DuplicateEdns, EdnsNameNotRoot, InvalidEmptyRecord, RecordAfterSig, RecordNotInAdditionalSection}
@@ -12,9 +12,9 @@ use Rattle.zst_record.specs.drd_rdata.Reading.{ReadsAs}
 use Rattle.zst_record.specs.drd_rdata.Types.{is_update0, type_of}
 use Rattle.zst_record.specs.declared.records.Record.{Record}
 use Rattle.zst_record.specs.Records.{RecordAt}
-use Rattle.zsv_message.specs.declared.placing.Placing.{Placing}
-use Rattle.zsv_message.specs.Sections.{PlacedRecords, RefusesPlaced, RefusesSection, SectionAt, is_opt, is_root, is_signature, is_tsig, misplaced, past, past_all}
-use Rattle.zsv_message.proofs.Alike.{are_alike, bare_alike}
+use Rattle.zsv_sections.specs.declared.placing.Placing.{Placing}
+use Rattle.zsv_sections.specs.Sections.{PlacedRecords, RefusesPlaced, RefusesSection, SectionAt, is_opt, is_root, is_signature, is_tsig, misplaced, past, past_all}
+use Rattle.zsv_sections.proofs.Alike.{are_alike, bare_alike}
 
 -- What tells whether a record is misplaced, and where the next one stands: its type, its owner, and whether it has data.
 type_opt : RecordType → Bool
@@ -98,6 +98,16 @@ continues at message place (x ∷ xs) next (y ∷ ys) end here there long =
       same = ap (λ (p : Placing). past_all p later.front) same ∙ later.same;
       there = later.there;
     }
+
+-- As many records end at one place.
+no_rest : (at : Placing) (message : List ℕ) (next : ℕ) (rest : List Record) (end : ℕ) → length rest ≡ 0 → PlacedRecords at message next rest end → end ≡ next
+no_rest at message next [] end none there = there
+no_rest at message next (r ∷ rs) end none there = absurd (omega (arith, none))
+
+pub section_end : (at : Placing) (message : List ℕ) (place n : ℕ) (a b : List Record) (e f : ℕ) → SectionAt at message place n a e → SectionAt at message place n b f → e ≡ f
+section_end at message place n a b e f p q =
+    let c = continues at message place b f a e q.0 p.0 (omega (arith, p.1, q.1)) in
+    no_rest (past_all at b) message f c.rest e (omega (arith, p.1, q.1, c.long, ap length c.whole, length-append c.front c.rest)) c.there
 
 -- The record that a longer list has at that place.
 pub record GoesOn (at : Placing) (message : List ℕ) (before : List Record) (next : ℕ) (all : List Record) (end : ℕ) : Type 0 where

@@ -4,7 +4,7 @@ ghost use Rattle.std.specs.Prelude.{◌≡◌, ◌≤◌, ◌⊎◌, ℕ, List, 
 ghost use Rattle.zst_record.specs.dnw_decoder.Reading.{IsWantOfMemory};
 ghost use Rattle.zst_record.specs.declared.records.Record.{Record as Entry};
 ghost use Rattle.zst_record.specs.Records.{RecordAt};
-ghost use Rattle.zsv_message.specs.Sections.{RefusesPlaced, RefusesSection, SectionAt, misplaced};
+ghost use Rattle.zsv_sections.specs.Sections.{RefusesPlaced, RefusesSection, SectionAt, misplaced};
 
 use crate::placing::Placing;
 use std::alloc::Global;
@@ -12,7 +12,7 @@ use std::mem;
 use zst_record::{BinDecodable, BinDecoder, DecodeError, Record};
 
 /// The record at the decoder's index, which may stand there.
-pub(crate) fn read_placed(
+pub fn read_placed(
     alloc: Global,
     decoder: &mut BinDecoder<'_>,
     at: Placing,
@@ -36,8 +36,8 @@ pub(crate) fn read_placed(
     }
 }
 
-/// So many records from the decoder's index on, which moves behind them, in a section before the additional one.
-pub(crate) fn read_section(
+// So many records from the decoder's index on, which moves behind them, in a section before the additional one.
+fn read_records(
     alloc: Global,
     decoder: &mut BinDecoder<'_>,
     at: Placing,
@@ -58,4 +58,26 @@ pub(crate) fn read_section(
         };
     }
     Ok(records)
+}
+
+/// So many records from the decoder's index on, which moves behind them, in a section before the additional one. Where
+/// none are counted, nothing is read.
+#[inline(always)]
+pub fn read_section(
+    alloc: Global,
+    decoder: &mut BinDecoder<'_>,
+    at: Placing,
+    count: u16,
+) -> Result<Vec<Record>, DecodeError>
+    requires { at.is_additional ≡ false }
+    ensures ok { IfOk result (λ records. SectionAt at decoder.old.octets decoder.old.index count records.items decoder.new.index) }
+    ensures same { decoder.new.octets ≡ decoder.old.octets }
+    ensures refused { IfErr result (λ e. IsWantOfMemory e ⊎ RefusesSection at decoder.old.octets decoder.old.index count e) }
+    ensures none { IfErr result (λ e. IsWantOfMemory e ⊎ ((records : List Entry) (end : ℕ)
+        → SectionAt at decoder.old.octets decoder.old.index count records end → ⊥)) }
+{
+    if count == 0 {
+        return Ok(Vec::new(alloc));
+    }
+    read_records(alloc, decoder, at, count)
 }

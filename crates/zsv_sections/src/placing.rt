@@ -2,32 +2,32 @@
 
 ghost use Rattle.std.specs.Prelude.{◌≡◌, ◌&&◌, ◌||◌, not};
 ghost use Rattle.zst_record.specs.drd_rdata.Types.{is_update0};
-ghost use Rattle.zsv_message.specs.Sections.{is_opt, is_root, is_signature, is_tsig, misplaced, past};
+ghost use Rattle.zsv_sections.specs.Sections.{is_opt, is_root, is_signature, is_tsig, misplaced, past};
 
 use zst_record::{DecodeError, RData, Record, RecordType};
 
 /// Where a record stands.
 #[derive(Clone, Copy)]
-pub(crate) struct Placing {
+pub struct Placing {
     /// Whether the message is an update.
-    pub(crate) is_update: bool,
+    pub is_update: bool,
     /// Whether the section is the additional one.
-    pub(crate) is_additional: bool,
+    pub is_additional: bool,
     /// Whether a signature stands before it.
-    pub(crate) is_signed: bool,
+    pub is_signed: bool,
     /// Whether options stand before it.
-    pub(crate) has_options: bool,
+    pub has_options: bool,
 }
 
 /// Whether a record holds the options of its message (RFC 6891 section 6.1.1).
-pub(crate) fn is_opt(standing: &Record) -> bool
+pub fn is_opt(standing: &Record) -> bool
     ensures { result ≡ is_opt standing.now }
 {
     standing.record_type() == RecordType::OPT
 }
 
 /// Whether a record signs its message by a shared key (RFC 8945 section 4.2).
-pub(crate) fn is_tsig(standing: &Record) -> bool
+pub fn is_tsig(standing: &Record) -> bool
     ensures { result ≡ is_tsig standing.now }
 {
     standing.record_type() == RecordType::TSIG
@@ -63,7 +63,7 @@ impl Placing {
     }
 
     /// Why a record may not stand here, if it may not.
-    pub(crate) fn misplaced(self, standing: &Record) -> Option<DecodeError>
+    pub fn misplaced(self, standing: &Record) -> Option<DecodeError>
         ensures { result ≡ misplaced self standing.now }
     {
         if self.is_signed {
@@ -82,7 +82,7 @@ impl Placing {
     }
 
     /// Behind a record.
-    pub(crate) fn past(self, standing: &Record) -> Placing
+    pub fn past(self, standing: &Record) -> Placing
         ensures { result ≡ past self standing.now }
     {
         Placing {

@@ -1,6 +1,6 @@
 use Rattle.std.proofs.Common.{◌≡◌, length}
-use Rattle.zsv_message.specs.Sections.{PlacedRecords}
-use Rattle.zsv_message.proofs.section.read_section.Given as goal
+use Rattle.zsv_sections.specs.Sections.{PlacedRecords}
+use Rattle.zsv_sections.proofs.section.read_records.Given as goal
 
 abbrev pub invariant-records : goal.invariant-records
 invariant-records l = record {

@@ -1,0 +1,2 @@
+pub use Rattle.zsv_sections.specs.Sections
+pub use Rattle.zsv_sections.specs.declared
