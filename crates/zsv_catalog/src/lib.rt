@@ -17,8 +17,10 @@ mod catalog;
 mod chains;
 mod reply;
 mod sink;
+mod suite;
 
 pub use catalog::Catalog;
 pub use chains::Chains;
 pub use reply::{lookup_by, reply_by};
 pub use sink::{ResponseHandler, SendFault, ServiceFault};
+pub use suite::{NoSuite, SignFault, TsigSuite};
