@@ -1,2 +1,4 @@
+mod Asked
 mod Chained
 mod Named
+mod Replied

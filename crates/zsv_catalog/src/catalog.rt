@@ -1,15 +1,17 @@
 //! A catalog of boxed handlers.
 
-ghost use Rattle.std.specs.Prelude.{◌≡◌, ℕ, false, List, [], IfErr, IfOk, None, OnErr, OnOk, is_some, option_copied, option_map};
+ghost use Rattle.std.specs.Prelude.{◌≡◌, ◌≤◌, ℕ, false, List, [], IfErr, IfOk, None, OnErr, OnOk, is_some, length, option_copied, option_map};
 ghost use Rattle.zst_key.specs.dnw_name.DomainName.{lowercase_name};
 ghost use Rattle.zsv_answer.specs.zsv_reply.Writing.{FitsOpCode};
 ghost use Rattle.zsv_answer.specs.zsv_reply.zsv_message.zsv_parts.declared.header.Header.{Header};
 ghost use Rattle.zsv_catalog.specs.Catalogs.{AnswersQuery, RepliesBy};
 ghost use Rattle.zsv_catalog.specs.Chains.{chain_at, chain_for, views_of, with_chain, without_chain};
+ghost use Rattle.zsv_catalog.specs.Serving.{Serves};
 ghost use Rattle.zsv_catalog.specs.Sinks.{HandsOver};
 
 use crate::chains::Chains;
 use crate::reply::{lookup_by, reply_by};
+use crate::serve::serve_by;
 use crate::sink::{ResponseHandler, ServiceFault, hand_over};
 use drd_types::NSIDPayload;
 use std::alloc::{AllocError, Global};
@@ -115,6 +117,32 @@ impl<S> Catalog<S> {
             protocol,
         )
     }
+
+    /// Serves one message. A message outside the request grammar gets no reply; each other gets one, within its transport's
+    /// limit, of what the chains give, where each record of that can be read back.
+    ///
+    /// A message that is itself a reply (QR set) is answered by a format error. Callers drop such datagrams, since two
+    /// servers that answer them would answer each other without end.
+    pub fn serve(
+        &self,
+        message: &[u8],
+        src: SocketAddr,
+        protocol: Protocol,
+    ) -> Result<Option<Vec<u8>>, AllocError>
+        ensures served { IfOk result (λ answer. Serves (views_of (λ handler. view handler) self.now.chains.chains.entries)
+            self.now.nsid message.now protocol (option_map (λ reply. reply.items) answer)) }
+        ensures refused { OnErr result (12 ≤ length message.now) }
+    {
+        serve_by(
+            &self.chains,
+            self.nsid.as_ref(),
+            self.alloc,
+            message,
+            src,
+            protocol,
+        )
+    }
+
     /// Answers a request: its reply is handed to a sink. What is told is the header of the reply as it was written; where the
     /// sink didn't take it, that the server failed. The moment is given in seconds since 1970; no reply needs it yet.
     pub fn handle_request<R: ResponseHandler>(
@@ -136,6 +164,7 @@ impl<S> Catalog<S> {
             Err(_) => Err(ServiceFault::OutOfMemory { applied: false }),
         }
     }
+
     /// Answers a query with these options, whatever its operation: its reply is handed to a sink, as `handle_request` does. The
     /// moment is given in seconds since 1970; no reply needs it yet.
     pub fn lookup<R: ResponseHandler>(

@@ -1,0 +1,1 @@
+pub use Rattle.zsv_reply.proofs.Written
