@@ -36,7 +36,7 @@ fn write_over(buffer: &mut Vec<u8>, place: usize, octets: &[u8]) -> Result<(), A
 }
 
 // Puts octets at a place, which is the end but where a place is filled or a buffer is written anew.
-#[inline]
+#[inline(always)]
 pub(crate) fn put_at(buffer: &mut Vec<u8>, place: usize, octets: &[u8]) -> Result<(), AllocError>
     requires { place ≤ length buffer.old.items }
     ensures ok { OnOk result (buffer.new.items ≡ written_at buffer.old.items place octets.now) }

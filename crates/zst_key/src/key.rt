@@ -157,6 +157,7 @@ impl Ord for NameKey {
 
     ghost matches_eq = { name_eq-by_cmp };
 
+    #[inline(always)]
     fn cmp(&self, other: &NameKey) -> Ordering {
         order(self.octets.as_slice(), other.octets.as_slice())
     }
