@@ -151,6 +151,7 @@ impl From<RecordType> for u16 {
 
     ghost from_gives = { λ record_type number. number ≡ record_type_number record_type };
 
+    #[inline(always)]
     fn from(record_type: RecordType) -> u16 {
         match record_type {
             RecordType::ZERO => 0,
@@ -204,6 +205,7 @@ impl PartialEq for RecordType {
 
     ghost laws = { Prim.search (comparing, rules) };
 
+    #[inline(always)]
     fn eq(&self, other: &RecordType) -> bool {
         u16::from(*self) == u16::from(*other)
     }
