@@ -1,0 +1,16 @@
+//! Many zones as they are served: messages, catalogs of handlers, lists of blocked names and access lists.
+//!
+//! This is the face of the crates below, and holds nothing of its own: requests, handlers and what a catalog answers from
+//! `zsv_catalog` and what it passes on, lists of blocked names from `zsv_blocklist`, access lists from `zsv_access`.
+#![tactic(auto)]
+
+pub use zsv_access::{AccessControl, IpNet};
+pub use zsv_blocklist::{BlocklistConfig, BlocklistError, BlocklistZoneHandler, ReadFaults};
+pub use zsv_catalog::{
+    A, AuthLookup, BlocklistConsultAction, Catalog, Chains, DNSClass, DecodeError, Edns, Label,
+    LookupControlFlow, LookupError, LookupOptions, LookupRecords, LowerName, MessageRequest,
+    MessageType, Metadata, NS, Name, NoSuite, OpCode, Protocol, Queries, Query, RData, Record,
+    RecordRef, RecordSet, RecordType, Request, ResponseCode, ResponseHandler, ResponseInfo, SOA,
+    SendFault, ServiceFault, SignFault, TSigResponseContext, TsigRecord, TsigSuite, TsigVerdict,
+    ZoneHandler, ZoneRequest, ZoneType, lookup_by, reply_by, serve_by,
+};
