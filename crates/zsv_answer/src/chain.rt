@@ -50,7 +50,8 @@ pub fn chain_response<'z, H: ZoneHandler>(
     request: &ZoneRequest<'_>,
 ) -> Result<Response<'z>, AllocError>
     requires { same_record_type request.now.query_type AXFR ≡ false }
-    ensures parts { IfOk result (λ r. ChainParts (map H.view handlers.now) metadata options.dnssec_ok request.now.name.now request.now.query_type (parts_of r)) }
+    ensures parts { IfOk result (λ r. ChainParts (map H.view handlers.now) metadata options.dnssec_ok
+        request.now.name.now request.now.query_type (parts_of r)) }
     ensures operation { IfOk result (λ r. r.metadata.op_code ≡ metadata.op_code) }
 {
     match answer_of(handlers, alloc, request, options)? {

@@ -132,5 +132,6 @@ abbrev pub AnswersQuery : List (DomainName × List View) → Message → Option 
     → List ℕ → Type 0
 AnswersQuery chains request edns transport info reply =
     (plain : ReplyParts)
-    × QueryParts chains request.metadata (asks_for_dnssec request.edns) request.asked.questions plain
+    × QueryParts chains request.metadata (asks_for_dnssec request.edns)
+    request.asked.questions plain
     × Sends plain edns request.asked transport info reply

@@ -60,7 +60,8 @@ fn question_response<'z, H: ZoneHandler>(
     options: LookupOptions,
     question: &Query,
 ) -> Result<Response<'z>, AllocError>
-    ensures parts { IfOk result (λ r. QuestionParts (views_of H.view chains.now.chains.entries) message.now.metadata options.dnssec_ok question.now (parts_of r)) }
+    ensures parts { IfOk result (λ r. QuestionParts (views_of H.view chains.now.chains.entries)
+        message.now.metadata options.dnssec_ok question.now (parts_of r)) }
     ensures operation { IfOk result (λ r. r.metadata.op_code ≡ message.now.metadata.op_code) }
 {
     let metadata = message.metadata();
@@ -83,7 +84,8 @@ fn query_response<'z, H: ZoneHandler>(
     src: SocketAddr,
     options: LookupOptions,
 ) -> Result<Response<'z>, AllocError>
-    ensures parts { IfOk result (λ r. QueryParts (views_of H.view chains.now.chains.entries) message.now.metadata options.dnssec_ok message.now.asked.questions (parts_of r)) }
+    ensures parts { IfOk result (λ r. QueryParts (views_of H.view chains.now.chains.entries)
+        message.now.metadata options.dnssec_ok message.now.asked.questions (parts_of r)) }
     ensures operation { IfOk result (λ r. r.metadata.op_code ≡ message.now.metadata.op_code) }
 {
     match message.queries().queries() {
@@ -236,7 +238,8 @@ pub fn lookup_by<H: ZoneHandler>(
     protocol: Protocol,
 ) -> Result<(ResponseInfo, Vec<u8>), AllocError>
     requires { FitsOpCode message.now.metadata }
-    ensures { IfOk result (λ sent. AnswersQuery (views_of H.view chains.now.chains.entries) message.now (option_copied edns.entry) protocol sent.0 sent.1.items) }
+    ensures { IfOk result (λ sent. AnswersQuery (views_of H.view chains.now.chains.entries)
+        message.now (option_copied edns.entry) protocol sent.0 sent.1.items) }
 {
     let options = LookupOptions::from_edns(message.edns());
     let response = query_response(chains, alloc, message, src, options)?;
