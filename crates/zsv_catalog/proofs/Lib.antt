@@ -1,4 +1,4 @@
-mod Asked
+pub mod Asked
 mod Chained
 mod Named
 mod Replied
