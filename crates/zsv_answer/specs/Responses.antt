@@ -63,8 +63,8 @@ Sends parts edns asked transport info reply =
     AllReadBack (with_edns edns parts)
     → IsEncoded info reply (with_edns edns parts) asked (limit_of transport edns)
 
--- What a response holds: of an answer that is forwarded the records that are shown, and nothing that
--- goes with them.
+-- What a response holds: of an answer that is forwarded the records that are shown, and nothing
+-- that goes with them.
 abbrev pub parts_of : Response → ReplyParts
 parts_of r =
     parts_with r.metadata r.is_referral (shown_if r.asked (answers_in r.found))
