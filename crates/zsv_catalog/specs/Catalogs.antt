@@ -1,4 +1,5 @@
--- What a catalog of zones answers to a request: RFC 1034, section 4.3.2; RFC 5001; RFC 6891, sections 6 and 7.
+-- What a catalog of zones answers to a request: RFC 1034, section 4.3.2; RFC 5001; RFC 6891,
+-- sections 6 and 7.
 use Rattle.std.specs.Prelude.{◌≡◌, ℕ, Bool, true, false, List, [], ◌∷◌, Option, Some, None, IsSome, map, nat_lt, ◌==◌, unwrap_or, option_map, if◌then◌else◌}
 use Rattle.std.specs.List.{list_any}
 use Rattle.drd_types.specs.drd_opt.Entries.{RawOption, raw_of, raw_option}

@@ -1,4 +1,5 @@
--- Chains of handlers, each under the name from which on it answers: RFC 1034, section 4.3.2, step 2.
+-- Chains of handlers, each under the name from which on it answers: RFC 1034, section 4.3.2,
+-- step 2.
 use Rattle.std.specs.Prelude.{List, map, Option, option_map}
 use Rattle.std.specs.BTreeMap.{insert_entry}
 use Rattle.std.specs.Map.{lookup, remove_entry}
