@@ -70,6 +70,18 @@ pub trait ZoneHandler: Drop {
     ) -> Result<LookupControlFlow<AuthLookup<'z>>, AllocError>
         ensures { IfOk result (λ flow. HandlerAnswers (view self.now) name.now record_type options flow) };
 
+    /// What `lookup` answers to the origin and a type.
+    fn lookup_origin<'z>(
+        &'z self,
+        alloc: Global,
+        record_type: RecordType,
+        options: LookupOptions,
+    ) -> Result<LookupControlFlow<AuthLookup<'z>>, AllocError>
+        ensures { IfOk result (λ flow. HandlerAnswers (view self.now) (origin_of (view self.now)) record_type options flow) }
+    {
+        self.lookup(alloc, self.origin(), record_type, options)
+    }
+
     /// What the handler makes of the last result of the other handlers in its chain. A stored zone gives it back, and so does
     /// a list of blocked names, but where it blocks the name and is enforced: then its own records take the result's place.
     // No body fits every handler: it would be proved for stored zones and lists alike, which answer differently.
@@ -208,6 +220,15 @@ impl ZoneHandler for Box<dyn ZoneHandler> {
         options: LookupOptions,
     ) -> Result<LookupControlFlow<AuthLookup<'z>>, AllocError> {
         (**self).lookup(alloc, name, record_type, options)
+    }
+
+    fn lookup_origin<'z>(
+        &'z self,
+        alloc: Global,
+        record_type: RecordType,
+        options: LookupOptions,
+    ) -> Result<LookupControlFlow<AuthLookup<'z>>, AllocError> {
+        (**self).lookup_origin(alloc, record_type, options)
     }
 
     fn consult<'z>(
