@@ -28,7 +28,7 @@ rest_yielded rest lender (r ∷ rs) is = (λ next step. absurd (cc step.0), λ x
 -- A response of such iterators holds what is left of each.
 pub rest_held : {A N S D : Type 0} (answers : A → List Record) (authorities : N → List Record) (soa : S → List Record) (additionals : D → List Record) (response : MessageResponse A N S D) →
     Holds (YieldsFirstRef answers) (λ r. r.now) (YieldsFirstRef authorities) (λ r. r.now) (YieldsFirstRef soa) (λ r. r.now) (YieldsFirstRef additionals) (λ r. r.now) response
-    (record { metadata = response.metadata; answers = answers response.answers; authorities = authorities response.authorities ++ soa response.soa; additionals = additionals response.additionals; edns = option_copied response.edns; signature = response.signature })
+    (record { metadata = response.metadata; answers = answers response.answers; authorities = authorities response.authorities ++ soa response.soa; additionals = additionals response.additionals; edns = option_copied response.edns; signature = option_copied response.signature })
 rest_held answers authorities soa additionals response = record {
   above = authorities response.authorities;
   behind = soa response.soa;
@@ -60,7 +60,7 @@ empty_held metadata queries edns response made = record {
   section = refl;
   additionals = none_yielded (λ (r : Bor Record). r.now) response.additionals made.additionals;
   edns = sym (ap (λ (r : MessageResponse (Once (Bor Record)) (Once (Bor Record)) (Once (Bor Record)) (Once (Bor Record))). option_copied r.edns) made.is);
-  signature = sym (ap (λ (r : MessageResponse (Once (Bor Record)) (Once (Bor Record)) (Once (Bor Record)) (Once (Bor Record))). r.signature) made.is);
+  signature = sym (ap (λ (r : MessageResponse (Once (Bor Record)) (Once (Bor Record)) (Once (Bor Record)) (Once (Bor Record))). option_copied r.signature) made.is);
 }
 
 -- One item in hand is yielded once, as what it lends.

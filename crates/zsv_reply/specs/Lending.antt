@@ -22,4 +22,4 @@ pub record Holds {A W N X S Y D Z : Type 0} (answers_give : A → Option W → A
   pub section : parts.authorities ≡ above ++ behind
   pub additionals : AlwaysYields additionals_give additional response.additionals parts.additionals
   pub edns : parts.edns ≡ option_copied response.edns
-  pub signature : parts.signature ≡ response.signature
+  pub signature : parts.signature ≡ option_copied response.signature

@@ -140,15 +140,15 @@ fn emit_edns(encoder: &mut BinEncoder<'_>, edns: Option<&Edns>) -> Result<Kept, 
 // Writes a signature, if there is one and it fits.
 fn emit_signature(
     encoder: &mut BinEncoder<'_>,
-    signature: &Option<TsigRecord>,
+    signature: Option<&TsigRecord>,
 ) -> Result<Kept, ProtoError>
     requires in_full { WritesInFull (state encoder.old) }
     requires small { (state encoder.old).maximum < 2 ^ 16 }
     ensures same_reference { encoder.new.buffer.ghost_name ≡ encoder.old.buffer.ghost_name }
     ensures writes { Writes (state encoder.old) (state encoder.new) }
-    ensures ok { IfOk result (λ kept. AllByRecursion TsigReadsBack (option_to_list signature.now)
-        → EmitsFront TsigRecordAt tsig_plain (option_to_list signature.now) kept (state encoder.old) (state encoder.new)) }
-    ensures cause { IfErr result (λ e. AllByRecursion TsigReadsBack (option_to_list signature.now) → IsMemory e) }
+    ensures ok { IfOk result (λ kept. AllByRecursion TsigReadsBack (option_to_list (option_copied signature.entry))
+        → EmitsFront TsigRecordAt tsig_plain (option_to_list (option_copied signature.entry)) kept (state encoder.old) (state encoder.new)) }
+    ensures cause { IfErr result (λ e. AllByRecursion TsigReadsBack (option_to_list (option_copied signature.entry)) → IsMemory e) }
 {
     match signature {
         None => Ok(Kept {
@@ -161,11 +161,12 @@ fn emit_signature(
 
 /// Writes as many additional records as fit, the options of EDNS behind them, and the signature last (RFC 6891 section
 /// 6.1.1, RFC 8945 section 5.1). All are counted among the additional records.
+#[inline(always)]
 pub(crate) fn emit_additionals<I: Iterator>(
     encoder: &mut BinEncoder<'_>,
     records: I,
     edns: Option<&Edns>,
-    signature: &Option<TsigRecord>,
+    signature: Option<&TsigRecord>,
 ) -> Result<Kept, ProtoError>
 where
     I::Item: LendsRecord,
@@ -177,12 +178,12 @@ where
     ensures ok { IfOk result
         (λ kept. (lent : List Record) → AlwaysYields I.next_gives I.Item.lent records lent → AllByRecursion ReadsBackAlone lent
         → AllByRecursion EdnsReadsBack (option_to_list (option_copied edns.entry))
-        → AllByRecursion TsigReadsBack (option_to_list signature.now)
-        → EmitsAdditionals lent (option_copied edns.entry) signature.now kept (state encoder.old) (state encoder.new)) }
+        → AllByRecursion TsigReadsBack (option_to_list (option_copied signature.entry))
+        → EmitsAdditionals lent (option_copied edns.entry) (option_copied signature.entry) kept (state encoder.old) (state encoder.new)) }
     ensures cause { IfErr result
         (λ e. (lent : List Record) → AlwaysYields I.next_gives I.Item.lent records lent → AllByRecursion ReadsBackAlone lent
         → AllByRecursion EdnsReadsBack (option_to_list (option_copied edns.entry))
-        → AllByRecursion TsigReadsBack (option_to_list signature.now) → IsMemory e) }
+        → AllByRecursion TsigReadsBack (option_to_list (option_copied signature.entry)) → IsMemory e) }
 {
     let kept = emit_front(encoder, records)?;
     let options = emit_edns(encoder, edns)?;

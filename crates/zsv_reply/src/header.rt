@@ -20,6 +20,7 @@ fn is_truncated(answers: Kept, authorities: Kept, additionals: Kept) -> bool
 
 /// The header over so many questions and what is kept of each list, as it is written: it says whether something was left
 /// out, and has the last four bits of the response code.
+#[inline(always)]
 pub(crate) fn header_over(
     metadata: Metadata,
     queries: u16,

@@ -31,8 +31,8 @@ pub struct MessageResponse<'q, 'm, A, N, S, D> {
     // What stands as authority behind the authorities, as the start of a zone does.
     pub(crate) soa: S,
     pub(crate) additionals: D,
-    // The signature, which stands last.
-    pub(crate) signature: Option<TsigRecord>,
+    // The signature, which stands last. It is lent, since it is large and few replies have one.
+    pub(crate) signature: Option<&'q TsigRecord>,
     // The options of EDNS, which stand behind the additional records.
     pub(crate) edns: Option<&'q Edns>,
 }
@@ -70,8 +70,8 @@ impl<'q, 'm, A, N, S, D> MessageResponse<'q, 'm, A, N, S, D> {
     }
 
     /// Sets the signature, which stands behind all other records (RFC 8945 section 5.1).
-    pub fn set_signature(&mut self, signature: TsigRecord)
-        ensures { self.new ≡ record self.old { signature = Some signature } }
+    pub fn set_signature(&mut self, signature: &'q TsigRecord)
+        ensures { self.new ≡ record self.old { signature = Some signature.entry } }
     {
         self.signature = Some(signature);
     }
@@ -118,7 +118,7 @@ where
         encoder.emit_vec(queries.as_bytes())?;
         let answers = emit_front(encoder, self.answers)?;
         let authorities = emit_section(encoder, self.authorities, self.soa)?;
-        let additionals = emit_additionals(encoder, self.additionals, self.edns, &self.signature)?;
+        let additionals = emit_additionals(encoder, self.additionals, self.edns, self.signature)?;
         let count = queries.len() as u16;
         let header = header_over(self.metadata, count, answers, authorities, additionals);
         place.replace(encoder, header)?;

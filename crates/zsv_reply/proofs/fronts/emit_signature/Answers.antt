@@ -1,7 +1,7 @@
 use Rattle.std.proofs.Common.{[], ◌∷◌, Bor, subst, sym}
 use Rattle.std.specs.Iterator.Adapters.{once_steps}
 use Rattle.std.specs.List.{AllByRecursion}
-use Rattle.std.specs.Prelude.{Option, option_to_list}
+use Rattle.std.specs.Prelude.{Option, option_copied, option_to_list}
 use Rattle.zsv_request.specs.zsv_message.zst_record.dnw_encoder.Encoders.{state}
 use Rattle.zsv_request.specs.zsv_message.zsv_parts.SignatureRecords.{EmitsTsigRecord, RefusesTsigRecord, TsigReadsBack, TsigRecordAt}
 use Rattle.zsv_request.specs.zsv_message.zsv_parts.declared.tsig.TsigRecord.{TsigRecord}
@@ -17,15 +17,15 @@ pub returns-in-Some-clause-ok : goal.returns-in-Some-clause-ok
 returns-in-Some-clause-ok c =
     let old = state c.args.encoder.now in
     let new = state c.emit_all.new.self in
-    let yields = once_yielded (λ (lender : Bor TsigRecord). lender.now) c.once.result _ c.once.ensures.item in
-    if_ok c.kept_of.result (λ kept emits back. subst (λ (s : Option TsigRecord). EmitsFront TsigRecordAt tsig_plain (option_to_list s) kept old new) (sym c.in-Some.is)
-    (emits (c.in-Some.signature ∷ []) yields (subst (λ (s : Option TsigRecord). AllByRecursion TsigReadsBack (option_to_list s)) c.in-Some.is back)))
+    let yields = once_yielded (λ (lender : Bor TsigRecord). lender.now) c.once.result c.in-Some.signature c.once.ensures.item in
+    if_ok c.kept_of.result (λ kept emits back. subst (λ (s : Option (Bor TsigRecord)). EmitsFront TsigRecordAt tsig_plain (option_to_list (option_copied s)) kept old new) (sym c.in-Some.is)
+    (emits (c.in-Some.signature.now ∷ []) yields (subst (λ (s : Option (Bor TsigRecord)). AllByRecursion TsigReadsBack (option_to_list (option_copied s))) c.in-Some.is back)))
     (front_kept TsigRecordAt tsig_plain TsigReadsBack EmitsTsigRecord RefusesTsigRecord signature_stands once_steps (λ (lender : Bor TsigRecord). lender.now) _ _ (λ s old new one. one) (λ s old e new refused. refused) c.once.result old new c.emit_all.result c.requires.in_full c.requires.small c.emit_all.ensures.ok c.emit_all.ensures.stopped c.kept_of.result c.kept_of.ensures.ok)
 
 pub returns-in-Some-clause-cause : goal.returns-in-Some-clause-cause
 returns-in-Some-clause-cause c =
     let old = state c.args.encoder.now in
     let new = state c.emit_all.new.self in
-    let yields = once_yielded (λ (lender : Bor TsigRecord). lender.now) c.once.result _ c.once.ensures.item in
-    if_err c.kept_of.result (λ e memory back. memory (c.in-Some.signature ∷ []) yields (subst (λ (s : Option TsigRecord). AllByRecursion TsigReadsBack (option_to_list s)) c.in-Some.is back))
+    let yields = once_yielded (λ (lender : Bor TsigRecord). lender.now) c.once.result c.in-Some.signature c.once.ensures.item in
+    if_err c.kept_of.result (λ e memory back. memory (c.in-Some.signature.now ∷ []) yields (subst (λ (s : Option (Bor TsigRecord)). AllByRecursion TsigReadsBack (option_to_list (option_copied s))) c.in-Some.is back))
     (front_refused TsigRecordAt tsig_plain TsigReadsBack EmitsTsigRecord RefusesTsigRecord signature_stands once_steps (λ (lender : Bor TsigRecord). lender.now) _ _ (λ s old new one. one) (λ s old e new refused. refused) c.once.result old new c.emit_all.result c.requires.in_full c.requires.small c.emit_all.ensures.ok c.emit_all.ensures.stopped c.kept_of.result c.kept_of.ensures.cause)

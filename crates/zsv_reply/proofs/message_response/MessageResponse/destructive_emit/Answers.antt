@@ -1,6 +1,6 @@
 use Rattle.std.proofs.Common.{◌≡◌, ℕ, ◌+◌, ◌∙◌, ◌||◌, List, length, inl, ap, arith, subst, sym}
 use Rattle.std.specs.List.{AllByRecursion}
-use Rattle.std.specs.Prelude.{Option, option_to_list}
+use Rattle.std.specs.Prelude.{Option, option_copied, option_to_list}
 use Rattle.zsv_request.specs.zsv_message.zst_record.dnw_encoder.Encoders.{state}
 use Rattle.zsv_request.proofs.zsv_message_lemmas.zst_record_lemmas.dnw_encoder_lemmas.PlaceLaws.{opens_open}
 use Rattle.zsv_request.specs.zsv_message.zst_record.Records.{ReadsBackAlone}
@@ -76,7 +76,7 @@ returns-clause-ok g c parts holds alone =
           (c.in_ok-authorities.ensures.ok holds.above holds.behind holds.authorities holds.soa (first_back holds.above holds.behind both) (later_back holds.above holds.behind both));
       authorities_writes = c.in_ok-authorities.ensures.writes;
       additionals_front = subst (λ (s : Option TsigRecord). EmitsAdditionals parts.additionals parts.edns s additionals vouched told) (sym holds.signature)
-          (subst (λ (e : Option Edns). EmitsAdditionals parts.additionals e c.args.self.signature additionals vouched told) (sym holds.edns)
+          (subst (λ (e : Option Edns). EmitsAdditionals parts.additionals e (option_copied c.args.self.signature) additionals vouched told) (sym holds.edns)
           (c.in_ok-additionals.ensures.ok parts.additionals holds.additionals alone.additionals options_back signature_back));
       additionals_writes = c.in_ok-additionals.ensures.writes;
       header = subst (λ (p : ℕ). Fills p (header_octets header) told filled) front c.in_ok-replace.ensures.ok;
