@@ -31,7 +31,7 @@ fn at_origin<'z, H: ZoneHandler>(
 ) -> Result<AuthLookup<'z>, AllocError>
     ensures { IfOk result (λ found. AtOrigin (H.view handler.now) options.dnssec_ok record_type (answers_in found)) }
 {
-    let flow = handler.lookup(alloc, handler.origin(), record_type, options)?;
+    let flow = handler.lookup_origin(alloc, record_type, options)?;
     Ok(found_by(flow))
 }
 

@@ -10,11 +10,13 @@ pub use zst_request::{
     ZoneHandler, ZoneRequest, ZoneType,
 };
 pub use zsv_reply::{
-    A, DNSClass, DecodeError, Edns, Label, MessageRequest, MessageResponseBuilder, MessageType,
-    Metadata, NS, Name, OpCode, Queries, Query, RData, Record, RecordSet, RecordType, ResponseCode,
-    ResponseInfo, SOA, TsigRecord,
+    A, DNSClass, DecodeError, Edns, Label, MessageRequest, MessageResponse, MessageResponseBuilder,
+    MessageType, Metadata, NS, Name, OpCode, Queries, Query, RData, Record, RecordSet, RecordType,
+    ResponseCode, ResponseInfo, SOA, TsigRecord,
 };
-pub use zsv_request::{Header, HeaderCounts, Protocol, Request};
+pub use zsv_request::{
+    Header, HeaderCounts, LowerQuery, Protocol, Request, RequestInfo, Tsig, UpdateRequest,
+};
 
 mod authoritative;
 mod chain;
