@@ -58,6 +58,16 @@ impl<K: Drop> ZoneHandler for InMemoryZoneHandler<K> {
         self.lookup(alloc, name, record_type, options)
     }
 
+    /// It makes no key for the origin.
+    fn lookup_origin<'z>(
+        &'z self,
+        alloc: Global,
+        record_type: RecordType,
+        options: LookupOptions,
+    ) -> Result<LookupControlFlow<AuthLookup<'z>>, AllocError> {
+        self.lookup_origin(alloc, record_type, options)
+    }
+
     /// The last result: a stored zone replaces none.
     fn consult<'z>(
         &'z self,
