@@ -1,2 +1,3 @@
 pub mod AccessLaws
 mod PrefixLemmas
+mod NoNetworks

@@ -1,5 +1,6 @@
 //! Which addresses may ask a server.
-ghost use Rattle.std.specs.Prelude.{◌≡◌, ◌≤◌, [], OnOk, OnErr};
+ghost use Rattle.std.specs.Prelude.{◌≡◌, ◌≤◌, ◌&&◌, [], OnOk, OnErr};
+ghost use Rattle.zsv_access.specs.Prefixes.{is_empty};
 ghost use Rattle.zsv_access.specs.Access.{allows, is_allowed, network_prefix, no_networks, with_allowed, with_denied};
 
 use crate::prefix_set::{Prefix, PrefixSet};
@@ -100,11 +101,21 @@ impl InnerAccessControl {
         }
     }
 
+    // Whether there are no networks.
+    fn is_empty(&self) -> bool
+        ensures { result ≡ (is_empty self.now.allow && is_empty self.now.deny) }
+    {
+        self.allow.is_empty() && self.deny.is_empty()
+    }
+
     // Whether an address of `width` bits may ask.
     fn allow(&self, width: u8, addr: u128) -> bool
         requires { width ≤ 128 }
         ensures { result ≡ allows self.now width addr }
     {
+        if self.is_empty() {
+            return true;
+        }
         match (
             self.deny.longest(width, addr),
             self.allow.longest(width, addr),
