@@ -7,10 +7,12 @@
 pub use zsv_access::{AccessControl, IpNet};
 pub use zsv_blocklist::{BlocklistConfig, BlocklistError, BlocklistZoneHandler, ReadFaults};
 pub use zsv_catalog::{
-    A, AuthLookup, BlocklistConsultAction, Catalog, Chains, DNSClass, DecodeError, Edns, Label,
-    LookupControlFlow, LookupError, LookupOptions, LookupRecords, LowerName, MessageRequest,
-    MessageType, Metadata, NS, Name, NoSuite, OpCode, Protocol, Queries, Query, RData, Record,
-    RecordRef, RecordSet, RecordType, Request, ResponseCode, ResponseHandler, ResponseInfo, SOA,
-    SendFault, ServiceFault, SignFault, TSigResponseContext, TsigRecord, TsigSuite, TsigVerdict,
-    ZoneHandler, ZoneRequest, ZoneType, lookup_by, reply_by, serve_by,
+    A, AuthLookup, BlocklistConsultAction, Catalog, Chains, DNSClass, DecodeError, Edns, Header,
+    HeaderCounts, Label, LookupControlFlow, LookupError, LookupOptions, LookupRecords, LowerName,
+    LowerQuery, MessageRequest, MessageResponse, MessageResponseBuilder, MessageType, Metadata, NS,
+    NSIDPayload, Name, NoSuite, OpCode, Protocol, Queries, Query, RData, Record, RecordRef,
+    RecordSet, RecordType, Request, RequestInfo, ResponseCode, ResponseHandler, ResponseInfo, SOA,
+    SendFault, ServiceFault, SignFault, TSigResponseContext, Tsig, TsigRecord, TsigSuite,
+    TsigVerdict, UpdateRequest, ZoneHandler, ZoneRequest, ZoneType, error_response, lookup_by,
+    reply_by, serve_by,
 };

@@ -1,11 +1,16 @@
 -- The chain for a name, by handlers and by what they mean.
 use Rattle.std.proofs.Common.{◌≡◌, ◌∙◌, Vec, Global, refl, sym, ap, map}
 use Rattle.std.specs.Prelude.{Bool, true, false, cond, List, [], ◌∷◌, Option, Some, None, option_map}
-use Rattle.std.specs.Ordering.{is_eq}
+use Rattle.std.specs.BTreeMap.{insert_entry}
+use Rattle.std.specs.List.{AllByRecursion}
+use Rattle.std.specs.Map.{remove_entry}
+use Rattle.std.specs.Ordering.{is_eq, match_ordering}
+use Rattle.std.specs.declared.cmp.Ordering.{Ordering}
+use Rattle.std.specs.declared.cmp.Ordering.TheVariants.{Less, Equal, Greater}
 use Rattle.zst_key.specs.Ancestors.{nearest_from, or_else}
 use Rattle.zst_key.specs.dnw_name.DomainName.{DomainName, domain_name, lowercase_name, name_cmp}
 use Rattle.zsv_answer.specs.zst_request.Views.{View}
-use Rattle.zsv_catalog.specs.Chains.{chain_at, chain_for, views_of}
+use Rattle.zsv_catalog.specs.Chains.{chain_at, chain_for, views_of, with_chain, without_chain}
 
 -- ---- functions over what is found
 map_cond : {X Y : Type 0} (f : X → Y) (b : Bool) (x : X) (o : Option X) (p : Option Y) → p ≡ option_map f o → cond b (Some (f x)) p ≡ option_map f (cond b (Some x) o)
@@ -55,3 +60,62 @@ pub found_views : {H : Type 0} (view : H → View) (chains : List (DomainName ×
     → chain_for (views_of view chains) name ≡ option_map (map view) found
 found_views view chains name found is =
     for_views view chains name ∙ sym (map_twice (λ (chain : Vec _ Global). chain.items) (map view) (chain_for chains name)) ∙ ap (option_map (map view)) (sym is)
+
+-- ---- chains that are put in or taken out, and what they mean
+map_ordering : {X Y : Type 0} (f : X → Y) (o : Ordering) (a b c : X) → f (match_ordering o a b c) ≡ match_ordering o (f a) (f b) (f c)
+map_ordering f Less a b c = refl
+map_ordering f Equal a b c = refl
+map_ordering f Greater a b c = refl
+
+inserted_views : {H : Type 0} (view : H → View) (chains : List (DomainName × Vec H Global)) (key : DomainName) (chain : Vec H Global)
+    → views_of view (insert_entry name_cmp chains key chain) ≡ insert_entry name_cmp (views_of view chains) key (views view chain)
+inserted_views view [] key chain = refl
+inserted_views view (e ∷ chains) key chain =
+    map_ordering (views_of view) (name_cmp key e.0) ((key, chain) ∷ e ∷ chains) ((e.0, chain) ∷ chains) (e ∷ insert_entry name_cmp chains key chain)
+    ∙ ap (match_ordering (name_cmp key e.0) ((key, views view chain) ∷ views_of view (e ∷ chains)) ((e.0, views view chain) ∷ views_of view chains))
+    (ap (λ (es : List (DomainName × List View)). (e.0, views view e.1) ∷ es) (inserted_views view chains key chain))
+
+-- A chain that is put in.
+pub with_views : {H : Type 0} (view : H → View) (chains : List (DomainName × Vec H Global)) (name : DomainName) (chain : Vec H Global)
+    → views_of view (with_chain chains name chain) ≡ with_chain (views_of view chains) name (map view chain.items)
+with_views view chains name chain = inserted_views view chains (lowercase_name name) chain
+
+kept_or_not : {X Y : Type 0} (f : List X → List Y) (b : Bool) (es rest : List X) → f (cond b es rest) ≡ cond b (f es) (f rest)
+kept_or_not f true es rest = refl
+kept_or_not f false es rest = refl
+
+removed_views : {H : Type 0} (view : H → View) (chains : List (DomainName × Vec H Global)) (test : DomainName → Bool)
+    → views_of view (remove_entry test chains) ≡ remove_entry test (views_of view chains)
+removed_views view [] test = refl
+removed_views view (e ∷ chains) test =
+    kept_or_not (views_of view) (test e.0) chains (e ∷ remove_entry test chains)
+    ∙ ap (λ (es : List (DomainName × List View)). cond (test e.0) (views_of view chains) ((e.0, views view e.1) ∷ es)) (removed_views view chains test)
+
+-- A chain that is taken out.
+pub without_views : {H : Type 0} (view : H → View) (chains : List (DomainName × Vec H Global)) (name : DomainName)
+    → views_of view (without_chain chains name) ≡ without_chain (views_of view chains) name
+without_views view chains name = removed_views view chains (λ other. is_eq (name_cmp (lowercase_name name) other))
+
+-- ---- what holds of each chain
+module _ {X : Type 0} (P : X → Type 0) where
+  one_of_three : (o : Ordering) (a b c : List (DomainName × X)) → AllByRecursion (λ (e : DomainName × X). P e.1) a → AllByRecursion (λ (e : DomainName × X). P e.1) b → AllByRecursion (λ (e : DomainName × X). P e.1) c
+      → AllByRecursion (λ (e : DomainName × X). P e.1) (match_ordering o a b c)
+  one_of_three Less a b c first second third = first
+  one_of_three Equal a b c first second third = second
+  one_of_three Greater a b c first second third = third
+
+  pub all_inserted : (chains : List (DomainName × X)) (key : DomainName) (chain : X) → AllByRecursion (λ (e : DomainName × X). P e.1) chains → P chain
+      → AllByRecursion (λ (e : DomainName × X). P e.1) (insert_entry name_cmp chains key chain)
+  all_inserted [] key chain all new = (new, tt)
+  all_inserted (e ∷ chains) key chain all new =
+      one_of_three (name_cmp key e.0) ((key, chain) ∷ e ∷ chains) ((e.0, chain) ∷ chains) (e ∷ insert_entry name_cmp chains key chain)
+      (new, (all.0, all.1)) (new, all.1) (all.0, all_inserted chains key chain all.1 new)
+
+  one_of_two : (b : Bool) (a c : List (DomainName × X)) → AllByRecursion (λ (e : DomainName × X). P e.1) a → AllByRecursion (λ (e : DomainName × X). P e.1) c → AllByRecursion (λ (e : DomainName × X). P e.1) (cond b a c)
+  one_of_two true a c first second = first
+  one_of_two false a c first second = second
+
+  pub all_removed : (chains : List (DomainName × X)) (test : DomainName → Bool) → AllByRecursion (λ (e : DomainName × X). P e.1) chains
+      → AllByRecursion (λ (e : DomainName × X). P e.1) (remove_entry test chains)
+  all_removed [] test all = tt
+  all_removed (e ∷ chains) test all = one_of_two (test e.0) chains (e ∷ remove_entry test chains) all.1 (all.0, all_removed chains test all.1)

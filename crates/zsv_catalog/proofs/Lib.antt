@@ -1,4 +1,9 @@
 pub mod Asked
-mod Chained
+mod BlockedBack
+pub mod Chained
 mod Named
-mod Replied
+pub mod PartsBack
+pub mod Replied
+mod ResolvedBack
+mod ShownBack
+pub mod zsv_answer_lemmas

@@ -4,7 +4,7 @@ use Rattle.std.specs.Prelude.{Bool, true, false, cond, ◌||◌, ◌==◌, List,
 use Rattle.std.specs.List.{filter, list_any}
 use Rattle.drd_types.specs.declared.EdnsCode.TheVariants.{NSID}
 use Rattle.drd_types.specs.declared.EdnsOption.TheVariants as option_with
-use Rattle.drd_types.specs.drd_opt.Entries.{Entry, has_code, options_of, raw_of, raw_option}
+use Rattle.drd_types.specs.drd_opt.Entries.{Entry, has_code, options_of, raw_of}
 use Rattle.zsv_answer.specs.zsv_reply.zsv_message.zst_edns.declared.edns.Edns.{Edns}
 use Rattle.zsv_catalog.specs.Catalogs.{asks_for_nsid}
 
@@ -25,6 +25,6 @@ pub asks_told : {X : Type 0} (f : X → _) (asked : Edns) (found : Option X) (b 
 asks_told f asked found b is told = sym (asks_first asked.options.options.items) ∙ ap is_some (sym is) ∙ mapped f found ∙ told
 
 -- An identifier behind no options is the only one.
-pub named : (copy payload : List ℕ) (old new : List Entry) → new ≡ old ++ (NSID, option_with.NSID copy) ∷ [] → old ≡ [] → copy ≡ payload → map raw_of new ≡ raw_option 3 payload ∷ []
+pub named : (copy payload : List ℕ) (old new : List Entry) → new ≡ old ++ (NSID, option_with.NSID copy) ∷ [] → old ≡ [] → copy ≡ payload → new ≡ (NSID, option_with.NSID payload) ∷ []
 named copy payload old new put none same =
-    ap (map raw_of) (put ∙ ap (λ (es : List Entry). es ++ (NSID, option_with.NSID copy) ∷ []) none) ∙ ap (λ (octets : List ℕ). raw_option 3 octets ∷ []) same
+    put ∙ ap (λ (es : List Entry). es ++ (NSID, option_with.NSID copy) ∷ []) none ∙ ap (λ (octets : List ℕ). (NSID, option_with.NSID octets) ∷ []) same

@@ -87,7 +87,7 @@ kind_id : (chains : List (DomainName × List View)) (m : Metadata) (d : Bool) (k
 kind_id chains m d messages.Response qs parts is = ap id_of is
 kind_id chains m d messages.Query qs parts is = operation_id chains m d m.op_code qs parts is
 
-plain_id : (chains : List (DomainName × List View)) (request : Message) (parts : ReplyParts) → PlainParts chains request parts → id_of parts ≡ request.metadata.id
+pub plain_id : (chains : List (DomainName × List View)) (request : Message) (parts : ReplyParts) → PlainParts chains request parts → id_of parts ≡ request.metadata.id
 plain_id chains request parts is = by (has_other_version request.edns) refl
   where
     by : (b : Bool) → has_other_version request.edns ≡ b → id_of parts ≡ request.metadata.id

@@ -1,8 +1,10 @@
 -- What a catalog of zones answers to a request: RFC 1034, section 4.3.2; RFC 5001; RFC 6891,
 -- sections 6 and 7.
-use Rattle.std.specs.Prelude.{◌≡◌, ℕ, Bool, true, false, List, [], ◌∷◌, Option, Some, None, IsSome, map, nat_lt, ◌==◌, unwrap_or, option_map, if◌then◌else◌}
+use Rattle.std.specs.Prelude.{◌≡◌, ℕ, Bool, true, false, List, [], ◌∷◌, Option, Some, None, IsSome, nat_lt, ◌==◌, unwrap_or, option_map, if◌then◌else◌}
 use Rattle.std.specs.List.{list_any}
-use Rattle.drd_types.specs.drd_opt.Entries.{RawOption, raw_of, raw_option}
+use Rattle.drd_types.specs.declared.EdnsCode.TheVariants.{NSID}
+use Rattle.drd_types.specs.declared.EdnsOption.TheVariants as option_with
+use Rattle.drd_types.specs.drd_opt.Entries.{Entry, raw_of}
 use Rattle.zsv_answer.specs.Parts.{ChainParts}
 use Rattle.zsv_answer.specs.Responses.{Sends, error_parts, with_edns}
 use Rattle.zsv_answer.specs.zst_request.Views.{View}
@@ -81,10 +83,10 @@ pub record PlainParts (chains : List (DomainName × List View)) (request : Messa
 abbrev pub asks_for_nsid : Edns → Bool
 asks_for_nsid edns = list_any (λ entry. (raw_of entry).code == 3) edns.options.options.items
 
-abbrev pub identifier : Edns → Option (List ℕ) → List RawOption
+abbrev pub identifier : Edns → Option (List ℕ) → List Entry
 identifier asked None = []
 identifier asked (Some payload) =
-    if asks_for_nsid asked then raw_option 3 payload ∷ [] else []
+    if asks_for_nsid asked then (NSID, option_with.NSID payload) ∷ [] else []
 
 -- The options of a reply (RFC 6891, sections 6.1.3 and 6.2.3; RFC 3225, section 3): the upper bits
 -- of its code, version 0, DO as it was asked, no other flag, the payload as it was asked, which is
@@ -96,7 +98,7 @@ pub record IsReplyEdns (asked : Edns) (nsid : Option (List ℕ)) (code : Respons
   pub dnssec_ok : edns.flags.dnssec_ok ≡ asked.flags.dnssec_ok
   pub other_flags : edns.flags.z ≡ 0
   pub max_payload : edns.max_payload ≡ asked.max_payload
-  pub options : map raw_of edns.options.options.items ≡ identifier asked nsid
+  pub options : edns.options.options.items ≡ identifier asked nsid
 
 -- They are there where the request has some (RFC 6891, section 6.1.1).
 abbrev pub AnswersEdns : Option Edns → Option (List ℕ) → ResponseCode → Option Edns → Type 0

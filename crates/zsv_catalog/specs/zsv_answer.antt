@@ -5,3 +5,4 @@ pub use Rattle.zsv_answer.specs.Responses
 pub use Rattle.zsv_answer.specs.Shown
 pub use Rattle.zsv_answer.specs.zst_request
 pub use Rattle.zsv_answer.specs.zsv_reply
+pub use Rattle.zsv_answer.specs.zsv_request

@@ -5,12 +5,14 @@
 //! be of any kind.
 #![tactic(auto)]
 
+pub use drd_types::NSIDPayload;
 pub use zsv_answer::{
-    A, AuthLookup, BlocklistConsultAction, DNSClass, DecodeError, Edns, Label, LookupControlFlow,
-    LookupError, LookupOptions, LookupRecords, LowerName, MessageRequest, MessageType, Metadata,
-    NS, Name, OpCode, Protocol, Queries, Query, RData, Record, RecordRef, RecordSet, RecordType,
-    Request, ResponseCode, ResponseInfo, SOA, TSigResponseContext, TsigRecord, TsigVerdict,
-    ZoneHandler, ZoneRequest, ZoneType,
+    A, AuthLookup, BlocklistConsultAction, DNSClass, DecodeError, Edns, Header, HeaderCounts,
+    Label, LookupControlFlow, LookupError, LookupOptions, LookupRecords, LowerName, LowerQuery,
+    MessageRequest, MessageResponse, MessageResponseBuilder, MessageType, Metadata, NS, Name,
+    OpCode, Protocol, Queries, Query, RData, Record, RecordRef, RecordSet, RecordType, Request,
+    RequestInfo, ResponseCode, ResponseInfo, SOA, TSigResponseContext, Tsig, TsigRecord,
+    TsigVerdict, UpdateRequest, ZoneHandler, ZoneRequest, ZoneType, error_response,
 };
 
 mod catalog;

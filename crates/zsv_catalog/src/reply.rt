@@ -1,7 +1,6 @@
 //! What chains of handlers answer to a request (RFC 1034 section 4.3.2).
 
-ghost use Rattle.std.specs.Prelude.{◌≡◌, [], IfOk, OnOk, map, option_copied};
-ghost use Rattle.drd_types.specs.drd_opt.Entries.{raw_of};
+ghost use Rattle.std.specs.Prelude.{◌≡◌, [], IfOk, OnOk, option_copied};
 ghost use Rattle.zsv_answer.specs.Responses.{parts_of};
 ghost use Rattle.zsv_answer.specs.zsv_reply.Writing.{FitsOpCode};
 ghost use Rattle.zsv_catalog.specs.Catalogs.{AnswersEdns, AnswersQuery, IsReplyEdns, KindParts, PlainParts, QueryParts, QuestionParts, RepliesBy, has_other_version, identifier, nsid_for};
@@ -161,7 +160,7 @@ fn identify(
     nsid: Option<&NSIDPayload>,
 ) -> Result<(), AllocError>
     requires { edns.old.options.options.items ≡ [] }
-    ensures options { OnOk result (map raw_of edns.new.options.options.items ≡ identifier asked.now (option_copied nsid.entry)) }
+    ensures options { OnOk result (edns.new.options.options.items ≡ identifier asked.now (option_copied nsid.entry)) }
     ensures others { OnOk result (edns.new ≡ record edns.old { options = edns.new.options }) }
 {
     let Some(payload) = nsid else {

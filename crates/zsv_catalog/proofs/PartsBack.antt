@@ -1,0 +1,221 @@
+-- What a full reply holds can be written and read back, where what the handlers hold can.
+use Rattle.std.proofs.Common.{◌≡◌, ◌<◌, ◌≤◌, ◌^◌, ℕ, refl, subst, sym, inl, inr, arith}
+use Rattle.std.proofs.lemmas.List.{length-append}
+use Rattle.std.proofs.lemmas.List.Elements.{All-nil, All-cons}
+use Rattle.std.specs.Prelude.{Bool, true, false, cond, ◌⊎◌, List, [], ◌∷◌, length, Option, Some, None, IfSome, IsSome, option_to_list}
+use Rattle.std.specs.List.{AllByRecursion}
+use Rattle.drd_types.specs.declared.EdnsCode.TheVariants.{NSID}
+use Rattle.drd_types.specs.declared.EdnsOption.TheVariants as option_with
+use Rattle.drd_types.specs.drd_opt.Entries.{Entry, FitsLengths, entries_octets, raw_option}
+use Rattle.drd_types.specs.drd_opt.Reading.{HoldsEntries}
+use Rattle.zsv_answer.specs.Forwarding.{ForwardedParts, forwarded_error, forwarded_metadata, resolved_parts}
+use Rattle.zsv_answer.specs.Parts.{AtOrigin, AuthoritativeParts, BesideAnswer, ChainParts, DeniedParts, PartsAs, answer_records, is_referral}
+use Rattle.zsv_answer.specs.Resolution.{Resolution, answering, no_such_name, no_such_type, not_here, resolved}
+use Rattle.zsv_answer.specs.Responses.{error_parts, parts_with, reply_metadata}
+use Rattle.zsv_answer.specs.Shown.{hidden_but, is_shown, shown_if}
+use Rattle.zsv_answer.specs.zst_request.Views.{Blocked, Stored, View, zone_type_of}
+use Rattle.zsv_answer.specs.zst_request.dnw_codes.declared.record_type.RecordType.{RecordType}
+use Rattle.zsv_answer.specs.zst_request.dnw_codes.declared.record_type.RecordType.TheVariants as types
+use Rattle.zsv_answer.specs.zst_request.dnw_codes.RecordType.{same_record_type}
+use Rattle.zsv_answer.specs.zst_request.dnw_name.DomainName.{DomainName}
+use Rattle.zsv_answer.specs.zst_request.zst_codes.declared.response_code.ResponseCode.{ResponseCode}
+use Rattle.zsv_answer.specs.zst_request.zst_codes.declared.response_code.ResponseCode.TheVariants as responses
+use Rattle.zsv_answer.specs.zst_request.zst_codes.declared.settings.ZoneType.{ZoneType}
+use Rattle.zsv_answer.specs.zst_request.zst_codes.declared.settings.ZoneType.TheVariants as zones
+use Rattle.zsv_answer.specs.zst_request.zst_handler.Lookups.{Outcome, answered, name_error, name_exists, out_of_zone}
+use Rattle.zsv_answer.specs.zsv_reply.Replies.{ReplyParts}
+use Rattle.zsv_answer.specs.zsv_reply.Writing.{AllReadBack}
+use Rattle.zsv_answer.specs.zsv_reply.zst_record.Records.{ReadsBackAlone}
+use Rattle.zsv_answer.specs.zsv_reply.zst_record.declared.records.Record.{Record}
+use Rattle.zsv_answer.specs.zsv_reply.zsv_message.Messages.{IsMessage, Message}
+use Rattle.zsv_answer.specs.zsv_reply.zsv_message.zst_edns.Writing.{EdnsReadsBack}
+use Rattle.zsv_answer.specs.zsv_reply.zsv_message.zst_edns.declared.edns.Edns.{Edns}
+use Rattle.zsv_answer.specs.zsv_reply.zsv_message.zsv_parts.Questions.{QuestionAt}
+use Rattle.zsv_answer.specs.zsv_reply.zsv_message.zsv_parts.Wire.{Entries}
+use Rattle.zsv_answer.specs.zsv_reply.zsv_message.zsv_parts.declared.header.Metadata.{Metadata}
+use Rattle.zsv_answer.specs.zsv_reply.zsv_message.zsv_parts.declared.header.MessageType.{MessageType}
+use Rattle.zsv_answer.specs.zsv_reply.zsv_message.zsv_parts.declared.header.MessageType.TheVariants as messages
+use Rattle.zsv_answer.specs.zsv_reply.zsv_message.zsv_parts.declared.header.OpCode.{OpCode}
+use Rattle.zsv_answer.specs.zsv_reply.zsv_message.zsv_parts.declared.header.OpCode.TheVariants as operations
+use Rattle.zsv_answer.specs.zsv_reply.zsv_message.zsv_parts.declared.question.Query.{Query}
+use Rattle.zsv_catalog.specs.Catalogs.{AnswersEdns, KindParts, OperationParts, PartsOf, PlainParts, QueryParts, QuestionParts, asks_for_dnssec, asks_for_nsid, has_other_version, identifier, nsid_for}
+use Rattle.zsv_catalog.specs.Chains.{chain_for}
+use Rattle.zsv_catalog.specs.ReadingBack.{ChainReadsBack, ChainsReadBack, FitsOption, ViewReadsBack}
+use Rattle.zsv_catalog.proofs.ResolvedBack.{ResolutionReadsBack, answering_back, for_back, resolves_back}
+use Rattle.zsv_catalog.proofs.ShownBack.{OutcomeReadsBack, append_back, filter_back, lookup_back, sets_shown_back, zone_sound}
+
+-- ---- parts of records that read back
+pub error_back : (m : Metadata) (code : ResponseCode) (parts : ReplyParts) → parts ≡ error_parts m code → AllReadBack parts
+error_back m code parts is = subst AllReadBack (sym is) (record { answers = tt; authorities = tt; additionals = tt; edns = tt; signature = tt })
+
+with_back : (m : Metadata) (referral : Bool) (records additionals beside : List Record) → AllByRecursion ReadsBackAlone records → AllByRecursion ReadsBackAlone additionals → AllByRecursion ReadsBackAlone beside
+    → AllReadBack (parts_with m referral records additionals beside)
+with_back m true records additionals beside first more later =
+    record { answers = tt; authorities = append_back records beside first later; additionals = more; edns = tt; signature = tt }
+with_back m false records additionals beside first more later = record { answers = first; authorities = later; additionals = more; edns = tt; signature = tt }
+
+-- ---- authoritative replies
+outcome_records : (dnssec : Bool) (outcome : Outcome) → OutcomeReadsBack outcome → AllByRecursion ReadsBackAlone (answer_records dnssec outcome)
+outcome_records dnssec (answered answer) back = sets_shown_back dnssec answer.answers back.answers
+outcome_records dnssec name_exists back = tt
+outcome_records dnssec name_error back = tt
+outcome_records dnssec out_of_zone back = tt
+
+origin_back : (view : View) (dnssec : Bool) (t : RecordType) (records : List Record) → ViewReadsBack view → AtOrigin view dnssec t records → AllByRecursion ReadsBackAlone records
+origin_back (Stored zone) dnssec t records back (outcome, is, shown) =
+    subst (AllByRecursion ReadsBackAlone) (sym shown) (outcome_records dnssec outcome (lookup_back zone zone.origin t outcome (zone_sound zone back.0 back.1) is))
+origin_back (Blocked blocklist) dnssec t records back none = subst (AllByRecursion ReadsBackAlone) (sym none) tt
+
+beside_back : (view : View) (dnssec : Bool) (t : RecordType) (beside : List Record) → ViewReadsBack view → BesideAnswer view dnssec t beside → AllByRecursion ReadsBackAlone beside
+beside_back view dnssec t beside back (start, other) = by (same_record_type t types.SOA) refl
+  where
+    by : (b : Bool) → same_record_type t types.SOA ≡ b → AllByRecursion ReadsBackAlone beside
+    by true e = origin_back view dnssec types.NS beside back (start e)
+    by false e = subst (AllByRecursion ReadsBackAlone) (sym (other e)) tt
+
+denied_back : (view : View) (m : Metadata) (dnssec : Bool) (code : ResponseCode) (parts : ReplyParts) → ViewReadsBack view → DeniedParts view m dnssec code parts → AllReadBack parts
+denied_back view m dnssec code parts back (start, at, is) =
+    subst AllReadBack (sym is) (with_back (reply_metadata m true code) false [] [] start tt tt (origin_back view dnssec types.SOA start back at))
+
+authoritative_back : (view : View) (m : Metadata) (dnssec : Bool) (t : RecordType) (resolution : Resolution) (parts : ReplyParts) → ViewReadsBack view → ResolutionReadsBack resolution → AuthoritativeParts view m dnssec t resolution parts → AllReadBack parts
+authoritative_back view m dnssec t (resolved answers additionals) parts back shown (beside, at, is) =
+    subst AllReadBack (sym is) (with_back (reply_metadata m true responses.NoError) (is_referral t answers) answers additionals beside shown.0 shown.1 (beside_back view dnssec t beside back at))
+authoritative_back view m dnssec t no_such_type parts back shown is = denied_back view m dnssec responses.NoError parts back is
+authoritative_back view m dnssec t no_such_name parts back shown is = denied_back view m dnssec responses.NXDomain parts back is
+authoritative_back view m dnssec t not_here parts back shown is =
+    subst AllReadBack (sym is) (with_back (reply_metadata m true responses.Refused) false [] [] [] tt tt tt)
+
+-- ---- forwarded replies
+if_shown : (asked : Option RecordType) (rs : List Record) → AllByRecursion ReadsBackAlone rs → AllByRecursion ReadsBackAlone (shown_if asked rs)
+if_shown None rs all = all
+if_shown (Some t) rs all = filter_back ReadsBackAlone (is_shown t) rs all
+
+bare_back : (m : Metadata) (code : ResponseCode) (parts : ReplyParts) → parts ≡ forwarded_error m code → AllReadBack parts
+bare_back m code parts is = subst AllReadBack (sym is) (with_back (forwarded_metadata m code) false [] [] [] tt tt tt)
+
+resolved_back : (m : Metadata) (dnssec : Bool) (t : RecordType) (resolution : Resolution) (parts : ReplyParts) → ResolutionReadsBack resolution → parts ≡ resolved_parts m dnssec t resolution → AllReadBack parts
+resolved_back m dnssec t (resolved answers additionals) parts shown is =
+    subst AllReadBack (sym is) (with_back (forwarded_metadata m responses.NoError) false (shown_if (hidden_but dnssec t) answers) [] [] (if_shown (hidden_but dnssec t) answers shown.0) tt tt)
+resolved_back m dnssec t no_such_type parts shown is = bare_back m responses.ServFail parts is
+resolved_back m dnssec t no_such_name parts shown is = bare_back m responses.NXDomain parts is
+resolved_back m dnssec t not_here parts shown is = bare_back m responses.ServFail parts is
+
+forwarded_back : (m : Metadata) (dnssec : Bool) (t : RecordType) (resolution : Resolution) (parts : ReplyParts) → ResolutionReadsBack resolution → ForwardedParts m dnssec t resolution parts → AllReadBack parts
+forwarded_back m dnssec t resolution parts shown is = by m.recursion_desired refl
+  where
+    by : (b : Bool) → m.recursion_desired ≡ b → AllReadBack parts
+    by false e = bare_back m responses.Refused parts (is.0 e)
+    by true e = resolved_back m dnssec t resolution parts shown (is.1 e)
+
+as_back : (kind : ZoneType) (view : View) (m : Metadata) (dnssec : Bool) (t : RecordType) (resolution : Resolution) (parts : ReplyParts) → ViewReadsBack view → ResolutionReadsBack resolution → PartsAs kind view m dnssec t resolution parts → AllReadBack parts
+as_back zones.Primary view m dnssec t resolution parts back shown is = authoritative_back view m dnssec t resolution parts back shown is
+as_back zones.Secondary view m dnssec t resolution parts back shown is = authoritative_back view m dnssec t resolution parts back shown is
+as_back zones.External view m dnssec t resolution parts back shown is = forwarded_back m dnssec t resolution parts shown is
+
+-- ---- questions and requests
+chain_back : (chain : List View) (m : Metadata) (dnssec : Bool) (name : DomainName) (t : RecordType) (parts : ReplyParts) → name.fqdn ≡ true → ChainReadsBack chain → ChainParts chain m dnssec name t parts → AllReadBack parts
+chain_back chain m dnssec name t parts full all is = by (answering chain name) refl
+  where
+    by : (o : Option View) → answering chain name ≡ o → AllReadBack parts
+    by None e = error_back m responses.ServFail parts (is.nobody e)
+    by (Some view) e =
+        let (resolution, gives, shown) = is.somebody view e in
+        let back : ViewReadsBack view = subst (λ (o : Option View). IfSome o ViewReadsBack) e (answering_back chain name all) in
+        as_back (zone_type_of view) view m dnssec t resolution parts back (resolves_back chain view name t dnssec resolution full all back gives) shown
+
+abbrev pub IsFull : Query → Type 0
+IsFull q = q.name.fqdn ≡ true
+
+question_back : (chains : List (DomainName × List View)) (m : Metadata) (dnssec : Bool) (q : Query) (parts : ReplyParts) → IsFull q → ChainsReadBack chains → QuestionParts chains m dnssec q parts → AllReadBack parts
+question_back chains m dnssec q parts full all is = by (chain_for chains q.name) refl
+  where
+    inside : (chain : List View) (b : Bool) → chain_for chains q.name ≡ Some chain → same_record_type q.query_type types.AXFR ≡ b → AllReadBack parts
+    inside chain true at e = error_back m responses.ServFail parts (is.transfer (subst (λ (o : Option (List View)). IsSome o) (sym at) refl) e)
+    inside chain false at e =
+        chain_back chain m dnssec q.name q.query_type parts full (subst (λ (o : Option (List View)). IfSome o ChainReadsBack) at (for_back chains q.name all)) (is.looked_up chain at e)
+
+    by : (o : Option (List View)) → chain_for chains q.name ≡ o → AllReadBack parts
+    by None e = error_back m responses.Refused parts (is.no_chain e)
+    by (Some chain) e = inside chain (same_record_type q.query_type types.AXFR) e refl
+
+query_back : (chains : List (DomainName × List View)) (m : Metadata) (dnssec : Bool) (qs : List Query) (parts : ReplyParts) → AllByRecursion IsFull qs → ChainsReadBack chains → QueryParts chains m dnssec qs parts → AllReadBack parts
+query_back chains m dnssec [] parts full all is = error_back m responses.FormErr parts is
+query_back chains m dnssec (q ∷ []) parts full all is = question_back chains m dnssec q parts full.0 all is
+query_back chains m dnssec (q ∷ r ∷ qs) parts full all is = error_back m responses.FormErr parts is
+
+operation_back : (chains : List (DomainName × List View)) (m : Metadata) (dnssec : Bool) (operation : OpCode) (qs : List Query) (parts : ReplyParts) → AllByRecursion IsFull qs → ChainsReadBack chains → OperationParts chains m dnssec operation qs parts → AllReadBack parts
+operation_back chains m dnssec operations.Query qs parts full all is = query_back chains m dnssec qs parts full all is
+operation_back chains m dnssec other qs parts full all is = error_back m responses.NotImp parts is
+
+kind_back : (chains : List (DomainName × List View)) (m : Metadata) (dnssec : Bool) (kind : MessageType) (qs : List Query) (parts : ReplyParts) → AllByRecursion IsFull qs → ChainsReadBack chains → KindParts chains m dnssec kind qs parts → AllReadBack parts
+kind_back chains m dnssec messages.Response qs parts full all is = error_back m responses.FormErr parts is
+kind_back chains m dnssec messages.Query qs parts full all is = operation_back chains m dnssec m.op_code qs parts full all is
+
+plain_back : (chains : List (DomainName × List View)) (request : Message) (parts : ReplyParts) → AllByRecursion IsFull request.asked.questions → ChainsReadBack chains → PlainParts chains request parts → AllReadBack parts
+plain_back chains request parts full all is = by (has_other_version request.edns) refl
+  where
+    by : (b : Bool) → has_other_version request.edns ≡ b → AllReadBack parts
+    by true e = error_back request.metadata responses.BADVERS parts (is.other_version e)
+    by false e = kind_back chains request.metadata (asks_for_dnssec request.edns) request.metadata.message_type request.asked.questions parts full all (is.answered e)
+
+-- ---- the options
+-- These options read back, and 16 bits count their octets.
+record OptionsBack (entries : List Entry) : Type 0 where
+  pub options : (entries ≡ []) ⊎ HoldsEntries (entries_octets entries) entries
+  pub counted : length (entries_octets entries) < 2 ^ 16
+
+one_option : (payload : List ℕ) → length payload ≤ 65531 → OptionsBack ((NSID, option_with.NSID payload) ∷ [])
+one_option payload short = record {
+  options = inr (inl (record {
+    raws = raw_option 3 payload ∷ [];
+    fit = All-cons FitsLengths (raw_option 3 payload) [] (record { code = omega arith; octets = omega (arith, short) }) (All-nil FitsLengths);
+    whole = refl;
+    entries_of = (record { code = refl; option = (refl, refl) }, tt);
+  }));
+  counted = omega (arith, short, length-append payload []);
+}
+
+identifier_back : (asked : Edns) (nsid : Option (List ℕ)) → FitsOption nsid → OptionsBack (identifier asked nsid)
+identifier_back asked None fits = record { options = inl refl; counted = omega arith }
+identifier_back asked (Some payload) fits = by (asks_for_nsid asked)
+  where
+    by : (b : Bool) → OptionsBack (cond b ((NSID, option_with.NSID payload) ∷ []) [])
+    by true = one_option payload fits
+    by false = record { options = inl refl; counted = omega arith }
+
+fits_for : (edns : Option Edns) (nsid : Option (List ℕ)) → FitsOption nsid → FitsOption (nsid_for edns nsid)
+fits_for edns nsid fits = by (has_other_version edns)
+  where
+    by : (b : Bool) → FitsOption (cond b None nsid)
+    by true = tt
+    by false = fits
+
+edns_back : (asked : Option Edns) (nsid : Option (List ℕ)) (code : ResponseCode) (edns : Option Edns) → FitsOption nsid → AnswersEdns asked nsid code edns → AllByRecursion EdnsReadsBack (option_to_list edns)
+edns_back None nsid code None fits answers = tt
+edns_back None nsid code (Some edns) fits answers = absurd answers
+edns_back (Some asked) nsid code None fits answers = absurd answers
+edns_back (Some asked) nsid code (Some edns) fits answers =
+    let back = subst OptionsBack (sym answers.options) (identifier_back asked nsid fits) in
+    (record { flags = omega (arith, answers.other_flags); options = back.options; counted = back.counted }, tt)
+
+-- ---- whole
+asked_full : (octets : List ℕ) (place : ℕ) (qs : List Query) (end : ℕ) → Entries (QuestionAt octets) place qs end → AllByRecursion IsFull qs
+asked_full octets place [] end there = tt
+asked_full octets place (q ∷ qs) end there = (there.1.name.full, asked_full octets there.0 qs end there.2)
+
+-- The questions of a message end at the root.
+pub questions_full : (octets : List ℕ) (request : Message) → IsMessage octets request → AllByRecursion IsFull request.asked.questions
+questions_full octets request is = asked_full octets 12 request.asked.questions is.questions_end is.questions.questions.0
+
+-- All that a full reply to a message holds reads back.
+pub parts_back : (chains : List (DomainName × List View)) (nsid : Option (List ℕ)) (octets : List ℕ) (request : Message) (parts : ReplyParts) → IsMessage octets request → ChainsReadBack chains → FitsOption nsid → PartsOf chains nsid request parts → AllReadBack parts
+parts_back chains nsid octets request parts is all fits gives =
+    let plain = plain_back chains request gives.plain (questions_full octets request is) all gives.gives in
+    let options = edns_back request.edns (nsid_for request.edns nsid) gives.plain.metadata.response_code parts.edns (fits_for request.edns nsid fits) gives.edns in
+    subst AllReadBack (sym gives.whole) (record {
+      answers = plain.answers;
+      authorities = plain.authorities;
+      additionals = plain.additionals;
+      edns = options;
+      signature = plain.signature;
+    })

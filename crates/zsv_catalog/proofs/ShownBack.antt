@@ -1,0 +1,269 @@
+-- What a lookup answers in a zone whose records read back reads back: whatever is found stands at a fully qualified name.
+use Rattle.std.proofs.Common.{◌≡◌, ◌∙◌, ap, refl, subst, sym}
+use Rattle.std.specs.Prelude.{ℕ, Bool, true, false, ◌&&◌, List, [], ◌∷◌, ◌++◌, map, min, Option, Some, None, IfSome, cond, is_some, option_map}
+use Rattle.std.specs.Bool.{beq}
+use Rattle.std.specs.List.{AllByRecursion, filter}
+use Rattle.std.proofs.lemmas.Bool.{true≢false}
+use Rattle.zsv_answer.specs.zst_request.dnw_codes.declared.record_type.RecordType.{RecordType}
+use Rattle.zsv_answer.specs.zst_request.dnw_codes.declared.record_type.RecordType.TheVariants as kind
+use Rattle.zsv_answer.specs.zst_request.dnw_codes.RecordType.{same_record_type}
+use Rattle.zsv_answer.specs.zst_request.dnw_name.DomainName.{DomainName, domain_name, is_at_or_below, lowercase_name, name_eq}
+use Rattle.zst_key.specs.Ancestors.{nearest_from, or_else, star}
+use Rattle.zsv_answer.specs.zsv_reply.zst_record.declared.records.Record.{Record}
+use Rattle.zsv_answer.specs.zsv_reply.zst_record.Records.{ReadsBackAlone}
+use Rattle.zsv_answer.specs.zsv_reply.zst_record.RecordSets.{RRset, flattened_record, flattened_set, none_left, renamed, renamed_record}
+use Rattle.zsv_answer.specs.zst_request.zst_handler.Answers.{shown, sets_shown}
+use Rattle.zsv_answer.specs.zst_request.zst_handler.Chains.{Links, first_target, leads}
+use Rattle.zsv_answer.specs.zst_request.zst_handler.Found.{above, cut_at, cut_found, delegation, found, found_set, here, is_address, wildcard_answer}
+use Rattle.zsv_answer.specs.zst_request.zst_handler.Lookups.{Answer, AnswersFrom, IsLookup, LookupFrom, Outcome, additionals, addresses, alias_answer, alias_ttl, all_outcome, answered, behind_alias, denial, has_additionals, is_flattened, listed, name_error, name_exists, of_type, out_of_zone, sets_of_name}
+use Rattle.zsv_answer.specs.zst_request.zst_handler.Zones.{AreStored, IsStored, SetReadsBack, Zone, ZoneReadsBack, exists_in, rrset_at}
+
+-- A set whose records read back, and whose owner, which is theirs, is fully qualified.
+pub record SetIsSound (set : RRset) : Type 0 where
+  pub owner : set.name.fqdn ≡ true
+  pub records : AllByRecursion ReadsBackAlone set.records
+  pub signatures : AllByRecursion ReadsBackAlone set.signatures
+
+abbrev pub ZoneIsSound : Zone → Type 0
+ZoneIsSound zone = AllByRecursion SetIsSound zone.sets
+
+set_sound : (set : RRset) → IsStored set → SetReadsBack set → SetIsSound set
+set_sound set stored back = by set.records refl
+  where
+    by : (rs : List Record) → set.records ≡ rs → SetIsSound set
+    by [] e = absurd (true≢false (ap none_left (sym e) ∙ stored.filled))
+    by (r ∷ rs) e =
+        let named : set.name ≡ r.name = (stored.is.spelled r rs e).0 in
+        let first : ReadsBackAlone r = (subst (AllByRecursion ReadsBackAlone) e back.records).0 in
+        record { owner = ap (λ (n : DomainName). n.fqdn) named ∙ first.owner; records = back.records; signatures = back.signatures }
+
+all_sound : (sets : List RRset) → AreStored sets → AllByRecursion SetReadsBack sets → AllByRecursion SetIsSound sets
+all_sound [] stored back = tt
+all_sound (set ∷ sets) stored back = (set_sound set stored.0 back.0, all_sound sets stored.1 back.1)
+
+pub zone_sound : (zone : Zone) → AreStored zone.sets → ZoneReadsBack zone → ZoneIsSound zone
+zone_sound zone stored back = all_sound zone.sets stored back
+
+-- A set that is found at a name, of this flag: the set reads back, and the name is fully qualified.
+pub record IsFound (fqdn : Bool) (set : RRset) : Type 0 where
+  pub back : SetIsSound set
+  pub full : fqdn ≡ true
+
+-- ---- choices
+either : {X : Type 0} (P : X → Type 0) (a b : Option X) → IfSome a P → IfSome b P → IfSome (or_else a b) P
+either P (Some x) b first second = first
+either P None b first second = second
+
+chosen : {X : Type 0} (P : X → Type 0) (test : Bool) (a b : Option X) → IfSome a P → IfSome b P → IfSome (cond test a b) P
+chosen P true a b first second = first
+chosen P false a b first second = second
+
+pub mapped : {X Y : Type 0} (P : Y → Type 0) (f : X → Y) (o : Option X) → IfSome o (λ x. P (f x)) → IfSome (option_map f o) P
+mapped P f None all = tt
+mapped P f (Some x) all = all
+
+weaker : {X : Type 0} (P Q : X → Type 0) (o : Option X) → ((x : X) → P x → Q x) → IfSome o P → IfSome o Q
+weaker P Q None f all = tt
+weaker P Q (Some x) f all = f x all
+
+-- ---- the sets of a name
+first_holds : (a b : Bool) → (a && b) ≡ true → a ≡ true
+first_holds true b h = refl
+first_holds false b h = h
+
+same_flag : (a b : Bool) → beq a b ≡ true → b ≡ true → a ≡ true
+same_flag true b same full = refl
+same_flag false true same full = same
+same_flag false false same full = full
+
+stored_back : (sets : List RRset) (name : DomainName) (t : RecordType) → AllByRecursion SetIsSound sets → IfSome (rrset_at sets name t) (IsFound name.fqdn)
+stored_back [] name t back = tt
+stored_back (set ∷ sets) name t back = by (name_eq name set.name && same_record_type set.record_type t) refl (stored_back sets name t back.1)
+  where
+    by : (b : Bool) → (name_eq name set.name && same_record_type set.record_type t) ≡ b → IfSome (rrset_at sets name t) (IsFound name.fqdn) → IfSome (cond b (Some set) (rrset_at sets name t)) (IsFound name.fqdn)
+    by false at later = later
+    by true at later = record {
+      back = back.0;
+      full = same_flag name.fqdn set.name.fqdn (first_holds (beq name.fqdn set.name.fqdn) _ (first_holds (name_eq name set.name) (same_record_type set.record_type t) at)) back.0.owner;
+    }
+
+here_back : (sets : List RRset) (t : RecordType) (name : DomainName) → AllByRecursion SetIsSound sets → IfSome (here sets t name) (IsFound name.fqdn)
+here_back sets t name back =
+    either (IsFound name.fqdn) (rrset_at sets name t) _ (stored_back sets name t back)
+    (either (IsFound name.fqdn) (rrset_at sets name kind.CNAME) _ (stored_back sets name kind.CNAME back)
+    (chosen (IsFound name.fqdn) (is_address t) (rrset_at sets name kind.ANAME) None (stored_back sets name kind.ANAME back) tt))
+
+cut_back : (sets : List RRset) (name : DomainName) → AllByRecursion SetIsSound sets → IfSome (cut_at sets name) (λ servers. IfSome servers (IsFound name.fqdn))
+cut_back sets name back =
+    let starts = is_some (rrset_at sets name kind.SOA) in
+    mapped (λ servers. IfSome servers (IsFound name.fqdn)) (λ servers. cond starts None (Some servers)) (rrset_at sets name kind.NS)
+    (weaker (IsFound name.fqdn) _ (rrset_at sets name kind.NS) (λ servers at. chosen (IsFound name.fqdn) starts None (Some servers) tt at) (stored_back sets name kind.NS back))
+
+-- ---- the names above
+abbrev with_name : {X : Type 0} → DomainName → X → DomainName × X
+with_name name x = (name, x)
+
+module _ {X : Type 0} (P : X → Type 0) (at : DomainName → Option X) (fqdn : Bool) (each : (labels : List (List ℕ)) → IfSome (at (domain_name fqdn labels)) P) where
+  at_back : (labels : List (List ℕ)) → IfSome (option_map (with_name (domain_name fqdn labels)) (at (domain_name fqdn labels))) (λ entry. P entry.1)
+  at_back labels = mapped (λ entry. P entry.1) (with_name (domain_name fqdn labels)) (at (domain_name fqdn labels)) (each labels)
+
+  pub nearest_back : (labels : List (List ℕ)) → IfSome (nearest_from at fqdn labels) (λ entry. P entry.1)
+  nearest_back [] = at_back []
+  nearest_back (label ∷ labels) = either (λ entry. P entry.1) _ (nearest_from at fqdn labels) (at_back (label ∷ labels)) (nearest_back labels)
+
+  above_back : (labels : List (List ℕ)) → IfSome (above at (domain_name fqdn labels)) (λ entry. P entry.1)
+  above_back [] = tt
+  above_back (label ∷ labels) = nearest_back labels
+
+cut_found_back : (fqdn : Bool) (o : Option (DomainName × Option RRset)) → IfSome o (λ entry. IfSome entry.1 (IsFound fqdn)) → IfSome (cut_found o) (IsFound fqdn)
+cut_found_back fqdn None all = tt
+cut_found_back fqdn (Some (at, servers)) all = all
+
+delegation_back : (sets : List RRset) (name : DomainName) (t : RecordType) → AllByRecursion SetIsSound sets → IfSome (delegation sets name t) (IsFound name.fqdn)
+delegation_back sets name t back =
+    let each = λ (labels : List (List ℕ)). cut_back sets (domain_name name.fqdn labels) back in
+    chosen (IsFound name.fqdn) (same_record_type t kind.DS) (cut_found (above (cut_at sets) name)) (cut_found (nearest_from (cut_at sets) name.fqdn name.labels))
+    (cut_found_back name.fqdn _ (above_back (λ servers. IfSome servers (IsFound name.fqdn)) (cut_at sets) name.fqdn each name.labels))
+    (cut_found_back name.fqdn _ (nearest_back (λ servers. IfSome servers (IsFound name.fqdn)) (cut_at sets) name.fqdn each name.labels))
+
+-- ---- under another name
+owned_back : (owner : DomainName) (ttl : ℕ) (r : Record) → owner.fqdn ≡ true → ReadsBackAlone r → ReadsBackAlone (record r { name = owner; ttl = ttl })
+owned_back owner ttl r full back = record { owner = full; own_type = back.own_type; own_class = back.own_class; rdata = back.rdata; of_zones = back.of_zones }
+
+each_back : (f : Record → Record) (rs : List Record) → ((r : Record) → ReadsBackAlone r → ReadsBackAlone (f r)) → AllByRecursion ReadsBackAlone rs → AllByRecursion ReadsBackAlone (map f rs)
+each_back f [] kept all = tt
+each_back f (r ∷ rs) kept all = (kept r all.0, each_back f rs kept all.1)
+
+renamed_back : (owner : DomainName) (set : RRset) → owner.fqdn ≡ true → SetIsSound set → SetIsSound (renamed owner set)
+renamed_back owner set full back =
+    let kept = λ (r : Record). owned_back owner r.ttl r full in
+    record { owner = full; records = each_back (renamed_record owner) set.records kept back.records; signatures = each_back (renamed_record owner) set.signatures kept back.signatures }
+
+flattened_back : (owner : DomainName) (ttl : ℕ) (set : RRset) → owner.fqdn ≡ true → SetIsSound set → SetIsSound (flattened_set owner ttl set)
+flattened_back owner ttl set full back =
+    record { owner = full; records = each_back (flattened_record owner ttl) set.records (λ r. owned_back owner (min r.ttl ttl) r full) back.records; signatures = tt }
+
+-- ---- what is found
+found_set_back : (fqdn : Bool) (o : Option (DomainName × RRset)) → IfSome o (λ entry. IsFound fqdn entry.1) → IfSome (found_set o) (IsFound fqdn)
+found_set_back fqdn None all = tt
+found_set_back fqdn (Some (at, set)) all = all
+
+wildcard_back : (sets : List RRset) (name : DomainName) (t : RecordType) → AllByRecursion SetIsSound sets → IfSome (wildcard_answer sets name t) (IsFound name.fqdn)
+wildcard_back sets name t back =
+    let at_star = λ (ancestor : DomainName). here sets t (star ancestor) in
+    let each = λ (labels : List (List ℕ)). here_back sets t (star (domain_name name.fqdn labels)) back in
+    mapped (IsFound name.fqdn) (renamed (lowercase_name name)) (found_set (above at_star name))
+    (weaker (IsFound name.fqdn) _ (found_set (above at_star name)) (λ set at. record { back = renamed_back (lowercase_name name) set at.full at.back; full = at.full })
+    (found_set_back name.fqdn _ (above_back (IsFound name.fqdn) at_star name.fqdn each name.labels)))
+
+pub found_back : (sets : List RRset) (name : DomainName) (t : RecordType) → AllByRecursion SetIsSound sets → IfSome (found sets name t) (IsFound name.fqdn)
+found_back sets name t back =
+    either (IsFound name.fqdn) (delegation sets name t) _ (delegation_back sets name t back)
+    (either (IsFound name.fqdn) (here sets t name) (wildcard_answer sets name t) (here_back sets t name back) (wildcard_back sets name t back))
+
+-- ---- the sets of an answer
+links_back : (sets : List RRset) (t : RecordType) (start : Option DomainName) (chain : List RRset) → AllByRecursion SetIsSound sets → Links sets t start chain → AllByRecursion SetIsSound chain
+links_back sets t start [] back links = tt
+links_back sets t None (set ∷ chain) back links = absurd links
+links_back sets t (Some name) (set ∷ chain) back links =
+    let first = subst (λ o. IfSome o (IsFound name.fqdn)) links.0 (found_back sets name t back) in
+    (first.back, links_back sets t (leads t set) chain back links.1)
+
+listed_back : (fqdn : Bool) (o : Option RRset) (more : List RRset) → IfSome o (IsFound fqdn) → AllByRecursion SetIsSound more → AllByRecursion SetIsSound (listed o ++ more)
+listed_back fqdn None more at later = later
+listed_back fqdn (Some set) more at later = (at.back, later)
+
+addresses_back : (sets : List RRset) (target : Option DomainName) → AllByRecursion SetIsSound sets → AllByRecursion SetIsSound (addresses sets target)
+addresses_back sets None back = tt
+addresses_back sets (Some name) back =
+    listed_back name.fqdn (rrset_at sets name kind.A) (listed (rrset_at sets name kind.AAAA)) (stored_back sets name kind.A back) (one (rrset_at sets name kind.AAAA) (stored_back sets name kind.AAAA back))
+  where
+    one : (o : Option RRset) → IfSome o (IsFound name.fqdn) → AllByRecursion SetIsSound (listed o)
+    one None at = tt
+    one (Some set) at = (at.back, tt)
+
+additionals_back : (sets : List RRset) (first : RRset) → AllByRecursion SetIsSound sets → AllByRecursion SetIsSound (additionals sets first)
+additionals_back sets first back = by (has_additionals first.record_type)
+  where
+    by : (b : Bool) → AllByRecursion SetIsSound (cond b (addresses sets (first_target first.records)) [])
+    by true = addresses_back sets (first_target first.records) back
+    by false = tt
+
+of_type_back : (t : RecordType) (o : Option RRset) → IfSome o SetIsSound → IfSome (of_type t o) SetIsSound
+of_type_back t None all = tt
+of_type_back t (Some set) all = chosen SetIsSound (same_record_type set.record_type t) (Some set) None all tt
+
+behind_back : (sets : List RRset) (t : RecordType) (target : Option DomainName) → AllByRecursion SetIsSound sets → IfSome (behind_alias sets t target) SetIsSound
+behind_back sets t None back = tt
+behind_back sets t (Some name) back = of_type_back t (found sets name t) (weaker (IsFound name.fqdn) SetIsSound (found sets name t) (λ set at. at.back) (found_back sets name t back))
+
+-- Each set of an answer reads back.
+pub record AnswerReadsBack (answer : Answer) : Type 0 where
+  pub answers : AllByRecursion SetIsSound answer.answers
+  pub additionals : AllByRecursion SetIsSound answer.additionals
+
+abbrev pub OutcomeReadsBack : Outcome → Type 0
+OutcomeReadsBack (answered answer) = AnswerReadsBack answer
+OutcomeReadsBack denied = Unit {0}
+
+alias_back : (name : DomainName) (alias : RRset) (behind : Option RRset) → IsFound name.fqdn alias → IfSome behind SetIsSound → AnswerReadsBack (alias_answer name alias behind)
+alias_back name alias None at behind = record { answers = (at.back, tt); additionals = tt }
+alias_back name alias (Some set) at behind =
+    record { answers = (flattened_back (lowercase_name name) (alias_ttl alias.records) set at.full behind, tt); additionals = (at.back, tt) }
+
+answer_back : (sets : List RRset) (name : DomainName) (t : RecordType) (first : RRset) (answer : Answer) → AllByRecursion SetIsSound sets → IsFound name.fqdn first → AnswersFrom sets name t first answer → AnswerReadsBack answer
+answer_back sets name t first answer back at (flat, chain) = by (is_flattened t first) refl
+  where
+    by : (b : Bool) → is_flattened t first ≡ b → AnswerReadsBack answer
+    by true e = subst AnswerReadsBack (sym (flat e)) (alias_back name first _ at (behind_back sets t (first_target first.records) back))
+    by false e =
+        let is = chain e in
+        record {
+          answers = links_back sets t (Some name) answer.answers back is.0.links;
+          additionals = subst (AllByRecursion SetIsSound) (sym is.1) (additionals_back sets first back);
+        }
+
+-- ---- what a lookup answers
+denial_back : (zone : Zone) (name : DomainName) → OutcomeReadsBack (denial zone name)
+denial_back zone name = by (exists_in zone.sets name) (is_at_or_below name zone.origin)
+  where
+    by : (there inside : Bool) → OutcomeReadsBack (cond there name_exists (cond inside name_error out_of_zone))
+    by true inside = tt
+    by false true = tt
+    by false false = tt
+
+from_back : (zone : Zone) (name : DomainName) (t : RecordType) (o : Option RRset) (outcome : Outcome) → ZoneIsSound zone → IfSome o (IsFound name.fqdn) → LookupFrom zone name t o outcome → OutcomeReadsBack outcome
+from_back zone name t None outcome back at is = subst OutcomeReadsBack (sym is) (denial_back zone name)
+from_back zone name t (Some first) outcome back at (answer, is, from) = subst OutcomeReadsBack (sym is) (answer_back zone.sets name t first answer back at from)
+
+pub filter_back : {X : Type 0} (P : X → Type 0) (test : X → Bool) (xs : List X) → AllByRecursion P xs → AllByRecursion P (filter test xs)
+filter_back P test [] all = tt
+filter_back P test (x ∷ xs) all = by (test x) (filter_back P test xs all.1)
+  where
+    by : (b : Bool) → AllByRecursion P (filter test xs) → AllByRecursion P (cond b (x ∷ filter test xs) (filter test xs))
+    by true more = (all.0, more)
+    by false more = more
+
+all_back : (zone : Zone) (name : DomainName) (sets : List RRset) → AllByRecursion SetIsSound sets → OutcomeReadsBack (all_outcome zone name sets)
+all_back zone name [] all = denial_back zone name
+all_back zone name (set ∷ sets) all = record { answers = all; additionals = tt }
+
+pub lookup_back : (zone : Zone) (name : DomainName) (t : RecordType) (outcome : Outcome) → ZoneIsSound zone → IsLookup zone name t outcome → OutcomeReadsBack outcome
+lookup_back zone name t outcome back is = by (same_record_type t kind.ANY) refl
+  where
+    by : (b : Bool) → same_record_type t kind.ANY ≡ b → OutcomeReadsBack outcome
+    by true e = subst OutcomeReadsBack (sym (is.any e)) (all_back zone name (sets_of_name zone.sets name) (filter_back SetIsSound (λ set. name_eq name set.name) zone.sets back))
+    by false e = from_back zone name t (found zone.sets name t) outcome back (found_back zone.sets name t back) (is.one e)
+
+-- ---- the records that are shown
+pub append_back : (rs more : List Record) → AllByRecursion ReadsBackAlone rs → AllByRecursion ReadsBackAlone more → AllByRecursion ReadsBackAlone (rs ++ more)
+append_back [] more first later = later
+append_back (r ∷ rs) more first later = (first.0, append_back rs more first.1 later)
+
+shown_back : (dnssec_ok : Bool) (set : RRset) → SetIsSound set → AllByRecursion ReadsBackAlone (shown dnssec_ok set)
+shown_back true set back = append_back set.records set.signatures back.records back.signatures
+shown_back false set back = back.records
+
+pub sets_shown_back : (dnssec_ok : Bool) (sets : List RRset) → AllByRecursion SetIsSound sets → AllByRecursion ReadsBackAlone (sets_shown dnssec_ok sets)
+sets_shown_back dnssec_ok [] all = tt
+sets_shown_back dnssec_ok (set ∷ sets) all = append_back (shown dnssec_ok set) (sets_shown dnssec_ok sets) (shown_back dnssec_ok set all.0) (sets_shown_back dnssec_ok sets all.1)

@@ -1,0 +1,1 @@
+pub use Rattle.zsv_answer.proofs.zsv_reply_lemmas

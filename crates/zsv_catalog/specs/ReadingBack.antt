@@ -1,0 +1,23 @@
+-- Which zones can be served: what their replies hold can be read by whom these reach.
+use Rattle.std.specs.Prelude.{ℕ, ◌≤◌, List, Option, IfSome, length}
+use Rattle.std.specs.List.{AllByRecursion}
+use Rattle.zsv_answer.specs.zst_request.Views.{Blocked, Stored, View}
+use Rattle.zsv_answer.specs.zst_request.dnw_name.DomainName.{DomainName}
+use Rattle.zsv_answer.specs.zst_request.zst_handler.Zones.{AreStored, ZoneReadsBack}
+
+-- A zone is stored as every zone is, and each of its records can be read back alone; the message of
+-- a list of blocked names is one string (RFC 1035, section 3.3).
+abbrev pub ViewReadsBack : View → Type 0
+ViewReadsBack (Stored zone) = AreStored zone.sets × ZoneReadsBack zone
+ViewReadsBack (Blocked blocklist) = IfSome blocklist.block_message (λ octets. length octets ≤ 255)
+
+abbrev pub ChainReadsBack : List View → Type 0
+ChainReadsBack chain = AllByRecursion ViewReadsBack chain
+
+abbrev pub ChainsReadBack : List (DomainName × List View) → Type 0
+ChainsReadBack chains = AllByRecursion (λ entry. ChainReadsBack entry.1) chains
+
+-- The data of an OPT record hold the identifier, behind its code and its length (RFC 6891, section
+-- 6.1.2; RFC 5001, section 2.3).
+abbrev pub FitsOption : Option (List ℕ) → Type 0
+FitsOption nsid = IfSome nsid (λ octets. length octets ≤ 65531)
