@@ -206,8 +206,8 @@ def build(name, words, program):
     try:
         copy_below(name, uses, copy)
         crate = os.path.join(copy, "crates", name)
-        # The program is run once it is built.
-        subprocess.run(["rt", "run", "--", *words, "0"], cwd=crate, stdout=subprocess.DEVNULL)
+        # The program is run once it is built, without input.
+        subprocess.run(["rt", "run", "--", *words, "0"], cwd=crate, stdin=subprocess.DEVNULL, stdout=subprocess.DEVNULL)
         shutil.copy(os.path.join(crate, "out", name), program)
     except FileNotFoundError as missing:
         raise Failed(f"{name} was not built: {missing}") from None

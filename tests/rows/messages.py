@@ -127,7 +127,13 @@ def rows():
         (with_opt(opt(530)), reply(0x8600, answers=[address(n + 1) for n in range(16)]))]
 
 
-for comment, zone, transport, pairs in rows():
+def show(comment, fields, pairs):
+    """Prints a row: the comment, the question and the answer."""
     print(f"# {comment}")
-    print("\t".join(["serve", "example.com.", f"{zone}.zone", transport, *(octets.hex() for octets, _ in pairs)]))
+    print("\t".join([*fields, *(octets.hex() for octets, _ in pairs)]))
     print("=" + "\t".join("none" if told is None else told.hex() for _, told in pairs))
+
+
+if __name__ == "__main__":
+    for comment, zone, transport, pairs in rows():
+        show(comment, ["serve", "example.com.", f"{zone}.zone", transport], pairs)

@@ -14,7 +14,11 @@ use Rattle.authority_server.specs.declared.stream.StreamError.{StreamError}
 use Rattle.authority_server.specs.declared.stream.StreamError.TheVariants as streams
 use Rattle.authority_load.specs.zst_zone.zst_codes.declared.settings.ZoneType.TheVariants as kinds
 use Rattle.authority_load.specs.zst_zone.zst_codes.declared.settings.AxfrPolicy.TheVariants as policies
-use Rattle.authority_server.specs.dnw_name.DomainName.{DomainName}
+use Rattle.authority_server.specs.Servers.{no_zones, with_zones}
+use Rattle.authority_server.specs.Serving.{World}
+use Rattle.authority_server.specs.zsv_catalog.ReadingBack.{ViewReadsBack}
+use Rattle.authority_server.specs.zsv_catalog.zsv_answer.zst_request.Views.{Stored}
+use Rattle.authority_server.specs.zsv_catalog.zsv_answer.zst_request.dnw_name.DomainName.{DomainName}
 use Rattle.authority_load.specs.zst_zone.zst_handler.Zones.{Zone}
 use Rattle.authority_load.specs.ZoneText.{IsOwnerText, IsNumberText, IsZoneText, IsLoadFault}
 use Rattle.authority_server.specs.Frames.{ServesFrames, ServesUntil}
@@ -40,7 +44,7 @@ first_zone name =
       sets = [];
     }
 
--- The words are right, and the file is the text of a zone.
+-- The words are right, and the file is the text of a zone, all of whose records can be read back.
 pub record Starts (words : List (List ℕ)) (file : Option (List ℕ)) : Type 0 where
   pub origin : DomainName
   pub now : ℕ
@@ -49,6 +53,11 @@ pub record Starts (words : List (List ℕ)) (file : Option (List ℕ)) : Type 0 
   pub right_words : AreWords words origin now
   pub readable : file ≡ Some text
   pub loaded : IsZoneText (first_zone origin) text zone
+  pub reads_back : ViewReadsBack (Stored zone)
+
+-- The server of the program: the zone alone, under its own name, for every address.
+abbrev pub one_zone : Zone → World
+one_zone zone = with_zones no_zones zone.origin (Stored zone ∷ [])
 
 -- Each message counts as sent from 127.0.0.1, port 53.
 pub record IsLoopback (source : SocketAddr) : Type 0 where
@@ -64,8 +73,8 @@ pub record Finishes (words : List (List ℕ))
   pub starts : Starts words file
   pub source : SocketAddr
   pub from_here : IsLoopback source
-  pub frames : ServesFrames (record { zone = starts.zone }) source starts.now left rest before after
-      (record { zone = starts.zone })
+  pub frames : ServesFrames (one_zone starts.zone) source starts.now left rest before after
+      (one_zone starts.zone)
   pub ended : IsAtEnd rest
 
 -- It started, and left the stream for this fault, behind the frames that were served whole over
@@ -75,8 +84,12 @@ pub record LeavesStream (words : List (List ℕ)) (file left rest before after :
   pub starts : Starts words file
   pub source : SocketAddr
   pub from_here : IsLoopback source
-  pub frames : ServesUntil (record { zone = starts.zone }) source starts.now left rest before after
-      (record { zone = starts.zone }) fault
+  pub frames : ServesUntil (one_zone starts.zone) source starts.now left rest before after
+      (one_zone starts.zone) fault
+
+-- Want of memory before the zone is served.
+abbrev pub out_of_memory : Fault
+out_of_memory = faults.Stream (streams.OutOfMemory false)
 
 -- The fault stands: wrong words; a file that could not be read; a text that is refused at a line;
 -- want of memory before the zone is served. Want of memory may be answered at any time.
@@ -125,7 +138,7 @@ StatusIs words file left rest before after status =
 abbrev pub read_or_usage : {X : Type 0} → Result X TextError → Result X Fault
 read_or_usage (Ok x) = Ok x
 read_or_usage (Err texts.Malformed) = Err faults.Words
-read_or_usage (Err texts.OutOfMemory) = Err (faults.Stream (streams.OutOfMemory false))
+read_or_usage (Err texts.OutOfMemory) = Err out_of_memory
 
 -- What the words give.
 abbrev pub WordsGive : {C : Type 0} → List (List ℕ) → (C → DomainName) → (C → ℕ) → Result C Fault

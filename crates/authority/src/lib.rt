@@ -7,8 +7,12 @@ pub use authority_load::{
     ZoneError, ZoneSettings, ZoneType, load_zone,
 };
 pub use authority_server::{
-    A, Arrival, Authority, DNSClass, Faults, Label, NS, Name, NoSuite, Protocol, RData, Record,
-    RecordSet, RecordType, SOA, ServeError, StreamError, record_reads_back, zone_reads_back,
+    A, AccessControl, Arrival, Authority, DNSClass, Faults, IpNet, Label, NS, NSIDPayload, Name,
+    NoSuite, Protocol, RData, Record, RecordSet, RecordType, SOA, ServeError, StreamError,
+    ZoneHandler,
 };
 
+mod back;
 pub mod program;
+
+pub use back::{record_reads_back, zone_reads_back};

@@ -1,16 +1,18 @@
 //! The body of the program: a zone's text in, framed questions in, framed replies out.
 
-ghost use Rattle.std.specs.Prelude.{◌≡◌, IfOk, map, option_copied};
+ghost use Rattle.std.specs.Prelude.{◌≡◌, IfErr, IfOk, map, option_copied};
 ghost use Rattle.std.specs.String.{string_bytes};
-ghost use Rattle.authority_load.specs.zst_zone.zst_handler.Zones.{ZoneReadsBack};
-ghost use Rattle.authority.specs.Programs.{Answers, IsLoopback, StatusIs, TextGives, WordsGive, read_or_usage, status_of};
+ghost use Rattle.authority_load.specs.zst_zone.zst_handler.Zones.{AreStored, ZoneReadsBack};
+ghost use Rattle.authority_server.specs.Servers.{world_of};
+ghost use Rattle.authority_server.specs.zsv_catalog.zsv_answer.zst_request.Views.{Stored};
+ghost use Rattle.authority.specs.Programs.{Answers, IsLoopback, StatusIs, TextGives, WordsGive, one_zone, out_of_memory, read_or_usage, status_of};
 
 use authority_load::{
     AxfrPolicy, InMemoryZoneHandler, LoadError, TextError, ZoneSettings, ZoneType, load_zone,
     parse_owner, parse_u64,
 };
 use authority_server::{Authority, Name, NoSuite, StreamError};
-use std::alloc::Global;
+use std::alloc::{AllocError, AllocFailed, Global};
 use std::io::{Read, Write};
 use std::net::{Ipv4Addr, SocketAddr, SocketAddrV4};
 use thiserror::Error;
@@ -34,6 +36,28 @@ pub enum Fault {
     /// The stream was left, or memory was refused before it.
     #[error("stream: {0}")]
     Stream(StreamError),
+}
+
+impl From<AllocError> for Fault {
+    ghost use Rattle.std.specs.Prelude.{◌≡◌};
+    ghost use Rattle.authority.specs.Programs.{out_of_memory};
+
+    ghost from_gives = { λ _ fault. fault ≡ out_of_memory };
+
+    fn from(_refused: AllocError) -> Fault {
+        Fault::Stream(StreamError::OutOfMemory { applied: false })
+    }
+}
+
+impl<T: Drop> From<AllocFailed<T>> for Fault {
+    ghost use Rattle.std.specs.Prelude.{◌≡◌};
+    ghost use Rattle.authority.specs.Programs.{out_of_memory};
+
+    ghost from_gives = { λ _ fault. fault ≡ out_of_memory };
+
+    fn from(refused: AllocFailed<T>) -> Fault {
+        Fault::from(AllocError::from(refused))
+    }
 }
 
 /// What the words say.
@@ -98,12 +122,29 @@ fn serve<R: Read, W: Write>(
         return Err(Fault::ZoneFile);
     };
     let zone = load(alloc, command.origin, text)?;
-    let source = loopback();
-    let mut server = Authority::with_zone(alloc, NoSuite, zone);
-    match server.serve_stream(reader, writer, source, command.now) {
+    let mut server = server_of(alloc, zone)?;
+    match server.serve_stream(reader, writer, loopback(), command.now) {
         Ok(()) => Ok(()),
         Err(fault) => Err(Fault::Stream(fault)),
     }
+}
+
+/// The server of a zone, which stands alone under its own name.
+fn server_of(
+    alloc: Global,
+    zone: InMemoryZoneHandler<NoSigner>,
+) -> Result<Authority<NoSuite, InMemoryZoneHandler<NoSigner>>, Fault>
+    requires { ZoneReadsBack zone }
+    ensures server { IfOk result (λ server. world_of (λ handler. Stored handler) server ≡ one_zone zone) }
+    ensures stored { AreStored zone.sets }
+    ensures memory { IfErr result (λ fault. fault ≡ out_of_memory) }
+{
+    let origin = zone.origin().clone()?;
+    let mut chain = Vec::new(alloc);
+    chain.push(zone)?;
+    let mut server = Authority::new(alloc, NoSuite);
+    server.upsert(&origin, chain)?;
+    Ok(server)
 }
 
 /// Where each message counts as sent from: 127.0.0.1, port 53.
@@ -150,8 +191,6 @@ fn or_usage<X>(read: Result<X, TextError>) -> Result<X, Fault>
     match read {
         Ok(value) => Ok(value),
         Err(TextError::Malformed) => Err(Fault::Words),
-        Err(TextError::OutOfMemory) => Err(Fault::Stream(StreamError::OutOfMemory {
-            applied: false,
-        })),
+        Err(TextError::OutOfMemory) => Err(Fault::from(AllocError)),
     }
 }

@@ -1,8 +1,6 @@
-pub mod Asked
-pub mod Encoded
-pub mod ServedRuns
-pub mod ShownBack
-pub mod Sound
-pub mod StreamFaults
-pub mod StreamRuns
-pub mod WorkedRows
+mod Answered
+mod ServedRuns
+mod StreamFaults
+mod StreamRuns
+mod WorkedRows
+mod Zones

@@ -1,5 +1,5 @@
 -- A run of the server, one message more at a time.
-use Rattle.std.proofs.Common.{◌≡◌, ℕ, ◌+◌, ◌<◌, List, [], ◌∷◌, ◌++◌, length, get_or, map, take, Option, None, Some, refl, sym, ap, subst, ◌∙◌, arith, append_assoc, append-nil, Vec, Global}
+use Rattle.std.proofs.Common.{◌≡◌, ℕ, ◌+◌, ◌<◌, List, [], ◌∷◌, ◌++◌, length, get_or, map, take, Option, refl, sym, ap, subst, ◌∙◌, arith, append_assoc, append-nil, Vec, Global}
 use Rattle.std.proofs.lemmas.List.{length-append, map-append, map_more, take-map}
 use Rattle.authority_server.specs.declared.server.Arrival.{Arrival}
 use Rattle.authority_server.specs.Serving.{World, Received, Serves, ServesAll}
@@ -33,8 +33,3 @@ served_more old arrivals before after count middle d later new more s (answer, p
 pub served_front : (old : World) (arrivals : List Arrival) (before after : List (Option (Vec ℕ Global))) (count : ℕ) (new : World) → Served old arrivals before after count new → ServesFront old (map received_of arrivals) (map octets_of before) (map octets_of after) new
 served_front old arrivals before after count new s =
     (s.answers, s.behind, subst (λ (ms : List Received). ServesAll old ms s.answers new) (sym (take-map received_of count arrivals) ∙ ap (λ (n : ℕ). take n (map received_of arrivals)) (sym s.counted)) s.run)
-
--- Serving changes nothing.
-pub serves_keeps : (old : World) (m : Received) (answer : Option (List ℕ)) (new : World) → Serves old m answer new → new ≡ old
-serves_keeps old m None new s = s.1
-serves_keeps old m (Some reply) new (request, is, replied, same) = same

@@ -1,38 +1,44 @@
 -- The definitions computed on worked rows: a zone with a start of authority, a cut and one address, and what it is asked.
 use Rattle.std.proofs.Common.{◌≡◌, ℕ, Bool, true, false, List, [], ◌∷◌, ◌++◌, refl, sym, ◌∙◌, ap, subst, arith}
-use Rattle.std.specs.Prelude.{codes, pos, Option, Some, None}
+use Rattle.std.specs.Prelude.{codes, pos, Option, Some, None, unwrap_or}
+use Rattle.std.proofs.lemmas.Option.{none-some}
 use Rattle.std.proofs.lemmas.Bool.{false≢true, true≢false}
-use Rattle.zst_zone.specs.dnw_codes.declared.record_type.RecordType.{RecordType}
-use Rattle.zst_zone.specs.dnw_codes.RecordType.{same_record_type}
-use Rattle.zst_zone.specs.dnw_codes.declared.record_type.RecordType.TheVariants as types
-use Rattle.zst_zone.specs.dnw_codes.declared.dns_class.DNSClass.TheVariants as classes
-use Rattle.zsv_reply.specs.drd_rdata.declared.rdata.RData.TheVariants as rdata
-use Rattle.zsv_reply.specs.zst_record.declared.records.Record.{Record}
-use Rattle.zst_zone.specs.zst_codes.declared.settings.ZoneType.TheVariants as kinds
-use Rattle.zst_zone.specs.zst_codes.declared.settings.AxfrPolicy.TheVariants as policies
-use Rattle.zsv_reply.specs.zsv_message.zsv_parts.declared.header.MessageType.TheVariants as messages
-use Rattle.zsv_reply.specs.zsv_message.zsv_parts.declared.header.OpCode.TheVariants as operations
-use Rattle.zsv_reply.specs.zsv_message.zsv_parts.zst_codes.declared.response_code.ResponseCode.{ResponseCode}
-use Rattle.zsv_reply.specs.zsv_message.zsv_parts.zst_codes.declared.response_code.ResponseCode.TheVariants as responses
-use Rattle.zsv_reply.specs.zsv_message.zsv_parts.declared.header.Metadata.{Metadata}
-use Rattle.zsv_reply.specs.zsv_message.zsv_parts.declared.question.Query.{Query}
-use Rattle.zst_zone.specs.dnw_name.DomainName.{DomainName, name_cmp, name_octets, name_eq, is_at_or_below}
+use Rattle.zsv_catalog.specs.zsv_answer.zst_request.dnw_codes.declared.record_type.RecordType.{RecordType}
+use Rattle.zsv_catalog.specs.zsv_answer.zst_request.dnw_codes.RecordType.{same_record_type}
+use Rattle.zsv_catalog.specs.zsv_answer.zst_request.dnw_codes.declared.record_type.RecordType.TheVariants as types
+use Rattle.zsv_catalog.specs.zsv_answer.zst_request.dnw_codes.declared.dns_class.DNSClass.TheVariants as classes
+use Rattle.zsv_catalog.specs.zsv_answer.zsv_reply.drd_rdata.declared.rdata.RData.TheVariants as rdata
+use Rattle.zsv_catalog.specs.zsv_answer.zsv_reply.zst_record.declared.records.Record.{Record}
+use Rattle.zsv_catalog.specs.zsv_answer.zst_request.zst_codes.declared.settings.ZoneType.TheVariants as kinds
+use Rattle.zsv_catalog.specs.zsv_answer.zst_request.zst_codes.declared.settings.AxfrPolicy.TheVariants as policies
+use Rattle.zsv_catalog.specs.zsv_answer.zsv_reply.zsv_message.zsv_parts.declared.header.MessageType.TheVariants as messages
+use Rattle.zsv_catalog.specs.zsv_answer.zsv_reply.zsv_message.zsv_parts.declared.header.OpCode.TheVariants as operations
+use Rattle.zsv_catalog.specs.zsv_answer.zsv_reply.zsv_message.zsv_parts.zst_codes.declared.response_code.ResponseCode.{ResponseCode}
+use Rattle.zsv_catalog.specs.zsv_answer.zsv_reply.zsv_message.zsv_parts.zst_codes.declared.response_code.ResponseCode.TheVariants as responses
+use Rattle.zsv_catalog.specs.zsv_answer.zsv_reply.zsv_message.zsv_parts.declared.header.Metadata.{Metadata}
+use Rattle.zsv_catalog.specs.zsv_answer.zsv_reply.zsv_message.zsv_parts.declared.question.Query.{Query}
+use Rattle.zsv_catalog.specs.zsv_answer.zst_request.dnw_name.DomainName.{DomainName, name_cmp, name_octets, name_eq, is_at_or_below}
 use Rattle.std.specs.declared.cmp.Ordering.TheVariants.{Less, Greater}
 use Rattle.std.specs.Net.Addr.{ipv4_bits}
-use Rattle.zsv_reply.specs.zsv_message.zsv_parts.dnw_decoder.Octets.{octets_16, octets_32}
-use Rattle.zsv_reply.specs.zsv_message.zsv_parts.Headers.{header_of}
-use Rattle.zsv_reply.specs.drd_rdata.Writing.{written_octets}
-use Rattle.zsv_reply.specs.zst_record.Records.{plain}
-use Rattle.zsv_reply.specs.zsv_message.zsv_parts.dnw_decoder.Spelling.{NameAt, at_end, at_label}
-use Rattle.zsv_reply.specs.zsv_message.Messages.{Message}
-use Rattle.zsv_reply.specs.zsv_message.zsv_parts.Questions.{QuestionAt}
-use Rattle.zsv_reply.specs.zst_record.RecordSets.{RRset}
-use Rattle.zsv_reply.specs.Replies.{ReplyParts}
-use Rattle.zst_zone.specs.zst_handler.Chains.{IsAliasChain, NoneTwice, asked_names, leads}
-use Rattle.zst_zone.specs.zst_handler.Found.{found}
-use Rattle.zst_zone.specs.zst_handler.Lookups.{IsLookup, LookupFrom, Outcome, additionals, answered, is_flattened, name_exists, name_error, out_of_zone}
-use Rattle.zst_zone.specs.zst_handler.Zones.{Zone, AreInOrder, set_cmp}
-use Rattle.authority_server.specs.Serving.{AnswersEdns, AtOrigin, OutcomeParts, PartsOf, QueryParts, QuestionParts, with_edns}
+use Rattle.zsv_catalog.specs.zsv_answer.zsv_reply.zsv_message.zsv_parts.dnw_decoder.Octets.{octets_16, octets_32}
+use Rattle.zsv_catalog.specs.zsv_answer.zsv_reply.zsv_message.zsv_parts.Headers.{header_of}
+use Rattle.zsv_catalog.specs.zsv_answer.zsv_reply.drd_rdata.Writing.{written_octets}
+use Rattle.zsv_catalog.specs.zsv_answer.zsv_reply.zst_record.Records.{plain}
+use Rattle.zsv_catalog.specs.zsv_answer.zsv_reply.zsv_message.zsv_parts.dnw_decoder.Spelling.{NameAt, at_end, at_label}
+use Rattle.zsv_catalog.specs.zsv_answer.zsv_reply.zsv_message.Messages.{Message}
+use Rattle.zsv_catalog.specs.zsv_answer.zsv_reply.zsv_message.zsv_parts.Questions.{QuestionAt}
+use Rattle.zsv_catalog.specs.zsv_answer.zsv_reply.zst_record.RecordSets.{RRset}
+use Rattle.zsv_catalog.specs.zsv_answer.zsv_reply.Replies.{ReplyParts}
+use Rattle.zsv_catalog.specs.zsv_answer.zst_request.zst_handler.Chains.{IsAliasChain, NoneTwice, asked_names, leads}
+use Rattle.zsv_catalog.specs.zsv_answer.zst_request.zst_handler.Found.{found}
+use Rattle.zsv_catalog.specs.zsv_answer.zst_request.zst_handler.Lookups.{IsLookup, LookupFrom, Outcome, additionals, answered, is_flattened, name_exists, name_error, out_of_zone}
+use Rattle.zsv_catalog.specs.zsv_answer.zst_request.zst_handler.Zones.{Zone, AreInOrder, set_cmp}
+use Rattle.zsv_catalog.specs.Catalogs.{AnswersEdns, PartsOf, QueryParts, QuestionParts}
+use Rattle.zsv_catalog.specs.Chains.{chain_for}
+use Rattle.zsv_catalog.specs.zsv_answer.Parts.{AtOrigin, AuthoritativeParts, ChainParts, PartsAs}
+use Rattle.zsv_catalog.specs.zsv_answer.Resolution.{Resolution, Resolves, outcome_shown}
+use Rattle.zsv_catalog.specs.zsv_answer.Responses.{with_edns}
+use Rattle.zsv_catalog.specs.zsv_answer.zst_request.Views.{Stored, View, zone_type_of}
 
 abbrev example : DomainName
 example = record { fqdn = true; labels = codes "example" ∷ codes "com" ∷ [] }
@@ -232,36 +238,51 @@ answer_metadata authoritative code = record {
   response_code = code;
 }
 
+-- The zone alone in its chain, under its own name.
+abbrev chain : List View
+chain = Stored zone ∷ []
+
+abbrev chains : List (DomainName × List View)
+chains = (example, chain) ∷ []
+
 -- What full replies hold.
 abbrev Gives : List Query → ReplyParts → Type 0
-Gives qs parts = PartsOf zone (asks plain_metadata qs) parts
+Gives qs parts = PartsOf chains None (asks plain_metadata qs) parts
 
-gives : (qs : List Query) (parts : ReplyParts) → parts ≡ with_edns None parts → QueryParts zone plain_metadata false qs parts → Gives qs parts
+gives : (qs : List Query) (parts : ReplyParts) → parts ≡ with_edns None parts → QueryParts chains plain_metadata false qs parts → Gives qs parts
 gives qs parts none is = record {
   plain = with_edns None parts;
-  gives = record { other_version = λ e. absurd (false≢true e); answered = λ _. subst (QueryParts zone plain_metadata false qs) none is };
-  edns = subst (λ (p : ReplyParts). AnswersEdns None p.metadata.response_code p.edns) (sym none) tt;
+  gives = record { other_version = λ e. absurd (false≢true e); answered = λ _. subst (QueryParts chains plain_metadata false qs) none is };
+  edns = subst (λ (p : ReplyParts). AnswersEdns None None p.metadata.response_code p.edns) (sym none) tt;
   whole = none ∙ ap (λ (p : ReplyParts). with_edns p.edns (with_edns None parts)) (sym none);
 }
 
-looked_up : (name : DomainName) (parts : ReplyParts) (outcome : Outcome) → is_at_or_below name example ≡ true → IsLookup zone name types.A outcome → OutcomeParts zone plain_metadata false types.A outcome parts → QuestionParts zone plain_metadata false (one name) parts
+by_chain : (name : DomainName) (parts : ReplyParts) (outcome : Outcome) → IsLookup zone name types.A outcome → AuthoritativeParts (Stored zone) plain_metadata false types.A (outcome_shown false outcome) parts → ChainParts chain plain_metadata false name types.A parts
+by_chain name parts outcome is shown = record {
+  nobody = λ none. let h : ⊥ = cc in absurd h;
+  somebody = λ view at.
+      subst (λ (v : View). (resolution : Resolution) × Resolves chain v name types.A false resolution × PartsAs (zone_type_of v) v plain_metadata false types.A resolution parts)
+      (ap (λ (o : Option View). unwrap_or o (Stored zone)) at) (outcome_shown false outcome, (outcome, is, refl), shown);
+}
+
+looked_up : (name : DomainName) (parts : ReplyParts) (outcome : Outcome) → chain_for chains name ≡ Some chain → IsLookup zone name types.A outcome → AuthoritativeParts (Stored zone) plain_metadata false types.A (outcome_shown false outcome) parts → QuestionParts chains plain_metadata false (one name) parts
 looked_up name parts outcome inside is shown = record {
-  outside = λ e. absurd (true≢false (sym inside ∙ e));
+  no_chain = λ none. absurd (none-some chain (sym none ∙ inside));
   transfer = λ here e. absurd (false≢true e);
-  looked_up = λ here e. (outcome, is, shown);
+  looked_up = λ other at e. subst (λ (c : List View). ChainParts c plain_metadata false name types.A parts) (ap (λ (o : Option (List View)). unwrap_or o chain) (sym inside ∙ at)) (by_chain name parts outcome is shown);
 }
 
 address_parts : Gives (one (below (codes "www")) ∷ []) (record { metadata = answer_metadata true responses.NoError; answers = address ∷ []; authorities = []; additionals = []; edns = None; signature = None })
 address_parts = gives _ _ refl (looked_up (below (codes "www")) _ (one_set set_of_address []) refl (lookup_of_one (below (codes "www")) types.A set_of_address [] refl refl refl refl refl) ([], (λ e. absurd (false≢true e), λ _. refl), refl))
 
-at_start : AtOrigin zone false types.SOA (start ∷ [])
+at_start : AtOrigin (Stored zone) false types.SOA (start ∷ [])
 at_start = (one_set set_of_start [], lookup_of_one example types.SOA set_of_start [] refl refl refl refl refl, refl)
 
 missing_parts : Gives (one (below (codes "z")) ∷ []) (record { metadata = answer_metadata true responses.NXDomain; answers = []; authorities = start ∷ []; additionals = []; edns = None; signature = None })
 missing_parts = gives _ _ refl (looked_up (below (codes "z")) _ name_error refl a_missing_name (start ∷ [], at_start, refl))
 
 outside_parts : Gives (one elsewhere ∷ []) (record { metadata = answer_metadata false responses.Refused; answers = []; authorities = []; additionals = []; edns = None; signature = None })
-outside_parts = gives _ _ refl (record { outside = λ _. refl; transfer = λ here e. absurd (false≢true here); looked_up = λ here e. absurd (false≢true here) })
+outside_parts = gives _ _ refl (record { no_chain = λ _. refl; transfer = λ here e. absurd (false≢true here); looked_up = λ other at e. let h : ⊥ = cc in absurd h })
 
 no_question_parts : Gives [] (record { metadata = answer_metadata false responses.FormErr; answers = []; authorities = []; additionals = []; edns = None; signature = None })
 no_question_parts = gives _ _ refl refl

@@ -2,7 +2,7 @@
 use Rattle.std.specs.Prelude.{◌≡◌, ℕ, ◌-◌, ◌^◌, ◌<◌, ◌≤◌, false, List, [], ◌++◌, length, take, map, Option, Some, None}
 use Rattle.std.specs.List.{AllByRecursion, flat_map}
 use Rattle.std.specs.declared.net.SocketAddr.{SocketAddr}
-use Rattle.zsv_request.specs.declared.protocol.Protocol.TheVariants as protocols
+use Rattle.zsv_catalog.specs.zsv_answer.zsv_request.declared.protocol.Protocol.TheVariants as protocols
 use Rattle.std.specs.Int.{w16, to_be_bytes}
 use Rattle.std.specs.Io.KnownBytes.{Appends, Consumes, IsAtEnd}
 use Rattle.authority_server.specs.declared.stream.StreamError.{StreamError}

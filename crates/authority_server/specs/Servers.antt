@@ -1,37 +1,56 @@
 -- The server's own values, as the definitions of serving see them.
-use Rattle.std.specs.Prelude.{◌≡◌, Bool, true, false}
-use Rattle.authority_server.specs.declared.server.answer.Response.{Response}
-use Rattle.zst_zone.specs.zst_codes.declared.settings.ZoneType.{ZoneType}
-use Rattle.zst_zone.specs.zst_codes.declared.settings.ZoneType.TheVariants as zones
-use Rattle.zsv_reply.specs.Replies.{ReplyParts}
-use Rattle.zsv_reply.specs.Writing.{AllReadBack, FitsOpCode}
-use Rattle.zst_zone.specs.zst_handler.Answers.{additionals_in, answers_in}
-use Rattle.zst_zone.specs.zst_handler.Zones.{AreStored, Zone, ZoneReadsBack}
-use Rattle.authority_server.specs.Serving.{parts_with}
+use Rattle.std.specs.Prelude.{ℕ, ◌≤◌, List, [], None, length}
+use Rattle.std.specs.declared.net.SocketAddr.{SocketAddr}
+use Rattle.authority_server.specs.declared.server.Authority.{Authority}
+use Rattle.authority_server.specs.Serving.{GivesParts, World}
+use Rattle.zsv_access.specs.Access.{no_networks}
+use Rattle.zsv_catalog.specs.Catalogs.{PartsOf}
+use Rattle.zsv_catalog.specs.Chains.{views_of, with_chain, without_chain}
+use Rattle.zsv_catalog.specs.zsv_answer.zst_request.Views.{View}
+use Rattle.zsv_catalog.specs.zsv_answer.zst_request.dnw_name.DomainName.{DomainName}
+use Rattle.zsv_catalog.specs.zsv_answer.zsv_reply.Replies.{ReplyParts}
+use Rattle.zsv_catalog.specs.zsv_answer.zsv_reply.Writing.{AllReadBack, IsEncoded}
+use Rattle.zsv_catalog.specs.zsv_answer.zsv_reply.zsv_message.Messages.{Message}
+use Rattle.zsv_catalog.specs.zsv_answer.zsv_reply.zsv_message.zsv_parts.Questions.{Asked}
+use Rattle.zsv_catalog.specs.zsv_answer.zsv_reply.zsv_message.zsv_parts.declared.header.Header.{Header}
+use Rattle.zsv_catalog.specs.zsv_answer.zsv_request.Requests.{limit_of}
+use Rattle.zsv_catalog.specs.zsv_answer.zsv_request.declared.protocol.Protocol.{Protocol}
 
-abbrev pub serves_kind : ZoneType → Bool
-serves_kind zones.Primary = true
-serves_kind zones.Secondary = true
-serves_kind zones.External = false
+-- What a server is, by what its handlers mean.
+abbrev pub world_of : {S H : Type 0} → (H → View) → Authority S H → World
+world_of view server = record {
+  access = server.access;
+  nsid = server.nsid;
+  chains = views_of view server.chains.chains.entries;
+}
 
--- What a response holds.
-abbrev pub parts_of : Response → ReplyParts
-parts_of r =
-    parts_with r.metadata r.is_referral (answers_in r.found) (additionals_in r.found)
-    (answers_in r.beside)
+-- A server that every address may ask, without an identifier and without zones.
+abbrev pub no_zones : World
+no_zones = record { access = no_networks; nsid = None; chains = [] }
 
--- A reply that can be written and read back.
-pub record IsSound (parts : ReplyParts) : Type 0 where
-  pub metadata : FitsOpCode parts.metadata
-  pub reads_back : AllReadBack parts
+-- A chain in place of the one under a name.
+abbrev pub with_zones : World → DomainName → List View → World
+with_zones world name chain = record world { chains = with_chain world.chains name chain }
 
--- A zone that its server answers for: a primary's or a secondary's, of records that those whom its
--- replies reach can read.
-pub record IsServed (zone : Zone) : Type 0 where
-  pub kept_here : serves_kind zone.zone_type ≡ true
-  pub reads_back : ZoneReadsBack zone
+-- All chains but the one under a name.
+abbrev pub without_zones : World → DomainName → World
+without_zones world name = record world { chains = without_chain world.chains name }
 
--- A zone as its server keeps it: it is served, and its sets are filled, as every zone's are.
-pub record IsKept (zone : Zone) : Type 0 where
-  pub served : IsServed zone
-  pub stored : AreStored zone.sets
+-- The octets of a reply of these parts, and its header: within the limit whatever the records are,
+-- and the reply where each can be read back.
+pub record SendsParts (parts : ReplyParts) (asked : Asked) (transport : Protocol) (info : Header)
+    (reply : List ℕ) : Type 0 where
+  pub within : length reply ≤ limit_of transport parts.edns
+  pub stands : AllReadBack parts → IsEncoded info reply parts asked (limit_of transport parts.edns)
+
+-- The octets of a reply to a request, and its header: of the parts that the zones give.
+abbrev pub ZonesSend : World → Message → Protocol → Header → List ℕ → Type 0
+ZonesSend world request transport info reply =
+    (parts : ReplyParts) × PartsOf world.chains world.nsid request parts
+    × SendsParts parts request.asked transport info reply
+
+-- The same, of the parts that the server gives to a source.
+abbrev pub SendsReply : World → Message → SocketAddr → Protocol → Header → List ℕ → Type 0
+SendsReply world request source transport info reply =
+    (parts : ReplyParts) × GivesParts world request source parts
+    × SendsParts parts request.asked transport info reply

@@ -4,15 +4,16 @@
 //! frames (`ServesFrames`).
 #![tactic(auto)]
 
-pub use zsv_reply::{A, DNSClass, Label, NS, Name, RData, Record, RecordSet, RecordType, SOA};
-pub use zsv_request::Protocol;
+pub use zsv_access::{AccessControl, IpNet};
+pub use zsv_catalog::{
+    A, DNSClass, Label, NS, NSIDPayload, Name, NoSuite, Protocol, RData, Record, RecordSet,
+    RecordType, SOA, ZoneHandler,
+};
 
-mod back;
 mod faults;
 mod server;
 mod stream;
 
-pub use back::{record_reads_back, zone_reads_back};
 pub use faults::Faults;
-pub use server::{Arrival, Authority, NoSuite, ServeError};
+pub use server::{Arrival, Authority, ServeError};
 pub use stream::StreamError;

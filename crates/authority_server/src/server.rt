@@ -1,24 +1,26 @@
 //! The server: one message in, one reply out.
 
-ghost use Rattle.std.specs.Prelude.{◌≡◌, ◌+◌, ◌<◌, ◌≤◌, vec_len, vec_capacity, length, map, IfOk, IfErr, OnOk, None, false};
-ghost use Rattle.zsv_reply.specs.zsv_message.zsv_parts.dnw_decoder.Reading.{IsWantOfMemory};
-ghost use Rattle.authority_server.specs.Serving.{Serves};
+ghost use Rattle.std.specs.Prelude.{◌≡◌, ◌+◌, ◌<◌, ◌≤◌, vec_len, vec_capacity, length, map, IfOk, IfErr, OnErr, OnOk, None, false};
+ghost use Rattle.zsv_catalog.specs.Chains.{chain_at};
+ghost use Rattle.zsv_catalog.specs.ReadingBack.{ChainReadsBack};
+ghost use Rattle.zsv_catalog.specs.zsv_answer.zst_request.dnw_name.DomainName.{lowercase_name};
+ghost use Rattle.zsv_catalog.specs.zsv_answer.Responses.{error_parts};
+ghost use Rattle.zsv_catalog.specs.zsv_answer.zsv_reply.Writing.{FitsOpCode, IsEncoded};
+ghost use Rattle.zsv_catalog.specs.zsv_answer.zsv_request.Requests.{limit_of};
+ghost use Rattle.zsv_catalog.specs.zsv_answer.zsv_reply.zsv_message.zsv_parts.dnw_decoder.Reading.{IsWantOfMemory};
+ghost use Rattle.authority_server.specs.Serving.{Serves, WorldReadsBack};
+ghost use Rattle.authority_server.specs.Servers.{SendsReply, ZonesSend, no_zones, with_zones, without_zones, world_of};
 ghost use Rattle.authority_server.specs.Runs.{octets_of, received_of, ServesNext, ServesFront};
 
-use crate::server::answer::reply_to;
-use std::alloc::Global;
-use std::marker::Model;
+use drd_types::NSIDPayload;
+use std::alloc::{AllocError, Global};
 use std::net::SocketAddr;
 use thiserror::Error;
-use zst_zone::{InMemoryZoneHandler, ZoneType};
-use zsv_reply::{DecodeError, MessageRequest};
-use zsv_request::Protocol;
-
-pub mod answer;
-
-/// A server without keys: it verifies and signs nothing.
-#[derive(Clone, Copy, Debug)]
-pub struct NoSuite;
+use zsv_access::AccessControl;
+use zsv_catalog::{
+    Chains, DecodeError, MessageRequest, Name, Protocol, ResponseCode, ResponseInfo, ZoneHandler,
+    error_response, reply_by,
+};
 
 /// A message as it came.
 #[derive(Clone, Copy)]
@@ -55,36 +57,67 @@ fn answer_refused(refused: DecodeError) -> Result<Option<Vec<u8>>, ServeError>
     }
 }
 
-/// A server of one zone. `S` verifies and signs messages, `K` signs the zone.
+/// A server of many zones: chains of handlers, each under the name from which on it answers, and who may ask. `S` verifies
+/// and signs messages. Handlers of several kinds, `H`, stand in boxes (`Box<dyn ZoneHandler>`); where all are of one kind,
+/// they need none.
 #[derive(Drop)]
-pub struct Authority<S, K> {
+pub struct Authority<S, H = Box<dyn ZoneHandler>> {
     alloc: Global,
     suite: S,
-    zone: InMemoryZoneHandler<K>,
+    chains: Chains<H>,
+    // By what the server tells itself apart from others that answer under its address.
+    nsid: Option<NSIDPayload>,
+    access: AccessControl,
 }
 
-impl<S, K> Model for Authority<S, K> {
-    ghost use Rattle.authority_server.specs.Serving.{World};
-    ghost use Rattle.authority_server.specs.Servers.{IsKept};
-
-    ghost Value = { World };
-
-    ghost view = { λ server. record { zone = server.zone } };
-
-    ghost invariant = { λ server. IsKept server.zone };
-}
-
-impl<S, K> Authority<S, K> {
-    ghost use Rattle.authority_server.specs.Servers.{IsServed};
-
-    /// A server of a zone that is kept here, a primary's or a secondary's, and whose records can be read back.
-    pub fn with_zone(alloc: Global, suite: S, zone: InMemoryZoneHandler<K>) -> Authority<S, K>
-        requires { IsServed zone }
-        ensures { result ≡ record { zone = zone } }
+impl<S, H: ZoneHandler> Authority<S, H> {
+    /// A server without zones, which every address may ask.
+    pub fn new(alloc: Global, suite: S) -> Authority<S, H>
+        ensures { world_of H.view result ≡ no_zones }
     {
-        // What every zone keeps of its sets is told by its origin.
-        let _origin = zone.origin();
-        Authority { alloc, suite, zone }
+        Authority {
+            alloc,
+            suite,
+            chains: Chains::new(alloc),
+            nsid: None,
+            access: AccessControl::new(alloc),
+        }
+    }
+
+    /// Puts a chain of handlers in place of the one under a name, which is dropped. Each record of its zones, and each
+    /// signature, can be read back alone, as `zone_reads_back` tells of a stored zone.
+    pub fn upsert(&mut self, name: &Name, handlers: Vec<H>) -> Result<(), AllocError>
+        requires { ChainReadsBack (map H.view handlers.items) }
+        ensures ok { OnOk result (world_of H.view self.new ≡ with_zones (world_of H.view self.old) name.now (map H.view handlers.items)) }
+        ensures err { OnErr result (world_of H.view self.new ≡ world_of H.view self.old) }
+        ensures back { WorldReadsBack (world_of H.view self.old) → WorldReadsBack (world_of H.view self.new) }
+    {
+        self.chains.upsert(self.alloc, name, handlers)
+    }
+
+    /// Takes out the chain under a name, and hands it back.
+    pub fn remove(&mut self, name: &Name) -> Result<Option<Vec<H>>, AllocError>
+        ensures value { IfOk result (λ chain. chain ≡ chain_at self.old.chains.chains.entries (lowercase_name name.now)) }
+        ensures ok { OnOk result (world_of H.view self.new ≡ without_zones (world_of H.view self.old) name.now) }
+        ensures err { OnErr result (world_of H.view self.new ≡ world_of H.view self.old) }
+        ensures back { WorldReadsBack (world_of H.view self.old) → WorldReadsBack (world_of H.view self.new) }
+    {
+        self.chains.remove(self.alloc, name)
+    }
+
+    /// Says who may ask.
+    pub fn set_access(&mut self, access: AccessControl)
+        ensures { world_of H.view self.new ≡ record (world_of H.view self.old) { access = access } }
+    {
+        self.access = access;
+    }
+
+    /// Sets the identifier that is told to those who ask for it (RFC 5001), or none. One of more than 65,531 octets fits no
+    /// message.
+    pub fn set_nsid(&mut self, nsid: Option<NSIDPayload>)
+        ensures { world_of H.view self.new ≡ record (world_of H.view self.old) { nsid = nsid } }
+    {
+        self.nsid = nsid;
     }
 
     // The allocator that the server was made with.
@@ -92,8 +125,62 @@ impl<S, K> Authority<S, K> {
         self.alloc
     }
 
+    // A reply without records and options, and its header.
+    fn error_reply(
+        &self,
+        request: &MessageRequest<'_>,
+        protocol: Protocol,
+        response_code: ResponseCode,
+    ) -> Result<(ResponseInfo, Vec<u8>), AllocError>
+        requires { FitsOpCode request.now.metadata }
+        ensures { IfOk result (λ sent. IsEncoded sent.0 sent.1.items (error_parts request.now.metadata response_code)
+            request.now.asked (limit_of protocol None)) }
+    {
+        error_response(request.metadata(), response_code).encode(
+            self.alloc,
+            None,
+            request.queries(),
+            protocol,
+        )
+    }
+
+    // The zones' reply to a request, and its header. One above its limit, as only records that can't be read back could make
+    // it, gives way to a failure of the server.
+    fn zones_reply(
+        &self,
+        request: &MessageRequest<'_>,
+        src: SocketAddr,
+        protocol: Protocol,
+    ) -> Result<(ResponseInfo, Vec<u8>), AllocError>
+        requires { FitsOpCode request.now.metadata }
+        ensures { IfOk result (λ sent. ZonesSend (world_of H.view self.now) request.now protocol sent.0 sent.1.items) }
+    {
+        let nsid = self.nsid.as_ref();
+        let sent = reply_by(&self.chains, nsid, self.alloc, request, src, protocol)?;
+        if sent.1.len() > protocol.limit(request.edns()) as usize {
+            return self.error_reply(request, protocol, ResponseCode::ServFail);
+        }
+        Ok(sent)
+    }
+
+    // The reply to a request, and its header: who isn't allowed to ask is refused, without options.
+    fn reply_to(
+        &self,
+        request: &MessageRequest<'_>,
+        src: SocketAddr,
+        protocol: Protocol,
+    ) -> Result<(ResponseInfo, Vec<u8>), AllocError>
+        requires { FitsOpCode request.now.metadata }
+        ensures { IfOk result (λ sent. SendsReply (world_of H.view self.now) request.now src protocol sent.0 sent.1.items) }
+    {
+        if self.access.allow(src.ip()) {
+            return self.zones_reply(request, src, protocol);
+        }
+        self.error_reply(request, protocol, ResponseCode::Refused)
+    }
+
     /// Serves one message. A message outside the request grammar gets no reply; each other gets one, within the
-    /// transport's limit, that holds what the zone answers.
+    /// transport's limit, that holds what the zones answer, or a refusal where its source isn't allowed to ask.
     ///
     /// A message that is itself a reply (QR set) is answered by a format error. Callers drop such datagrams, since two
     /// servers that answer them would answer each other without end.
@@ -105,16 +192,18 @@ impl<S, K> Authority<S, K> {
         now: u64,
     ) -> Result<Option<Vec<u8>>, ServeError>
         ensures served { IfOk result
-            (λ answer. Serves self.old (record { message = message.now; source = src; transport = protocol; now = now })
-            (octets_of answer) self.new) }
-        ensures refused { IfErr result (λ e. (e ≡ ServeError.OutOfMemory false) × (12 ≤ length message.now) × (self.new ≡ self.old)) }
+            (λ answer. Serves (world_of H.view self.old)
+            (record { message = message.now; source = src; transport = protocol; now = now }) (octets_of answer)
+            (world_of H.view self.new)) }
+        ensures refused { IfErr result (λ e. (e ≡ ServeError.OutOfMemory false) × (12 ≤ length message.now)) }
+        ensures unchanged { self.new ≡ self.old }
     {
         let request = match MessageRequest::read(self.alloc, message) {
             Ok(request) => request,
             Err(refused) => return answer_refused(refused),
         };
-        match reply_to(&self.zone, self.alloc, message, &request, protocol) {
-            Ok(reply) => Ok(Some(reply)),
+        match self.reply_to(&request, src, protocol) {
+            Ok(sent) => Ok(Some(sent.1)),
             Err(_) => Err(ServeError::OutOfMemory { applied: false }),
         }
     }
@@ -126,10 +215,14 @@ impl<S, K> Authority<S, K> {
         answers: &mut Vec<Option<Vec<u8>>>,
     ) -> Result<(), ServeError>
         requires { vec_len answers.old < vec_capacity answers.old }
-        ensures served { OnOk result (ServesNext self.old (received_of arrival.entry.now) answers.old.items answers.new.items self.new) }
+        ensures served { OnOk result
+            (ServesNext (world_of H.view self.old)
+            (received_of arrival.entry.now) answers.old.items answers.new.items
+            (world_of H.view self.new)) }
+        ensures unchanged { self.new ≡ self.old }
         ensures capacity { vec_capacity answers.new ≡ vec_capacity answers.old }
         ensures len { OnOk result (vec_len answers.new ≡ vec_len answers.old + 1) }
-        ensures refused { IfErr result (λ e. (e ≡ ServeError.OutOfMemory false) × (self.new ≡ self.old) × (answers.new.items ≡ answers.old.items)) }
+        ensures refused { IfErr result (λ e. (e ≡ ServeError.OutOfMemory false) × (answers.new.items ≡ answers.old.items)) }
     {
         let answer = self.serve(arrival.message, arrival.src, arrival.protocol, arrival.now)?;
         answers.push_reserved(answer);
@@ -143,9 +236,12 @@ impl<S, K> Authority<S, K> {
         arrivals: &[Arrival<'_>],
         answers: &mut Vec<Option<Vec<u8>>>,
     ) -> Result<(), ServeError>
-        ensures served { ServesFront self.old (map received_of arrivals.now) (map octets_of answers.old.items) (map octets_of answers.new.items) self.new }
+        ensures served { ServesFront (world_of H.view self.old)
+            (map received_of arrivals.now) (map octets_of answers.old.items) (map octets_of answers.new.items)
+            (world_of H.view self.new) }
         ensures all { OnOk result (length answers.new.items ≡ length answers.old.items + length arrivals.now) }
         ensures refused { IfErr result (λ e. e ≡ ServeError.OutOfMemory false) }
+        ensures unchanged { self.new ≡ self.old }
     {
         if answers.try_reserve(arrivals.len()).is_err() {
             return Err(ServeError::OutOfMemory { applied: false });

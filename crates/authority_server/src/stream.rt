@@ -4,6 +4,7 @@ ghost use Rattle.std.specs.Prelude.{◌≡◌, ◌<◌, ◌≤◌, ◌^◌, ℕ,
 ghost use Rattle.std.specs.Int.{w16, to_be_bytes};
 ghost use Rattle.std.specs.Io.KnownBytes.{Consumes, Appends, IsAtEnd};
 ghost use Rattle.authority_server.specs.Faults.{IsFaultOf, NoneFailed, WriterFailed, no_faults, reader_failed};
+ghost use Rattle.authority_server.specs.Servers.{world_of};
 ghost use Rattle.authority_server.specs.Frames.{frame_of, stream_message, ReadsLess, IsMessageFault, IsReadFault, WritesFront, IsServeFault, ServesFrame, ServesFrames, ServesUntil};
 
 use crate::faults::Faults;
@@ -11,7 +12,7 @@ use crate::server::{Authority, ServeError};
 use std::io::{Read, Write};
 use std::net::SocketAddr;
 use thiserror::Error;
-use zsv_request::Protocol;
+use zsv_catalog::{Protocol, ZoneHandler};
 
 /// Why a stream was left. The frames that were whole before are answered.
 #[derive(Clone, Copy, Debug, Error)]
@@ -182,7 +183,7 @@ fn write_frame<W: Write>(
     }
 }
 
-impl<S, K> Authority<S, K> {
+impl<S, H: ZoneHandler> Authority<S, H> {
     // Serves one message, and writes its reply, if there is one.
     fn serve_frame<W: Write>(
         &mut self,
@@ -195,8 +196,13 @@ impl<S, K> Authority<S, K> {
         requires { faults.old ≡ no_faults }
         ensures flushed { OnOk result (faults.new ≡ no_faults) }
         ensures cause { IfErr result (IsFaultOf faults.new) }
-        ensures served { OnOk result (ServesFrame self.old (stream_message src now message.now) (W.contents writer.old) (W.contents writer.new) self.new) }
-        ensures fault { IfErr result (IsServeFault self.old (stream_message src now message.now) (W.contents writer.old) (W.contents writer.new) self.new) }
+        ensures served { OnOk result
+            (ServesFrame (world_of H.view self.old) (stream_message src now message.now) (W.contents writer.old)
+            (W.contents writer.new) (world_of H.view self.new)) }
+        ensures fault { IfErr result
+            (IsServeFault (world_of H.view self.old) (stream_message src now message.now) (W.contents writer.old)
+            (W.contents writer.new) (world_of H.view self.new)) }
+        ensures unchanged { self.new ≡ self.old }
     {
         match self.serve(message, src, Protocol::Tcp, now) {
             Ok(Some(reply)) => write_frame(writer, faults, &reply),
@@ -216,12 +222,12 @@ impl<S, K> Authority<S, K> {
     ) -> Result<(), StreamError>
         ensures unchanged { self.new ≡ self.old }
         ensures served { OnOk result
-            (ServesFrames self.old src now (R.remaining reader.old) (R.remaining reader.new) (W.contents writer.old)
-            (W.contents writer.new) self.new) }
+            (ServesFrames (world_of H.view self.old) src now (R.remaining reader.old) (R.remaining reader.new)
+            (W.contents writer.old) (W.contents writer.new) (world_of H.view self.new)) }
         ensures ended { OnOk result (IsAtEnd (R.remaining reader.new)) }
         ensures left { IfErr result
-            (ServesUntil self.old src now (R.remaining reader.old) (R.remaining reader.new) (W.contents writer.old)
-            (W.contents writer.new) self.new) }
+            (ServesUntil (world_of H.view self.old) src now (R.remaining reader.old) (R.remaining reader.new)
+            (W.contents writer.old) (W.contents writer.new) (world_of H.view self.new)) }
         ensures cut { result ≡ Err StreamError.CutFrame → IsAtEnd (R.remaining reader.new) }
     {
         self.serve_stream_with(reader, writer, &mut Faults::none(), src, now)
@@ -243,12 +249,12 @@ impl<S, K> Authority<S, K> {
         ensures cause { IfErr result (IsFaultOf faults.new) }
         ensures unchanged { self.new ≡ self.old }
         ensures served { OnOk result
-            (ServesFrames self.old src now (R.remaining reader.old) (R.remaining reader.new) (W.contents writer.old)
-            (W.contents writer.new) self.new) }
+            (ServesFrames (world_of H.view self.old) src now (R.remaining reader.old) (R.remaining reader.new)
+            (W.contents writer.old) (W.contents writer.new) (world_of H.view self.new)) }
         ensures ended { OnOk result (IsAtEnd (R.remaining reader.new)) }
         ensures left { IfErr result
-            (ServesUntil self.old src now (R.remaining reader.old) (R.remaining reader.new) (W.contents writer.old)
-            (W.contents writer.new) self.new) }
+            (ServesUntil (world_of H.view self.old) src now (R.remaining reader.old) (R.remaining reader.new)
+            (W.contents writer.old) (W.contents writer.new) (world_of H.view self.new)) }
         ensures cut { result ≡ Err StreamError.CutFrame → IsAtEnd (R.remaining reader.new) }
     {
         let mut frame = Vec::new(self.alloc());

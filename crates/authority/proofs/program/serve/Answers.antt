@@ -1,7 +1,10 @@
 use Rattle.std.proofs.Common.{◌≡◌, ap, refl, inr, option_copied}
 use Rattle.std.specs.Prelude.{ℕ, List, Option}
 use Rattle.std.specs.declared.net.SocketAddr.{SocketAddr}
+use Rattle.authority_load.specs.zst_zone.zst_handler.Zones.{Zone}
+use Rattle.authority_server.specs.Servers.{world_of}
 use Rattle.authority_server.specs.Serving.{World}
+use Rattle.authority_server.specs.zsv_catalog.zsv_answer.zst_request.Views.{Stored}
 use Rattle.authority_server.specs.declared.stream.StreamError.{StreamError}
 use Rattle.authority_server.specs.Frames.{ServesFrames, ServesUntil}
 use Rattle.authority.proofs.program.serve.Goals as goal
@@ -21,10 +24,11 @@ returns-in-Ok g c = record {
     right_words = c.in_ok-command.ensures;
     readable = ap option_copied c.in-Some.is;
     loaded = c.in_ok-zone.ensures.text.0;
+    reads_back = (c.in_ok-server.ensures.stored, c.in_ok-zone.ensures.reads_back);
   };
   source = _;
-  from_here = c.loopback-source.ensures;
-  frames = over_same c.with_zone-server.ensures c.in-Ok.ensures.unchanged c.in-Ok.ensures.served;
+  from_here = c.loopback.ensures;
+  frames = over_same c.in_ok-server.ensures.server (ap (world_of (λ (z : Zone). Stored z)) c.in-Ok.ensures.unchanged) c.in-Ok.ensures.served;
   ended = c.in-Ok.ensures.ended;
 }
 
@@ -46,9 +50,10 @@ returns g c = inr (
       right_words = c.in_ok-command.ensures;
       readable = ap option_copied c.in-Some.is;
       loaded = c.in_ok-zone.ensures.text.0;
+      reads_back = (c.in_ok-server.ensures.stored, c.in_ok-zone.ensures.reads_back);
     };
     source = _;
-    from_here = c.loopback-source.ensures;
-    frames = until_same c.with_zone-server.ensures c.in-Err.ensures.unchanged (rw c.in-Err.is at c.serve_stream.ensures.left);
+    from_here = c.loopback.ensures;
+    frames = until_same c.in_ok-server.ensures.server (ap (world_of (λ (z : Zone). Stored z)) c.in-Err.ensures.unchanged) (rw c.in-Err.is at c.serve_stream.ensures.left);
   },
 )

@@ -1,7 +1,5 @@
 use Rattle.std.proofs.Common.{◌∙◌, refl, ap, Bool, Ok, rules}
 use Rattle.std.proofs.lemmas.Result.{err_from_is_err_and}
-use Rattle.authority_server.specs.Frames.{stream_message}
-use Rattle.authority_server.proofs.ServedRuns.{serves_keeps}
 use Rattle.authority_server.proofs.StreamRuns.{counted_none, counted_more, left_counting, left_reading, left_serving}
 use Rattle.authority_server.proofs.server.Authority.serve_stream_with.Goals as goal
 
@@ -16,7 +14,7 @@ frames-preserved g c =
     let short_here = rw (← c.deref.ensures.value) at short in
     record {
       well = search rules;
-      same = serves_keeps _ (stream_message c.args.src c.args.now c.deref.result.now) _ _ c.in_ok-serve_frame.ensures.served.1 ∙ c.frames.invariant.same;
+      same = c.in_ok-serve_frame.ensures.unchanged ∙ c.frames.invariant.same;
       served = counted_more _ _ _ _ _ _ _ _ _ _ _ _ _ c.frames.invariant.served short_here framed_here c.in_ok-serve_frame.ensures.served;
     }
 

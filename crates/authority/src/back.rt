@@ -1,0 +1,22 @@
+//! What a server asks of the records that it serves.
+
+ghost use Rattle.std.specs.Prelude.{◌↔◌, IsTrue};
+ghost use Rattle.authority_server.specs.zsv_catalog.zsv_answer.zsv_reply.zst_record.Records.{ReadsBackAlone};
+ghost use Rattle.authority_load.specs.zst_zone.zst_handler.Zones.{ZoneReadsBack};
+
+use authority_load::InMemoryZoneHandler;
+use authority_server::Record;
+
+/// Whether a record can be read back alone, as each record of a zone that is served must be. It takes no memory.
+pub fn record_reads_back(stored: &Record) -> bool
+    ensures { IsTrue result ↔ ReadsBackAlone stored.now }
+{
+    stored.reads_back_alone()
+}
+
+/// Whether each record of a zone and each signature can be read back alone, as a server asks. It takes no memory.
+pub fn zone_reads_back<K>(zone: &InMemoryZoneHandler<K>) -> bool
+    ensures { IsTrue result ↔ ZoneReadsBack zone.now }
+{
+    zone.reads_back()
+}
