@@ -112,7 +112,8 @@ sent_answers world octets request source transport moment info reply is (parts, 
   parts,
   gives,
   sent.within,
+  λ back. world_back world octets request source parts is back gives,
   λ back.
-      let stands = reply_of_encoded octets reply info parts request.asked (limit_of transport parts.edns) _ _ is.questions (sent.stands (world_back world octets request source parts is back gives)) in
+      let stands = reply_of_encoded octets reply info parts request.asked (limit_of transport parts.edns) _ _ is.questions (sent.stands back) in
       subst (λ (id : ℕ). IsReply octets reply parts request.asked id (limit_of transport parts.edns)) (same_id world request source parts gives) stands,
 )

@@ -1,6 +1,7 @@
 -- The server's own values, as the definitions of serving see them.
 use Rattle.std.specs.Prelude.{ℕ, ◌≤◌, List, [], None, length}
 use Rattle.std.specs.declared.net.SocketAddr.{SocketAddr}
+use Rattle.std.proofs.Common.{Vec, Global}
 use Rattle.authority_server.specs.declared.server.Authority.{Authority}
 use Rattle.authority_server.specs.Serving.{GivesParts, World}
 use Rattle.zsv_access.specs.Access.{no_networks}
@@ -16,12 +17,16 @@ use Rattle.zsv_catalog.specs.zsv_answer.zsv_reply.zsv_message.zsv_parts.declared
 use Rattle.zsv_catalog.specs.zsv_answer.zsv_request.Requests.{limit_of}
 use Rattle.zsv_catalog.specs.zsv_answer.zsv_request.declared.protocol.Protocol.{Protocol}
 
+-- The chains of a server, each under its name.
+abbrev pub chains_of : {S H : Type 0} → Authority S H → List (DomainName × Vec H Global)
+chains_of server = server.chains.chains.entries
+
 -- What a server is, by what its handlers mean.
 abbrev pub world_of : {S H : Type 0} → (H → View) → Authority S H → World
 world_of view server = record {
   access = server.access;
   nsid = server.nsid;
-  chains = views_of view server.chains.chains.entries;
+  chains = views_of view (chains_of server);
 }
 
 -- A server that every address may ask, without an identifier and without zones.

@@ -12,6 +12,7 @@ use Rattle.zsv_catalog.specs.zsv_answer.zst_request.Views.{View}
 use Rattle.zsv_catalog.specs.zsv_answer.zst_request.dnw_name.DomainName.{DomainName}
 use Rattle.zsv_catalog.specs.zsv_answer.zst_request.zst_codes.declared.response_code.ResponseCode.TheVariants as responses
 use Rattle.zsv_catalog.specs.zsv_answer.zsv_reply.Replies.{IsReply, ReplyParts}
+use Rattle.zsv_catalog.specs.zsv_answer.zsv_reply.Writing.{AllReadBack}
 use Rattle.zsv_catalog.specs.zsv_answer.zsv_reply.zsv_message.Messages.{IsMessage, Message}
 use Rattle.zsv_catalog.specs.zsv_answer.zsv_request.Requests.{limit_of}
 use Rattle.zsv_catalog.specs.zsv_answer.zsv_request.declared.protocol.Protocol.{Protocol}
@@ -45,12 +46,14 @@ pub record GivesParts (world : World) (request : Message) (source : SocketAddr)
       → PartsOf world.chains world.nsid request parts
 
 -- A reply to a request: within the limit of its transport, and of the parts that the server gives.
--- Where what the server holds can't be read back, no more is said of its octets.
+-- Only where these can't be read back, as they can where all that the server holds can, no more is
+-- said of its octets.
 abbrev pub Answers : World → Received → Message → List ℕ → Type 0
 Answers world received request reply =
     (parts : ReplyParts) × GivesParts world request received.source parts
     × (length reply ≤ limit_of received.transport parts.edns)
-    × (WorldReadsBack world
+    × (WorldReadsBack world → AllReadBack parts)
+    × (AllReadBack parts
     → IsReply received.message reply parts request.asked request.metadata.id
     (limit_of received.transport parts.edns))
 

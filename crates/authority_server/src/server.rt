@@ -9,7 +9,7 @@ ghost use Rattle.zsv_catalog.specs.zsv_answer.zsv_reply.Writing.{FitsOpCode, IsE
 ghost use Rattle.zsv_catalog.specs.zsv_answer.zsv_request.Requests.{limit_of};
 ghost use Rattle.zsv_catalog.specs.zsv_answer.zsv_reply.zsv_message.zsv_parts.dnw_decoder.Reading.{IsWantOfMemory};
 ghost use Rattle.authority_server.specs.Serving.{Serves, WorldReadsBack};
-ghost use Rattle.authority_server.specs.Servers.{SendsReply, ZonesSend, no_zones, with_zones, without_zones, world_of};
+ghost use Rattle.authority_server.specs.Servers.{SendsReply, ZonesSend, chains_of, no_zones, with_zones, without_zones, world_of};
 ghost use Rattle.authority_server.specs.Runs.{octets_of, received_of, ServesNext, ServesFront};
 
 use drd_types::NSIDPayload;
@@ -97,7 +97,7 @@ impl<S, H: ZoneHandler> Authority<S, H> {
 
     /// Takes out the chain under a name, and hands it back.
     pub fn remove(&mut self, name: &Name) -> Result<Option<Vec<H>>, AllocError>
-        ensures value { IfOk result (λ chain. chain ≡ chain_at self.old.chains.chains.entries (lowercase_name name.now)) }
+        ensures value { IfOk result (λ chain. chain ≡ chain_at (chains_of self.old) (lowercase_name name.now)) }
         ensures ok { OnOk result (world_of H.view self.new ≡ without_zones (world_of H.view self.old) name.now) }
         ensures err { OnErr result (world_of H.view self.new ≡ world_of H.view self.old) }
         ensures back { WorldReadsBack (world_of H.view self.old) → WorldReadsBack (world_of H.view self.new) }
