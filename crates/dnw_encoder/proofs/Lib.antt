@@ -1,9 +1,14 @@
+pub mod CandidateLaws
+pub mod LongestLaws
 pub mod MemberLaws
+pub mod KeepingLaws
 pub mod KeptLaws
 pub mod Laws
 pub mod NameLaws
 pub mod NameOctets
 pub mod PlaceLaws
+pub mod PointerLaws
 pub mod RollbackLaws
+pub mod SuffixLaws
 pub mod Written
 pub mod dnw_decoder_lemmas

@@ -1,6 +1,6 @@
 -- Laws of names that are written in full.
 use Rattle.std.proofs.Common.{◌≡◌, ℕ, ◌+◌, true, false, List, [], ◌∷◌, ◌++◌, length, map, refl, ap, subst, arith, append_assoc, length-append}
-use Rattle.std.specs.List.{All, flat_map}
+use Rattle.std.specs.List.{All}
 use Rattle.std.specs.Str.{str_to_ascii_lowercase}
 use Rattle.std.proofs.lemmas.List.{length-map}
 use Rattle.std.proofs.lemmas.List.Elements.{All-head, All-tail, All-map, All-weaker}
@@ -68,6 +68,7 @@ puts_name name old new plain is p = record {
   size = omega (arith, p.offset, length-encoded old.encoding name);
   exact = λ e. p;
   used = λ e. absurd (cc (e, plain));
+  longest = λ e. absurd (cc (e, plain));
   becomes = λ e. absurd (cc (e, plain));
   at_most = omega (arith, ap length p.candidates);
 }

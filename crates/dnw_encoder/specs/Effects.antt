@@ -6,7 +6,7 @@ use Rattle.std.specs.Iterator.{Yields}
 use Rattle.dnw_codes.specs.ProtoError.{IsMemory}
 use Rattle.dnw_codes.specs.declared.error.ProtoError.{ProtoError}
 use Rattle.dnw_codes.specs.declared.error.ProtoError.TheVariants.{MaxBufferSizeExceeded, NotAllRecordsWritten}
-use Rattle.dnw_decoder.specs.dnw_name.DomainName.{name_octets, domain_name}
+use Rattle.dnw_decoder.specs.dnw_name.DomainName.{DomainName, name_octets, domain_name}
 use Rattle.dnw_decoder.specs.dnw_label.Label.{IsLabel}
 use Rattle.dnw_decoder.specs.Octets.{Stands}
 use Rattle.dnw_decoder.specs.Spelling.{Spells}
@@ -151,6 +151,22 @@ pub record Stores (start end : ℕ) (old new : State) : Type 0 where
       ⊎ (c ≡ record { place = start; octets = slice_range old.octets start end; end = end })
   pub becomes : old.points ≡ true → length old.candidates < 64 → start < 16383
       → Has new.candidates (slice_range old.octets start end)
+  pub sound : Sound old → Sound new
+  pub modes : SameModes old new
+
+-- A name that stands in full at a place, and those that end it, may become candidates; the name does
+-- where pointers are written and there is room.
+pub record StoresName (name : DomainName) (start : ℕ) (old new : State) : Type 0 where
+  pub octets : new.octets ≡ old.octets
+  pub offset : new.offset ≡ old.offset
+  pub places : new.places ≡ old.places
+  pub keeps : (c : Candidate) → In c old.candidates → In c new.candidates
+  pub only : (c : Candidate) → In c new.candidates → In c old.candidates ⊎ (start < c.end)
+  pub few : length new.candidates ≤ length old.candidates + length name.labels
+  pub becomes : old.points ≡ true → 0 < length name.labels → length old.candidates < 64
+      → start < 16383
+      → Stands old.octets start (name_octets name) (start + length (name_octets name))
+      → Has new.candidates (name_octets name)
   pub sound : Sound old → Sound new
   pub modes : SameModes old new
 

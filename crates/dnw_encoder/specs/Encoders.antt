@@ -1,5 +1,4 @@
 -- What a contract sees of an encoder.
-use Rattle.std.specs.Prelude.{[]}
 use Rattle.dnw_encoder.specs.State.{State, writes_pointers}
 use Rattle.dnw_encoder.specs.declared.encoder.BinEncoder.{BinEncoder}
 
@@ -11,6 +10,6 @@ state e = record {
   encoding = e.name_encoding;
   canonical = e.canonical_form;
   points = writes_pointers e.name_encoding;
-  candidates = [];
+  candidates = e.candidates;
   places = e.places.items;
 }

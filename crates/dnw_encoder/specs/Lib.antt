@@ -1,3 +1,4 @@
+pub mod Candidates
 pub mod Effects
 pub mod Encoders
 pub mod Members

@@ -3,7 +3,7 @@ use Rattle.std.specs.Prelude.{ℕ, ◌==◌, ◌&&◌, Bool, not, true, false, L
 use Rattle.dnw_codes.specs.declared.error.ProtoError.{ProtoError}
 use Rattle.dnw_codes.specs.declared.error.ProtoError.TheVariants.{CharacterDataTooLong}
 use Rattle.dnw_encoder.specs.declared.modes.NameEncoding.{NameEncoding}
-use Rattle.dnw_encoder.specs.declared.modes.NameEncoding.TheVariants.{Uncompressed, UncompressedLowercase}
+use Rattle.dnw_encoder.specs.declared.modes.NameEncoding.TheVariants.{Compressed, Uncompressed, UncompressedLowercase}
 use Rattle.dnw_encoder.specs.declared.modes.RDataEncoding.{RDataEncoding}
 use Rattle.dnw_encoder.specs.declared.modes.RDataEncoding.TheVariants.{StandardRecord, Canonical, Other}
 use Rattle.dnw_encoder.specs.declared.open_places.OpenPlace.{OpenPlace}
@@ -27,7 +27,8 @@ pub record State : Type 0 where
 
 -- Whether names are written with pointers.
 unfoldable pub writes_pointers : NameEncoding → Bool
-writes_pointers encoding = false
+writes_pointers Compressed = true
+writes_pointers other = false
 
 -- Whether names are written in lower case.
 abbrev pub is_lower : NameEncoding → Bool

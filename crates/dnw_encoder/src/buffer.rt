@@ -1,5 +1,5 @@
 //! Octets written over and behind others.
-ghost use Rattle.std.specs.Prelude.{◌≡◌, ◌+◌, ◌<◌, ◌≤◌, ◌^◌, ◌++◌, length, replicate, OnOk, OnErr};
+ghost use Rattle.std.specs.Prelude.{◌≡◌, ◌+◌, ◌<◌, ◌≤◌, ◌^◌, ◌++◌, length, replicate, vec_len, vec_capacity, IsOk, OnOk, OnErr};
 ghost use Rattle.dnw_encoder.specs.Effects.{written_at};
 
 use std::alloc::AllocError;
@@ -58,6 +58,7 @@ pub(crate) fn write_at(
     requires { place ≤ length buffer.old.items }
     ensures ok { OnOk result (buffer.new.items ≡ written_at buffer.old.items place (front.now ++ rest.now)) }
     ensures err { OnErr result (buffer.new.items ≡ buffer.old.items) }
+    ensures succeeds { vec_len buffer.old + (length front.now + length rest.now) ≤ vec_capacity buffer.old → IsOk result }
 {
     let size = front.len() + rest.len();
     if size <= buffer.len() - place {

@@ -5,6 +5,7 @@ ghost use Rattle.dnw_codes.specs.declared.error.ProtoError.TheVariants.{MaxBuffe
 ghost use Rattle.dnw_decoder.specs.Octets.{octets_16, octets_32};
 
 use crate::buffer::{put_at, write_at};
+use crate::candidates::Candidates;
 use crate::modes::NameEncoding;
 use crate::open_places::OpenPlace;
 use dnw_codes::ProtoError;
@@ -22,6 +23,7 @@ pub struct BinEncoder<'a> {
     pub(crate) maximum: usize,
     pub(crate) name_encoding: NameEncoding,
     pub(crate) canonical_form: bool,
+    pub(crate) candidates: Candidates,
     pub(crate) places: SmallVec<OpenPlace, 2>,
     ghost within: { offset ≤ length buffer.now.items },
 }
@@ -51,14 +53,15 @@ impl<'a> BinEncoder<'a> {
         ensures state { state result ≡ new_state buffer.old.items offset name_encoding }
         ensures sound { length buffer.old.items ≡ offset → Sound (state result) }
     {
-        let places = SmallVec::new(*buffer.allocator());
+        let alloc = *buffer.allocator();
         BinEncoder {
             buffer,
             offset: offset as usize,
             maximum: 65535,
             name_encoding,
             canonical_form: false,
-            places,
+            candidates: Candidates::new(alloc),
+            places: SmallVec::new(alloc),
         }
     }
 
@@ -73,6 +76,7 @@ impl<'a> BinEncoder<'a> {
             maximum: _,
             name_encoding: _,
             canonical_form: _,
+            candidates: _,
             places: _,
         } = self;
         buffer

@@ -8,6 +8,7 @@ pub use dnw_decoder::{
 };
 
 mod buffer;
+mod candidates;
 mod encodable;
 mod encoder;
 mod modal;

@@ -1,6 +1,6 @@
 //! How names are written.
 ghost use Rattle.std.specs.Prelude.{◌≡◌};
-ghost use Rattle.dnw_encoder.specs.State.{is_lower, rdata_encoding};
+ghost use Rattle.dnw_encoder.specs.State.{is_lower, rdata_encoding, writes_pointers};
 
 /// How an encoder writes names.
 #[derive(Clone, Copy, Debug, PartialEq, Eq)]
@@ -14,6 +14,17 @@ pub enum NameEncoding {
 }
 
 impl NameEncoding {
+    // Whether names are written with pointers.
+    #[inline]
+    pub(crate) fn writes_pointers(self) -> bool
+        ensures { result ≡ writes_pointers self }
+    {
+        match self {
+            NameEncoding::Compressed => true,
+            NameEncoding::Uncompressed | NameEncoding::UncompressedLowercase => false,
+        }
+    }
+
     // Whether names are written in lower case.
     pub(crate) fn is_lower(self) -> bool
         ensures { result ≡ is_lower self }

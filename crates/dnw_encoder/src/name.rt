@@ -1,18 +1,22 @@
 //! Names as an encoder writes them (RFC 1035 4.1.4; RFC 4034 6.2 for lower case).
-ghost use Rattle.std.specs.Prelude.{◌≡◌, ◌+◌, ◌<◌, ◌≤◌, ◌++◌, true, length, vec_len, vec_capacity, cond, IfErr, OnOk, OnErr};
+ghost use Rattle.std.specs.Prelude.{◌≡◌, ◌+◌, ◌^◌, ◌<◌, ◌≤◌, ◌++◌, length, vec_len, vec_capacity, cond, false, IfErr, OnOk, OnErr};
 ghost use Rattle.std.specs.Str.{str_to_ascii_lowercase};
+ghost use Rattle.dnw_decoder.specs.dnw_label.Labels.{label_octets};
 ghost use Rattle.dnw_decoder.specs.dnw_name.DomainName.{DomainName, IsDomainName, name_octets};
 ghost use Rattle.dnw_encoder.specs.Encoders.{state};
 ghost use Rattle.dnw_encoder.specs.Effects.{Writes, IsRefusal, written_at};
-ghost use Rattle.dnw_encoder.specs.Names.{EmitsName, encoded_name};
+ghost use Rattle.dnw_encoder.specs.Names.{EmitsName, WritesFront, encoded_name};
 
-use crate::buffer::put_at;
+use crate::buffer::{put_at, write_at};
 use crate::encodable::BinEncodable;
 use crate::encoder::BinEncoder;
 use crate::modes::NameEncoding;
 use dnw_codes::ProtoError;
 use dnw_decoder::{LowerName, Name};
 use std::alloc::AllocError;
+
+// The two bits that tell a pointer, before the fourteen of its place (RFC 1035 4.1.4).
+const POINTER: u16 = 0xC000;
 
 // Appends octets in lower case, for which there is room.
 fn append_lower(buffer: &mut Vec<u8>, octets: &[u8])
@@ -76,6 +80,78 @@ fn write_name(
     put_at(buffer, place, &octets)
 }
 
+impl BinEncoder<'_> {
+    // Writes a name's first so many octets, which are labels, and the end or a pointer behind them. The names that end it
+    // and begin there are kept.
+    fn write_front(&mut self, name: &Name, front: usize, rest: &[u8]) -> Result<(), AllocError>
+        requires front { front ≤ length (label_octets name.now.labels) }
+        requires fits { (state self.old).offset + (front + length rest.now) < 2 ^ 64 }
+        requires ends { (state self.old).offset + length (label_octets name.now.labels) < 2 ^ 64 }
+        ensures same_reference { self.new.buffer.ghost_name ≡ self.old.buffer.ghost_name }
+        ensures ok { OnOk result (WritesFront name.now.labels front rest.now (state self.old) (state self.new)) }
+        ensures name { OnOk result (IsDomainName name.now) }
+        ensures err { OnErr result (state self.new ≡ state self.old) }
+    {
+        let size = front + rest.len();
+        self.buffer.reserve(size)?;
+        let end = self.offset + size;
+        self.candidates.keep_name(name, front, self.offset, end)?;
+        // There is room, and so no growth is refused.
+        let _ = write_at(self.buffer, self.offset, &name.as_octets()[..front], rest);
+        self.offset = end;
+        Ok(())
+    }
+
+    // Writes a name with a pointer to the longest name that ends it and is kept (RFC 1035 4.1.4).
+    fn emit_compressed(&mut self, name: &Name) -> Result<(), AllocError>
+        requires compressed { (state self.old).encoding ≡ NameEncoding.Compressed }
+        requires fits { (state self.old).offset + length (name_octets name.now) < 2 ^ 64 }
+        ensures same_reference { self.new.buffer.ghost_name ≡ self.old.buffer.ghost_name }
+        ensures writes { Writes (state self.old) (state self.new) }
+        ensures ok { OnOk result (EmitsName name.now (state self.old) (state self.new)) }
+        ensures err { OnErr result (state self.new ≡ state self.old) }
+    {
+        match self.candidates.longest(name) {
+            Some(suffix) => {
+                let pointer = POINTER + suffix.place;
+                self.write_front(name, suffix.front, &pointer.to_be_bytes())
+            }
+            None => self.write_front(name, name.as_octets().len(), &[0]),
+        }
+    }
+
+    // Writes a name in full.
+    fn emit_in_full(&mut self, name: &Name) -> Result<(), AllocError>
+        requires in_full { (state self.old).points ≡ false }
+        requires fits { (state self.old).offset + length (name_octets name.now) < 2 ^ 64 }
+        ensures same_reference { self.new.buffer.ghost_name ≡ self.old.buffer.ghost_name }
+        ensures writes { Writes (state self.old) (state self.new) }
+        ensures ok { OnOk result (EmitsName name.now (state self.old) (state self.new)) }
+        ensures err { OnErr result (state self.new ≡ state self.old) }
+    {
+        let size = name.as_octets().len() + 1;
+        write_name(self.buffer, self.offset, name, size, self.name_encoding)?;
+        self.offset += size;
+        Ok(())
+    }
+
+    // Writes a name, by the mode.
+    fn emit_name(&mut self, name: &Name) -> Result<(), AllocError>
+        requires { (state self.old).offset + length (name_octets name.now) < 2 ^ 64 }
+        ensures same_reference { self.new.buffer.ghost_name ≡ self.old.buffer.ghost_name }
+        ensures writes { Writes (state self.old) (state self.new) }
+        ensures ok { OnOk result (EmitsName name.now (state self.old) (state self.new)) }
+        ensures err { OnErr result (state self.new ≡ state self.old) }
+    {
+        match self.name_encoding {
+            NameEncoding::Compressed => self.emit_compressed(name),
+            NameEncoding::Uncompressed | NameEncoding::UncompressedLowercase => {
+                self.emit_in_full(name)
+            }
+        }
+    }
+}
+
 impl BinEncodable for Name {
     ghost emits = { EmitsName };
 
@@ -90,19 +166,9 @@ impl BinEncodable for Name {
         ensures err { OnErr result (state encoder.new ≡ state encoder.old) }
         ensures cause { IfErr result (IsRefusal (state encoder.old) (length (name_octets self.now))) }
     {
-        let size = self.as_octets().len() + 1;
-        encoder.check_size(size)?;
-        match write_name(
-            encoder.buffer,
-            encoder.offset,
-            self,
-            size,
-            encoder.name_encoding,
-        ) {
-            Ok(()) => {
-                encoder.offset += size;
-                Ok(())
-            }
+        encoder.check_size(self.as_octets().len() + 1)?;
+        match encoder.emit_name(self) {
+            Ok(()) => Ok(()),
             Err(refused) => Err(ProtoError::Memory(refused)),
         }
     }

@@ -118,6 +118,7 @@ impl BinEncoder<'_> {
         ensures trims { Trims (state self.old) (state self.new) }
     {
         self.buffer.truncate(self.offset);
+        self.candidates.drop_behind(self.offset);
         drop_behind(&mut self.places, self.offset);
     }
 }

@@ -1,4 +1,4 @@
-use Rattle.std.proofs.Common.{◌≡◌, ℕ, ◌+◌, ◌≤◌, List, length, filter, refl, sym, ap, subst, ◌∙◌, arith, Result, Ok, Err}
+use Rattle.std.proofs.Common.{◌≡◌, ℕ, ◌+◌, ◌≤◌, List, length, filter, sym, ap, subst, ◌∙◌, arith, Result, Ok, Err}
 use Rattle.std.specs.Result.{OnOk, OnErr}
 use Rattle.std.proofs.lemmas.Result.{on_ok_weaker, MatchResult-weaker}
 use Rattle.dnw_encoder.specs.Effects.{written_at, place_of}
@@ -51,7 +51,7 @@ returns-in-Ok-clause-ok g c =
     (omega (arith, laws.1, c.requires.behind))
     (ap (λ (s : State). s.octets) moved_back ∙ puts.octets ∙ ap (λ (s : State). written_at s.octets s.offset more) moved)
     (ap (λ (s : State). s.offset) moved_back)
-    refl
+    (ap (λ (s : State). s.candidates) moved_back ∙ puts.candidates ∙ ap (λ (s : State). s.candidates) moved)
     (c.shut.ensures
     ∙ ap (λ (rs : List OpenPlace). filter (is_other c.args.place.start (c.args.place.start + c.LEN.result)) rs) places
     ∙ ap (λ (n : ℕ). filter (is_other c.args.place.start (c.args.place.start + n)) old.places) size)

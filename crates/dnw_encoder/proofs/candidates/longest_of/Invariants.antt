@@ -1,0 +1,5 @@
+use Rattle.dnw_encoder.proofs.LongestLaws.{Searched}
+use Rattle.dnw_encoder.proofs.candidates.longest_of.Given as goal
+
+abbrev pub invariant-entries : goal.invariant-entries
+invariant-entries l = Searched l.octets l.entries l.entry-index l.name.labels l.front l.longest

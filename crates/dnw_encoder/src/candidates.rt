@@ -1,0 +1,289 @@
+//! The names to which later ones may point (RFC 1035 4.1.4).
+ghost use Rattle.std.specs.Prelude.{◌≡◌, ◌↔◌, ◌+◌, ◌<◌, ◌≤◌, ◌^◌, ◌∷◌, [], ◌++◌, true, length, filter, nat_le, slice_range, IfSome, OnOk, OnErr, MatchOption};
+ghost use Rattle.dnw_decoder.specs.dnw_label.Labels.{label_octets};
+ghost use Rattle.dnw_encoder.specs.Candidates.{AreWithin, FindsAmong, FindsLongest, IsNameBehind, IsWithin, KeepsOctets, KeepsSuffixes, NoneBefore, PushesSuffixes, SplitsAt, candidates_of};
+ghost use Rattle.dnw_encoder.specs.Members.{In};
+ghost use Rattle.dnw_encoder.specs.State.{Candidate};
+ghost use Rattle.dnw_encoder.specs.declared.candidates.Entry.{Entry};
+
+use dnw_decoder::Name;
+use smallvec::SmallVec;
+use std::alloc::{AllocError, Global};
+use std::marker::Model;
+
+// How many names are kept at most, and where those begin at the latest.
+const MOST: usize = 64;
+
+const LAST_PLACE: usize = 16382;
+
+// A name that is kept: the range of its octets among those of all, its place in the message, and where what was written
+// for it ends there.
+#[derive(Clone, Copy, Debug, Default, PartialEq, Eq)]
+pub(crate) struct Entry {
+    pub(crate) from: usize,
+    pub(crate) to: usize,
+    pub(crate) place: u16,
+    pub(crate) end: usize,
+}
+
+impl Entry {
+    // The name's octets among those of all.
+    #[inline]
+    fn octets<'o>(&self, all: &'o [u8]) -> &'o [u8]
+        requires { IsWithin all.now self.now }
+        ensures { result.now ≡ slice_range all.now self.now.from self.now.to }
+    {
+        &all[self.from..self.to]
+    }
+}
+
+// A name that is kept and ends another one, behind so many of its octets.
+#[derive(Clone, Copy)]
+pub(crate) struct Suffix {
+    pub(crate) front: usize,
+    pub(crate) place: u16,
+}
+
+// The names that are kept. A contract sees the list of them.
+#[derive(Drop)]
+pub(crate) struct Candidates {
+    entries: SmallVec<Entry, 8>,
+    // The octets of one name behind those of another, each in full.
+    octets: SmallVec<u8, 64>,
+}
+
+impl Model for Candidates {
+    ghost use Rattle.std.specs.Prelude.{List};
+    ghost use Rattle.dnw_encoder.specs.Candidates.{AreWithin, candidates_of};
+    ghost use Rattle.dnw_encoder.specs.State.{Candidate};
+
+    ghost Value = { List Candidate };
+
+    ghost view = { λ kept. candidates_of kept.octets.items kept.entries.items };
+
+    ghost invariant = { λ kept. AreWithin kept.octets.items kept.entries.items };
+}
+
+// The place of the first entry of these octets.
+fn place_of(entries: &[Entry], octets: &[u8], wanted: &[u8]) -> Option<u16>
+    requires { AreWithin octets.now entries.now }
+    ensures { FindsAmong (candidates_of octets.now entries.now) wanted.now result }
+{
+    'entries: for entry in entries {
+        if entry.octets(octets) == wanted {
+            return Some(entry.place);
+        }
+    }
+    None
+}
+
+// Whether octets are these labels and the end.
+pub(crate) fn is_name_of(octets: &[u8], labels: &[u8]) -> bool
+    ensures { (result ≡ true) ↔ (octets.now ≡ labels.now ++ 0 ∷ []) }
+{
+    match octets.split_last() {
+        Some((end, front)) => *end == 0 && front == labels,
+        None => false,
+    }
+}
+
+// Whether a name's first so many octets are labels.
+fn splits_at(name: &Name, front: usize) -> bool
+    ensures { (result ≡ true) ↔ SplitsAt name.now.labels front }
+{
+    let labels = name.as_octets();
+    let mut rest = labels;
+    'labels: while let Some((length, behind)) = rest.split_first() {
+        let at = labels.len() - rest.len();
+        if at >= front {
+            return at == front;
+        }
+        let (_, later) = behind.split_at(usize::from(*length));
+        rest = later;
+    }
+    labels.len() - rest.len() == front
+}
+
+// Behind how many octets of a name octets are the name that ends it, if there are fewer.
+fn front_of(octets: &[u8], name: &Name, before: usize) -> Option<usize>
+    requires { before ≤ length (label_octets name.now.labels) }
+    ensures { MatchOption result (NoneBefore name.now.labels before octets.now)
+        (λ front. (front < before) × IsNameBehind name.now.labels front octets.now) }
+{
+    let labels = name.as_octets();
+    if octets.len() > labels.len() + 1 {
+        return None;
+    }
+    let front = labels.len() + 1 - octets.len();
+    if front >= before {
+        return None;
+    }
+    if is_name_of(octets, &labels[front..]) && splits_at(name, front) {
+        Some(front)
+    } else {
+        None
+    }
+}
+
+// The longest name among entries that ends a name.
+fn longest_of(entries: &[Entry], octets: &[u8], name: &Name) -> Option<Suffix>
+    requires { AreWithin octets.now entries.now }
+    ensures { FindsLongest (candidates_of octets.now entries.now) name.now.labels result }
+{
+    let mut front = name.as_octets().len();
+    let mut longest = None;
+    'entries: for entry in entries {
+        if let Some(found) = front_of(entry.octets(octets), name, front) {
+            front = found;
+            longest = Some(Suffix {
+                front,
+                place: entry.place,
+            });
+        }
+    }
+    longest
+}
+
+// Whether a name that begins so many octets behind a place is kept beside so many others.
+fn is_kept(count: usize, place: usize) -> bool
+    ensures { (result ≡ true) ↔ ((count < 64) × (place < 16383)) }
+{
+    count < MOST && place <= LAST_PLACE
+}
+
+// Puts an entry for a name and for each that ends it and begins in its first so many octets, as long as there is room.
+// Their octets among those of all end at a place.
+fn push_entries(
+    entries: &mut SmallVec<Entry, 8>,
+    name: &Name,
+    front: usize,
+    to: usize,
+    start: usize,
+    end: usize,
+) -> Result<(), AllocError>
+    requires octets { length (label_octets name.now.labels) + 1 ≤ to }
+    requires fits { start + length (label_octets name.now.labels) < 2 ^ 64 }
+    ensures ok { OnOk result (PushesSuffixes name.now.labels front to start end entries.old.items entries.new.items) }
+    ensures err { OnErr result (entries.new.items ≡ entries.old.items) }
+{
+    let before = entries.len();
+    let labels = name.as_octets();
+    let mut rest = labels;
+    'labels: while let Some((length, behind)) = rest.split_first() {
+        let at = labels.len() - rest.len();
+        if at >= front || !is_kept(entries.len(), start + at) {
+            return Ok(());
+        }
+        let entry = Entry {
+            from: to - 1 - rest.len(),
+            to,
+            place: (start + at) as u16,
+            end,
+        };
+        if entries.push(entry).is_err() {
+            entries.truncate(before);
+            return Err(AllocError);
+        }
+        let (_, later) = behind.split_at(usize::from(*length));
+        rest = later;
+    }
+    Ok(())
+}
+
+// Behind which octet no entry has any.
+fn last_octet(entries: &[Entry]) -> usize
+    ensures { (e : Entry) → In e entries.now → e.to ≤ result }
+{
+    let mut last = 0;
+    'entries: for entry in entries {
+        if entry.to > last {
+            last = entry.to;
+        }
+    }
+    last
+}
+
+impl Candidates {
+    // No name.
+    #[inline]
+    pub(crate) fn new(alloc: Global) -> Candidates
+        ensures { result ≡ [] }
+    {
+        Candidates {
+            entries: SmallVec::new(alloc),
+            octets: SmallVec::new(alloc),
+        }
+    }
+
+    // The place of a name of these octets.
+    pub(crate) fn find(&self, octets: &[u8]) -> Option<u16>
+        ensures { FindsAmong self.now octets.now result }
+    {
+        place_of(self.entries.as_slice(), self.octets.as_slice(), octets)
+    }
+
+    // The longest name that ends another one.
+    pub(crate) fn longest(&self, name: &Name) -> Option<Suffix>
+        ensures { FindsLongest self.now name.now.labels result }
+    {
+        longest_of(self.entries.as_slice(), self.octets.as_slice(), name)
+    }
+
+    // Keeps octets that stand at a place, if there is room. Where memory is refused all stays as it was.
+    pub(crate) fn keep_octets(&mut self, octets: &[u8], start: usize) -> Result<(), AllocError>
+        requires { start + length octets.now < 2 ^ 64 }
+        ensures ok { OnOk result (KeepsOctets octets.now start self.old self.new) }
+        ensures err { OnErr result (self.new ≡ self.old) }
+    {
+        if !is_kept(self.entries.len(), start) {
+            return Ok(());
+        }
+        let from = self.octets.len();
+        self.octets.extend_from_slice(octets)?;
+        let to = self.octets.len();
+        let entry = Entry {
+            from,
+            to,
+            place: start as u16,
+            end: start + octets.len(),
+        };
+        if self.entries.push(entry).is_err() {
+            return Err(AllocError);
+        }
+        Ok(())
+    }
+
+    // Keeps a name that stands at a place, and each that ends it and begins in its first so many octets, as long as there
+    // is room. Where memory is refused all stays as it was.
+    pub(crate) fn keep_name(
+        &mut self,
+        name: &Name,
+        front: usize,
+        start: usize,
+        end: usize,
+    ) -> Result<(), AllocError>
+        requires fits { start + length (label_octets name.now.labels) < 2 ^ 64 }
+        requires front { front ≤ length (label_octets name.now.labels) }
+        ensures ok { OnOk result (KeepsSuffixes name.now.labels front start end self.old self.new) }
+        ensures err { OnErr result (self.new ≡ self.old) }
+    {
+        if front == 0 || !is_kept(self.entries.len(), start) {
+            return Ok(());
+        }
+        self.octets.extend_from_slice(name.as_octets())?;
+        if self.octets.push(0).is_err() {
+            return Err(AllocError);
+        }
+        let to = self.octets.len();
+        push_entries(&mut self.entries, name, front, to, start, end)
+    }
+
+    // Leaves out the names whose octets end behind an offset.
+    pub(crate) fn drop_behind(&mut self, offset: usize)
+        ensures { self.new ≡ filter (λ c. nat_le c.end offset) self.old }
+    {
+        self.entries.retain(|entry| entry.end <= offset);
+        let last = last_octet(self.entries.as_slice());
+        self.octets.truncate(last);
+    }
+}
