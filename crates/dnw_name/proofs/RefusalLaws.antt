@@ -123,6 +123,17 @@ module _ (origin : Option DomainName) (text : List ℕ) where
       long-alike (labels_len (complete_name read origin).labels + 1) e f long.1
       (subst (λ (n : DomainName). f ≡ too_long (labels_len (complete_name n origin).labels + 1)) (name-same text other read u t) more_long.1)
 
+  completed-memory : (e : ProtoError) → RefusesCompleted origin text e → IsMemory e → ⊥
+  completed-memory e (inl h) = (name_text_causes text).memory e h
+  completed-memory e (inr (read, t, long)) = long-memory (labels_len (complete_name read origin).labels + 1) e long.1
+
+  pub completed_causes : AreCauses ((read : DomainName) × NameText text read × IsDomainName (complete_name read origin)) (RefusesCompleted origin text)
+  completed_causes = record {
+    none = λ e h named. completed-none e named.0 h named.1 named.2;
+    one = completed-one;
+    memory = completed-memory;
+  }
+
 -- Where a cause stands, no name is completed.
 pub completed-some : (o : DomainName) (text : List ℕ) (r : Result DomainName ProtoError) (name : DomainName) → NameText text name → name.fqdn ≡ false → 0 < length name.labels → IfOk r (λ d. (d ≡ domain_name true (name.labels ++ o.labels)) × IsDomainName d) → IfErr r (λ e. IsMemory e ⊎ RefusesCompleted (Some o) text e) → (e : ProtoError) → RefusesCompleted (Some o) text e → MatchResult r (λ name. ⊥) (λ given. IsMemory given ⊎ AreAlike e given)
 completed-some o text (Ok d) name t flag some h cause e k =

@@ -5,14 +5,15 @@ use Rattle.std.specs.Net.Grammar.{IsIpv4Text, IsIpv6Text}
 use Rattle.std.specs.declared.net.ipv4_addr.Ipv4Addr.{Ipv4Addr}
 use Rattle.std.specs.declared.net.ipv6_addr.Ipv6Addr.{Ipv6Addr}
 use lib.Chars.{codes}
-use Rattle.dnw_lexer.specs.dnw_codes.ProtoError as wire
 use Rattle.dnw_lexer.specs.dnw_codes.declared.error.ParseError.{ParseError}
 use Rattle.dnw_lexer.specs.dnw_codes.declared.error.ParseError.TheVariants.{MissingToken, Message, Proto, ParseInt, ParseTime, AddrParse, DataEncoding, UnexpectedToken}
 use Rattle.dnw_lexer.specs.dnw_codes.declared.error.ProtoError.{ProtoError}
+use Rattle.dnw_name.specs.dnw_label.LabelRefusals as label
 use Rattle.dnw_name.specs.DomainName.{DomainName}
+use Rattle.dnw_name.specs.NameRefusals.{RefusesCompleted}
 use Rattle.drd_words.specs.Data.{IsBase64Text, IsHexText}
 use Rattle.drd_words.specs.Text.{IsSplitInto, TextRefused}
-use Rattle.drd_words.specs.Word.{IsOutOfMemory, IsNumberWord, IsTtlWord, IsIntervalWord, IsNameWord}
+use Rattle.drd_words.specs.Word.{IsOutOfMemory, IsNumberWord, IsTtlWord, IsIntervalWord}
 use Rattle.drd_words.specs.Words.{Joined}
 
 -- A word is missing, and this is said of it.
@@ -25,10 +26,10 @@ abbrev pub IsMessage : List ℕ → ParseError → Type 0
 IsMessage words (Message said) = said.now ≡ words
 IsMessage words other = ⊥
 
--- The error of a name.
-abbrev pub IsOfName : ParseError → Type 0
-IsOfName (Proto cause) = Unit {0}
-IsOfName other = ⊥
+-- The same error of a name, in whatever words.
+abbrev pub IsOfName : ProtoError → ParseError → Type 0
+IsOfName cause (Proto other) = label.AreAlike cause other
+IsOfName cause other = ⊥
 
 -- A word that is no number of so many bits.
 abbrev pub RefusesNumber : ℕ → List ℕ → ParseError → Type 0
@@ -42,13 +43,10 @@ RefusesTtl word e = (e ≡ ParseTime) × ((seconds : ℕ) → IsTtlWord seconds 
 abbrev pub RefusesInterval : List ℕ → ParseError → Type 0
 RefusesInterval word e = (e ≡ ParseTime) × ((interval : ℤ) → IsIntervalWord interval word → ⊥)
 
--- Why a word is no name (RFC 1035 2.3.4 and 5.1).
-abbrev pub RefusesName : Option DomainName → List ℕ → ProtoError → Type 0
-RefusesName origin word cause =
-    (wire.IsMemory cause → ⊥) × ((name : DomainName) → IsNameWord origin name word → ⊥)
-
+-- A word that is no name is refused by the cause that its text is no name for (RFC 1035 2.3.4 and
+-- 5.1).
 abbrev pub RefusesNameWord : Option DomainName → List ℕ → ParseError → Type 0
-RefusesNameWord origin word (Proto cause) = RefusesName origin word cause
+RefusesNameWord origin word (Proto cause) = RefusesCompleted origin word cause
 RefusesNameWord origin word other = ⊥
 
 -- A word that is too long for a character string (RFC 1035 3.3).
@@ -105,11 +103,11 @@ abbrev pub RefusesText : (List (List ℕ) → ParseError → Type 0) → List �
 RefusesText Refuses text e =
     TextRefused text e ⊎ ((words : List (List ℕ)) × IsSplitInto text words × Refuses words e)
 
--- The same error, whatever is wrong with a name.
+-- The same error, in whatever words a name is refused.
 abbrev pub AreAlike : ParseError → ParseError → Type 0
 AreAlike (MissingToken said) e = IsMissing said.now e
 AreAlike (Message said) e = IsMessage said.now e
-AreAlike (Proto cause) e = IsOfName e
+AreAlike (Proto cause) e = IsOfName cause e
 AreAlike other e = e ≡ other
 
 -- Two refusals of the same words are alike.

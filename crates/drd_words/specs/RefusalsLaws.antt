@@ -5,7 +5,8 @@ use Rattle.std.specs.Net.Grammar.{IsIpv4Text, IsIpv6Text}
 use lib.Chars.{codes}
 use Rattle.dnw_lexer.specs.dnw_codes.declared.error.ParseError.{ParseError}
 use Rattle.dnw_lexer.specs.dnw_codes.declared.error.ParseError.TheVariants.{MissingToken, Message, Proto, ParseInt, ParseTime, AddrParse, DataEncoding, UnexpectedToken}
-use Rattle.dnw_name.specs.DomainName.{DomainName}
+use Rattle.dnw_name.proofs.RefusalLaws.{completed_causes}
+use Rattle.dnw_name.specs.DomainName.{DomainName, IsDomainName}
 use Rattle.drd_words.specs.Refusals.{IsMissing, IsMessage, RefusesNumber, RefusesTtl, RefusesInterval, RefusesNameWord, RefusesString, RefusesIpv4, RefusesIpv6, RefusesUnless, RefusesMore, RefusesOneThen, RefusesEach, RefusesJoined, AreAlike, IsOneCause, AreCauses}
 use Rattle.drd_words.specs.Word.{IsOutOfMemory, IsNumberWord, IsTtlWord, IsIntervalWord, IsNameWord, IsStringWord}
 use Rattle.drd_words.specs.Words.{NoWords, OneThen, EachWord, Joined}
@@ -137,8 +138,9 @@ string_one word = also_one (message_one (codes "a character string has at most 2
 -- A name.
 name_none : (origin : Option DomainName) (word : List ℕ) (e : ParseError)
     → RefusesNameWord origin word e → (name : DomainName) → IsNameWord origin name word → ⊥
-name_none origin word (Proto cause) h = h.1
-name_none origin word e h = absurd h
+name_none origin word (Proto cause) h name (read, text, same, full) =
+    (completed_causes origin word).none cause h (read, text, subst IsDomainName same full)
+name_none origin word e h name written = absurd h
 
 name_memory : (origin : Option DomainName) (word : List ℕ) (e : ParseError)
     → RefusesNameWord origin word e → IsOutOfMemory e → ⊥
@@ -151,7 +153,8 @@ name_causes origin word = record { none = name_none origin word; memory = name_m
 
 same_name : (origin : Option DomainName) (word : List ℕ) (e f : ParseError)
     → RefusesNameWord origin word e → RefusesNameWord origin word f → AreAlike e f
-same_name origin word (Proto cause) (Proto other) h k = tt
+same_name origin word (Proto cause) (Proto other) h k =
+    (completed_causes origin word).one cause other h k
 same_name origin word (Proto cause) f h k = absurd k
 same_name origin word e f h k = absurd h
 
