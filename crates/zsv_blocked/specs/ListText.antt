@@ -16,8 +16,8 @@ abbrev pub entry_of : List ℕ → List ℕ
 entry_of line =
     if list_any is_comment_sign line then trim (before_first is_comment_sign line) else line
 
-abbrev pub is_blank : List ℕ → Bool
-is_blank text = length (trim text) == 0
+abbrev pub is_all_blank : List ℕ → Bool
+is_all_blank text = length (trim text) == 0
 
 abbrev pub some_unless_empty : List ℕ → Option (List ℕ)
 some_unless_empty text = if length text == 0 then None else Some text
@@ -28,7 +28,8 @@ abbrev pub name_text : List ℕ → Option (List ℕ)
 name_text entry =
     if list_any is_space entry
     then (if bytes_eq (trim (before_first is_space entry)) (codes "0.0.0.0")
-    && not (is_blank (after_first is_space entry)) then Some (after_first is_space entry) else None)
+    && not (is_all_blank (after_first is_space entry))
+    then Some (after_first is_space entry) else None)
     else some_unless_empty entry
 
 abbrev pub name_text_of_line : List ℕ → Option (List ℕ)

@@ -1,7 +1,7 @@
 //! The names that the lines of a list write.
 ghost use Rattle.std.specs.Prelude.{◌≡◌};
 ghost use Rattle.std.specs.Option.{option_copied};
-ghost use Rattle.zsv_blocked.specs.ListText.{entry_of, is_blank, name_text, name_text_of_line};
+ghost use Rattle.zsv_blocked.specs.ListText.{entry_of, is_all_blank, name_text, name_text_of_line};
 
 /// The text of the name on a line of a list, if the line has one.
 pub(crate) fn name_text_of_line(line: &str) -> Option<&str>
@@ -26,7 +26,7 @@ fn name_text(entry: &str) -> Option<&str>
 {
     match entry.split_once(' ') {
         Some((address, name)) => {
-            if address.trim() == "0.0.0.0" && !is_blank(name) {
+            if address.trim() == "0.0.0.0" && !is_all_blank(name) {
                 return Some(name);
             }
             None
@@ -41,8 +41,8 @@ fn name_text(entry: &str) -> Option<&str>
 }
 
 // Whether a text holds nothing but blanks.
-fn is_blank(text: &str) -> bool
-    ensures { result ≡ is_blank text.now }
+fn is_all_blank(text: &str) -> bool
+    ensures { result ≡ is_all_blank text.now }
 {
     text.trim().is_empty()
 }
