@@ -1,11 +1,10 @@
 -- The text of a zone: RFC 1035, section 5.1, in a plain form: one record a line, no directives, no
 -- relative owners.
-use Rattle.std.specs.Prelude.{◌≡◌, ◌⊎◌, ℕ, ◌-◌, ◌^◌, ◌<◌, ◌≤◌, Bool, true, false, ◌&&◌, ◌||◌, not, List, [], ◌∷◌, length, take, drop, filter, get_or, if◌then◌else◌, nat_lt, ◌==◌, codes, Option, Some, None, IsSome, Result, Ok, Err}
+use Rattle.std.specs.Prelude.{◌≡◌, ◌⊎◌, ℕ, ◌-◌, ◌<◌, ◌≤◌, Bool, true, false, ◌&&◌, ◌||◌, not, List, [], ◌∷◌, length, take, drop, filter, get_or, if◌then◌else◌, nat_lt, ◌==◌, codes, Option, Some, None, IsSome, Result, Ok, Err}
 use Rattle.std.specs.List.{list_all, position_or_len, slice_split}
 use Rattle.std.specs.Str.{str_eq_ignore_ascii_case}
 use Rattle.std.specs.Str.Lines.{lines}
 use Rattle.std.specs.Bool.{MatchBool}
-use Rattle.std.specs.Net.Grammar.{IsNumber}
 use Rattle.dnw_codes.specs.Ascii.{semicolon, is_blank}
 use Rattle.zst_zone.specs.dnw_codes.declared.record_type.RecordType.{RecordType}
 use Rattle.zst_zone.specs.dnw_codes.declared.record_type.RecordType.TheVariants as types
@@ -20,6 +19,7 @@ use Rattle.zst_zone.specs.dnw_codes.declared.error.ProtoError.{ProtoError}
 use Rattle.zst_zone.specs.dnw_name.DomainName.{DomainName, is_at_or_below}
 use Rattle.zst_zone.specs.dnw_name.NameText.{NameText}
 use Rattle.zst_zone.specs.drd_words.Text.{IsSplitInto}
+use Rattle.zst_zone.specs.drd_words.Word.{IsNumberWord}
 use Rattle.zst_zone.specs.drd_rdata.declared.rdata.RData.{RData}
 use Rattle.zst_zone.specs.drd_rdata.declared.rdata.RData.TheVariants as rdata
 use Rattle.zst_zone.specs.drd_rdata.Reading.{IsReadable}
@@ -60,10 +60,9 @@ abbrev pub is_skipped_line : List ℕ → Bool
 is_skipped_line [] = true
 is_skipped_line (first ∷ rest) = first == semicolon || list_all is_blank (first ∷ rest)
 
--- Decimal digits, at least one, that write a number of so many bits.
-pub record IsNumberText (bits : ℕ) (text : List ℕ) (n : ℕ) : Type 0 where
-  pub digits : IsNumber 10 text n
-  pub fits : n < 2 ^ bits
+-- A text writes a number of so many bits as a word of record data does.
+abbrev pub IsNumberText : ℕ → List ℕ → ℕ → Type 0
+IsNumberText bits text n = IsNumberWord bits n text
 
 -- An owner is a name that ends at the root.
 pub record IsOwnerText (text : List ℕ) (name : DomainName) : Type 0 where
