@@ -1,15 +1,31 @@
 #!/usr/bin/python3
 """Rows of whole messages: requests with records, options and signatures, and the replies over host.zone and forty.zone.
 
-    tests/rows/messages.py    prints each row: a comment, the question and the answer
+    tests/rows/messages.py            prints each row: a comment, the question and the answer
+    tests/rows/messages.py compare    compares every request of `vectors`, and each front of those of these rows, with the
+                                      grammar and with dnspython: by hand, since the gate needs no dnspython
 
 The layouts are those of RFC 1035, section 4.1, RFC 6891, section 6.1, and RFC 8945, section 4.2, written here by hand and
-independent of the libraries. Each reply but those to updates is read back by dnspython, which
-is to find the same sections in it."""
-import struct
+independent of the libraries. Each reply, but to an update or an operation that dnspython doesn't know, is read back by it, which
+is to find the same sections. Which fronts of a request are requests is told by `grammar.py`.
 
+To compare: a request has a reply exactly where `grammar.py` says that it is one, and dnspython reads it, or the difference has
+one of the causes of ROWS.md (`CAUSES`). These are counted; the status is 1 where a difference has none, or where rows printed
+here don't stand in `vectors`."""
+import collections
+import os
+import struct
+import sys
+
+import dns.exception
 import dns.flags
 import dns.message
+import dns.opcode
+
+sys.dont_write_bytecode = True
+import grammar
+
+VECTORS = os.path.join(os.path.dirname(os.path.realpath(__file__)), "vectors")
 
 ID, WWW = 0x1234, "www.example.com."
 A, NS, SOA, SIG, OPT, TSIG, IXFR = 1, 2, 6, 24, 41, 250, 251
@@ -54,9 +70,23 @@ def request(flags=0, questions=(question(),), answers=(), authorities=(), additi
     return header(flags, [len(it) for it in parts]) + b"".join(b"".join(it) for it in parts)
 
 
+def op_code_of(octets):
+    return octets[2] >> 3 & 15
+
+
+def is_update(octets):
+    return op_code_of(octets) == grammar.UPDATE
+
+
+def has_operation(octets):
+    """Whether dnspython knows the operation."""
+    return op_code_of(octets) in [it.value for it in dns.opcode.Opcode]
+
+
 def reply(flags=0x8400, questions=(question(),), answers=(), authorities=(), additionals=()):
     octets = request(flags, questions, answers, authorities, additionals)
-    if flags >> 11 & 15 == 5:  # an update, whose first section dnspython asks to be a zone's
+    if is_update(octets) or not has_operation(octets):
+        # (of an update dnspython asks that its first section be a zone's)
         return octets
     read = dns.message.from_wire(octets)
     assert len(read.question) == (1 if questions else 0)
@@ -110,6 +140,15 @@ def rows():
         (with_opt(empty(A)), None), (request(answers=[empty(A)]), None), (updated(empty(A)), denied),
         (request(0x2800, answers=[empty(A)], authorities=[empty(255)]), denied), (updated(empty(SIG)), denied),
         (updated(empty(SIG), empty(A)), None), (updated(empty(TSIG)), None), (with_opt(empty(SIG)), None)]
+    others = [op_code << 11 for op_code in (1, 2, 4, 15)]
+    bare = entry(WWW, A, 0, b"")
+    yield "in no other operation (1, 2, 4 and 15), of whatever class and in whatever section; with data such a record is read", "host", "tcp", [
+        pair for flags in others for pair in (
+            (request(flags, additionals=[empty(A)]), None), (request(flags, additionals=[bare]), None),
+            (request(flags, answers=[bare]), None), (request(flags, authorities=[empty(A)]), None),
+            (request(flags, additionals=[address()]), reply(0x8004 | flags)))]
+    yield "of class IN too, in a query and in an update", "host", "tcp", [
+        (with_opt(bare), None), (request(answers=[bare]), None), (updated(bare), denied), (request(0x2800, answers=[bare]), denied)]
     yield "records of every section are read, and data that are none of their type refused", "host", "tcp", [
         (request(answers=[address()]), hit), (request(authorities=[start()]), hit), (with_opt(address()), hit),
         (with_opt(entry(WWW, A, 0, b"\x01\x02\x03")), None), (request(answers=[entry(WWW, 255, 0, b"\x01")]), None),
@@ -127,13 +166,150 @@ def rows():
         (with_opt(opt(530)), reply(0x8600, answers=[address(n + 1) for n in range(16)]))]
 
 
+def requests():
+    """The requests of these rows that have replies, each once."""
+    told = (pair for *_, pairs in rows() for pair in pairs)
+    return list(dict.fromkeys(octets for octets, answer in told if answer is not None))
+
+
+def row_of(fields, pairs):
+    """The question of requests, and its answer."""
+    replies = ["none" if told is None else told.hex() for _, told in pairs]
+    return "\t".join([*fields, *(octets.hex() for octets, _ in pairs)]), "\t".join(replies)
+
+
 def show(comment, fields, pairs):
     """Prints a row: the comment, the question and the answer."""
-    print(f"# {comment}")
-    print("\t".join([*fields, *(octets.hex() for octets, _ in pairs)]))
-    print("=" + "\t".join("none" if told is None else told.hex() for _, told in pairs))
+    question, answer = row_of(fields, pairs)
+    print(f"# {comment}\n{question}\n={answer}")
+
+
+def fronts_row():
+    """Which fronts of the requests are requests."""
+    lengths = [",".join(str(count) for count in grammar.fronts(octets)) for octets in requests()]
+    return "\t".join(["requests", *(octets.hex() for octets in requests())]), "\t".join(lengths)
+
+
+def all_rows():
+    """Each row as it stands in `vectors`: a comment, the question and the answer."""
+    for comment, zone, transport, pairs in rows():
+        yield comment, *row_of(["serve", "example.com.", f"{zone}.zone", transport], pairs)
+    yield "of the requests of these rows, front by front, only the whole is one, or what stands before octets behind its last record", *fronts_row()
+
+
+# What dnspython reads otherwise. Each cause is tested by amending the message, so that a difference of another cause isn't taken
+# for it.
+
+def is_read(octets, **options):
+    """Whether dnspython reads a message."""
+    try:
+        dns.message.from_wire(octets, **options)
+    except (dns.exception.DNSException, ValueError):
+        return False
+    return True
+
+
+def lacks_key(octets):
+    try:
+        dns.message.from_wire(octets)
+    except dns.message.UnknownTSIGKey:
+        return True
+    except (dns.exception.DNSException, ValueError):
+        pass
+    return False
+
+
+def of_operation(octets, op_code):
+    return octets[:2] + bytes([octets[2] & 0x87 | op_code << 3]) + octets[3:]
+
+
+def with_type(octets, kind, other, behind):
+    """The message with another type wherever these octets, of the class, stand behind it."""
+    return octets.replace(struct.pack(">H", kind) + behind, struct.pack(">H", other) + behind)
+
+
+def as_query(octets):
+    """The message as a query, its addresses without data being of class ANY."""
+    return of_operation(octets, 0).replace(b"\0\1\0\1" + bytes(6), b"\0\1\0\xff" + bytes(6))
+
+
+NULL, OTHER = 10, 65000
+# Behind a cause stands whether such messages are requests, and dnspython refuses them, or the other way; and the test.
+CAUSES = {
+    "octets behind the last record": (True, lambda octets: is_read(octets, ignore_trailing=True)),
+    "options that break off": (True, lambda octets: is_read(with_type(octets, OPT, OTHER, b"\x04\xd0"))),
+    "a signature by a key that isn't known": (True, lacks_key),
+    "an update whose zone section isn't a zone's": (True, lambda octets: is_update(octets) and is_read(of_operation(octets, 0))),
+    "a record of class IN without data, in an update": (True, lambda octets: is_update(octets) and is_read(as_query(octets))),
+    "an operation without a name": (True, lambda octets: not has_operation(octets) and is_read(of_operation(octets, 0))),
+    "a record without data, outside updates": (
+        False, lambda octets: not is_update(octets) and grammar.is_request(of_operation(octets, grammar.UPDATE))),
+    "SIG as a record like any other": (False, lambda octets: grammar.is_request(with_type(octets, SIG, NULL, b"\0\xff"))),
+    "data of a type that only questions name": (False, lambda octets: grammar.is_request(with_type(octets, 255, OTHER, b"\0\1"))),
+}
+
+
+def cause_of(octets, is_request):
+    """Why dnspython reads a message that is no request, or doesn't read one; None where it does as it should."""
+    if is_read(octets) == is_request:
+        return None
+    for cause, (wanted, stands) in CAUSES.items():
+        if wanted == is_request and stands(octets):
+            return cause
+    return "no cause that is known"
+
+
+def stored():
+    """The questions of `vectors` and their answers."""
+    with open(f"{VECTORS}/stdin", encoding="utf-8") as asked, open(f"{VECTORS}/stdout", encoding="utf-8") as told:
+        answers = told.read().split("\n")
+        questions = asked.read().split("\n")
+    return list(zip(questions, answers[len(answers) - len(questions) :]))
+
+
+def served(pairs):
+    """The requests of all rows, and whether each has a reply."""
+    for question, answer in pairs:
+        fields, replies = question.split("\t"), answer.split("\t")
+        if fields[0] in ("serve", "answers", "server"):
+            assert len(fields) == 4 + len(replies)
+            for octets, told in zip(fields[4:], replies):
+                yield bytes.fromhex(octets.strip("-")), told != "none"
+
+
+def compare():
+    """The number of rows, requests and fronts that aren't as they should be; these are shown."""
+    wrong, causes, pairs = 0, collections.Counter(), stored()
+    messages = list(served(pairs))
+    for comment, *row in all_rows():
+        if tuple(row) not in pairs:
+            wrong += 1
+            print(f"another row: {comment}")
+    fronts = {octets[:count] for octets in requests() for count in range(len(octets))}
+    for octets, has_reply in messages:
+        if grammar.is_request(octets) != has_reply:
+            wrong += 1
+            print(f"{'has a' if has_reply else 'no'} reply: {octets.hex()}")
+    for octets in [*(octets for octets, _ in messages), *sorted(fronts)]:
+        cause = cause_of(octets, grammar.is_request(octets))
+        causes[cause] += 1
+        if cause and cause not in CAUSES:
+            wrong += 1
+            print(f"{cause}: {octets.hex()}")
+    print(f"{len(messages)} requests and {len(fronts)} fronts; {causes.pop(None)} are to dnspython what they are here")
+    for cause, count in causes.items():
+        print(f"{count:5} {'read' if CAUSES.get(cause, [False])[0] else 'refused'} here alone: {cause}")
+    return wrong
+
+
+def main():
+    if sys.argv[1:] == ["compare"]:
+        sys.exit(1 if compare() else 0)
+    if sys.argv[1:]:
+        sys.exit(__doc__)
+    for comment, question, answer in all_rows():
+        print(f"# {comment}\n{question}\n={answer}")
 
 
 if __name__ == "__main__":
-    for comment, zone, transport, pairs in rows():
-        show(comment, ["serve", "example.com.", f"{zone}.zone", transport], pairs)
+    main()
