@@ -105,10 +105,12 @@ def read_counts(path):
 
 
 def check_kinds(kinds, names, kind):
-    """Hits are to be hits, and misses and deep names misses."""
+    """Hits are to be hits, misses and deep names misses, names below cuts referrals, and those below the wildcard hits."""
+    hit, miss, referral = {(replies.NO_ERROR, 1, 0)}, {(replies.NX_DOMAIN, 0, 1)}, {(replies.NO_ERROR, 0, 1)}
     wanted = {
-        "hit": {(replies.NO_ERROR, 1, 0)}, "opt": {(replies.NO_ERROR, 1, 0)}, "short": set(), "miss": {(replies.NX_DOMAIN, 0, 1)},
-        "deep": {(replies.NX_DOMAIN, 0, 1)}, "empty": set(),
+        "hit": hit, "opt": hit, "short": set(), "miss": miss, "deep": miss, "empty": set(),
+        "cuts.hit": hit, "cuts.miss": miss, "cuts.delegation": referral, "cuts.referral": referral,
+        "cuts.wildcard": hit, "cuts.deep": hit, "cuts.empty": set(),
     }
     if kind in wanted and set(kinds) != wanted[kind]:
         raise Failed(f"replies of a wrong kind to {names}.{kind}: {dict(kinds)}")
@@ -117,7 +119,7 @@ def check_kinds(kinds, names, kind):
 def count(program, folder, names, kind):
     """One run of the program over files that generate.write_all left in the folder, its replies checked."""
     base = os.path.join(folder, f"{names}.{kind}")
-    zone_file = os.path.join(folder, f"{names}.zone")
+    zone_file = os.path.join(folder, generate.zone_of(names, kind))
     callgrind(program, zone_file, base, base)
     with open(zone_file) as zone, open(base, "rb") as asked, open(base + ".replies", "rb") as said:
         try:

@@ -2,10 +2,12 @@
 """Zone files and framed question streams for the measurements of this folder.
 
     generate.py zone NAMES                 a zone file with NAMES hosts under example.com.
-    generate.py questions KIND NAMES COUNT a stream of COUNT questions for that zone
+    generate.py cuts NAMES                 one with as many cuts too, and a wildcard
+    generate.py questions KIND NAMES COUNT a stream of COUNT questions for the zone of that kind
     generate.py all FOLDER [COUNT]         all of them, as files in FOLDER
 
-KIND is one of hit, opt, miss, mixed, deep, short, empty. Everything is written to standard
+KIND is one of hit, opt, miss, mixed, deep, short, empty; or, for the zone with cuts, of cuts.hit, cuts.miss,
+cuts.delegation, cuts.referral, cuts.wildcard, cuts.deep, cuts.empty. Everything is written to standard
 output, but for `all`. The same arguments give the same octets: each file has a
 generator of random numbers of its own, seeded by its arguments.
 """
@@ -18,8 +20,12 @@ import sys
 ORIGIN = "example.com."
 SIZES = (2, 1000, 100000)
 KINDS = ("empty", "hit", "opt", "miss", "mixed", "deep", "short")
+# Those of the zone that has cuts and a wildcard beside its hosts.
+CUTS = "cuts."
+CUT_KINDS = tuple(CUTS + kind for kind in ("empty", "hit", "miss", "delegation", "referral", "wildcard", "deep"))
+WILD = f"w.{ORIGIN}"
 
-TYPE_A, TYPE_NS, TYPE_SOA, TYPE_AAAA, TYPE_OPT = 1, 2, 6, 28, 41
+TYPE_A, TYPE_NS, TYPE_CNAME, TYPE_SOA, TYPE_AAAA, TYPE_OPT = 1, 2, 5, 6, 28, 41
 CLASS_IN = 1
 
 # A question of so many one-octet labels under the origin has 253 of the 255 octets of a name.
@@ -46,6 +52,41 @@ def zone(names):
     return lines
 
 
+def cut(number):
+    """The name of a cut of the zone."""
+    return f"d{number:05}.{ORIGIN}"
+
+
+def cuts_zone(names):
+    """The lines of a zone of so many hosts and so many cuts, shuffled, and of a wildcard. The name server of every second
+    cut stands below it, with its address (RFC 1034 section 4.2.1); those of the others are elsewhere."""
+    lines = zone(names)
+    numbers = list(range(names))
+    random.Random(f"cuts {names}").shuffle(numbers)
+    for number in numbers:
+        if number % 2:
+            lines.append(f"{cut(number)} 3600 IN NS ns.example.org.")
+        else:
+            lines.append(f"{cut(number)} 3600 IN NS ns.{cut(number)}")
+            lines.append(f"ns.{cut(number)} 3600 IN A 172.{16 | number >> 16}.{number >> 8 & 255}.{number & 255}")
+    lines.append(f"*.{WILD} 3600 IN A 192.0.2.1")
+    return lines
+
+
+def is_of_cuts(kind):
+    return kind.startswith(CUTS)
+
+
+def empty_of(kind):
+    """The kind without questions for the same zone."""
+    return CUTS + "empty" if is_of_cuts(kind) else "empty"
+
+
+def zone_of(names, kind):
+    """The file of the zone that a kind of questions is for."""
+    return f"{names}.cuts.zone" if is_of_cuts(kind) else f"{names}.zone"
+
+
 def wire_name(name):
     """The octets of a fully qualified name, uncompressed."""
     labels = name[:-1].split(".") if name != "." else []
@@ -70,9 +111,25 @@ def missing(dice, names):
     return f"h{number // 10:04}{dice.choice(LETTERS)}.{ORIGIN}"
 
 
-def deep(dice):
-    """A name of DEEP_LABELS one-octet labels under the origin."""
-    return "".join(dice.choice(LETTERS) + "." for _ in range(DEEP_LABELS)) + ORIGIN
+def deep(dice, below=ORIGIN):
+    """A name of DEEP_LABELS one-octet labels under the origin, or under another name."""
+    return "".join(dice.choice(LETTERS) + "." for _ in range(DEEP_LABELS)) + below
+
+
+def below_cut(dice, names, odd):
+    """A name one label below a cut of an even or an odd number."""
+    return f"www.{cut(2 * dice.randrange(names // 2) + odd)}"
+
+
+# The name that is asked for in the zone with cuts, by the kind.
+CUT_NAMES = {
+    "hit": lambda dice, names: host(dice.randrange(names)),
+    "miss": lambda dice, names: missing(dice, names),
+    "delegation": lambda dice, names: below_cut(dice, names, 1),
+    "referral": lambda dice, names: below_cut(dice, names, 0),
+    "wildcard": lambda dice, names: f"h{dice.randrange(names):05}.{WILD}",
+    "deep": lambda dice, names: deep(dice, WILD),
+}
 
 
 def mixed(dice, names):
@@ -99,8 +156,11 @@ def mixed(dice, names):
 def questions(kind, names, count):
     """So many questions of a kind for the zone of so many hosts; none for the kind empty."""
     dice = random.Random(f"questions {kind} {names}")
-    if kind == "empty":
+    if kind == empty_of(kind):
         return []
+    if is_of_cuts(kind) and kind in CUT_KINDS:
+        name_of = CUT_NAMES[kind[len(CUTS) :]]
+        return [question(n, name_of(dice, names), TYPE_A) for n in range(count)]
     if kind == "hit":
         return [question(n, host(dice.randrange(names)), TYPE_A) for n in range(count)]
     if kind == "opt":
@@ -123,9 +183,9 @@ def framed(messages):
     return b"".join(struct.pack("!H", len(message)) + message for message in messages)
 
 
-def zone_text(names):
+def zone_text(names, lines_of=zone):
     """A zone file."""
-    return "".join(line + "\n" for line in zone(names)).encode("ascii")
+    return "".join(line + "\n" for line in lines_of(names)).encode("ascii")
 
 
 def stream(kind, names, count):
@@ -137,9 +197,10 @@ def write_all(folder, count):
     """Writes each zone and each stream into a folder."""
     os.makedirs(folder, exist_ok=True)
     for names in SIZES:
-        with open(os.path.join(folder, f"{names}.zone"), "wb") as out:
-            out.write(zone_text(names))
-        for kind in KINDS:
+        for kind, lines_of in (("empty", zone), (CUTS + "empty", cuts_zone)):
+            with open(os.path.join(folder, zone_of(names, kind)), "wb") as out:
+                out.write(zone_text(names, lines_of))
+        for kind in KINDS + CUT_KINDS:
             with open(os.path.join(folder, f"{names}.{kind}"), "wb") as out:
                 out.write(stream(kind, names, count))
 
@@ -148,6 +209,8 @@ def main(words):
     try:
         if len(words) == 2 and words[0] == "zone":
             sys.stdout.buffer.write(zone_text(int(words[1])))
+        elif len(words) == 2 and words[0] == "cuts":
+            sys.stdout.buffer.write(zone_text(int(words[1]), cuts_zone))
         elif len(words) == 4 and words[0] == "questions":
             sys.stdout.buffer.write(stream(words[1], int(words[2]), int(words[3])))
         elif len(words) in (2, 3) and words[0] == "all":

@@ -19,6 +19,8 @@ NO_ERROR, NX_DOMAIN, REFUSED = 0, 3, 5
 QR, AA, RD = 0x8000, 0x0400, 0x0100
 HEADER, DO = 12, 0x8000
 
+# A zone: its origin, the records by owner and then type, and all owners with the names above them.
+Zone = collections.namedtuple("Zone", "origin owners names")
 Record = collections.namedtuple("Record", "owner type rclass ttl data")
 Message = collections.namedtuple("Message", "id flags questions question_octets answers authorities additionals")
 
@@ -60,7 +62,7 @@ def read_data(message, record_type, place, end):
         return (str(ipaddress.IPv4Address(message[place:end])),)
     if record_type == generate.TYPE_OPT:
         return (message[place:end],)
-    if record_type == generate.TYPE_NS:
+    if record_type in (generate.TYPE_NS, generate.TYPE_CNAME):
         data, place = read_name(message, place)
         data = (data,)
     elif record_type == generate.TYPE_SOA:
@@ -126,9 +128,15 @@ def frames(octets):
     return messages
 
 
+def suffixes(name):
+    """A name and those above it, the root last."""
+    labels = name[:-1].split(".") if name != "." else []
+    return [".".join(labels[place:]) + "." for place in range(len(labels) + 1)]
+
+
 def read_zone(text):
-    """A zone file's records, by owner and then type; the owner of its first record is the origin."""
-    zone, origin = {}, None
+    """A zone file; the owner of its first record is the origin."""
+    owners, names, origin = {}, set(), None
     types = {"A": generate.TYPE_A, "NS": generate.TYPE_NS, "SOA": generate.TYPE_SOA}
     for line in text.splitlines():
         owner, ttl, _, kind, *data = line.split()
@@ -139,26 +147,50 @@ def read_zone(text):
         elif kind == "NS":
             data = [data[0].lower()]
         record = Record(owner, types[kind], generate.CLASS_IN, int(ttl), tuple(data))
-        zone.setdefault(owner, {}).setdefault(types[kind], []).append(record)
-    return origin, zone
+        owners.setdefault(owner, {}).setdefault(types[kind], []).append(record)
+        names.update(suffixes(owner))
+    return Zone(origin, owners, names)
 
 
-def expected(origin, zone, asked):
-    """What a query with one question gets: flags but RD, answers, authorities.
+def cut_above(zone, name):
+    """The name servers of the lowest cut at or above a name: of a suffix that owns NS and no SOA."""
+    for suffix in suffixes(name):
+        sets = zone.owners.get(suffix, {})
+        if generate.TYPE_NS in sets:
+            return [] if generate.TYPE_SOA in sets else sets[generate.TYPE_NS]
+    return []
 
-    The zone is flat: each owner but the origin is one label below it, so that no name exists without records.
-    """
+
+def found(zone, name, record_type):
+    """The records of a name and a type, its own or of the nearest wildcard that has the type."""
+    for owner in [name] + ["*." + suffix for suffix in suffixes(name)[1:-1]]:
+        if records := zone.owners.get(owner, {}).get(record_type):
+            return [record._replace(owner=name) for record in records]
+    return []
+
+
+def addresses(zone, servers):
+    """Those of the first name server, glue too."""
+    return zone.owners.get(servers[0].data[0], {}).get(generate.TYPE_A, []) if servers else []
+
+
+def expected(zone, asked):
+    """What a query with one question gets: flags but RD, answers, authorities, additionals. No name in a file is an alias."""
     (name, record_type, _), = asked.questions
-    if name != origin and not name.endswith("." + origin):
-        return QR | REFUSED, [], []
-    apex = zone[origin]
-    if name not in zone:
-        return QR | AA | NX_DOMAIN, [], apex[generate.TYPE_SOA]
-    answers = zone[name].get(record_type, [])
+    if name != zone.origin and not name.endswith("." + zone.origin):
+        return QR | REFUSED, [], [], []
+    servers = cut_above(zone, name)
+    if servers:
+        is_answer = record_type == generate.TYPE_NS
+        return QR | AA | NO_ERROR, servers if is_answer else [], [] if is_answer else servers, addresses(zone, servers)
+    apex, answers = zone.owners[zone.origin], found(zone, name, record_type)
     if not answers:
-        return QR | AA | NO_ERROR, [], apex[generate.TYPE_SOA]
+        code = NO_ERROR if name in zone.names else NX_DOMAIN
+        return QR | AA | code, [], apex[generate.TYPE_SOA], []
+    if record_type == generate.TYPE_NS:
+        return QR | AA | NO_ERROR, answers, [], addresses(zone, answers)
     beside = apex[generate.TYPE_NS] if record_type == generate.TYPE_SOA else []
-    return QR | AA | NO_ERROR, answers, beside
+    return QR | AA | NO_ERROR, answers, beside, []
 
 
 def expected_options(asked):
@@ -170,13 +202,13 @@ def expected_options(asked):
     ]
 
 
-def check_reply(origin, zone, question, reply):
+def check_reply(zone, question, reply):
     """Raises Wrong where a reply is not the question's."""
     asked, said = decode(question), decode(reply)
-    flags, answers, authorities = expected(origin, zone, asked)
+    flags, answers, authorities, additionals = expected(zone, asked)
     wanted = Message(
         asked.id, flags | asked.flags & RD, asked.questions, asked.question_octets, answers, authorities,
-        expected_options(asked),
+        additionals + expected_options(asked),
     )
     for field, want, got in zip(Message._fields, wanted, said):
         if want != got:
@@ -186,7 +218,7 @@ def check_reply(origin, zone, question, reply):
 def check_stream(zone_text, questions, replies):
     """Raises Wrong where a stream of replies is not the one that the questions have to get; counts the
     replies by code and number of answers."""
-    origin, zone = read_zone(zone_text)
+    zone = read_zone(zone_text)
     # A frame without a whole header gets no reply.
     asked, said = [it for it in frames(questions) if len(it) >= HEADER], frames(replies)
     if len(asked) != len(said):
@@ -194,7 +226,7 @@ def check_stream(zone_text, questions, replies):
     kinds = collections.Counter()
     for place, (question, reply) in enumerate(zip(asked, said)):
         try:
-            check_reply(origin, zone, question, reply)
+            check_reply(zone, question, reply)
         except Wrong as wrong:
             raise Wrong(f"reply {place}: {wrong}\n  question {question.hex()}\n  reply    {reply.hex()}") from None
         message = decode(reply)
