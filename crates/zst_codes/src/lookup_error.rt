@@ -1,5 +1,5 @@
 //! Why a lookup has no records.
-ghost use Rattle.std.specs.Prelude.{◌≡◌, false, None};
+ghost use Rattle.std.specs.Prelude.{◌≡◌, false, None, IsNone};
 ghost use Rattle.std.specs.IoError.{error_kind, raw_os_error};
 ghost use Rattle.std.specs.declared.io.ErrorKind.TheVariants.{Other};
 
@@ -53,6 +53,22 @@ impl LookupError {
         ensures { result ≡ false }
     {
         false
+    }
+
+    /// The SOA record that another server sent with its denial, of the type that a caller keeps records in. A `NetError`
+    /// doesn't keep it: none.
+    pub fn into_soa<R>(self) -> Option<R>
+        ensures { result ≡ None }
+    {
+        None
+    }
+
+    /// The records of authority that another server sent with its denial, of the type that a caller keeps records in. A
+    /// `NetError` doesn't keep them: none.
+    pub fn authorities<R>(&self) -> Option<&[R]>
+        ensures { IsNone result }
+    {
+        None
     }
 }
 

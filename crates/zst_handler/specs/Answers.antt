@@ -98,6 +98,30 @@ authorities_in auths.Empty = []
 authorities_in (auths.Records answers additionals) = []
 authorities_in (auths.Response answers authorities additionals) = authorities.items
 
+-- The records of authority, and those that go with the answer, where there is a list of them.
+abbrev pub authorities_of : AuthLookup → Option (List Record)
+authorities_of (auths.Response answers authorities additionals) = Some authorities.items
+authorities_of other = None
+
+abbrev pub additionals_of : AuthLookup → Option (List Record)
+additionals_of auths.Empty = None
+additionals_of (auths.Records answers additionals) = option_map records_in additionals
+additionals_of (auths.Response answers authorities additionals) = Some additionals.items
+
+-- The records of a zone that answer, and those that go with them, where it is a zone's answer.
+abbrev pub zone_records : AuthLookup → Option LookupRecords
+zone_records (auths.Records answers additionals) = Some answers
+zone_records other = None
+
+abbrev pub zone_additionals : AuthLookup → Option LookupRecords
+zone_additionals (auths.Records answers additionals) = additionals
+zone_additionals other = None
+
+-- The answer when these were taken out.
+abbrev pub without_additionals : AuthLookup → AuthLookup
+without_additionals (auths.Records answers additionals) = auths.Records answers None
+without_additionals other = other
+
 -- An answer, record by record.
 pub record ShowsAnswer (options : LookupOptions) (answer : Answer) (found : AuthLookup) :
     Type 0 where
