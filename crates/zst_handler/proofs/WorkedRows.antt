@@ -1,18 +1,23 @@
--- The definitions of the lookup computed on worked rows: a cut with its glue, wildcards, aliases.
-use Rattle.std.proofs.Common.{◌≡◌, ℕ, true, List, [], ◌∷◌, refl, subst, arith}
-use Rattle.std.specs.Prelude.{codes, pos, None, Some}
+-- The definitions of the lookup computed on worked rows: a cut with its glue, wildcards, aliases; and those of what changes
+-- a zone: records added, sets put in place and taken out.
+use Rattle.std.proofs.Common.{◌≡◌, ℕ, true, false, List, [], ◌∷◌, refl, subst, arith}
+use Rattle.std.specs.Prelude.{Bool, ◌&&◌, codes, pos, None, Option, Some, if◌then◌else◌}
 use Rattle.zst_edns.specs.zst_codes.declared.settings.ZoneType.TheVariants as kinds
 use Rattle.zst_edns.specs.zst_codes.declared.settings.AxfrPolicy.TheVariants as policies
 use Rattle.zst_record.specs.dnw_codes.declared.dns_class.DNSClass.TheVariants as classes
 use Rattle.zst_record.specs.dnw_codes.declared.record_type.RecordType.TheVariants as types
-use Rattle.zst_record.specs.dnw_name.DomainName.{DomainName}
+use Rattle.zst_record.specs.dnw_codes.declared.record_type.RecordType.{RecordType}
+use Rattle.zst_record.specs.dnw_codes.RecordType.{same_record_type}
+use Rattle.zst_record.specs.dnw_name.DomainName.{DomainName, name_eq}
 use Rattle.zst_record.specs.drd_rdata.declared.rdata.RData.{RData}
 use Rattle.zst_record.specs.drd_rdata.declared.rdata.RData.TheVariants as rdata
-use Rattle.zst_record.specs.RecordSets.{RRset, flattened_set, renamed, set_of}
+use Rattle.zst_record.specs.declared.records.Record.{Record}
+use Rattle.zst_record.specs.RecordSets.{RRset, flattened_set, renamed, set_of, set_with}
 use Rattle.zst_handler.specs.Chains.{IsAliasChain, Stops, loops}
 use Rattle.zst_handler.specs.Found.{delegation, found}
 use Rattle.zst_handler.specs.Lookups.{additionals, alias_answer, behind_alias, denial, name_error, name_exists, out_of_zone, sets_of_name}
-use Rattle.zst_handler.specs.Zones.{Zone}
+use Rattle.zst_handler.specs.Updates.{Replaces, Upserts, is_kept_out, upsert_changes, upserted}
+use Rattle.zst_handler.specs.Zones.{Adds, AddsTo, Zone}
 
 abbrev example : DomainName
 example = record { fqdn = true; labels = codes "example" ∷ codes "com" ∷ [] }
@@ -23,14 +28,20 @@ below first = record { fqdn = true; labels = first ∷ example.labels }
 abbrev two_below : List ℕ → List ℕ → DomainName
 two_below first second = record { fqdn = true; labels = first ∷ second ∷ example.labels }
 
+abbrev entry : DomainName → ℕ → RData → Record
+entry name ttl value = record { name = name; dns_class = classes.IN; ttl = ttl; rdata = value }
+
 abbrev one : DomainName → ℕ → RData → RRset
-one name ttl value = set_of (record { name = name; dns_class = classes.IN; ttl = ttl; rdata = value })
+one name ttl value = set_of (entry name ttl value)
 
 abbrev address : ℕ → RData
 address last = rdata.A (record { 0 = record { octets = 192 ∷ 0 ∷ 2 ∷ last ∷ [] } })
 
+abbrev soa : ℕ → RData
+soa serial = rdata.SOA (record { mname = below (codes "ns"); rname = below (codes "admin"); serial = serial; refresh = pos 3600; retry = pos 1800; expire = pos 604800; minimum = 86400 })
+
 abbrev start : RRset
-start = one example 3600 (rdata.SOA (record { mname = below (codes "ns"); rname = below (codes "admin"); serial = 1; refresh = pos 3600; retry = pos 1800; expire = pos 604800; minimum = 86400 }))
+start = one example 3600 (soa 1)
 
 abbrev own_servers : RRset
 own_servers = one example 3600 (rdata.NS (record { 0 = below (codes "ns") }))
@@ -59,8 +70,11 @@ to_www = one (below (codes "al")) 60 (rdata.ANAME (record { 0 = below (codes "ww
 abbrev sets : List RRset
 sets = start ∷ own_servers ∷ www ∷ cut ∷ glue ∷ c1 ∷ c2 ∷ to_www ∷ []
 
+abbrev zone_of : List RRset → Zone
+zone_of ss = record { origin = example; zone_type = kinds.Primary; axfr_policy = policies.AllowAll; nx_proof_kind = None; sets = ss }
+
 abbrev zone : Zone
-zone = record { origin = example; zone_type = kinds.Primary; axfr_policy = policies.AllowAll; nx_proof_kind = None; sets = sets }
+zone = zone_of sets
 
 -- The zone's own name servers hand nothing over.
 own : delegation sets (below (codes "www")) types.A ≡ None
@@ -119,3 +133,99 @@ outside = refl
 -- All sets of a name, by rising type.
 both : sets_of_name sets example ≡ start ∷ own_servers ∷ []
 both = refl
+
+-- ---- a record is added: another address, or another time to live, changes the set of the host's addresses
+abbrev host_entry : ℕ → ℕ → Record
+host_entry ttl last = entry (below (codes "www")) ttl (address last)
+
+another : upsert_changes sets (host_entry 60 2) ≡ true
+another = refl
+
+there : upsert_changes sets (host_entry 3600 1) ≡ false
+there = refl
+
+other_ttl : upsert_changes sets (host_entry 60 1) ≡ true
+other_ttl = refl
+
+other_class : upsert_changes sets (record (host_entry 60 2) { dns_class = classes.CH }) ≡ false
+other_class = refl
+
+-- An alias stands beside no other type than denials, and gives way to another one.
+beside_alias : upsert_changes sets (entry (below (codes "c1")) 60 (address 2)) ≡ false
+beside_alias = refl
+
+alias_beside : upsert_changes sets (entry (below (codes "www")) 60 (rdata.CNAME (record { 0 = example }))) ≡ false
+alias_beside = refl
+
+other_alias : upsert_changes sets (entry (below (codes "c1")) 60 (rdata.CNAME (record { 0 = example }))) ≡ true
+other_alias = refl
+
+denial_beside : is_kept_out (c1 ∷ []) types.NSEC ≡ false
+denial_beside = refl
+
+-- The start of a zone gives way to one of a later serial number.
+same_serial : upsert_changes sets (entry example 60 (soa 1)) ≡ false
+same_serial = refl
+
+later_serial : upsert_changes sets (entry example 60 (soa 2)) ≡ true
+later_serial = refl
+
+-- The set then: with the record behind the others, or in the place of the one with equal data, and without signatures.
+abbrev hosts : RRset
+hosts = record www { records = host_entry 3600 1 ∷ host_entry 60 2 ∷ [] }
+
+joined : upserted (Some (record www { signatures = host_entry 60 9 ∷ [] })) (host_entry 60 2) ≡ hosts
+joined = refl
+
+in_place : upserted (Some hosts) (host_entry 5 1) ≡ record www { records = host_entry 5 1 ∷ host_entry 60 2 ∷ [] }
+in_place = refl
+
+alone : upserted (Some start) (entry example 60 (soa 2)) ≡ one example 60 (soa 2)
+alone = refl
+
+-- ---- sets put in place and taken out, whatever name and type is asked for
+put : (asked : Bool) → (if asked then Some hosts else None) ≡ (if asked then Some hosts else if asked then Some www else None)
+put true = refl
+put false = refl
+
+taken : (asked : Bool) → None ≡ (if asked then None else if asked then Some www else None)
+taken true = refl
+taken false = refl
+
+abbrev is_asked : DomainName → RecordType → Bool
+is_asked name record_type = name_eq name www.name && same_record_type types.A record_type
+
+put_in_place : Replaces (www ∷ []) www.name types.A (Some hosts) (hosts ∷ [])
+put_in_place name record_type = put (is_asked name record_type)
+
+taken_out : Replaces (www ∷ []) www.name types.A None []
+taken_out name record_type = taken (is_asked name record_type)
+
+-- No other set goes with one that is taken out.
+no_other : Replaces (start ∷ www ∷ []) www.name types.A None [] → ⊥
+no_other replaces = let e : None ≡ Some start = replaces example types.SOA in let h : ⊥ = cc in h
+
+-- ---- a record is added to a zone
+add : (asked : Bool) → (if asked then Some hosts else None)
+    ≡ (if asked then Some (set_with (if asked then Some www else None) (host_entry 60 2)) else if asked then Some www else None)
+add true = refl
+add false = refl
+
+added : Adds (www ∷ []) (host_entry 60 2) (hosts ∷ [])
+added name record_type = add (is_asked name record_type)
+
+added_to : AddsTo (zone_of (www ∷ [])) (host_entry 60 2) (zone_of (hosts ∷ []))
+added_to = record { adds = added; ordered = (tt, tt); rest = refl }
+
+false_is_not : false ≡ true → ⊥
+false_is_not e = let h : ⊥ = cc in h
+
+true_is_not : true ≡ false → ⊥
+true_is_not e = let h : ⊥ = cc in h
+
+upserts : Upserts (zone_of (www ∷ [])) (host_entry 60 2) (zone_of (hosts ∷ []))
+upserts = record { changed = λ is. record { replaces = put_in_place; ordered = (tt, tt); rest = refl }; unchanged = λ no. absurd (true_is_not no) }
+
+-- A record that is there leaves the zone as it is.
+kept : Upserts zone (host_entry 3600 1) zone
+kept = record { changed = λ no. absurd (false_is_not no); unchanged = λ is. refl }
