@@ -11,8 +11,8 @@ pub use zsv_catalog::{
     HeaderCounts, Label, LookupControlFlow, LookupError, LookupOptions, LookupRecords, LowerName,
     LowerQuery, MessageRequest, MessageResponse, MessageResponseBuilder, MessageType, Metadata, NS,
     NSIDPayload, Name, NoSuite, OpCode, Protocol, Queries, Query, RData, Record, RecordRef,
-    RecordSet, RecordType, Request, RequestInfo, ResponseCode, ResponseHandler, ResponseInfo, SOA,
-    SendFault, ServiceFault, SignFault, TSigResponseContext, Tsig, TsigRecord, TsigSuite,
-    TsigVerdict, UpdateRequest, ZoneHandler, ZoneRequest, ZoneType, error_response, lookup_by,
-    reply_by, serve_by,
+    RecordSet, RecordType, Request, RequestHandler, RequestInfo, ResponseCode, ResponseHandler,
+    ResponseInfo, SOA, SendFault, ServiceFault, SignFault, TSigResponseContext, Tsig, TsigRecord,
+    TsigSuite, TsigVerdict, UpdateRequest, ZoneHandler, ZoneRequest, ZoneType, error_response,
+    lookup_by, reply_by, serve_by,
 };

@@ -1,4 +1,4 @@
-//! A catalog of boxed handlers.
+//! A catalog of handlers.
 
 ghost use Rattle.std.specs.Prelude.{◌≡◌, ◌≤◌, ℕ, false, List, [], IfErr, IfOk, None, OnErr, OnOk, is_some, length, option_copied, option_map};
 ghost use Rattle.zst_key.specs.dnw_name.DomainName.{lowercase_name};
@@ -10,6 +10,7 @@ ghost use Rattle.zsv_catalog.specs.Serving.{Serves};
 ghost use Rattle.zsv_catalog.specs.Sinks.{HandsOver};
 
 use crate::chains::Chains;
+use crate::handler::RequestHandler;
 use crate::reply::{lookup_by, reply_by};
 use crate::serve::serve_by;
 use crate::sink::{ResponseHandler, ServiceFault, hand_over};
@@ -18,20 +19,20 @@ use std::alloc::{AllocError, Global};
 use std::net::SocketAddr;
 use zsv_answer::{Edns, MessageRequest, Name, Protocol, Request, ResponseInfo, ZoneHandler};
 
-/// Zones of one server: chains of boxed handlers, each under the name from which on it answers. `S` verifies and signs
-/// messages.
+/// Zones of one server: chains of handlers, each under the name from which on it answers. `S` verifies and signs messages.
+/// Handlers of several kinds, `H`, stand in boxes (`Box<dyn ZoneHandler>`); where all are of one kind, they need none.
 #[derive(Drop)]
-pub struct Catalog<S> {
+pub struct Catalog<S, H = Box<dyn ZoneHandler>> {
     alloc: Global,
     suite: S,
-    chains: Chains<Box<dyn ZoneHandler>>,
+    chains: Chains<H>,
     // By what the server tells itself apart from others that answer under its address.
     nsid: Option<NSIDPayload>,
 }
 
-impl<S> Catalog<S> {
+impl<S, H: ZoneHandler> Catalog<S, H> {
     /// No zones, and no identifier.
-    pub fn new(alloc: Global, suite: S) -> Catalog<S>
+    pub fn new(alloc: Global, suite: S) -> Catalog<S, H>
         ensures chains { result.chains.chains.entries ≡ [] }
         ensures nsid { result.nsid ≡ None }
     {
@@ -44,11 +45,7 @@ impl<S> Catalog<S> {
     }
 
     /// Puts a chain in place of the one under a name, which is dropped.
-    pub fn upsert(
-        &mut self,
-        name: &Name,
-        handlers: Vec<Box<dyn ZoneHandler>>,
-    ) -> Result<(), AllocError>
+    pub fn upsert(&mut self, name: &Name, handlers: Vec<H>) -> Result<(), AllocError>
         ensures ok { OnOk result (self.new.chains.chains.entries ≡ with_chain self.old.chains.chains.entries name.now handlers) }
         ensures err { OnErr result (self.new.chains.chains.entries ≡ self.old.chains.chains.entries) }
         ensures nsid { self.new.nsid ≡ self.old.nsid }
@@ -56,8 +53,8 @@ impl<S> Catalog<S> {
         self.chains.upsert(self.alloc, name, handlers)
     }
 
-    /// Takes out the chain under a name, and hands its boxes back.
-    pub fn remove(&mut self, name: &Name) -> Result<Option<Vec<Box<dyn ZoneHandler>>>, AllocError>
+    /// Takes out the chain under a name, and hands it back.
+    pub fn remove(&mut self, name: &Name) -> Result<Option<Vec<H>>, AllocError>
         ensures value { IfOk result (λ chain. chain ≡ chain_at self.old.chains.chains.entries (lowercase_name name.now)) }
         ensures ok { OnOk result (self.new.chains.chains.entries ≡ without_chain self.old.chains.chains.entries name.now) }
         ensures err { OnErr result (self.new.chains.chains.entries ≡ self.old.chains.chains.entries) }
@@ -67,7 +64,7 @@ impl<S> Catalog<S> {
     }
 
     /// The chain for a name: that under the name, or else under the nearest name above it.
-    pub fn find(&self, name: &Name) -> Result<Option<&[Box<dyn ZoneHandler>]>, AllocError>
+    pub fn find(&self, name: &Name) -> Result<Option<&[H]>, AllocError>
         ensures { IfOk result (λ found. option_map (λ chain. chain.now) found
             ≡ option_map (λ chain. chain.items) (chain_for self.now.chains.chains.entries name.now)) }
     {
@@ -105,7 +102,7 @@ impl<S> Catalog<S> {
         protocol: Protocol,
     ) -> Result<(ResponseInfo, Vec<u8>), AllocError>
         requires { FitsOpCode message.now.metadata }
-        ensures { IfOk result (λ sent. RepliesBy (views_of (λ handler. view handler) self.now.chains.chains.entries)
+        ensures { IfOk result (λ sent. RepliesBy (views_of H.view self.now.chains.chains.entries)
             self.now.nsid message.now protocol sent.0 sent.1.items) }
     {
         reply_by(
@@ -129,7 +126,7 @@ impl<S> Catalog<S> {
         src: SocketAddr,
         protocol: Protocol,
     ) -> Result<Option<Vec<u8>>, AllocError>
-        ensures served { IfOk result (λ answer. Serves (views_of (λ handler. view handler) self.now.chains.chains.entries)
+        ensures served { IfOk result (λ answer. Serves (views_of H.view self.now.chains.chains.entries)
             self.now.nsid message.now protocol (option_map (λ reply. reply.items) answer)) }
         ensures refused { OnErr result (12 ≤ length message.now) }
     {
@@ -153,7 +150,7 @@ impl<S> Catalog<S> {
     ) -> Result<ResponseInfo, ServiceFault>
         requires { FitsOpCode request.now.message.metadata }
         ensures replied { IfOk result (λ told. (reply : List ℕ) × (sent : Header)
-            × RepliesBy (views_of (λ handler. view handler) self.now.chains.chains.entries) self.now.nsid request.now.message request.now.transport sent reply
+            × RepliesBy (views_of H.view self.now.chains.chains.entries) self.now.nsid request.now.message request.now.transport sent reply
             × HandsOver (R.sink handle.old) reply sent request.now.message.metadata (R.sink handle.new) told) }
         ensures refused { IfErr result (λ fault. fault ≡ ServiceFault.OutOfMemory false) }
         ensures untouched { OnErr result (R.sink handle.new ≡ R.sink handle.old) }
@@ -176,7 +173,7 @@ impl<S> Catalog<S> {
     ) -> Result<ResponseInfo, ServiceFault>
         requires { FitsOpCode request.now.message.metadata }
         ensures replied { IfOk result (λ told. (reply : List ℕ) × (sent : Header)
-            × AnswersQuery (views_of (λ handler. view handler) self.now.chains.chains.entries) request.now.message (option_copied edns.entry) request.now.transport sent reply
+            × AnswersQuery (views_of H.view self.now.chains.chains.entries) request.now.message (option_copied edns.entry) request.now.transport sent reply
             × HandsOver (R.sink handle.old) reply sent request.now.message.metadata (R.sink handle.new) told) }
         ensures refused { IfErr result (λ fault. fault ≡ ServiceFault.OutOfMemory false) }
         ensures untouched { OnErr result (R.sink handle.new ≡ R.sink handle.old) }
@@ -193,5 +190,23 @@ impl<S> Catalog<S> {
             Ok(sent) => Ok(hand_over(&message.metadata(), sent, handle)),
             Err(_) => Err(ServiceFault::OutOfMemory { applied: false }),
         }
+    }
+}
+
+impl<S, H: ZoneHandler> RequestHandler for Catalog<S, H> {
+    ghost use Rattle.zsv_catalog.specs.declared.sink.ServiceFault.TheVariants.{OutOfMemory};
+
+    ghost replies = { λ catalog request moment sent reply left. (left ≡ catalog)
+        × RepliesBy (views_of H.view catalog.chains.chains.entries) catalog.nsid request.message request.transport sent reply };
+
+    ghost fails = { λ catalog request moment fault left. (left ≡ catalog) × (fault ≡ OutOfMemory false) };
+
+    fn handle_request<R: ResponseHandler>(
+        &mut self,
+        request: &Request<'_>,
+        now: u64,
+        response_handle: &mut R,
+    ) -> Result<ResponseInfo, ServiceFault> {
+        Catalog::handle_request(self, request, now, response_handle)
     }
 }

@@ -1,8 +1,8 @@
 //! Many zones in one server: chains of handlers, each under the name from which on it answers, and what they answer to a
 //! request.
 //!
-//! `PartsOf` says what a full reply to a request holds, by what the handlers mean. `Catalog` holds boxed handlers, which may
-//! be of any kind.
+//! `PartsOf` says what a full reply to a request holds, by what the handlers mean. `Catalog` holds them, in boxes where they are
+//! of several kinds.
 #![tactic(auto)]
 
 pub use drd_types::NSIDPayload;
@@ -17,6 +17,7 @@ pub use zsv_answer::{
 
 mod catalog;
 mod chains;
+mod handler;
 mod reply;
 mod serve;
 mod sink;
@@ -24,6 +25,7 @@ mod suite;
 
 pub use catalog::Catalog;
 pub use chains::Chains;
+pub use handler::RequestHandler;
 pub use reply::{lookup_by, reply_by};
 pub use serve::serve_by;
 pub use sink::{ResponseHandler, SendFault, ServiceFault};
