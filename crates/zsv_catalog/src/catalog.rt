@@ -199,7 +199,7 @@ impl<S, H: ZoneHandler> RequestHandler for Catalog<S, H> {
     ghost replies = { λ catalog request moment sent reply left. (left ≡ catalog)
         × RepliesBy (views_of H.view catalog.chains.chains.entries) catalog.nsid request.message request.transport sent reply };
 
-    ghost fails = { λ catalog request moment fault left. (left ≡ catalog) × (fault ≡ OutOfMemory false) };
+    ghost refuses = { λ catalog request moment fault left. (left ≡ catalog) × (fault ≡ OutOfMemory false) };
 
     fn handle_request<R: ResponseHandler>(
         &mut self,

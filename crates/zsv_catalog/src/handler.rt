@@ -10,15 +10,16 @@ ghost use Rattle.zsv_catalog.specs.declared.sink.ServiceFault.{ServiceFault as F
 use crate::sink::{ResponseHandler, ServiceFault};
 use zsv_answer::{Request, ResponseInfo};
 
-/// Answers requests. A contract sees which replies a request may get at a moment, each with its header as it was written, which
-/// faults may take their place, and what either leaves of the handler.
+/// Answers requests. A contract sees which replies a request may get at a moment, each with its header as it was written, how a
+/// request may be refused, and what either leaves of the handler.
 pub trait RequestHandler {
     ghost replies: { Self → Requested → ℕ → Header → List ℕ → Self → Type 0 };
 
-    ghost fails: { Self → Requested → ℕ → Fault → Self → Type 0 };
+    ghost refuses: { Self → Requested → ℕ → Fault → Self → Type 0 };
 
     /// Answers a request: its reply is handed to a sink. What is told is the header of the reply as it was written; where the
-    /// sink didn't take it, that the server failed. The moment is given in seconds since 1970.
+    /// sink didn't take it, that the server failed. The moment is given in seconds since 1970. A request has an operation that
+    /// four bits hold, as each that is read.
     fn handle_request<R: ResponseHandler>(
         &mut self,
         request: &Request<'_>,
@@ -29,6 +30,6 @@ pub trait RequestHandler {
         ensures replied { IfOk result (λ told. (reply : List ℕ) × (sent : Header)
             × replies self.old request.now now sent reply self.new
             × HandsOver (R.sink response_handle.old) reply sent request.now.message.metadata (R.sink response_handle.new) told) }
-        ensures failed { IfErr result (λ fault. fails self.old request.now now fault self.new) }
+        ensures refused { IfErr result (λ fault. refuses self.old request.now now fault self.new) }
         ensures untouched { OnErr result (R.sink response_handle.new ≡ R.sink response_handle.old) };
 }
