@@ -8,12 +8,12 @@ use Rattle.drd_rdata.specs.dnw_codes.declared.record_type.RecordType.TheVariants
 use Rattle.drd_rdata.specs.dnw_decoder.Octets.{octets_16, octets_32, Stands}
 use Rattle.drd_rdata.specs.dnw_decoder.Spelling.{NameAt}
 use Rattle.drd_rdata.proofs.dnw_decoder_lemmas.Standing.{length-octets_32, stands_split}
-use Rattle.drd_rdata.specs.dnw_encoder.Effects.{StaysTrue, Keeps, Writes, WritesOctets, Opens, Fills, IsRefusal, place_of}
+use Rattle.drd_rdata.specs.dnw_encoder.Effects.{Has, Sound, StaysTrue, Keeps, Writes, WritesOctets, Opens, Fills, IsRefusal, place_of}
 use Rattle.drd_rdata.proofs.dnw_encoder_lemmas.Laws.{holds_more, holds_same, holds_written, keeps_then, modes_then, puts_stands}
 use Rattle.drd_fields.specs.dnw_encoder.Members.{In}
 use Rattle.drd_rdata.specs.dnw_encoder.Names.{EmitsName}
 use Rattle.drd_rdata.proofs.dnw_encoder_lemmas.PlaceLaws.{opens_open}
-use Rattle.drd_rdata.specs.dnw_encoder.State.{State, is_lower}
+use Rattle.drd_rdata.specs.dnw_encoder.State.{Candidate, State, is_lower}
 use Rattle.drd_rdata.specs.dnw_name.DomainName.{DomainName, name_octets}
 use Rattle.drd_rdata.proofs.drd_fields_lemmas.WritingLaws.{refused_front, refused_later, within_then}
 use Rattle.drd_rdata.specs.Reading.{HoldsAs, IsReadable}
@@ -36,6 +36,10 @@ full_after a b w full = record {
   own = w.modes.canonical ∙ full.own;
   same_case = ap is_lower w.modes.encoding ∙ full.same_case;
 }
+
+-- A candidate stays one.
+has_after : (a b : State) (octets : List ℕ) → Writes a b → Sound a → Has a.candidates octets → Has b.candidates octets
+has_after a b octets w sound (c, found, is) = (c, w.keeps.candidates c found (omega (arith, (sound.stands.each c found).within, sound.at_end)), is)
 
 -- ---- owner, type, class and time to live
 pub head_emitted : (r : Record) (a b c : State) → EmitsName r.name a b → Writes a b → WritesOctets (head_numbers r) b c → Writes b c → r.ttl < 2 ^ 32 → EmitsHead r a c
@@ -72,6 +76,8 @@ head_emitted r a b c name ab numbers bc small = record {
             };
       };
   size = omega (arith, name.size, numbers.offset, length-octets_32 r.ttl);
+  owner_used = λ points some has. omega (arith, name.used points some has, numbers.offset, length-octets_32 r.ttl);
+  owner_kept = λ points some room early. subst (λ (cs : List Candidate). Has cs (name_octets r.name)) (sym numbers.candidates) (name.becomes points some room early);
 }
 
 -- ---- data behind their length
@@ -158,6 +164,8 @@ record_emitted r a b c head ab behind bc = record {
       };
   size = λ alone. omega (arith, head.size, behind.size alone.rdata);
   fits = omega (arith, behind.fits, ab.modes.maximum);
+  owner_used = λ alone points some has. omega (arith, head.owner_used points some has, behind.size alone.rdata);
+  owner_kept = λ sound points some room early. has_after b c (name_octets r.name) bc (ab.sound sound) (head.owner_kept points some room early);
 }
 
 pub head_refused : (r : Record) (a : State) (e : ProtoError) → IsRefusal a (length (name_octets r.name) + 8) e → RefusesRecord r a e

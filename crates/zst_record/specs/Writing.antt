@@ -7,7 +7,7 @@ use Rattle.drd_rdata.specs.dnw_codes.declared.record_type.RecordType.TheVariants
 use Rattle.drd_rdata.specs.dnw_decoder.Codes.{RecordTypeAt, ClassAt}
 use Rattle.drd_rdata.specs.dnw_decoder.Octets.{octets_16, octets_32, Stands}
 use Rattle.drd_rdata.specs.dnw_decoder.Spelling.{NameAt}
-use Rattle.drd_rdata.specs.dnw_encoder.Effects.{StaysTrue, IsRefusal}
+use Rattle.drd_rdata.specs.dnw_encoder.Effects.{Has, IsRefusal, Sound, StaysTrue}
 use Rattle.drd_rdata.specs.dnw_encoder.State.{State}
 use Rattle.drd_rdata.specs.dnw_name.DomainName.{name_octets}
 use Rattle.drd_rdata.specs.Reading.{ReadsAs, IsReadable}
@@ -18,12 +18,19 @@ use Rattle.zst_record.specs.Records.{IsOwnClass, IsOwnType, RecordAt, ReadsBackA
 use Rattle.zst_record.specs.declared.records.Record.{Record}
 
 -- A record was written, within the maximum. One that reads back alone stands there, in the finished
--- message too, and takes its plain size at most. A maximum that was set is a number of 16 bits.
+-- message too, and takes its plain size at most. A maximum that was set is a number of 16 bits. Where
+-- names are written with pointers, an owner of labels takes two octets if it is a candidate, and has
+-- become one if there was room.
 pub record EmitsRecord (r : Record) (old new : State) : Type 0 where
   pub stays : ReadsBackAlone r → WritesInFull old → old.maximum < 2 ^ 16
       → StaysTrue new new.offset (λ message. RecordAt message old.offset r new.offset)
   pub size : ReadsBackAlone r → new.offset ≤ old.offset + plain r
   pub fits : new.offset ≤ old.maximum
+  pub owner_used : ReadsBackAlone r → old.points ≡ true → 0 < length r.name.labels
+      → Has old.candidates (name_octets r.name)
+      → new.offset + length (name_octets r.name) ≤ old.offset + plain r + 2
+  pub owner_kept : Sound old → old.points ≡ true → 0 < length r.name.labels
+      → length old.candidates < 64 → old.offset < 16383 → Has new.candidates (name_octets r.name)
 
 -- A record that reads back alone is refused for want of memory, or where its plain size would pass
 -- the maximum.
@@ -53,6 +60,10 @@ pub record EmitsHead (r : Record) (old new : State) : Type 0 where
       → WritesInFull old
       → StaysTrue new new.offset (λ message. HeadAt message old.offset r new.offset)
   pub size : new.offset ≤ old.offset + (length (name_octets r.name) + 8)
+  pub owner_used : old.points ≡ true → 0 < length r.name.labels
+      → Has old.candidates (name_octets r.name) → new.offset ≡ old.offset + 10
+  pub owner_kept : old.points ≡ true → 0 < length r.name.labels → length old.candidates < 64
+      → old.offset < 16383 → Has new.candidates (name_octets r.name)
 
 -- Data at a place, behind the number of their octets.
 pub record DataAt (message : List ℕ) (place : ℕ) (value : RData) (end : ℕ) : Type 0 where

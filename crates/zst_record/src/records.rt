@@ -12,7 +12,7 @@ ghost use Rattle.zst_record.specs.Lending.{seen};
 use drd_rdata::{DNSClass, Name, RData, RecordType, is_readable};
 
 /// A resource record.
-#[derive(Drop)]
+#[derive(Debug, Drop)]
 pub struct Record {
     /// The owner.
     pub name: Name,
@@ -78,7 +78,7 @@ impl Record {
 }
 
 /// A record that is lent field by field, as an answer has it whose owner or time to live isn't the zone's own.
-#[derive(Clone, Copy)]
+#[derive(Clone, Copy, Debug)]
 pub struct RecordRef<'r> {
     /// The owner.
     pub name: &'r Name,
