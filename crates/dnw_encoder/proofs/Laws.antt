@@ -5,7 +5,7 @@ use Rattle.dnw_decoder.specs.Octets.{Stands}
 use Rattle.dnw_decoder.proofs.Standing.{stands_front}
 use Rattle.dnw_encoder.specs.Members.{In}
 use Rattle.dnw_encoder.specs.State.{Candidate, State}
-use Rattle.dnw_encoder.specs.Effects.{Fixed, Agrees, StaysTrue, Keeps, Same, IsStanding, Sound, SameModes, Writes, written_at, WritesOctets}
+use Rattle.dnw_encoder.specs.Effects.{Fixed, Agrees, StaysTrue, Keeps, Same, IsStanding, Sound, SameModes, Writes, ends_by, written_at, WritesOctets}
 use Rattle.dnw_encoder.specs.declared.open_places.OpenPlace.{OpenPlace}
 
 -- Fronts of the same octets are as long and have the same octets.
@@ -78,6 +78,7 @@ keeps_same cut a = record {
   stay_open = λ r member le. member;
   candidates = λ c member le. member;
   no_others = λ c member le. member;
+  few = λ n le. omega arith;
 }
 
 pub keeps_then : (cut later : ℕ) (a b c : State) → cut ≤ later → Keeps cut a b → Keeps later b c → Keeps cut a c
@@ -87,6 +88,7 @@ keeps_then cut later a b c le k l = record {
   stay_open = λ r member high. l.stay_open r (k.stay_open r member high) (omega arith);
   candidates = λ x member high. l.candidates x (k.candidates x member high) (omega arith);
   no_others = λ x member high. k.no_others x (l.no_others x member (omega arith)) high;
+  few = λ n low. omega (arith, k.few n low, l.few n (omega arith));
 }
 
 -- A call that does nothing.
@@ -151,6 +153,7 @@ puts_keeps more old new within p = record {
   stay_open = λ r member le. subst (λ (rs : List OpenPlace). In r rs) (sym p.places) member;
   candidates = λ c member le. subst (λ (cs : List Candidate). In c cs) (sym p.candidates) member;
   no_others = λ c member le. subst (λ (cs : List Candidate). In c cs) p.candidates member;
+  few = λ n le. omega (arith, ap (λ (cs : List Candidate). ends_by n cs) p.candidates);
 }
 
 -- Octets that are put are a writing call.

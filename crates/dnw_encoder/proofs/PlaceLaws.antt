@@ -3,16 +3,16 @@ use Rattle.std.proofs.Common.{◌≡◌, ℕ, ◌+◌, ◌-◌, ◌<◌, ◌≤�
 use Rattle.std.proofs.lemmas.Bool.Decides.{nat_tests}
 use Rattle.std.proofs.lemmas.List.{length-take, length-drop, length-append, take-take, get_or-take, get_or-drop, get_or-append_right, length-replicate}
 use Rattle.dnw_encoder.specs.Members.{In}
-use Rattle.dnw_encoder.proofs.MemberLaws.{in_push, in_front, in_last, in_filter, in_filter_back}
+use Rattle.dnw_encoder.proofs.MemberLaws.{few_filters, in_push, in_front, in_last, in_filter, in_filter_back}
 use Rattle.dnw_encoder.specs.State.{Candidate, State, is_other}
-use Rattle.dnw_encoder.specs.Effects.{Fixed, Keeps, Same, SameModes, Writes, written_at, place_of, Opens, Fills, Trims}
+use Rattle.dnw_encoder.specs.Effects.{Fixed, Keeps, Same, SameModes, Writes, ends_by, written_at, place_of, Opens, Fills, Trims}
 use Rattle.dnw_encoder.proofs.Laws.{standing_keeps, written_front, written_length, written_there, stands_each, holds_same}
 use Rattle.dnw_encoder.specs.declared.open_places.OpenPlace.{OpenPlace}
 
-le_from_test : (a b : ℕ) → nat_le a b ≡ true → a ≤ b
+pub le_from_test : (a b : ℕ) → nat_le a b ≡ true → a ≤ b
 le_from_test a b e = grind (arith, nat_tests)
 
-test_from_le : (a b : ℕ) → a ≤ b → nat_le a b ≡ true
+pub test_from_le : (a b : ℕ) → a ≤ b → nat_le a b ≡ true
 test_from_le a b le = grind (arith, nat_tests)
 
 -- A place that is opened is a writing call.
@@ -30,6 +30,7 @@ opens_writes p size old new within o =
       stay_open = λ r found le. subst (λ (rs : List OpenPlace). In r rs) (sym o.places) (in_front r old.places (place_of p size ∷ []) found);
       candidates = λ c found le. subst (λ (cs : List Candidate). In c cs) (sym o.candidates) found;
       no_others = λ c found le. subst (λ (cs : List Candidate). In c cs) o.candidates found;
+      few = λ n le. omega (arith, ap (λ (cs : List Candidate). ends_by n cs) o.candidates);
     } in
     record {
       keeps = keeps;
@@ -131,6 +132,7 @@ fills p more old new some is_open fits octets offset candidates places modes =
         stay_open = λ r found le. stay r found (λ e. let f : r.to ≡ p + n = ap (λ (q : OpenPlace). q.to) e in omega (arith, some));
         candidates = λ c found le. subst (λ (cs : List Candidate). In c cs) (sym candidates) found;
         no_others = λ c found le. subst (λ (cs : List Candidate). In c cs) candidates found;
+        few = λ n le. omega (arith, ap (λ (cs : List Candidate). ends_by n cs) candidates);
       };
       sound = λ s. record {
         at_end = omega (arith, offset, s.at_end, long);
@@ -174,6 +176,7 @@ trims old new within octets offset candidates places modes =
       stay_open = λ r found le. subst (λ (rs : List OpenPlace). In r rs) (sym places) (in_filter_back (λ q. nat_le q.to old.offset) r old.places (test_from_le r.to old.offset le) found);
       candidates = λ c found le. subst (λ (cs : List Candidate). In c cs) (sym candidates) (in_filter_back (λ q. nat_le q.end old.offset) c old.candidates (test_from_le c.end old.offset le) found);
       no_others = λ c found le. (kept c found).0;
+      few = λ n le. omega (arith, ap (λ (cs : List Candidate). ends_by n cs) candidates, few_filters (λ (c : Candidate). nat_le c.end n) (λ (c : Candidate). nat_le c.end old.offset) old.candidates);
     } in
     record {
       octets = octets;

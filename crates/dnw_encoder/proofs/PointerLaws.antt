@@ -1,6 +1,7 @@
 -- Laws of names that are written with a pointer, and of what is kept for later ones.
-use Rattle.std.proofs.Common.{◌≡◌, ℕ, zero, suc, ◌+◌, ◌-◌, ◌/◌, ◌%◌, ◌<◌, ◌≤◌, ◌⊎◌, inl, inr, true, false, List, [], ◌∷◌, ◌++◌, length, take, drop, get_or, refl, sym, ap, subst, ◌∙◌, arith, append_assoc, append-nil, length-append}
+use Rattle.std.proofs.Common.{◌≡◌, ℕ, zero, suc, ◌+◌, ◌-◌, ◌/◌, ◌%◌, ◌<◌, ◌≤◌, ◌⊎◌, inl, inr, true, false, List, [], ◌∷◌, ◌++◌, length, nat_le, take, drop, get_or, refl, sym, ap, subst, ◌∙◌, arith, append_assoc, append-nil, length-append}
 use Rattle.std.specs.List.{All, slice_range}
+use Rattle.std.proofs.lemmas.Bool.Decides.{nat_tests}
 use Rattle.std.proofs.lemmas.List.{length-take, length-drop, take_at, get_or-take, get_or-drop}
 use Rattle.std.proofs.lemmas.List.Folds.{drop_split}
 use Rattle.std.proofs.lemmas.List.Elements.{All-head, All-tail, All-cons}
@@ -15,13 +16,13 @@ use Rattle.dnw_encoder.specs.declared.modes.NameEncoding.TheVariants.{Compressed
 use Rattle.dnw_encoder.specs.declared.candidates.Suffix.{Suffix}
 use Rattle.dnw_encoder.specs.declared.open_places.OpenPlace.{OpenPlace}
 use Rattle.dnw_encoder.specs.Candidates.{IsKeptSuffix, KeepsOctets, KeepsSuffixes, IsLongest, HasNoSuffix, octets_at}
-use Rattle.dnw_encoder.specs.Effects.{Fixed, Agrees, StaysTrue, Keeps, IsStanding, Sound, SameModes, Writes, WritesOctets, Stores, StoresName, Has, written_at}
+use Rattle.dnw_encoder.specs.Effects.{Fixed, Agrees, StaysTrue, Keeps, IsStanding, Sound, SameModes, Writes, WritesOctets, Stores, StoresName, Has, ends_by, written_at}
 use Rattle.dnw_encoder.specs.Members.{In}
 use Rattle.dnw_encoder.specs.Names.{EmitsName, WritesFront, encoded_name}
 use Rattle.dnw_encoder.specs.State.{Candidate, State}
 use Rattle.dnw_encoder.proofs.CandidateLaws.{in_append, in_back}
 use Rattle.dnw_encoder.proofs.Laws.{puts_writes, puts_stands, holds_keeps, holds_more, stands_each}
-use Rattle.dnw_encoder.proofs.MemberLaws.{in_push, in_front, in_last}
+use Rattle.dnw_encoder.proofs.MemberLaws.{in_push, in_front, in_last, none_filter}
 use Rattle.dnw_encoder.proofs.NameLaws.{length-octets, spelled_octets}
 use Rattle.dnw_encoder.proofs.SuffixLaws.{longer_front, octets_one, octets_once, octets_split}
 
@@ -200,6 +201,9 @@ puts_front labels front rest more old new f =
       modes = record { maximum = f.writes.modes.maximum; encoding = f.writes.modes.encoding; canonical = f.writes.modes.canonical; points = f.writes.modes.points };
     }
 
+test_false : (a b : ℕ) → b < a → nat_le a b ≡ false
+test_false a b lt = grind (arith, nat_tests)
+
 pub front_keeps : (labels front rest : List (List ℕ)) (more : List ℕ) (old new : State) → 0 < length more → (f : Fronted labels front rest more old new) → Keeps old.offset old new
 front_keeps labels front rest more old new some f =
     let w = puts_writes (label_octets front ++ more) old (without old new) f.within (puts_front labels front rest more old new f) in
@@ -212,6 +216,7 @@ front_keeps labels front rest more old new some f =
         | inl before ↦ before
         | inr later ↦ absurd (omega (arith, (f.writes.candidates.each c later).end, le, f.writes.offset, some))
       ];
+      few = λ n le. omega (arith, ap (λ (cs : List Candidate). ends_by n cs) f.writes.candidates.appended, ap length (none_filter (λ (c : Candidate). nat_le c.end n) old.candidates f.writes.candidates.added (λ c found. test_false c.end n (omega (arith, (f.writes.candidates.each c found).end, le, f.writes.offset, some)))));
     }
 
 pub front_stands : (labels front rest : List (List ℕ)) (more : List ℕ) (old new : State) → Sound old → (f : Fronted labels front rest more old new) → StaysTrue new new.offset (λ message. Stands message old.offset (label_octets front ++ more) new.offset)

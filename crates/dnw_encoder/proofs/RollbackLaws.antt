@@ -1,11 +1,13 @@
 -- Laws of rollbacks and of values written one behind the other.
-use Rattle.std.proofs.Common.{ℕ, ◌+◌, List, [], ◌∷◌, ◌++◌, Option, Some, length-append, refl, sym, subst, ◌∙◌, arith}
+use Rattle.std.proofs.Common.{◌≡◌, ℕ, ◌+◌, filter, nat_le, length, ap, List, [], ◌∷◌, ◌++◌, Option, Some, length-append, refl, sym, subst, ◌∙◌, arith}
 use Rattle.std.proofs.lemmas.List.{take_all}
 use Rattle.std.specs.Iterator.{Yields}
 use Rattle.dnw_encoder.specs.Members.{In}
 use Rattle.dnw_encoder.specs.State.{Candidate, State}
 use Rattle.dnw_encoder.specs.Effects.{StaysTrue, Keeps, AllStand, Writes, Trims, RolledBack, Emitted, Wrote}
 use Rattle.dnw_encoder.proofs.Laws.{keeps_then, modes_then}
+use Rattle.dnw_encoder.proofs.MemberLaws.{all_filter, few_filter}
+use Rattle.dnw_encoder.proofs.PlaceLaws.{test_from_le}
 
 holds_offset : (s : State) (n bound : ℕ) (P : List ℕ → Type 0) → StaysTrue s bound P → StaysTrue (record s { offset = n }) bound P
 holds_offset s n bound P h = record {
@@ -33,10 +35,13 @@ rolled_back old mid new w t =
       stay_open = t.keeps.stay_open;
       candidates = t.keeps.candidates;
       no_others = t.keeps.no_others;
+      few = t.keeps.few;
     } in
     let keeps : Keeps old.offset old new = keeps_then old.offset old.offset old mid new (omega arith) w.keeps trimmed in
     let only : (c : Candidate) → In c new.candidates → In c old.candidates =
     λ c found. let kept = t.only c found in w.keeps.no_others c kept.0 kept.1 in
+    let whole : filter (λ (c : Candidate). nat_le c.end old.offset) new.candidates ≡ new.candidates =
+    all_filter (λ (c : Candidate). nat_le c.end old.offset) new.candidates (λ c found. test_from_le c.end old.offset (t.only c found).1) in
     record {
       keeps = keeps;
       offset = t.offset;
@@ -48,6 +53,7 @@ rolled_back old mid new w t =
         modes = modes_then old mid new w.modes (record { maximum = t.modes.maximum; encoding = t.modes.encoding; canonical = t.modes.canonical; points = t.modes.points });
       };
       only = only;
+      few = omega (arith, ap length whole, keeps.few old.offset (omega arith), few_filter (λ (c : Candidate). nat_le c.end old.offset) old.candidates);
     }
 
 -- One value more.

@@ -1,5 +1,5 @@
 -- What the calls of an encoder do to it.
-use Rattle.std.specs.Prelude.{◌≡◌, ℕ, ◌+◌, ◌<◌, ◌≤◌, true, List, [], ◌∷◌, ◌++◌, length, take, drop, get_or, replicate, slice_range, Option, Some, None}
+use Rattle.std.specs.Prelude.{◌≡◌, ℕ, ◌+◌, ◌<◌, ◌≤◌, true, List, [], ◌∷◌, ◌++◌, length, take, drop, filter, get_or, nat_le, replicate, slice_range, Option, Some, None}
 use Rattle.std.specs.List.{All}
 use Rattle.std.proofs.Common.{◌⊎◌}
 use Rattle.std.specs.Iterator.{Yields}
@@ -29,6 +29,10 @@ pub record Agrees (s : State) (bound : ℕ) (later : List ℕ) : Type 0 where
 pub record StaysTrue (s : State) (bound : ℕ) (P : List ℕ → Type 0) : Type 0 where
   pub of : (later : List ℕ) → Agrees s bound later → P later
 
+-- How many candidates end by a place.
+abbrev pub ends_by : ℕ → List Candidate → ℕ
+ends_by n cs = length (filter (λ c. nat_le c.end n) cs)
+
 -- From one state to another, what lies below a cut stays, but for open places: a cut is where a
 -- call begins to write, or what a rollback goes back to.
 pub record Keeps (cut : ℕ) (old new : State) : Type 0 where
@@ -37,6 +41,7 @@ pub record Keeps (cut : ℕ) (old new : State) : Type 0 where
   pub stay_open : (r : OpenPlace) → In r old.places → r.to ≤ cut → In r new.places
   pub candidates : (c : Candidate) → In c old.candidates → c.end ≤ cut → In c new.candidates
   pub no_others : (c : Candidate) → In c new.candidates → c.end ≤ cut → In c old.candidates
+  pub few : (n : ℕ) → n ≤ cut → ends_by n new.candidates ≤ ends_by n old.candidates
 
 -- What is fixed below a cut stays so.
 pub record Same (cut : ℕ) (old new : State) : Type 0 where
@@ -183,6 +188,7 @@ pub record RolledBack (mid new : State) : Type 0 where
   pub octets : Sound mid → new.octets ≡ mid.octets
   pub writes : Writes mid new
   pub only : (c : Candidate) → In c new.candidates → In c mid.candidates
+  pub few : length new.candidates ≤ length mid.candidates
 
 -- Values one behind the other.
 abbrev pub Emitted : {X : Type 0} → (X → State → State → Type 0) → State → List X → State → Type 0

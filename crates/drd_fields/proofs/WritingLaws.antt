@@ -182,6 +182,7 @@ mode_writes m old mid points w = record {
     stay_open = w.keeps.stay_open;
     candidates = w.keeps.candidates;
     no_others = w.keeps.no_others;
+    few = w.keeps.few;
   };
   forward = w.forward;
   sound = λ s. sound_mode mid old.encoding (w.sound (sound_mode old m s));
