@@ -43,8 +43,7 @@ RefusesTtl word e = (e ≡ ParseTime) × ((seconds : ℕ) → IsTtlWord seconds 
 abbrev pub RefusesInterval : List ℕ → ParseError → Type 0
 RefusesInterval word e = (e ≡ ParseTime) × ((interval : ℤ) → IsIntervalWord interval word → ⊥)
 
--- A word that is no name is refused by the cause that its text is no name for (RFC 1035 2.3.4 and
--- 5.1).
+-- A word is refused as a name by the cause that refuses its text (RFC 1035 2.3.4 and 5.1).
 abbrev pub RefusesNameWord : Option DomainName → List ℕ → ParseError → Type 0
 RefusesNameWord origin word (Proto cause) = RefusesCompleted origin word cause
 RefusesNameWord origin word other = ⊥
