@@ -450,6 +450,7 @@ stores_name name start stop old new is end stands shut octets offset places mode
         | inl before ↦ inl before
         | inr later ↦ inr (omega (arith, (k.each c later).end, end, length-octets name))
       ];
+      early = λ n le. omega (arith, ap (λ (cs : List Candidate). ends_by n cs) k.appended, ap length (none_filter (λ (c : Candidate). nat_le c.end n) old.candidates k.added (λ c found. test_false c.end n (omega (arith, (k.each c found).end, end, le, length-octets name)))));
       few = omega (arith, ap length k.appended, length-append old.candidates k.added, k.few);
       becomes = λ points labelled room early s.
           let found = k.whole (omega (arith, octets_of_some name.labels is.each labelled)) room early in
@@ -475,6 +476,7 @@ stores_no_name name start s none = record {
   places = refl;
   keeps = λ c found. found;
   only = λ c found. inl found;
+  early = λ n le. omega arith;
   few = omega arith;
   becomes = λ points labelled room early stands. absurd (none points stands);
   sound = λ sound. sound;

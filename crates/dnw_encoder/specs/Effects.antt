@@ -167,6 +167,7 @@ pub record StoresName (name : DomainName) (start : ℕ) (old new : State) : Type
   pub places : new.places ≡ old.places
   pub keeps : (c : Candidate) → In c old.candidates → In c new.candidates
   pub only : (c : Candidate) → In c new.candidates → In c old.candidates ⊎ (start < c.end)
+  pub early : (n : ℕ) → n ≤ start → ends_by n new.candidates ≤ ends_by n old.candidates
   pub few : length new.candidates ≤ length old.candidates + length name.labels
   pub becomes : old.points ≡ true → 0 < length name.labels → length old.candidates < 64
       → start < 16383
