@@ -1,7 +1,7 @@
 -- The definitions of the lookup computed on worked rows: a cut with its glue, wildcards, aliases; and those of what changes
 -- a zone: records added, sets put in place and taken out.
 use Rattle.std.proofs.Common.{◌≡◌, ℕ, true, false, List, [], ◌∷◌, refl, subst, arith}
-use Rattle.std.specs.Prelude.{Bool, ◌&&◌, codes, pos, None, Option, Some, if◌then◌else◌}
+use Rattle.std.specs.Prelude.{Bool, ◌&&◌, codes, pos, None, Some, if◌then◌else◌}
 use Rattle.zst_edns.specs.zst_codes.declared.settings.ZoneType.TheVariants as kinds
 use Rattle.zst_edns.specs.zst_codes.declared.settings.AxfrPolicy.TheVariants as policies
 use Rattle.zst_record.specs.dnw_codes.declared.dns_class.DNSClass.TheVariants as classes
@@ -134,98 +134,104 @@ outside = refl
 both : sets_of_name sets example ≡ start ∷ own_servers ∷ []
 both = refl
 
--- ---- a record is added: another address, or another time to live, changes the set of the host's addresses
-abbrev host_entry : ℕ → ℕ → Record
-host_entry ttl last = entry (below (codes "www")) ttl (address last)
+-- ---- a record is added: another one, or another time to live, changes the set of its owner and type
+abbrev server : ℕ → ℕ → Record
+server ttl preference = entry example ttl (rdata.MX (record { preference = preference; exchange = below (codes "mx") }))
 
-another : upsert_changes sets (host_entry 60 2) ≡ true
+abbrev first_server : RRset
+first_server = set_of (server 3600 10)
+
+abbrev stored : List RRset
+stored = start ∷ first_server ∷ www ∷ c1 ∷ []
+
+another : upsert_changes stored (server 60 20) ≡ true
 another = refl
 
-there : upsert_changes sets (host_entry 3600 1) ≡ false
+there : upsert_changes stored (server 3600 10) ≡ false
 there = refl
 
-other_ttl : upsert_changes sets (host_entry 60 1) ≡ true
+other_ttl : upsert_changes stored (server 60 10) ≡ true
 other_ttl = refl
 
-other_class : upsert_changes sets (record (host_entry 60 2) { dns_class = classes.CH }) ≡ false
+other_class : upsert_changes stored (record (server 60 20) { dns_class = classes.CH }) ≡ false
 other_class = refl
 
 -- An alias stands beside no other type than denials, and gives way to another one.
-beside_alias : upsert_changes sets (entry (below (codes "c1")) 60 (address 2)) ≡ false
+beside_alias : upsert_changes stored (entry (below (codes "c1")) 60 (address 2)) ≡ false
 beside_alias = refl
 
-alias_beside : upsert_changes sets (entry (below (codes "www")) 60 (rdata.CNAME (record { 0 = example }))) ≡ false
+alias_beside : upsert_changes stored (entry (below (codes "www")) 60 (rdata.CNAME (record { 0 = example }))) ≡ false
 alias_beside = refl
 
-other_alias : upsert_changes sets (entry (below (codes "c1")) 60 (rdata.CNAME (record { 0 = example }))) ≡ true
+other_alias : upsert_changes stored (entry (below (codes "c1")) 60 (rdata.CNAME (record { 0 = example }))) ≡ true
 other_alias = refl
 
 denial_beside : is_kept_out (c1 ∷ []) types.NSEC ≡ false
 denial_beside = refl
 
 -- The start of a zone gives way to one of a later serial number.
-same_serial : upsert_changes sets (entry example 60 (soa 1)) ≡ false
+same_serial : upsert_changes stored (entry example 60 (soa 1)) ≡ false
 same_serial = refl
 
-later_serial : upsert_changes sets (entry example 60 (soa 2)) ≡ true
+later_serial : upsert_changes stored (entry example 60 (soa 2)) ≡ true
 later_serial = refl
 
--- The set then: with the record behind the others, or in the place of the one with equal data, and without signatures.
-abbrev hosts : RRset
-hosts = record www { records = host_entry 3600 1 ∷ host_entry 60 2 ∷ [] }
+-- The set then: the record behind the others, or in the place of the one with equal data, and no signatures.
+abbrev servers : RRset
+servers = record first_server { records = server 3600 10 ∷ server 60 20 ∷ [] }
 
-joined : upserted (Some (record www { signatures = host_entry 60 9 ∷ [] })) (host_entry 60 2) ≡ hosts
+joined : upserted (Some (record first_server { signatures = server 60 30 ∷ [] })) (server 60 20) ≡ servers
 joined = refl
 
-in_place : upserted (Some hosts) (host_entry 5 1) ≡ record www { records = host_entry 5 1 ∷ host_entry 60 2 ∷ [] }
+in_place : upserted (Some servers) (server 5 10) ≡ record first_server { records = server 5 10 ∷ server 60 20 ∷ [] }
 in_place = refl
 
 alone : upserted (Some start) (entry example 60 (soa 2)) ≡ one example 60 (soa 2)
 alone = refl
 
 -- ---- sets put in place and taken out, whatever name and type is asked for
-put : (asked : Bool) → (if asked then Some hosts else None) ≡ (if asked then Some hosts else if asked then Some www else None)
+put : (asked : Bool) → (if asked then Some servers else None) ≡ (if asked then Some servers else if asked then Some first_server else None)
 put true = refl
 put false = refl
 
-taken : (asked : Bool) → None ≡ (if asked then None else if asked then Some www else None)
+taken : (asked : Bool) → None ≡ (if asked then None else if asked then Some first_server else None)
 taken true = refl
 taken false = refl
 
 abbrev is_asked : DomainName → RecordType → Bool
-is_asked name record_type = name_eq name www.name && same_record_type types.A record_type
+is_asked name record_type = name_eq name example && same_record_type types.MX record_type
 
-put_in_place : Replaces (www ∷ []) www.name types.A (Some hosts) (hosts ∷ [])
+put_in_place : Replaces (first_server ∷ []) example types.MX (Some servers) (servers ∷ [])
 put_in_place name record_type = put (is_asked name record_type)
 
-taken_out : Replaces (www ∷ []) www.name types.A None []
+taken_out : Replaces (first_server ∷ []) example types.MX None []
 taken_out name record_type = taken (is_asked name record_type)
 
 -- No other set goes with one that is taken out.
-no_other : Replaces (start ∷ www ∷ []) www.name types.A None [] → ⊥
+no_other : Replaces (start ∷ first_server ∷ []) example types.MX None [] → ⊥
 no_other replaces = let e : None ≡ Some start = replaces example types.SOA in let h : ⊥ = cc in h
 
--- ---- a record is added to a zone
-add : (asked : Bool) → (if asked then Some hosts else None)
-    ≡ (if asked then Some (set_with (if asked then Some www else None) (host_entry 60 2)) else if asked then Some www else None)
+-- ---- a record is added to a zone, which goes on in order
+add : (asked : Bool) → (if asked then Some servers else None)
+    ≡ (if asked then Some (set_with (if asked then Some first_server else None) (server 60 20)) else if asked then Some first_server else None)
 add true = refl
 add false = refl
 
-added : Adds (www ∷ []) (host_entry 60 2) (hosts ∷ [])
+added : Adds (first_server ∷ []) (server 60 20) (servers ∷ [])
 added name record_type = add (is_asked name record_type)
 
-added_to : AddsTo (zone_of (www ∷ [])) (host_entry 60 2) (zone_of (hosts ∷ []))
+added_to : AddsTo (zone_of (first_server ∷ [])) (server 60 20) (zone_of (servers ∷ []))
 added_to = record { adds = added; ordered = (tt, tt); rest = refl }
 
-false_is_not : false ≡ true → ⊥
-false_is_not e = let h : ⊥ = cc in h
+not_true : false ≡ true → ⊥
+not_true e = let h : ⊥ = cc in h
 
-true_is_not : true ≡ false → ⊥
-true_is_not e = let h : ⊥ = cc in h
+not_false : true ≡ false → ⊥
+not_false e = let h : ⊥ = cc in h
 
-upserts : Upserts (zone_of (www ∷ [])) (host_entry 60 2) (zone_of (hosts ∷ []))
-upserts = record { changed = λ is. record { replaces = put_in_place; ordered = (tt, tt); rest = refl }; unchanged = λ no. absurd (true_is_not no) }
+upserts : Upserts (zone_of (first_server ∷ [])) (server 60 20) (zone_of (servers ∷ []))
+upserts = record { changed = λ is. record { replaces = put_in_place; ordered = (tt, tt); rest = refl }; unchanged = λ no. absurd (not_false no) }
 
 -- A record that is there leaves the zone as it is.
-kept : Upserts zone (host_entry 3600 1) zone
-kept = record { changed = λ no. absurd (false_is_not no); unchanged = λ is. refl }
+kept : Upserts (zone_of stored) (server 3600 10) (zone_of stored)
+kept = record { changed = λ no. absurd (not_true no); unchanged = λ is. refl }
