@@ -13,7 +13,7 @@ use zsv_sections::{
 };
 
 /// A message: what header and options say, its questions, and its records by section.
-#[derive(Drop)]
+#[derive(Debug, Drop)]
 pub struct MessageRequest<'m> {
     metadata: Metadata,
     queries: Queries<'m>,

@@ -9,7 +9,7 @@ use std::marker::Model;
 use zsv_message::{BinDecodable, BinDecoder, DNSClass, DecodeError, LowerName, Query, RecordType};
 
 /// A question, and beside it its name in lower case. A contract sees it as the question, as it was asked.
-#[derive(Drop)]
+#[derive(Debug, Drop)]
 pub struct LowerQuery {
     name: LowerName,
     original: Query,

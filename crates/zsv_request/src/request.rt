@@ -12,7 +12,7 @@ use std::net::SocketAddr;
 use zsv_message::{DecodeError, LookupError, MessageRequest, ProtoError};
 
 /// A message with its octets, who sent it and how.
-#[derive(Drop)]
+#[derive(Debug, Drop)]
 pub struct Request<'m> {
     message: MessageRequest<'m>,
     raw: &'m [u8],

@@ -7,7 +7,7 @@ use std::net::SocketAddr;
 use zsv_message::{Metadata, Query};
 
 /// A request with one question: who sent it and how, what its header says, and the question as it was asked.
-#[derive(Clone, Copy)]
+#[derive(Clone, Copy, Debug)]
 pub struct RequestInfo<'a> {
     /// Who sent it.
     pub src: SocketAddr,
