@@ -27,3 +27,15 @@ number-refused text e h plain n is =
 pub returns-in_default-clause-number : goal.returns-in_default-clause-number
 returns-in_default-clause-number c =
     λ n known. c.in_default.ensures.cases.0 (IsUtf8-from_ascii c.args.text.now (IsAscii-from_digits c.args.text.now (digits_model.to c.args.text.now known.0.all)))
+
+pub returns-in-Ok-parse-clause-number : goal.returns-in-Ok-parse-clause-number
+returns-in-Ok-parse-clause-number c =
+    let same : c.in-Ok.digits.now ≡ c.args.text.now = search rules in
+    subst (λ (text : List ℕ). IsNumberText 64 text c.in-Ok-parse.number) same
+    (number-read c.in-Ok-parse.number c.in-Ok.digits.now c.in-Ok-parse.ensures.value.0 (search rules))
+
+pub returns-in-Err-clause-number : goal.returns-in-Err-clause-number
+returns-in-Err-clause-number c =
+    let same : c.in-Ok.digits.now ≡ c.args.text.now = search rules in
+    subst (λ (text : List ℕ). (n : ℕ) → IsNumberText 64 text n → ⊥) same
+    (number-refused c.in-Ok.digits.now c.in-Err.field-0 c.in-Err.ensures.value.0 (search rules))
