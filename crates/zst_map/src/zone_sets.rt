@@ -242,7 +242,7 @@ impl ZoneSets {
 
     /// Which set answers the name of a key and a type: that of the cut at or above it; else what its own sets answer;
     /// else what the nearest wildcard answers (RFC 1034 section 4.3.2 step 3). The map is searched once for the name, and
-    /// once for a cut that is found. For a name right below the zone's start no cut is searched.
+    /// once for a cut that is found. For the zone's start and a name right below it no cut is searched.
     #[inline(always)]
     pub fn search(
         &self,
@@ -256,6 +256,7 @@ impl ZoneSets {
         }
         let cut = match self.start_above(key) {
             Some(start) => return self.search_near(key, start, record_type),
+            None if self.is_start(key) => return self.search_start(key, record_type),
             None => self.delegation(key, record_type)?,
         };
         match cut {
@@ -271,6 +272,29 @@ impl ZoneSets {
         match self.index.name_servers.first_key_value() {
             Some((start, _)) if key.is_child_of(start) => Some(start),
             _ => None,
+        }
+    }
+
+    // Whether the name of a key is the first that owns NS, as a zone's start is.
+    fn is_start(&self, key: &NameKey) -> bool {
+        match self.index.name_servers.first_key_value() {
+            Some((start, _)) => start == key,
+            None => false,
+        }
+    }
+
+    // What `search` answers, where the name's own sets are to tell whether a cut begins there.
+    fn search_start(
+        &self,
+        key: &NameKey,
+        record_type: RecordType,
+    ) -> Result<Option<Match<'_>>, AllocError>
+        ensures { IfOk result (λ answer. option_map (match_set key.now) answer ≡ found self.now key.now record_type) }
+    {
+        let sets = self.sets.sets_at(key);
+        match self.delegation_at(key, sets, record_type)? {
+            Some(set) => Ok(Some(Match::own(set))),
+            None => self.search_uncut(key, sets, record_type),
         }
     }
 
@@ -312,6 +336,22 @@ impl ZoneSets {
                 is_wildcard: true,
             })),
             None => Ok(None),
+        }
+    }
+
+    // What `delegation` answers, by the name's own sets first.
+    fn delegation_at<'z>(
+        &'z self,
+        key: &NameKey,
+        sets: &'z [RecordSet],
+        record_type: RecordType,
+    ) -> Result<Option<&'z RecordSet>, AllocError>
+        requires own { sets.now ≡ sets_of_name self.now key.now }
+        ensures { IfOk result (λ servers. option_copied servers ≡ delegation self.now key.now record_type) }
+    {
+        match cut_of(sets) {
+            Some(cut) if record_type != RecordType::DS => Ok(cut),
+            _ => self.delegation(key, record_type),
         }
     }
 
