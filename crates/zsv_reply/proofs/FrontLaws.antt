@@ -7,7 +7,7 @@ use Rattle.std.specs.List.{AllByRecursion}
 use Rattle.zsv_request.specs.zsv_message.zst_record.dnw_codes.ProtoError.{IsMemory}
 use Rattle.zsv_request.specs.zsv_message.zst_record.dnw_codes.declared.error.ProtoError.{ProtoError}
 use Rattle.zsv_request.specs.zsv_message.zst_record.dnw_codes.declared.error.ProtoError.TheVariants.{MaxBufferSizeExceeded, NotAllRecordsWritten}
-use Rattle.zsv_request.specs.zsv_message.zst_record.dnw_encoder.Effects.{StaysTrue, Writes, Emitted, WroteAll, WroteFront, IsRefusal, IsSizeError}
+use Rattle.zsv_request.specs.zsv_message.zst_record.dnw_encoder.Effects.{RolledBack, StaysTrue, Writes, Emitted, WroteAll, WroteFront, IsRefusal, IsSizeError}
 use Rattle.zsv_request.proofs.zsv_message_lemmas.zst_record_lemmas.dnw_encoder_lemmas.Laws.{holds_map, holds_now, holds_more, holds_written, writes_same, writes_then}
 use Rattle.zsv_request.specs.zsv_message.zst_record.dnw_encoder.State.{State, is_lower}
 use Rattle.zsv_request.specs.zsv_message.zst_record.drd_rdata.Writing.{WritesInFull}
@@ -40,13 +40,24 @@ cut_nowhere : {X : Type 0} (xs kept rest : List X) → xs ≡ kept ++ rest → r
 cut_nowhere xs kept rest is none = le-ltb (length kept) (length xs) (omega (arith, ap length is, length-append kept rest, ap length none))
 
 -- Items that are good stand where they are written, and are refused for room or for want of memory. Each takes eleven
--- octets at least.
-pub record Standing {X : Type 0} (At : List ℕ → ℕ → X → ℕ → Type 0) (plain : X → ℕ) (Good : X → Type 0) (Emits : X → State → State → Type 0) (Refuses : X → State → ProtoError → Type 0) : Type 0 where
-  pub stays : (x : X) (old new : State) → Emits x old new → Good x → WritesInFull old → old.maximum < 2 ^ 16 → StaysTrue new new.offset (λ message. At message old.offset x new.offset)
+-- octets at least. An encoder that is fit for them stays so, and is so again where one is taken back.
+pub record Standing {X : Type 0} (Fit : State → Type 0) (At : List ℕ → ℕ → X → ℕ → Type 0) (plain : X → ℕ) (Good : X → Type 0) (Emits : X → State → State → Type 0) (Refuses : X → State → ProtoError → Type 0) : Type 0 where
+  pub small : (s : State) → Fit s → s.maximum < 2 ^ 16
+  pub fit : (x : X) (old new : State) → Emits x old new → Good x → Fit old → Writes old new → Fit new
+  pub back : (mid new : State) → Fit mid → RolledBack mid new → Fit new
+  pub stays : (x : X) (old new : State) → Emits x old new → Good x → Fit old → Writes old new → StaysTrue new new.offset (λ message. At message old.offset x new.offset)
   pub size : (x : X) (old new : State) → Emits x old new → Good x → new.offset ≤ old.offset + plain x
   pub fits : (x : X) (old new : State) → Emits x old new → new.offset ≤ old.maximum
   pub refused : (x : X) (old : State) (e : ProtoError) → Refuses x old e → Good x → old.maximum < 2 ^ 16 → IsRefusal old (plain x) e
   pub long : (message : List ℕ) (place : ℕ) (x : X) (end : ℕ) → At message place x end → place + 11 ≤ end
+
+-- An encoder that writes names in full, within a maximum that was set.
+pub record IsSet (s : State) : Type 0 where
+  pub in_full : WritesInFull s
+  pub small : s.maximum < 2 ^ 16
+
+pub set_then : (old new : State) → IsSet old → Writes old new → IsSet new
+set_then old new f w = record { in_full = in_full_then old new f.in_full w; small = omega (arith, w.modes.maximum, f.small) }
 
 -- As much more of both leaves a list cut, or not.
 cut_behind : (k x m y km xy : ℕ) → k ≡ x → km ≡ k + m → xy ≡ x + y → nat_lt km xy ≡ nat_lt m y
@@ -54,6 +65,14 @@ cut_behind k x m y km xy same counts long = by (nat_lt m y) refl where
   by : (b : Bool) → nat_lt m y ≡ b → nat_lt km xy ≡ nat_lt m y
   by true e = lt-ltb km xy (omega (arith, ltb-true m y e, same, counts, long)) ∙ sym e
   by false e = le-ltb km xy (omega (arith, ltb-false m y e, same, counts, long)) ∙ sym e
+
+-- Items that stand in one way stand in another.
+pub front_as : {X : Type 0} (At Other : List ℕ → ℕ → X → ℕ → Type 0) (plain : X → ℕ) → ((message : List ℕ) (place : ℕ) (x : X) (end : ℕ) → At message place x end → Other message place x end) → (message : List ℕ) (limit place : ℕ) (xs kept : List X) (end : ℕ) → Front At plain message limit place xs kept end → Front Other plain message limit place xs kept end
+front_as At Other plain turn message limit place [] [] end f = f
+front_as At Other plain turn message limit place (x ∷ xs) [] end f = f
+front_as At Other plain turn message limit place [] (k ∷ ks) end f = f
+front_as At Other plain turn message limit place (x ∷ xs) (k ∷ ks) end (behind, same, at, small, later) =
+    (behind, same, turn message place k behind at, small, front_as At Other plain turn message limit behind xs ks end later)
 
 module _ {X : Type 0} (At : List ℕ → ℕ → X → ℕ → Type 0) (plain : X → ℕ) where
   -- A front without items ends where it begins.
@@ -132,7 +151,7 @@ module _ {X : Type 0} (At : List ℕ → ℕ → X → ℕ → Type 0) (plain : 
       by some zero e = omega (arith, emits_nothing ys two mid new e g, f.room (omega (arith, some, counts, e)))
       by some (suc n) e = omega (arith, w.modes.maximum, g.room (omega (arith, e)))
 
-module _ {X : Type 0} (At : List ℕ → ℕ → X → ℕ → Type 0) (plain : X → ℕ) (Good : X → Type 0) (Emits : X → State → State → Type 0) (Refuses : X → State → ProtoError → Type 0) (laws : Standing At plain Good Emits Refuses) where
+module _ {X : Type 0} (Fit : State → Type 0) (At : List ℕ → ℕ → X → ℕ → Type 0) (plain : X → ℕ) (Good : X → Type 0) (Emits : X → State → State → Type 0) (Refuses : X → State → ProtoError → Type 0) (laws : Standing Fit At plain Good Emits Refuses) where
   emitted_writes : (kept : List X) (old new : State) → Emitted Emits old kept new → Writes old new
   emitted_writes [] old new e = subst (λ (s : State). Writes old s) (sym e) (writes_same old)
   emitted_writes (k ∷ ks) old new (mid, one, w, more) = writes_then old mid new w (emitted_writes ks mid new more)
@@ -145,11 +164,11 @@ module _ {X : Type 0} (At : List ℕ → ℕ → X → ℕ → Type 0) (plain : 
   front_forward message limit place (x ∷ xs) (k ∷ ks) end (behind, same, at, small, later) =
       omega (arith, laws.long message place k behind at, front_forward message limit behind xs ks end later)
 
-  emitted_long : (kept : List X) (old new : State) → AllByRecursion Good kept → WritesInFull old → old.maximum < 2 ^ 16 → Emitted Emits old kept new → old.offset + 11 * length kept ≤ new.offset
-  emitted_long [] old new alone full small e = omega (arith, ap (λ (s : State). s.offset) e)
-  emitted_long (k ∷ ks) old new alone full small (mid, one, w, more) =
-      let at = holds_now mid.offset mid _ (laws.stays k old mid one alone.0 full small) in
-      let later = emitted_long ks mid new alone.1 (in_full_then old mid full w) (omega (arith, w.modes.maximum, small)) more in
+  emitted_long : (kept : List X) (old new : State) → AllByRecursion Good kept → Fit old → Emitted Emits old kept new → old.offset + 11 * length kept ≤ new.offset
+  emitted_long [] old new alone fit e = omega (arith, ap (λ (s : State). s.offset) e)
+  emitted_long (k ∷ ks) old new alone fit (mid, one, w, more) =
+      let at = holds_now mid.offset mid _ (laws.stays k old mid one alone.0 fit w) in
+      let later = emitted_long ks mid new alone.1 (laws.fit k old mid one alone.0 fit w) more in
       omega (arith, laws.long mid.octets old.offset k mid.offset at, later)
 
   emitted_fits : (kept : List X) (old new : State) → old.offset ≤ old.maximum → Emitted Emits old kept new → new.offset ≤ old.maximum
@@ -157,11 +176,11 @@ module _ {X : Type 0} (At : List ℕ → ℕ → X → ℕ → Type 0) (plain : 
   emitted_fits (k ∷ ks) old new within (mid, one, w, more) =
       omega (arith, w.modes.maximum, emitted_fits ks mid new (omega (arith, laws.fits k old mid one, w.modes.maximum)) more)
 
-  emitted_few : (kept : List X) (old new : State) → AllByRecursion Good kept → WritesInFull old → old.maximum < 2 ^ 16 → Emitted Emits old kept new → 11 * length kept ≤ old.maximum
-  emitted_few [] old new alone full small e = omega arith
-  emitted_few (k ∷ ks) old new alone full small e =
+  emitted_few : (kept : List X) (old new : State) → AllByRecursion Good kept → Fit old → Emitted Emits old kept new → 11 * length kept ≤ old.maximum
+  emitted_few [] old new alone fit e = omega arith
+  emitted_few (k ∷ ks) old new alone fit e =
       let fits = emitted_fits ks e.0 new (omega (arith, laws.fits k old e.0 e.1, e.2.modes.maximum)) e.3 in
-      omega (arith, emitted_long (k ∷ ks) old new alone full small e, fits, e.2.modes.maximum)
+      omega (arith, emitted_long (k ∷ ks) old new alone fit e, fits, e.2.modes.maximum)
 
   all_front : (xs ys : List X) → AllByRecursion Good (xs ++ ys) → AllByRecursion Good xs
   all_front [] ys all = tt
@@ -172,16 +191,21 @@ module _ {X : Type 0} (At : List ℕ → ℕ → X → ℕ → Type 0) (plain : 
   all_rest (x ∷ xs) ys all = all_rest xs ys all.1
 
   -- The items that were written stand as a front, if the list may be cut behind them.
-  front_holds : (limit : ℕ) (kept rest : List X) (old new : State) → AllByRecursion Good kept → WritesInFull old → old.maximum < 2 ^ 16 → Emitted Emits old kept new →
+  front_holds : (limit : ℕ) (kept rest : List X) (old new : State) → AllByRecursion Good kept → Fit old → Emitted Emits old kept new →
       ((message : List ℕ) → Front At plain message limit new.offset rest [] new.offset) → StaysTrue new new.offset (λ message. Front At plain message limit old.offset (kept ++ rest) kept new.offset)
-  front_holds limit [] rest old new alone full small e stops = record {
+  front_holds limit [] rest old new alone fit e stops = record {
     of = λ later a. subst (λ (s : State). Front At plain later limit s.offset rest [] new.offset) e (stops later);
   }
-  front_holds limit (k ∷ ks) rest old new alone full small (mid, one, w, more) stops =
+  front_holds limit (k ∷ ks) rest old new alone fit (mid, one, w, more) stops =
       let behind = emitted_writes ks mid new more in
-      let here = holds_more mid.offset new.offset new _ behind.forward (holds_written mid.offset mid new _ behind (omega arith) (laws.stays k old mid one alone.0 full small)) in
-      let later = front_holds limit ks rest mid new alone.1 (in_full_then old mid full w) (omega (arith, w.modes.maximum, small)) more stops in
+      let here = holds_more mid.offset new.offset new _ behind.forward (holds_written mid.offset mid new _ behind (omega arith) (laws.stays k old mid one alone.0 fit w)) in
+      let later = front_holds limit ks rest mid new alone.1 (laws.fit k old mid one alone.0 fit w) more stops in
       record { of = λ message a. (mid.offset, refl, here.of message a, laws.size k old mid one alone.0, later.of message a) }
+
+  -- It is still fit behind them.
+  fit_behind : (kept : List X) (old new : State) → AllByRecursion Good kept → Fit old → Emitted Emits old kept new → Fit new
+  fit_behind [] old new alone fit e = subst Fit (sym e) fit
+  fit_behind (k ∷ ks) old new alone fit (mid, one, w, more) = fit_behind ks mid new alone.1 (laws.fit k old mid one alone.0 fit w) more
 
   nothing_left : (message : List ℕ) (limit place : ℕ) (rest : List X) → rest ≡ [] → Front At plain message limit place rest [] place
   nothing_left message limit place [] none = refl
@@ -212,16 +236,17 @@ module _ {X : Type 0} (At : List ℕ → ℕ → X → ℕ → Type 0) (plain : 
   -- What is told of the items that were written: how many, and whether one was left out.
   pub record Told (xs : List X) (old new : State) (written : ℕ × Bool) : Type 0 where
     pub front : EmitsFront At plain xs (record { count = written.0; is_cut = written.1 }) old new
+    pub fit : Fit new
     pub few : written.0 < 2 ^ 16
 
   -- The front that was written, from what is left of the list. More than 65,535 items would take more than any message
   -- holds.
-  written_front : (xs kept rest : List X) (count : ℕ) (cut : Bool) (old mid new : State) → xs ≡ kept ++ rest → length kept ≡ count → is_cut xs kept ≡ cut → AllByRecursion Good xs → WritesInFull old → old.maximum < 2 ^ 16 → Emitted Emits old kept mid → Writes mid new → new.offset ≡ mid.offset →
+  written_front : (xs kept rest : List X) (count : ℕ) (cut : Bool) (old mid new : State) → xs ≡ kept ++ rest → length kept ≡ count → is_cut xs kept ≡ cut → AllByRecursion Good xs → Fit old → Emitted Emits old kept mid → Writes mid new → new.offset ≡ mid.offset → (Fit mid → Fit new) →
       ((message : List ℕ) → Front At plain message old.maximum mid.offset rest [] mid.offset) → Told xs old new (count, cut)
-  written_front xs kept rest count cut old mid new is counted told all full small e w same stops =
+  written_front xs kept rest count cut old mid new is counted told all fit e w same goes_on stops =
       let alone = all_front kept rest (subst (λ (ys : List X). AllByRecursion Good ys) is all) in
-      let holds = holds_written mid.offset mid new _ w (omega arith) (front_holds old.maximum kept rest old mid alone full small e stops) in
-      let few = emitted_few kept old mid alone full small e in
+      let holds = holds_written mid.offset mid new _ w (omega arith) (front_holds old.maximum kept rest old mid alone fit e stops) in
+      let few = emitted_few kept old mid alone fit e in
       record {
         front = record {
           kept = kept;
@@ -230,7 +255,8 @@ module _ {X : Type 0} (At : List ℕ → ℕ → X → ℕ → Type 0) (plain : 
           stays = rw is (subst (λ (end : ℕ). StaysTrue new end (λ message. Front At plain message old.maximum old.offset (kept ++ rest) kept end)) (sym same) holds);
           room = λ some. omega (arith, same, emitted_room kept old mid (omega (arith, some, counted)) e);
         };
-        few = omega (arith, counted, small, few);
+        fit = goes_on (fit_behind kept old mid alone fit e);
+        few = omega (arith, counted, laws.small old fit, few);
       }
 
   -- Where calls of an iterator always yield items that lend these, what they gave lent a front of them, and they go on with
@@ -269,24 +295,24 @@ module _ {X : Type 0} (At : List ℕ → ℕ → X → ℕ → Type 0) (plain : 
       emitted_lent (y ∷ ys) old new (mid, one, w, more) = (mid, emits_lent y old mid one, w, emitted_lent ys mid new more)
 
       -- All items were written.
-      front_all : (xs : List X) (from to : I) (count : ℕ) (old new : State) → AlwaysYields gives lent from xs → AllByRecursion Good xs → WritesInFull old → old.maximum < 2 ^ 16 →
+      front_all : (xs : List X) (from to : I) (count : ℕ) (old new : State) → AlwaysYields gives lent from xs → AllByRecursion Good xs → Fit old →
           WroteAll gives emits from to count old new → Told xs old new (count, false)
-      front_all xs from to count old new yields all full small (last, wrote, why) =
+      front_all xs from to count old new yields all fit (last, wrote, why) =
           let kept = found wrote.items in
           let behind = given wrote.items xs from last yields wrote.yielded in
           let split = behind.1 in
           let e = emitted_lent wrote.items old new wrote.emitted in
-          let few = emitted_few kept old new (all_front kept behind.0 (subst (λ (ys : List X). AllByRecursion Good ys) split all)) full small e in
+          let few = emitted_few kept old new (all_front kept behind.0 (subst (λ (ys : List X). AllByRecursion Good ys) split all)) fit e in
           let none : behind.0 ≡ [] = elim why [
-            | inl many ↦ absurd (omega (arith, few, small, many.0, wrote.counted, found_long wrote.items))
+            | inl many ↦ absurd (omega (arith, few, laws.small old fit, many.0, wrote.counted, found_long wrote.items))
             | inr step ↦ none_left behind.0 last to behind.2 step
           ] in
-          written_front xs kept behind.0 count false old new new split (found_long wrote.items ∙ wrote.counted) (cut_nowhere xs kept behind.0 split none) all full small e (writes_same new) refl (λ message. nothing_left message old.maximum new.offset behind.0 none)
+          written_front xs kept behind.0 count false old new new split (found_long wrote.items ∙ wrote.counted) (cut_nowhere xs kept behind.0 split none) all fit e (writes_same new) refl (λ f. f) (λ message. nothing_left message old.maximum new.offset behind.0 none)
 
       -- The next item was refused: it doesn't fit, or memory is wanting.
-      front_stopped : (xs : List X) (from to : I) (old : State) (e : ProtoError) (new : State) → AlwaysYields gives lent from xs → AllByRecursion Good xs → WritesInFull old → old.maximum < 2 ^ 16 →
+      front_stopped : (xs : List X) (from to : I) (old : State) (e : ProtoError) (new : State) → AlwaysYields gives lent from xs → AllByRecursion Good xs → Fit old →
           WroteFront gives emits refuses from to old e new → IsMemory e ⊎ ((count : ℕ) × (e ≡ NotAllRecordsWritten count) × Told xs old new (count, true))
-      front_stopped xs from to old e new yields all full small (last, count, mid, y, wrote, step, stops) =
+      front_stopped xs from to old e new yields all fit (last, count, mid, y, wrote, step, stops) =
           let kept = found wrote.items in
           let behind = given wrote.items xs from last yields wrote.yielded in
           let next = next_left behind.0 last to y behind.2 step in
@@ -297,40 +323,41 @@ module _ {X : Type 0} (At : List ℕ → ℕ → X → ℕ → Type 0) (plain : 
           let same : mid.maximum ≡ old.maximum = (emitted_writes kept old mid emitted).modes.maximum in
           elim stops [
             | inl (left, size, refused, told, back) ↦
-                let past : old.maximum < mid.offset + plain (lent y) = omega (arith, same, passes mid (plain (lent y)) size (laws.refused (lent y) mid (MaxBufferSizeExceeded size) (refuses_lent y mid (MaxBufferSizeExceeded size) left refused) alone (omega (arith, same, small)))) in
-                inr (count, told, written_front xs kept rest count true old mid new split (found_long wrote.items ∙ wrote.counted) (cut_before xs kept (lent y) next.0 split) all full small emitted back.writes back.offset (λ message. (refl, past)))
-            | inr (refused, other) ↦ inl (memory_left mid (plain (lent y)) e (laws.refused (lent y) mid e (refuses_lent y mid e new refused) alone (omega (arith, same, small))) other)
+                let past : old.maximum < mid.offset + plain (lent y) = omega (arith, same, passes mid (plain (lent y)) size (laws.refused (lent y) mid (MaxBufferSizeExceeded size) (refuses_lent y mid (MaxBufferSizeExceeded size) left refused) alone (omega (arith, same, laws.small old fit)))) in
+                inr (count, told, written_front xs kept rest count true old mid new split (found_long wrote.items ∙ wrote.counted) (cut_before xs kept (lent y) next.0 split) all fit emitted back.writes back.offset (λ f. laws.back mid new f back) (λ message. (refl, past)))
+            | inr (refused, other) ↦ inl (memory_left mid (plain (lent y)) e (laws.refused (lent y) mid e (refuses_lent y mid e new refused) alone (omega (arith, same, laws.small old fit))) other)
           ]
 
       not_kept : (xs : List X) (old new : State) (written : Result (ℕ × Bool) ProtoError) (e : ProtoError) → IfOk written (Told xs old new) → IfErr written IsMemory → IsNotKept written e → IsMemory e
       not_kept xs old new (Ok count) e told memory many = absurd (omega (arith, told.few, many))
       not_kept xs old new (Err refused) e told memory is = subst IsMemory (sym is) memory
 
-      front_told : (xs : List X) (from : I) (old new : State) (r : Result ℕ ProtoError) → AlwaysYields gives lent from xs → AllByRecursion Good xs → WritesInFull old → old.maximum < 2 ^ 16 →
+      front_told : (xs : List X) (from : I) (old new : State) (r : Result ℕ ProtoError) → AlwaysYields gives lent from xs → AllByRecursion Good xs → Fit old →
           IfOk r (λ count. (left : I) × WroteAll gives emits from left count old new) → IfErr r (λ e. (left : I) × WroteFront gives emits refuses from left old e new) →
           IfOk (written_count r) (Told xs old new) × IfErr (written_count r) IsMemory
-      front_told xs from old new (Ok count) yields all full small ok err = (front_all xs from ok.0 count old new yields all full small ok.1, tt)
-      front_told xs from old new (Err (NotAllRecordsWritten n)) yields all full small ok err =
-          elim (front_stopped xs from err.0 old (NotAllRecordsWritten n) new yields all full small err.1) [
+      front_told xs from old new (Ok count) yields all fit ok err = (front_all xs from ok.0 count old new yields all fit ok.1, tt)
+      front_told xs from old new (Err (NotAllRecordsWritten n)) yields all fit ok err =
+          elim (front_stopped xs from err.0 old (NotAllRecordsWritten n) new yields all fit err.1) [
             | inl memory ↦ absurd memory
             | inr f ↦ let same : n ≡ f.0 = cc f.1 in (rw same f.2, tt)
           ]
-      front_told xs from old new (Err e) yields all full small ok err =
-          elim (front_stopped xs from err.0 old e new yields all full small err.1) [
+      front_told xs from old new (Err e) yields all fit ok err =
+          elim (front_stopped xs from err.0 old e new yields all fit err.1) [
             | inl memory ↦ (tt, memory)
             | inr f ↦ absurd (cc f.1)
           ]
 
       -- What a call that writes the items, and tells what was kept of them, answers.
-      module _ (from : I) (old new : State) (r : Result ℕ ProtoError) (full : WritesInFull old) (small : old.maximum < 2 ^ 16) (ok : IfOk r (λ count. (left : I) × WroteAll gives emits from left count old new)) (err : IfErr r (λ e. (left : I) × WroteFront gives emits refuses from left old e new)) where
-        pub front_kept : (answer : Result Kept ProtoError) → IfOk answer (λ kept. written_count r ≡ Ok (kept.count, kept.is_cut)) → IfOk answer (λ kept. (xs : List X) → AlwaysYields gives lent from xs → AllByRecursion Good xs → EmitsFront At plain xs kept old new)
+      module _ (from : I) (old new : State) (r : Result ℕ ProtoError) (fit : Fit old) (ok : IfOk r (λ count. (left : I) × WroteAll gives emits from left count old new)) (err : IfErr r (λ e. (left : I) × WroteFront gives emits refuses from left old e new)) where
+        pub front_kept : (answer : Result Kept ProtoError) → IfOk answer (λ kept. written_count r ≡ Ok (kept.count, kept.is_cut)) → IfOk answer (λ kept. (xs : List X) → AlwaysYields gives lent from xs → AllByRecursion Good xs → EmitsFront At plain xs kept old new × Fit new)
         front_kept (Ok kept) is = λ xs yields all.
-            let told = front_told xs from old new r yields all full small ok err in
-            (subst (λ (w : Result (ℕ × Bool) ProtoError). IfOk w (Told xs old new)) is told.0).front
+            let told = front_told xs from old new r yields all fit ok err in
+            let of = subst (λ (w : Result (ℕ × Bool) ProtoError). IfOk w (Told xs old new)) is told.0 in
+            (of.front, of.fit)
         front_kept (Err e) is = tt
 
         pub front_refused : (answer : Result Kept ProtoError) → IfErr answer (IsNotKept (written_count r)) → IfErr answer (λ e. (xs : List X) → AlwaysYields gives lent from xs → AllByRecursion Good xs → IsMemory e)
         front_refused (Ok kept) is = tt
         front_refused (Err e) is = λ xs yields all.
-            let told = front_told xs from old new r yields all full small ok err in
+            let told = front_told xs from old new r yields all fit ok err in
             not_kept xs old new (written_count r) e told.0 told.1 is

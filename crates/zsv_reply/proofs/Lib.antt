@@ -1,3 +1,4 @@
+pub mod Asking
 pub mod Bare
 pub mod FrontLaws
 pub mod HeaderLaws

@@ -1,5 +1,5 @@
 -- Records, options of EDNS and signatures stand where they were written.
-use Rattle.std.proofs.Common.{◌≡◌, ℕ, ◌+◌, ◌≤◌, ◌==◌, Bool, true, false, inl, inr, List, [], ◌∷◌, ◌++◌, length, refl, sym, subst, arith}
+use Rattle.std.proofs.Common.{◌≡◌, ℕ, ◌+◌, ◌^◌, ◌<◌, ◌≤◌, ◌⊎◌, ◌∙◌, ◌==◌, Bool, true, false, inl, inr, List, [], ◌∷◌, ◌++◌, length, refl, sym, ap, subst, arith}
 use Rattle.std.proofs.lemmas.Bool.{eqb-true}
 use Rattle.std.specs.Prelude.{Option, Some, unwrap_or, find, if◌then◌else◌}
 use Rattle.zsv_request.specs.zsv_message.zst_record.dnw_codes.DNSClass.{class_number, class_of, named_classes}
@@ -10,14 +10,15 @@ use Rattle.zsv_request.specs.zsv_message.zst_record.dnw_codes.declared.error.Pro
 use Rattle.zsv_request.specs.zsv_message.zst_record.dnw_codes.declared.error.ProtoError.TheVariants.{Message}
 use Rattle.zsv_request.specs.zsv_message.zst_record.dnw_codes.declared.record_type.RecordType.TheVariants as kind
 use Rattle.zsv_request.specs.zsv_message.zst_record.dnw_decoder.Octets.{octets_16, octets_32, Stands}
-use Rattle.zsv_request.specs.zsv_message.zst_record.dnw_decoder.Spelling.{at_end}
-use Rattle.zsv_request.specs.zsv_message.zst_record.dnw_name.DomainName.{domain_name}
-use Rattle.zsv_request.proofs.zsv_message_lemmas.zst_record_lemmas.dnw_decoder_lemmas.SpellingLaws.{spelled_within}
+use Rattle.zsv_request.specs.zsv_message.zst_record.dnw_decoder.Spelling.{NameAt, at_end}
+use Rattle.zsv_request.specs.zsv_message.zst_record.dnw_name.DomainName.{DomainName, domain_name, name_octets}
+use Rattle.zsv_request.proofs.zsv_message_lemmas.zst_record_lemmas.dnw_decoder_lemmas.SpellingLaws.{name_once, spelled_within}
 use Rattle.zsv_request.proofs.zsv_message_lemmas.zst_record_lemmas.dnw_decoder_lemmas.Standing.{length-octets_32, stands_split, stands_within}
-use Rattle.zsv_request.specs.zsv_message.zst_record.dnw_encoder.Effects.{IsRefusal}
-use Rattle.zsv_request.proofs.zsv_message_lemmas.zst_record_lemmas.dnw_encoder_lemmas.Laws.{holds_map, puts_stands}
+use Rattle.zsv_request.specs.zsv_message.zst_record.dnw_encoder.Effects.{Agrees, Has, IsRefusal, Keeps, RolledBack, Sound, StaysTrue, Writes}
+use Rattle.zsv_request.proofs.zsv_message_lemmas.zst_record_lemmas.dnw_encoder_lemmas.Laws.{agrees_same, holds_map, holds_now, puts_stands, same_from_keeps}
 use Rattle.zsv_request.specs.zsv_message.zst_record.dnw_encoder.State.{State}
 use Rattle.zsv_request.specs.zsv_message.zst_record.drd_rdata.Reading.{RDataAt}
+use Rattle.zsv_request.specs.zsv_message.zst_record.drd_rdata.Writing.{WritesInFull}
 use Rattle.zsv_request.specs.zsv_message.zst_record.drd_rdata.declared.rdata.RData.TheVariants as rdata
 use Rattle.zsv_request.specs.zsv_message.zst_record.Records.{RecordAt, ReadsBackAlone, plain}
 use Rattle.zsv_request.specs.zsv_message.zst_record.Writing.{EmitsRecord, RefusesRecord}
@@ -29,8 +30,9 @@ use Rattle.zsv_request.specs.zsv_message.zst_edns.declared.edns.Edns.{Edns}
 use Rattle.zsv_request.proofs.zsv_message_lemmas.zst_edns_lemmas.WritingLaws.{options_read}
 use Rattle.zsv_request.specs.zsv_message.zsv_parts.declared.tsig.TsigRecord.{TsigRecord}
 use Rattle.zsv_request.specs.zsv_message.zsv_parts.SignatureRecords.{EmitsTsigRecord, RefusesTsigRecord, TsigReadsBack, TsigRecordAt}
-use Rattle.zsv_reply.specs.Replies.{opt_plain, tsig_plain}
-use Rattle.zsv_reply.proofs.FrontLaws.{Standing}
+use Rattle.zsv_reply.specs.Replies.{ReplyRecordAt, opt_plain, tsig_plain}
+use Rattle.zsv_reply.specs.Writing.{LeadsRecords}
+use Rattle.zsv_reply.proofs.FrontLaws.{IsSet, Standing, in_full_then, set_then}
 
 -- A record takes at least eleven octets.
 record_long : (message : List ℕ) (place : ℕ) (r : Record) (end : ℕ) → RecordAt message place r end → place + 11 ≤ end
@@ -38,13 +40,81 @@ record_long message place r end at =
     let name = spelled_within message place (length message) place r.name.labels at.owner_end at.owner.spelled in
     omega (arith, name.0, at.record_type.there.behind, at.dns_class.there.behind, at.ttl.behind, length-octets_32 r.ttl, at.count.behind, at.filled)
 
-pub records_stand : Standing RecordAt plain ReadsBackAlone EmitsRecord RefusesRecord
-records_stand = record {
-  stays = λ r old new one alone full small. one.stays alone full small;
+-- What agrees with an encoder agrees with it as it was before what was written since.
+agrees_before : (old new : State) (later : List ℕ) → Writes old new → Agrees new new.offset later → Agrees old old.offset later
+agrees_before old new later w a =
+    agrees_same old.offset old.offset old new later (same_from_keeps old.offset old new w.keeps) (omega arith)
+    (record { there = λ i lt f. a.there i (omega (arith, lt, w.forward)) f; same = λ i lt f. a.same i (omega (arith, lt, w.forward)) f })
+
+-- A name to which later ones may point stays one.
+has_after : (old new : State) (octets : List ℕ) → Sound old → Keeps old.offset old new → Has old.candidates octets → Has new.candidates octets
+has_after old new octets sound keeps (c, found, is) = (c, keeps.candidates c found (omega (arith, (sound.stands.each c found).within, sound.at_end)), is)
+
+-- The first record's owner is one, and so a later owner of the same labels is written in two octets.
+record_fit : (points : Bool) (first : ℕ) (r : Record) (old new : State) → EmitsRecord r old new → ReadsBackAlone r → LeadsRecords points first old → Writes old new → LeadsRecords points first new
+record_fit points first r old new one alone leads w =
+    let here = one.stays alone leads.in_full leads.small in
+    let long = record_long new.octets old.offset r new.offset (holds_now new.offset new _ here) in
+    record {
+      in_full = in_full_then old new leads.in_full w;
+      small = omega (arith, w.modes.maximum, leads.small);
+      before = omega (arith, leads.before, w.forward);
+      pointing = λ p. w.modes.points ∙ leads.pointing p;
+      early = leads.early;
+      room = λ p e. absurd (omega (arith, e, long, leads.before));
+      known = λ p lt later a name behind at some. elim (first_or_later first old.offset leads.before) [
+        | inl e ↦
+            let mine = here.of later a in
+            let same : r.name ≡ name = (name_once later first r.name name mine.owner_end behind (subst (λ (place : ℕ). NameAt later place r.name mine.owner_end) (sym e) mine.owner) at).0 in
+            subst (λ (n : DomainName). Has new.candidates (name_octets n)) same
+            (one.owner_kept leads.in_full.sound (leads.pointing p) (omega (arith, some, ap (λ (n : DomainName). length n.labels) same)) (leads.room p (sym e)) (omega (arith, leads.early p, e)))
+        | inr more ↦ has_after old new (name_octets name) leads.in_full.sound w.keeps (leads.known p more later (agrees_before old new later w a) name behind at some)
+      ];
+    }
+  where
+    first_or_later : (a b : ℕ) → a ≤ b → (a ≡ b) ⊎ (a < b)
+    first_or_later a b le = grind (arith, le)
+
+record_back : (points : Bool) (first : ℕ) (mid new : State) → LeadsRecords points first mid → RolledBack mid new → LeadsRecords points first new
+record_back points first mid new leads back = record {
+  in_full = in_full_then mid new leads.in_full back.writes;
+  small = omega (arith, back.writes.modes.maximum, leads.small);
+  before = omega (arith, leads.before, back.offset);
+  pointing = λ p. back.writes.modes.points ∙ leads.pointing p;
+  early = leads.early;
+  room = λ p e. omega (arith, back.few, leads.room p (sym back.offset ∙ e));
+  known = λ p lt later a name behind at some.
+      has_after mid new (name_octets name) leads.in_full.sound back.keeps
+      (leads.known p (omega (arith, lt, back.offset)) later (agrees_before mid new later back.writes a) name behind at some);
+}
+
+-- An encoder of which no owner is to point to the first.
+pub leads_nowhere : (s : State) → WritesInFull s → s.maximum < 2 ^ 16 → LeadsRecords false 0 s
+leads_nowhere s full small = record {
+  in_full = full;
+  small = small;
+  before = omega arith;
+  pointing = λ p. absurd (cc p);
+  early = λ p. absurd (cc p);
+  room = λ p. absurd (cc p);
+  known = λ p. absurd (cc p);
+}
+
+pub records_stand : (points : Bool) (first : ℕ) → Standing (LeadsRecords points first) (ReplyRecordAt points first) plain ReadsBackAlone EmitsRecord RefusesRecord
+records_stand points first = record {
+  small = λ s leads. leads.small;
+  fit = record_fit points first;
+  back = record_back points first;
+  stays = λ r old new one alone leads w. record {
+    of = λ later a. record {
+      there = (one.stays alone leads.in_full leads.small).of later a;
+      owner = λ p lt some behind at. one.owner_used alone (leads.pointing p) some (leads.known p lt later (agrees_before old new later w a) r.name behind at some);
+    };
+  };
   size = λ r old new one alone. one.size alone;
   fits = λ r old new one. one.fits;
   refused = λ r old e refused alone small. refused alone small;
-  long = record_long;
+  long = λ message place r end at. record_long message place r end at.there;
 }
 
 -- The number of the class of a number is that number.
@@ -113,11 +183,14 @@ room_wanted edns old e (inl refused) back = refused
 room_wanted edns old (Message words) (inr long) back = absurd (omega (arith, long, back.counted))
 room_wanted edns old e (inr long) back = absurd long
 
-pub options_stand : Standing OptAt opt_plain EdnsReadsBack EmitsEdns RefusesEdns
+pub options_stand : Standing IsSet OptAt opt_plain EdnsReadsBack EmitsEdns RefusesEdns
 options_stand = record {
-  stays = λ edns old new one back full small.
+  small = λ s f. f.small;
+  fit = λ edns old new one back f w. set_then old new f w;
+  back = λ mid new f back. set_then mid new f back.writes;
+  stays = λ edns old new one back f w.
       holds_map new.offset new (λ message. Stands message old.offset (opt_octets edns) new.offset) (λ message. OptAt message old.offset edns new.offset)
-      (λ message there. opt_at edns message old.offset new.offset one.fields back there) (puts_stands (opt_octets edns) old new full.sound one.octets);
+      (λ message there. opt_at edns message old.offset new.offset one.fields back there) (puts_stands (opt_octets edns) old new f.in_full.sound one.octets);
   size = λ edns old new one back. omega (arith, one.octets.offset);
   fits = λ edns old new one. one.fits;
   refused = λ edns old e refused back small. room_wanted edns old e refused back;
@@ -135,9 +208,12 @@ sign_wanted : (r : TsigRecord) (old : State) (e : ProtoError) → RefusesTsigRec
 sign_wanted r old e (inl refused) back = refused
 sign_wanted r old e (inr long) back = absurd (omega (arith, long.0, back.counted))
 
-pub signature_stands : Standing TsigRecordAt tsig_plain TsigReadsBack EmitsTsigRecord RefusesTsigRecord
+pub signature_stands : Standing IsSet TsigRecordAt tsig_plain TsigReadsBack EmitsTsigRecord RefusesTsigRecord
 signature_stands = record {
-  stays = λ r old new one back full small. one.stays full.sound back;
+  small = λ s f. f.small;
+  fit = λ r old new one back f w. set_then old new f w;
+  back = λ mid new f back. set_then mid new f back.writes;
+  stays = λ r old new one back f w. one.stays f.in_full.sound back;
   size = λ r old new one back. omega (arith, one.exact.offset);
   fits = λ r old new one. one.fits;
   refused = λ r old e refused back small. sign_wanted r old e refused back;

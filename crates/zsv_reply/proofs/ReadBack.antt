@@ -25,9 +25,10 @@ use Rattle.zsv_request.specs.zsv_message.zsv_parts.declared.tsig.TsigRecord.{Tsi
 use Rattle.zsv_request.proofs.zsv_message_lemmas.zst_record_lemmas.dnw_decoder_lemmas.SpellingLaws.{spelled_within}
 use Rattle.zsv_request.proofs.zsv_message_lemmas.zst_record_lemmas.dnw_decoder_lemmas.Standing.{stands_front}
 use Rattle.zsv_request.proofs.zsv_message_lemmas.zsv_parts_lemmas.TsigLaws.{tsig_within}
-use Rattle.zsv_reply.specs.Replies.{Front, Fronts, IsReply, IsWholeReply, ReplyParts, opt_plain, tsig_plain}
+use Rattle.zsv_reply.specs.Replies.{Front, Fronts, IsReply, IsWholeReply, ReplyParts, ReplyRecordAt, leaves_room, opt_plain, tsig_plain}
 use Rattle.zsv_reply.specs.Writing.{AllReadBack}
 use Rattle.zsv_reply.proofs.Bare.{not_bare}
+use Rattle.zsv_reply.proofs.FrontLaws.{front_as}
 use Rattle.zsv_reply.proofs.Written.{fronts_forward}
 
 -- ---- the types of records that are read
@@ -306,11 +307,15 @@ reply_is_message message reply parts asked limit back w there far =
     let op = (header_of reply).metadata.op_code in
     let u = is_update op in
     let asks : AskedAt reply 12 (length asked.questions) asked w.questions_end = record { questions = w.questions there far; octets = w.question_octets } in
-    let first = section_of u false reply limit w.questions_end parts.answers w.kept.answers w.fronts.answers_end back.answers w.fronts.answers in
-    let second = section_of u false reply limit w.fronts.answers_end parts.authorities w.kept.authorities w.fronts.authorities_end back.authorities w.fronts.authorities in
-    let third = additional_section op reply limit w.fronts.authorities_end w.fronts.additionals_end w.fronts.edns_end (length reply) parts.additionals w.kept.additionals parts.edns w.kept.edns parts.signature w.kept.signature back.additionals w.fronts.additionals w.fronts.edns w.fronts.signature in
+    let turn = λ (m : List ℕ) (place : ℕ) (r : Record) (end : ℕ) (at : ReplyRecordAt (leaves_room asked) w.questions_end m place r end). at.there in
+    let first = section_of u false reply limit w.questions_end parts.answers w.kept.answers w.fronts.answers_end back.answers
+    (front_as (ReplyRecordAt (leaves_room asked) w.questions_end) RecordAt plain turn reply limit w.questions_end parts.answers w.kept.answers w.fronts.answers_end w.fronts.answers) in
+    let second = section_of u false reply limit w.fronts.answers_end parts.authorities w.kept.authorities w.fronts.authorities_end back.authorities
+    (front_as (ReplyRecordAt (leaves_room asked) w.questions_end) RecordAt plain turn reply limit w.fronts.answers_end parts.authorities w.kept.authorities w.fronts.authorities_end w.fronts.authorities) in
+    let third = additional_section op reply limit w.fronts.authorities_end w.fronts.additionals_end w.fronts.edns_end (length reply) parts.additionals w.kept.additionals parts.edns w.kept.edns parts.signature w.kept.signature back.additionals
+    (front_as (ReplyRecordAt (leaves_room asked) w.questions_end) RecordAt plain turn reply limit w.fronts.authorities_end parts.additionals w.kept.additionals w.fronts.additionals_end w.fronts.additionals) w.fronts.edns w.fronts.signature in
     record {
-      long = omega (arith, fronts_forward reply limit w.questions_end parts w.kept w.fronts, w.question_octets.behind);
+      long = omega (arith, fronts_forward (leaves_room asked) reply limit w.questions_end parts w.kept w.fronts, w.question_octets.behind);
       questions_end = w.questions_end;
       answers_end = w.fronts.answers_end;
       authorities_end = w.fronts.authorities_end;

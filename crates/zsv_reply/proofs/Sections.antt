@@ -12,7 +12,7 @@ use Rattle.zsv_request.specs.zsv_message.zst_record.dnw_encoder.Effects.{StaysTr
 use Rattle.zsv_request.proofs.zsv_message_lemmas.zst_record_lemmas.dnw_encoder_lemmas.Laws.{holds_more, holds_now, holds_same, holds_written, puts_stands, writes_same, writes_then}
 use Rattle.zsv_request.specs.zsv_message.zst_record.dnw_encoder.Members.{In}
 use Rattle.zsv_request.specs.zsv_message.zst_record.dnw_encoder.State.{State, at_offset}
-use Rattle.zsv_request.specs.zsv_message.zst_record.Records.{RecordAt, ReadsBackAlone, plain}
+use Rattle.zsv_request.specs.zsv_message.zst_record.Records.{ReadsBackAlone, plain}
 use Rattle.zsv_request.specs.zsv_message.zst_record.Writing.{EmitsRecord, RefusesRecord}
 use Rattle.zsv_request.specs.zsv_message.Messages.{OptAt}
 use Rattle.zsv_request.specs.zsv_message.zst_edns.Writing.{EdnsReadsBack, EmitsEdns, RefusesEdns}
@@ -24,9 +24,9 @@ use Rattle.zsv_request.specs.zsv_message.zsv_parts.Questions.{Asked}
 use Rattle.zsv_request.specs.zsv_message.zsv_parts.SignatureRecords.{EmitsTsigRecord, RefusesTsigRecord, TsigReadsBack, TsigRecordAt}
 use Rattle.zsv_request.proofs.zsv_message_lemmas.zsv_parts_lemmas.Flags.{reserved_zero}
 use Rattle.zsv_reply.specs.declared.fronts.Kept.{Kept}
-use Rattle.zsv_reply.specs.Replies.{Front, ReplyParts, header_of_reply, opt_plain, tsig_plain}
-use Rattle.zsv_reply.specs.Writing.{EmitsAdditionals, EmitsFront, IsEmitted, IsWritten}
-use Rattle.zsv_reply.proofs.FrontLaws.{emits_few, emits_fits}
+use Rattle.zsv_reply.specs.Replies.{Front, ReplyParts, ReplyRecordAt, header_of_reply, opt_plain, tsig_plain}
+use Rattle.zsv_reply.specs.Writing.{EmitsAdditionals, EmitsFront, IsEmitted, IsWritten, LeadsRecords}
+use Rattle.zsv_reply.proofs.FrontLaws.{IsSet, emits_few, emits_fits}
 use Rattle.zsv_reply.proofs.OptRecords.{options_stand, records_stand, signature_stands}
 
 -- An open place before the offset stays open.
@@ -51,19 +51,19 @@ reserved_at_last h last filled sound f =
     ap reserved_bit at.there ∙ reserved_zero h (drop (0 + length (header_octets h)) filled.octets)
 
 -- So many items together, of which each takes eleven octets, are counted by 16 bits.
-pub records_few : (xs : List Record) (written : Kept) (old new : State) → EmitsFront RecordAt plain xs written old new → 11 * written.count ≤ old.maximum
-records_few xs written old new f = emits_few RecordAt plain ReadsBackAlone EmitsRecord RefusesRecord records_stand xs written old new f
+pub records_few : (points : Bool) (first : ℕ) (xs : List Record) (written : Kept) (old new : State) → EmitsFront (ReplyRecordAt points first) plain xs written old new → 11 * written.count ≤ old.maximum
+records_few points first xs written old new f = emits_few (LeadsRecords points first) (ReplyRecordAt points first) plain ReadsBackAlone EmitsRecord RefusesRecord (records_stand points first) xs written old new f
 
 pub options_few : (xs : List Edns) (written : Kept) (old new : State) → EmitsFront OptAt opt_plain xs written old new → 11 * written.count ≤ old.maximum
-options_few xs written old new f = emits_few OptAt opt_plain EdnsReadsBack EmitsEdns RefusesEdns options_stand xs written old new f
+options_few xs written old new f = emits_few IsSet OptAt opt_plain EdnsReadsBack EmitsEdns RefusesEdns options_stand xs written old new f
 
 pub signature_few : (xs : List TsigRecord) (written : Kept) (old new : State) → EmitsFront TsigRecordAt tsig_plain xs written old new → 11 * written.count ≤ old.maximum
-signature_few xs written old new f = emits_few TsigRecordAt tsig_plain TsigReadsBack EmitsTsigRecord RefusesTsigRecord signature_stands xs written old new f
+signature_few xs written old new f = emits_few IsSet TsigRecordAt tsig_plain TsigReadsBack EmitsTsigRecord RefusesTsigRecord signature_stands xs written old new f
 
 -- Fronts of the additional records, of the options and of the signature, one behind the other.
-pub additionals_written : (records : List Record) (edns : Option Edns) (signature : Option TsigRecord) (one two three both all : Kept) (old mid later new : State) → EmitsFront RecordAt plain records one old mid → Writes old mid → EmitsFront OptAt opt_plain (option_to_list edns) two mid later → Writes mid later → EmitsFront TsigRecordAt tsig_plain (option_to_list signature) three later new → Writes later new →
-    (both.count ≡ one.count + two.count) × (both.is_cut ≡ (one.is_cut || two.is_cut)) → (all.count ≡ both.count + three.count) × (all.is_cut ≡ (both.is_cut || three.is_cut)) → EmitsAdditionals records edns signature all old new
-additionals_written records edns signature one two three both all old mid later new f w g v h u first second =
+pub additionals_written : (points : Bool) (first : ℕ) (records : List Record) (edns : Option Edns) (signature : Option TsigRecord) (one two three both all : Kept) (old mid later new : State) → EmitsFront (ReplyRecordAt points first) plain records one old mid → Writes old mid → EmitsFront OptAt opt_plain (option_to_list edns) two mid later → Writes mid later → EmitsFront TsigRecordAt tsig_plain (option_to_list signature) three later new → Writes later new →
+    (both.count ≡ one.count + two.count) × (both.is_cut ≡ (one.is_cut || two.is_cut)) → (all.count ≡ both.count + three.count) × (all.is_cut ≡ (both.is_cut || three.is_cut)) → EmitsAdditionals points first records edns signature all old new
+additionals_written points first records edns signature one two three both all old mid later new f w g v h u together whole =
     let behind = writes_then mid later new v u in
     let later_maximum : later.maximum ≡ old.maximum = v.modes.maximum ∙ w.modes.maximum in
     record {
@@ -72,8 +72,8 @@ additionals_written records edns signature one two three both all old mid later 
       kept_signature = h.kept;
       records_end = mid.offset;
       edns_end = later.offset;
-      counted = omega (arith, f.counted, g.counted, h.counted, first.0, second.0);
-      cut = (λ i. (f.cut i || g.cut i) || h.cut i) ∙ sym (second.1 ∙ ap (λ (b : Bool). b || three.is_cut) first.1);
+      counted = omega (arith, f.counted, g.counted, h.counted, together.0, whole.0);
+      cut = (λ i. (f.cut i || g.cut i) || h.cut i) ∙ sym (whole.1 ∙ ap (λ (b : Bool). b || three.is_cut) together.1);
       records_stay = holds_more mid.offset new.offset new _ behind.forward (holds_written mid.offset mid new _ behind (omega arith) f.stays);
       options_stay = subst (λ (k : ℕ). StaysTrue new new.offset (λ message. Front OptAt opt_plain message k mid.offset (option_to_list edns) g.kept later.offset)) w.modes.maximum
           (holds_more later.offset new.offset new _ u.forward (holds_written later.offset later new _ u (omega arith) g.stays));
@@ -82,7 +82,7 @@ additionals_written records edns signature one two three both all old mid later 
         arith,
         later_maximum,
         emits_fits TsigRecordAt tsig_plain (option_to_list signature) three later new h
-            (omega (arith, later_maximum, w.modes.maximum, emits_fits OptAt opt_plain (option_to_list edns) two mid later g (omega (arith, w.modes.maximum, emits_fits RecordAt plain records one old mid f within)))),
+            (omega (arith, later_maximum, w.modes.maximum, emits_fits OptAt opt_plain (option_to_list edns) two mid later g (omega (arith, w.modes.maximum, emits_fits (ReplyRecordAt points first) plain records one old mid f within)))),
       );
     }
 
@@ -90,6 +90,11 @@ additionals_written records edns signature one two three both all old mid later 
 pub if_ok : {T E : Type 0} {P Q : T → Type 0} (r : Result T E) → ((x : T) → P x → Q x) → IfOk r P → IfOk r Q
 if_ok (Ok x) f p = f x p
 if_ok (Err e) f p = tt
+
+-- What an encoder leads to holds however its records begin.
+pub leads_all : {T E : Type 0} (Q : T → Bool → ℕ → Type 0) (old : State) (r : Result T E) → ((points : Bool) (first : ℕ) → LeadsRecords points first old → IfOk r (λ x. Q x points first)) → IfOk r (λ x. (points : Bool) (first : ℕ) → LeadsRecords points first old → Q x points first)
+leads_all Q old (Ok x) f = f
+leads_all Q old (Err e) f = tt
 
 pub if_err : {T E : Type 0} {P Q : E → Type 0} (r : Result T E) → ((e : E) → P e → Q e) → IfErr r P → IfErr r Q
 if_err (Ok x) f p = tt
@@ -123,56 +128,57 @@ header_refused told start maximum size e front same room (inl memory) = inl memo
 header_refused told start maximum size e front same room (inr refused) = absurd (omega (arith, refused.1, front, same, room))
 
 -- The steps of a reply: the place of its header, the questions, a front of each list, the header.
-pub record Steps (h : Header) (parts : ReplyParts) (answers authorities additionals : Kept) (question_octets : List ℕ) (questions : ℕ) (opened asked answered vouched told filled : State) : Type 0 where
+pub record Steps (points : Bool) (h : Header) (parts : ReplyParts) (answers authorities additionals : Kept) (question_octets : List ℕ) (questions : ℕ) (opened asked answered vouched told filled : State) : Type 0 where
   pub sound : Sound opened
   pub twelve : opened.offset ≡ 12
-  pub question : WritesOctets question_octets opened asked
+  pub question : StaysTrue asked asked.offset (λ message. Stands message opened.offset question_octets (opened.offset + length question_octets))
+  pub question_offset : asked.offset ≡ opened.offset + length question_octets
   pub asks : Writes opened asked
-  pub answers_front : EmitsFront RecordAt plain parts.answers answers asked answered
+  pub answers_front : EmitsFront (ReplyRecordAt points asked.offset) plain parts.answers answers asked answered
   pub answers_writes : Writes asked answered
-  pub authorities_front : EmitsFront RecordAt plain parts.authorities authorities answered vouched
+  pub authorities_front : EmitsFront (ReplyRecordAt points asked.offset) plain parts.authorities authorities answered vouched
   pub authorities_writes : Writes answered vouched
-  pub additionals_front : EmitsAdditionals parts.additionals parts.edns parts.signature additionals vouched told
+  pub additionals_front : EmitsAdditionals points asked.offset parts.additionals parts.edns parts.signature additionals vouched told
   pub additionals_writes : Writes vouched told
   pub header : Fills 0 (header_octets h) told filled
   pub back : (rest : List ℕ) → header_of (header_octets h ++ rest) ≡ h
   pub says : h ≡ header_of_reply parts.metadata (answers.is_cut || authorities.is_cut || additionals.is_cut) questions answers.count authorities.count additionals.count
 
 -- They write the reply.
-steps_write : (h : Header) (parts : ReplyParts) (answers authorities additionals : Kept) (question_octets : List ℕ) (questions : ℕ) (opened asked answered vouched told filled : State) (limit : ℕ) → Steps h parts answers authorities additionals question_octets questions opened asked answered vouched told filled →
+steps_write : (points : Bool) (h : Header) (parts : ReplyParts) (answers authorities additionals : Kept) (question_octets : List ℕ) (questions : ℕ) (opened asked answered vouched told filled : State) (limit : ℕ) → Steps points h parts answers authorities additionals question_octets questions opened asked answered vouched told filled →
     opened.maximum ≡ limit → 12 + length question_octets ≤ limit →
-    IsWritten filled.octets parts questions question_octets limit
-steps_write h parts answers authorities additionals question_octets questions opened asked answered vouched told filled limit s maximum room =
+    IsWritten points filled.octets parts questions question_octets limit
+steps_write points h parts answers authorities additionals question_octets questions opened asked answered vouched told filled limit s maximum room =
     let one = s.answers_front in
     let two = s.authorities_front in
     let three = s.additionals_front in
     let last_two = writes_then answered vouched told s.authorities_writes s.additionals_writes in
     let all = writes_then asked answered told s.answers_writes last_two in
     let sound = all.sound (s.asks.sound s.sound) in
-    let asked_maximum : asked.maximum ≡ limit = s.question.modes.maximum ∙ maximum in
+    let asked_maximum : asked.maximum ≡ limit = s.asks.modes.maximum ∙ maximum in
     let answered_maximum : answered.maximum ≡ limit = s.answers_writes.modes.maximum ∙ asked_maximum in
     let vouched_maximum : vouched.maximum ≡ limit = s.authorities_writes.modes.maximum ∙ answered_maximum in
-    let first : asked.offset ≡ 12 + length question_octets = omega (arith, s.question.offset, s.twelve) in
+    let first : asked.offset ≡ 12 + length question_octets = omega (arith, s.question_offset, s.twelve) in
     let last : length filled.octets ≡ told.offset = sym (s.header.sound sound).at_end ∙ s.header.offset in
-    let question = stands_at_last asked.offset _ _ asked told filled all (omega arith) s.header (puts_stands question_octets opened asked s.sound s.question) in
+    let question = stands_at_last asked.offset _ _ asked told filled all (omega arith) s.header s.question in
     let answers_there = stands_at_last answered.offset _ _ answered told filled last_two (omega arith) s.header one.stays in
     let authorities_there = stands_at_last vouched.offset _ _ vouched told filled s.additionals_writes (omega arith) s.header two.stays in
     let additionals_there = stands_at_last told.offset _ _ told told filled (writes_same told) (omega arith) s.header three.records_stay in
     let options_there = stands_at_last told.offset _ _ told told filled (writes_same told) (omega arith) s.header three.options_stay in
     let signature_there = stands_at_last told.offset _ _ told told filled (writes_same told) (omega arith) s.header three.signature_stays in
-    let answered_fits = emits_fits RecordAt plain parts.answers answers asked answered one (omega (arith, first, asked_maximum, room)) in
-    let vouched_fits = emits_fits RecordAt plain parts.authorities authorities answered vouched two (omega (arith, answered_fits, answered_maximum, asked_maximum)) in
+    let answered_fits = emits_fits (ReplyRecordAt points asked.offset) plain parts.answers answers asked answered one (omega (arith, first, asked_maximum, room)) in
+    let vouched_fits = emits_fits (ReplyRecordAt points asked.offset) plain parts.authorities authorities answered vouched two (omega (arith, answered_fits, answered_maximum, asked_maximum)) in
     record {
       kept = record { answers = one.kept; authorities = two.kept; additionals = three.kept; edns = three.kept_edns; signature = three.kept_signature };
-      asked = rw (sym first) (subst (λ (p : ℕ). Stands filled.octets p question_octets asked.offset) s.twelve question);
+      asked = subst (λ (p : ℕ). Stands filled.octets p question_octets (p + length question_octets)) s.twelve question;
       fronts = record {
         answers_end = answered.offset;
         authorities_end = vouched.offset;
         additionals_end = three.records_end;
         edns_end = three.edns_end;
         answers = rw (sym first, sym asked_maximum) answers_there;
-        authorities = subst (λ (k : ℕ). Front RecordAt plain filled.octets k answered.offset parts.authorities two.kept vouched.offset) answered_maximum authorities_there;
-        additionals = subst (λ (k : ℕ). Front RecordAt plain filled.octets k vouched.offset parts.additionals three.kept three.records_end) vouched_maximum additionals_there;
+        authorities = rw (sym first) (subst (λ (k : ℕ). Front (ReplyRecordAt points asked.offset) plain filled.octets k answered.offset parts.authorities two.kept vouched.offset) answered_maximum authorities_there);
+        additionals = rw (sym first) (subst (λ (k : ℕ). Front (ReplyRecordAt points asked.offset) plain filled.octets k vouched.offset parts.additionals three.kept three.records_end) vouched_maximum additionals_there);
         edns = subst (λ (k : ℕ). Front OptAt opt_plain filled.octets k three.records_end (option_to_list parts.edns) three.kept_edns three.edns_end) vouched_maximum options_there;
         signature = rw last (subst (λ (k : ℕ). Front TsigRecordAt tsig_plain filled.octets k three.edns_end (option_to_list parts.signature) three.kept_signature told.offset) vouched_maximum signature_there);
       };
@@ -181,13 +187,13 @@ steps_write h parts answers authorities additionals question_octets questions op
       within = omega (arith, last, three.fits (omega (arith, vouched_fits, vouched_maximum, answered_maximum)), vouched_maximum);
     }
 
-pub steps_emit : (h : Header) (parts : ReplyParts) (answers authorities additionals : Kept) (questions : Asked) (opened asked answered vouched told filled : State) (limit : ℕ) → Steps h parts answers authorities additionals questions.octets (length questions.questions) opened asked answered vouched told filled →
+pub steps_emit : (points : Bool) (h : Header) (parts : ReplyParts) (answers authorities additionals : Kept) (questions : Asked) (opened asked answered vouched told filled : State) (limit : ℕ) → Steps points h parts answers authorities additionals questions.octets (length questions.questions) opened asked answered vouched told filled →
     opened.maximum ≡ limit → 12 + length questions.octets ≤ limit → (info : Header) → info ≡ h →
-    IsEmitted info filled.octets parts questions limit
-steps_emit h parts answers authorities additionals questions opened asked answered vouched told filled limit s maximum room info is =
+    IsEmitted points info filled.octets parts questions limit
+steps_emit points h parts answers authorities additionals questions opened asked answered vouched told filled limit s maximum room info is =
     let after = writes_then answered vouched told s.authorities_writes s.additionals_writes in
     let sound = (writes_then asked answered told s.answers_writes after).sound (s.asks.sound s.sound) in
     record {
-      written = steps_write h parts answers authorities additionals questions.octets (length questions.questions) opened asked answered vouched told filled limit s maximum room;
+      written = steps_write points h parts answers authorities additionals questions.octets (length questions.questions) opened asked answered vouched told filled limit s maximum room;
       header = is ∙ sym (header_at_last h told filled sound s.header s.back);
     }

@@ -1,13 +1,16 @@
 -- A reply: what it holds in full, and how that stands in octets, cut at a limit (RFC 1035, section
 -- 4.1; RFC 2181, section 9; RFC 6891, section 6.1; RFC 8945, section 5.1; RFC 9471, section 3.1).
-use Rattle.std.specs.Prelude.{◌≡◌, ℕ, ◌+◌, ◌<◌, ◌≤◌, Bool, false, ◌||◌, List, [], ◌∷◌, length, nat_lt, Option, option_to_list}
+use Rattle.std.specs.Prelude.{◌≡◌, ℕ, ◌+◌, ◌<◌, ◌≤◌, Bool, true, false, ◌&&◌, ◌||◌, List, [], ◌∷◌, length, nat_le, nat_lt, Option, option_to_list}
 use Rattle.zsv_request.specs.zsv_message.zst_record.declared.records.Record.{Record}
 use Rattle.zsv_request.specs.zsv_message.zst_record.dnw_decoder.Octets.{Stands}
+use Rattle.zsv_request.specs.zsv_message.zst_record.dnw_decoder.Spelling.{NameAt}
+use Rattle.zsv_request.specs.zsv_message.zst_record.dnw_name.DomainName.{name_octets}
 use Rattle.zsv_request.specs.zsv_message.zst_record.Records.{RecordAt, plain}
 use Rattle.zsv_request.specs.zsv_message.Messages.{OptAt}
 use Rattle.zsv_request.specs.zsv_message.zst_edns.Writing.{opt_octets}
 use Rattle.zsv_request.specs.zsv_message.zst_edns.declared.edns.Edns.{Edns}
 use Rattle.zsv_request.specs.zsv_message.zsv_parts.declared.header.Metadata.{Metadata}
+use Rattle.zsv_request.specs.zsv_message.zsv_parts.declared.question.Query.{Query}
 use Rattle.zsv_request.specs.zsv_message.zsv_parts.declared.header.Header.{Header}
 use Rattle.zsv_request.specs.zsv_message.zsv_parts.declared.header.MessageType.TheVariants as messages
 use Rattle.zsv_request.specs.zsv_message.zsv_parts.declared.header.OpCode.TheVariants as operations
@@ -46,6 +49,26 @@ Front At plain reply limit place (x ∷ xs) (k ∷ ks) end =
     (behind : ℕ) × (k ≡ x) × At reply place k behind × (behind ≤ place + plain k)
     × Front At plain reply limit behind xs ks end
 Front At plain reply limit place [] (k ∷ ks) end = ⊥
+
+-- A record of a reply whose records begin at a place: behind the first of them, one of the same
+-- owner takes two octets for it, where owners are to point (RFC 1035, section 4.1.4).
+pub record ReplyRecordAt (points : Bool) (first : ℕ) (reply : List ℕ) (place : ℕ) (r : Record)
+    (end : ℕ) : Type 0 where
+  pub there : RecordAt reply place r end
+  pub owner : points ≡ true → first < place → 0 < length r.name.labels → (behind : ℕ)
+      → NameAt reply first r.name behind
+      → end + length (name_octets r.name) ≤ place + plain r + 2
+
+-- How many labels the first question has, whose names are the first to which later ones may point.
+abbrev pub first_labels : List Query → ℕ
+first_labels [] = 0
+first_labels (q ∷ qs) = length q.name.labels
+
+-- The questions leave room for the first owner as one to which later ones point: of the 64 such
+-- names one is left, and a pointer tells its place.
+abbrev pub leaves_room : Asked → Bool
+leaves_room asked =
+    nat_lt (12 + length asked.octets) 16383 && nat_le (first_labels asked.questions) 63
 
 -- A header with these counts, that says whether something was left out. Of the response code it has
 -- the last four bits: an OPT record holds those above (RFC 6891, section 6.1.3).
@@ -94,17 +117,18 @@ header_of_fronts parts questions kept =
     (length kept.additionals + length kept.edns + length kept.signature)
 
 -- The fronts stand one behind the other, from a place on up to the end of the reply.
-pub record FrontsAt (reply : List ℕ) (limit place : ℕ) (parts : ReplyParts) (kept : Fronts) :
-    Type 0 where
+pub record FrontsAt (points : Bool) (reply : List ℕ) (limit place : ℕ) (parts : ReplyParts)
+    (kept : Fronts) : Type 0 where
   pub answers_end : ℕ
   pub authorities_end : ℕ
   pub additionals_end : ℕ
   pub edns_end : ℕ
-  pub answers : Front RecordAt plain reply limit place parts.answers kept.answers answers_end
-  pub authorities : Front RecordAt plain reply limit answers_end parts.authorities kept.authorities
-      authorities_end
-  pub additionals : Front RecordAt plain reply limit authorities_end parts.additionals
-      kept.additionals additionals_end
+  pub answers : Front (ReplyRecordAt points place) plain reply limit place parts.answers
+      kept.answers answers_end
+  pub authorities : Front (ReplyRecordAt points place) plain reply limit answers_end
+      parts.authorities kept.authorities authorities_end
+  pub additionals : Front (ReplyRecordAt points place) plain reply limit authorities_end
+      parts.additionals kept.additionals additionals_end
   pub edns : Front OptAt opt_plain reply limit additionals_end (option_to_list parts.edns) kept.edns
       edns_end
   pub signature : Front TsigRecordAt tsig_plain reply limit edns_end
@@ -121,7 +145,7 @@ pub record IsWholeReply (message reply : List ℕ) (parts : ReplyParts) (asked :
   pub questions : (there : Entries (QuestionAt message) 12 asked.questions questions_end)
       → AvoidsHeader message 12 asked.questions questions_end there
       → QuestionsAt reply 12 (length asked.questions) asked.questions questions_end
-  pub fronts : FrontsAt reply limit questions_end parts kept
+  pub fronts : FrontsAt (leaves_room asked) reply limit questions_end parts kept
   pub header : header_of reply ≡ header_of_fronts parts (length asked.questions) kept
 
 -- What is left to say where not even the questions fit.

@@ -1,14 +1,17 @@
 -- A reply as an encoder writes it: as many records of each list as fit, then options of EDNS and a
 -- signature, then the header over them.
-use Rattle.std.specs.Prelude.{◌≡◌, ℕ, ◌+◌, ◌^◌, ◌<◌, ◌≤◌, Bool, true, false, ◌||◌, List, length, Option, option_to_list, Result, Ok, Err}
+use Rattle.std.specs.Prelude.{◌≡◌, ℕ, ◌+◌, ◌^◌, ◌<◌, ◌≤◌, Bool, true, false, ◌&&◌, ◌||◌, List, length, nat_le, nat_lt, Option, option_to_list, Result, Ok, Err}
 use Rattle.std.specs.List.{AllByRecursion}
 use Rattle.zsv_request.specs.zsv_message.zst_record.dnw_codes.declared.error.ProtoError.{ProtoError}
 use Rattle.zsv_request.specs.zsv_message.zst_record.dnw_codes.declared.error.ProtoError.TheVariants.{NotAllRecordsWritten}
 use Rattle.zsv_request.specs.zsv_message.zst_record.dnw_decoder.Octets.{Stands}
-use Rattle.zsv_request.specs.zsv_message.zst_record.dnw_encoder.Effects.{StaysTrue}
+use Rattle.zsv_request.specs.zsv_message.zst_record.dnw_encoder.Effects.{Agrees, Has, StaysTrue}
 use Rattle.zsv_request.specs.zsv_message.zst_record.dnw_encoder.State.{State}
+use Rattle.zsv_request.specs.zsv_message.zst_record.dnw_decoder.Spelling.{NameAt}
+use Rattle.zsv_request.specs.zsv_message.zst_record.dnw_name.DomainName.{DomainName, name_octets}
+use Rattle.zsv_request.specs.zsv_message.zst_record.drd_rdata.Writing.{WritesInFull}
 use Rattle.zsv_request.specs.zsv_message.zst_record.declared.records.Record.{Record}
-use Rattle.zsv_request.specs.zsv_message.zst_record.Records.{RecordAt, ReadsBackAlone, plain}
+use Rattle.zsv_request.specs.zsv_message.zst_record.Records.{ReadsBackAlone, plain}
 use Rattle.zsv_request.specs.zsv_message.Messages.{OptAt}
 use Rattle.zsv_request.specs.zsv_message.zst_edns.Writing.{EdnsReadsBack}
 use Rattle.zsv_request.specs.zsv_message.zst_edns.declared.edns.Edns.{Edns}
@@ -19,7 +22,7 @@ use Rattle.zsv_request.specs.zsv_message.zsv_parts.Headers.{header_of, op_code_n
 use Rattle.zsv_request.specs.zsv_message.zsv_parts.Questions.{Asked}
 use Rattle.zsv_request.specs.zsv_message.zsv_parts.SignatureRecords.{TsigReadsBack, TsigRecordAt}
 use Rattle.zsv_reply.specs.declared.fronts.Kept.{Kept}
-use Rattle.zsv_reply.specs.Replies.{Front, Fronts, FrontsAt, ReplyParts, bare_failure, header_of_fronts, header_of_reply, is_cut, opt_plain, tsig_plain}
+use Rattle.zsv_reply.specs.Replies.{Front, Fronts, FrontsAt, ReplyParts, ReplyRecordAt, bare_failure, first_labels, header_of_fronts, header_of_reply, is_cut, leaves_room, opt_plain, tsig_plain}
 
 -- An operation that four bits hold.
 pub record FitsOpCode (m : Metadata) : Type 0 where
@@ -57,10 +60,39 @@ pub record EmitsFront {X : Type 0} (At : List ℕ → ℕ → X → ℕ → Type
       (λ message. Front At size message old.maximum old.offset items kept new.offset)
   pub room : 0 < written.count → new.offset ≤ old.maximum
 
+-- Questions were written as they were sent: they stand there, in the finished message too. Names to
+-- which later ones may point are at most those of the first one's labels.
+pub record EmitsQuestions (asked : Asked) (old new : State) : Type 0 where
+  pub stays : StaysTrue new new.offset
+      (λ message. Stands message old.offset asked.octets (old.offset + length asked.octets))
+  pub offset : new.offset ≡ old.offset + length asked.octets
+  pub few : length new.candidates ≤ length old.candidates + first_labels asked.questions
+
+-- Owners point to the first one in a reply with these questions that an encoder begins.
+abbrev pub lets_point : State → Asked → Bool
+lets_point s asked =
+    s.points
+    && (nat_lt (12 + length asked.octets) 16383
+    && nat_le (length s.candidates + first_labels asked.questions) 63)
+
+-- An encoder goes on writing the records of a reply, which begin at a place: the owner of the first
+-- of them is one to which later ones point, where they are to, or there is room for it.
+pub record LeadsRecords (points : Bool) (first : ℕ) (s : State) : Type 0 where
+  pub in_full : WritesInFull s
+  pub small : s.maximum < 2 ^ 16
+  pub before : first ≤ s.offset
+  pub pointing : points ≡ true → s.points ≡ true
+  pub early : points ≡ true → first < 16383
+  pub room : points ≡ true → s.offset ≡ first → length s.candidates < 64
+  pub known : points ≡ true → first < s.offset → (later : List ℕ) → Agrees s s.offset later
+      → (name : DomainName) (behind : ℕ) → NameAt later first name behind
+      → 0 < length name.labels → Has s.candidates (name_octets name)
+
 -- The fronts of the additional records, of the options and of the signature were written, one
 -- behind the other: so many records together.
-pub record EmitsAdditionals (records : List Record) (edns : Option Edns)
-    (signature : Option TsigRecord) (written : Kept) (old new : State) : Type 0 where
+pub record EmitsAdditionals (points : Bool) (first : ℕ) (records : List Record)
+    (edns : Option Edns) (signature : Option TsigRecord) (written : Kept) (old new : State) :
+    Type 0 where
   pub kept : List Record
   pub kept_edns : List Edns
   pub kept_signature : List TsigRecord
@@ -70,7 +102,9 @@ pub record EmitsAdditionals (records : List Record) (edns : Option Edns)
   pub cut : ((is_cut records kept || is_cut (option_to_list edns) kept_edns)
       || is_cut (option_to_list signature) kept_signature) ≡ written.is_cut
   pub records_stay : StaysTrue new new.offset
-      (λ message. Front RecordAt plain message old.maximum old.offset records kept records_end)
+      (λ message.
+      Front (ReplyRecordAt points first) plain message old.maximum old.offset records kept
+      records_end)
   pub options_stay : StaysTrue new new.offset
       (λ message.
       Front OptAt opt_plain message old.maximum records_end (option_to_list edns) kept_edns
@@ -83,19 +117,19 @@ pub record EmitsAdditionals (records : List Record) (edns : Option Edns)
 
 -- A reply as it is written: the header, the questions as they were sent, a front of each list, and
 -- nothing behind.
-pub record IsWritten (reply : List ℕ) (parts : ReplyParts) (questions : ℕ)
+pub record IsWritten (points : Bool) (reply : List ℕ) (parts : ReplyParts) (questions : ℕ)
     (question_octets : List ℕ) (limit : ℕ) : Type 0 where
   pub kept : Fronts
   pub asked : Stands reply 12 question_octets (12 + length question_octets)
-  pub fronts : FrontsAt reply limit (12 + length question_octets) parts kept
+  pub fronts : FrontsAt points reply limit (12 + length question_octets) parts kept
   pub header : header_of reply ≡ header_of_fronts parts questions kept
   pub reserved : reserved_bit reply ≡ false
   pub within : length reply ≤ limit
 
 -- A reply that was written, and its header.
-pub record IsEmitted (info : Header) (reply : List ℕ) (parts : ReplyParts) (asked : Asked)
-    (limit : ℕ) : Type 0 where
-  pub written : IsWritten reply parts (length asked.questions) asked.octets limit
+pub record IsEmitted (points : Bool) (info : Header) (reply : List ℕ) (parts : ReplyParts)
+    (asked : Asked) (limit : ℕ) : Type 0 where
+  pub written : IsWritten points reply parts (length asked.questions) asked.octets limit
   pub header : info ≡ header_of reply
 
 -- A header alone, which says that the server failed.
@@ -111,5 +145,6 @@ pub record IsEncoded (info : Header) (reply : List ℕ) (parts : ReplyParts) (as
     (limit : ℕ) : Type 0 where
   pub within : length reply ≤ limit
   pub reserved : reserved_bit reply ≡ false
-  pub whole : 12 + length asked.octets ≤ limit → IsEmitted info reply parts asked limit
+  pub whole : 12 + length asked.octets ≤ limit
+      → IsEmitted (leaves_room asked) info reply parts asked limit
   pub bare : limit < 12 + length asked.octets → IsBare info reply parts.metadata.id

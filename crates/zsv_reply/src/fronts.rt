@@ -1,19 +1,19 @@
 //! The lists of a reply, each written as far as it fits.
 
-ghost use Rattle.std.specs.Prelude.{◌≡◌, ◌+◌, ◌^◌, ◌<◌, ◌≤◌, ◌||◌, ◌++◌, List, Ok, option_copied, option_to_list, IfOk, IfErr, MatchResult};
+ghost use Rattle.std.specs.Prelude.{◌≡◌, ◌+◌, ◌^◌, ◌<◌, ◌≤◌, ◌||◌, ◌++◌, ℕ, Bool, List, Ok, option_copied, option_to_list, IfOk, IfErr, MatchResult};
 ghost use Rattle.std.specs.Iterator.{AlwaysYields};
 ghost use Rattle.std.specs.List.{AllByRecursion};
 ghost use Rattle.zsv_request.specs.zsv_message.Messages.{OptAt};
 ghost use Rattle.zsv_request.specs.zsv_message.zst_edns.Writing.{EdnsReadsBack};
-ghost use Rattle.zsv_request.specs.zsv_message.zst_record.Records.{RecordAt, ReadsBackAlone, plain};
+ghost use Rattle.zsv_request.specs.zsv_message.zst_record.Records.{ReadsBackAlone, plain};
 ghost use Rattle.zsv_request.specs.zsv_message.zst_record.declared.records.Record.{Record};
 ghost use Rattle.zsv_request.specs.zsv_message.zst_record.dnw_codes.ProtoError.{IsMemory};
 ghost use Rattle.zsv_request.specs.zsv_message.zst_record.dnw_encoder.Effects.{Writes};
 ghost use Rattle.zsv_request.specs.zsv_message.zst_record.dnw_encoder.Encoders.{state};
 ghost use Rattle.zsv_request.specs.zsv_message.zst_record.drd_rdata.Writing.{WritesInFull};
 ghost use Rattle.zsv_request.specs.zsv_message.zsv_parts.SignatureRecords.{TsigReadsBack, TsigRecordAt};
-ghost use Rattle.zsv_reply.specs.Replies.{opt_plain, tsig_plain};
-ghost use Rattle.zsv_reply.specs.Writing.{written_count, EmitsAdditionals, EmitsFront, IsNotKept};
+ghost use Rattle.zsv_reply.specs.Replies.{ReplyRecordAt, opt_plain, tsig_plain};
+ghost use Rattle.zsv_reply.specs.Writing.{written_count, EmitsAdditionals, EmitsFront, IsNotKept, LeadsRecords};
 
 use crate::lends::LendsRecord;
 use std::iter;
@@ -77,8 +77,10 @@ where
     ensures same_reference { encoder.new.buffer.ghost_name ≡ encoder.old.buffer.ghost_name }
     ensures writes { Writes (state encoder.old) (state encoder.new) }
     ensures ok { IfOk result
-        (λ kept. (lent : List Record) → AlwaysYields I.next_gives I.Item.lent records lent → AllByRecursion ReadsBackAlone lent
-        → EmitsFront RecordAt plain lent kept (state encoder.old) (state encoder.new)) }
+        (λ kept. (points : Bool) (first : ℕ) → LeadsRecords points first (state encoder.old)
+        → (lent : List Record) → AlwaysYields I.next_gives I.Item.lent records lent → AllByRecursion ReadsBackAlone lent
+        → EmitsFront (ReplyRecordAt points first) plain lent kept (state encoder.old) (state encoder.new)
+        × LeadsRecords points first (state encoder.new)) }
     ensures cause { IfErr result
         (λ e. (lent : List Record) → AlwaysYields I.next_gives I.Item.lent records lent → AllByRecursion ReadsBackAlone lent
         → IsMemory e) }
@@ -102,9 +104,11 @@ where
     ensures same_reference { encoder.new.buffer.ghost_name ≡ encoder.old.buffer.ghost_name }
     ensures writes { Writes (state encoder.old) (state encoder.new) }
     ensures ok { IfOk result
-        (λ kept. (lent : List Record) (more : List Record) → AlwaysYields I.next_gives I.Item.lent records lent
+        (λ kept. (points : Bool) (first : ℕ) → LeadsRecords points first (state encoder.old)
+        → (lent : List Record) (more : List Record) → AlwaysYields I.next_gives I.Item.lent records lent
         → AlwaysYields J.next_gives J.Item.lent later more → AllByRecursion ReadsBackAlone lent → AllByRecursion ReadsBackAlone more
-        → EmitsFront RecordAt plain (lent ++ more) kept (state encoder.old) (state encoder.new)) }
+        → EmitsFront (ReplyRecordAt points first) plain (lent ++ more) kept (state encoder.old) (state encoder.new)
+        × LeadsRecords points first (state encoder.new)) }
     ensures cause { IfErr result
         (λ e. (lent : List Record) (more : List Record) → AlwaysYields I.next_gives I.Item.lent records lent
         → AlwaysYields J.next_gives J.Item.lent later more → AllByRecursion ReadsBackAlone lent → AllByRecursion ReadsBackAlone more
@@ -176,10 +180,11 @@ where
     ensures same_reference { encoder.new.buffer.ghost_name ≡ encoder.old.buffer.ghost_name }
     ensures writes { Writes (state encoder.old) (state encoder.new) }
     ensures ok { IfOk result
-        (λ kept. (lent : List Record) → AlwaysYields I.next_gives I.Item.lent records lent → AllByRecursion ReadsBackAlone lent
+        (λ kept. (points : Bool) (first : ℕ) → LeadsRecords points first (state encoder.old)
+        → (lent : List Record) → AlwaysYields I.next_gives I.Item.lent records lent → AllByRecursion ReadsBackAlone lent
         → AllByRecursion EdnsReadsBack (option_to_list (option_copied edns.entry))
         → AllByRecursion TsigReadsBack (option_to_list (option_copied signature.entry))
-        → EmitsAdditionals lent (option_copied edns.entry) (option_copied signature.entry) kept (state encoder.old) (state encoder.new)) }
+        → EmitsAdditionals points first lent (option_copied edns.entry) (option_copied signature.entry) kept (state encoder.old) (state encoder.new)) }
     ensures cause { IfErr result
         (λ e. (lent : List Record) → AlwaysYields I.next_gives I.Item.lent records lent → AllByRecursion ReadsBackAlone lent
         → AllByRecursion EdnsReadsBack (option_to_list (option_copied edns.entry))

@@ -15,6 +15,7 @@ mod fronts;
 mod header;
 mod lends;
 mod message_response;
+mod questions;
 
 pub use builder::{MessageResponseBuilder, NoRecords};
 pub use lends::LendsRecord;

@@ -8,20 +8,20 @@ ghost use Rattle.zsv_request.specs.zsv_message.zst_record.dnw_encoder.Encoders.{
 ghost use Rattle.zsv_request.specs.zsv_message.zst_record.drd_rdata.Writing.{WritesInFull};
 ghost use Rattle.zsv_reply.specs.Lending.{Holds};
 ghost use Rattle.zsv_reply.specs.Replies.{ReplyParts};
-ghost use Rattle.zsv_reply.specs.Writing.{AllReadBack, FitsOpCode, IsEmitted, IsEncoded};
+ghost use Rattle.zsv_reply.specs.Writing.{AllReadBack, FitsOpCode, IsEmitted, IsEncoded, lets_point};
 
 use crate::fronts::{emit_additionals, emit_front, emit_section};
 use crate::header::{encode_failure, header_over};
 use crate::lends::LendsRecord;
+use crate::questions::emit_questions;
 use std::alloc::{AllocError, Global};
 use zsv_request::{
-    BinEncoder, Edns, Header, Metadata, NameEncoding, ProtoError, Protocol, Queries, ResponseInfo,
-    TsigRecord,
+    BinEncoder, Edns, Header, Metadata, ProtoError, Protocol, Queries, ResponseInfo, TsigRecord,
 };
 
 /// What a reply holds in full: what its header says, the questions as they were sent, and for each list of records an
 /// iterator that lends them. `MessageResponseBuilder` makes it.
-#[derive(Drop)]
+#[derive(Debug, Drop)]
 pub struct MessageResponse<'q, 'm, A, N, S, D> {
     // What the header says beside the counts; truncation is set when the reply is written.
     pub(crate) metadata: Metadata,
@@ -107,7 +107,8 @@ where
         ensures ok { IfOk result
             (λ info. (parts : ReplyParts)
             → Holds A.next_gives A.Item.lent N.next_gives N.Item.lent S.next_gives S.Item.lent D.next_gives D.Item.lent self.entry parts
-            → AllReadBack parts → IsEmitted info (state encoder.new).octets parts self.entry.queries.now (state encoder.old).maximum) }
+            → AllReadBack parts → IsEmitted (lets_point (state encoder.old) self.entry.queries.now) info (state encoder.new).octets parts
+            self.entry.queries.now (state encoder.old).maximum) }
         ensures cause { IfErr result
             (λ e. (parts : ReplyParts)
             → Holds A.next_gives A.Item.lent N.next_gives N.Item.lent S.next_gives S.Item.lent D.next_gives D.Item.lent self.entry parts
@@ -115,7 +116,7 @@ where
     {
         let queries = self.queries;
         let place = encoder.place::<Header>()?;
-        encoder.emit_vec(queries.as_bytes())?;
+        emit_questions(encoder, queries)?;
         let answers = emit_front(encoder, self.answers)?;
         let authorities = emit_section(encoder, self.authorities, self.soa)?;
         let additionals = emit_additionals(encoder, self.additionals, self.edns, self.signature)?;
@@ -146,7 +147,7 @@ where
         let id = self.metadata.id;
         let limit = protocol.limit(self.edns);
         let mut reply = Vec::with_capacity(alloc, 512)?;
-        let mut encoder = BinEncoder::with_offset(&mut reply, 0, NameEncoding::Uncompressed);
+        let mut encoder = BinEncoder::new(&mut reply);
         encoder.set_max_size(limit);
         let written = self.destructive_emit(&mut encoder);
         encoder.into_bytes();

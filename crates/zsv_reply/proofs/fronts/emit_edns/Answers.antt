@@ -8,7 +8,7 @@ use Rattle.zsv_request.specs.zsv_message.zst_edns.Writing.{EdnsReadsBack, EmitsE
 use Rattle.zsv_request.specs.zsv_message.zst_edns.declared.edns.Edns.{Edns}
 use Rattle.zsv_reply.specs.Replies.{opt_plain}
 use Rattle.zsv_reply.specs.Writing.{EmitsFront}
-use Rattle.zsv_reply.proofs.FrontLaws.{front_kept, front_refused}
+use Rattle.zsv_reply.proofs.FrontLaws.{IsSet, front_kept, front_refused}
 use Rattle.zsv_reply.proofs.Lending.{once_yielded}
 use Rattle.zsv_reply.proofs.OptRecords.{options_stand}
 use Rattle.zsv_reply.proofs.Sections.{if_err, if_ok}
@@ -20,8 +20,8 @@ returns-in-Some-clause-ok c =
     let new = state c.emit_all.new.self in
     let yields = once_yielded (λ (lender : Bor Edns). lender.now) c.once.result c.in-Some.edns c.once.ensures.item in
     if_ok c.kept_of.result (λ kept emits back. subst (λ (e : Option (Bor Edns)). EmitsFront OptAt opt_plain (option_to_list (option_copied e)) kept old new) (sym c.in-Some.is)
-    (emits (c.in-Some.edns.now ∷ []) yields (subst (λ (e : Option (Bor Edns)). AllByRecursion EdnsReadsBack (option_to_list (option_copied e))) c.in-Some.is back)))
-    (front_kept OptAt opt_plain EdnsReadsBack EmitsEdns RefusesEdns options_stand once_steps (λ (lender : Bor Edns). lender.now) _ _ (λ edns old new one. one) (λ edns old e new refused. refused) c.once.result old new c.emit_all.result c.requires.in_full c.requires.small c.emit_all.ensures.ok c.emit_all.ensures.stopped c.kept_of.result c.kept_of.ensures.ok)
+    (emits (c.in-Some.edns.now ∷ []) yields (subst (λ (e : Option (Bor Edns)). AllByRecursion EdnsReadsBack (option_to_list (option_copied e))) c.in-Some.is back)).0)
+    (front_kept IsSet OptAt opt_plain EdnsReadsBack EmitsEdns RefusesEdns options_stand once_steps (λ (lender : Bor Edns). lender.now) _ _ (λ edns old new one. one) (λ edns old e new refused. refused) c.once.result old new c.emit_all.result (record { in_full = c.requires.in_full; small = c.requires.small }) c.emit_all.ensures.ok c.emit_all.ensures.stopped c.kept_of.result c.kept_of.ensures.ok)
 
 pub returns-in-Some-clause-cause : goal.returns-in-Some-clause-cause
 returns-in-Some-clause-cause c =
@@ -29,4 +29,4 @@ returns-in-Some-clause-cause c =
     let new = state c.emit_all.new.self in
     let yields = once_yielded (λ (lender : Bor Edns). lender.now) c.once.result c.in-Some.edns c.once.ensures.item in
     if_err c.kept_of.result (λ e memory back. memory (c.in-Some.edns.now ∷ []) yields (subst (λ (e : Option (Bor Edns)). AllByRecursion EdnsReadsBack (option_to_list (option_copied e))) c.in-Some.is back))
-    (front_refused OptAt opt_plain EdnsReadsBack EmitsEdns RefusesEdns options_stand once_steps (λ (lender : Bor Edns). lender.now) _ _ (λ edns old new one. one) (λ edns old e new refused. refused) c.once.result old new c.emit_all.result c.requires.in_full c.requires.small c.emit_all.ensures.ok c.emit_all.ensures.stopped c.kept_of.result c.kept_of.ensures.cause)
+    (front_refused IsSet OptAt opt_plain EdnsReadsBack EmitsEdns RefusesEdns options_stand once_steps (λ (lender : Bor Edns). lender.now) _ _ (λ edns old new one. one) (λ edns old e new refused. refused) c.once.result old new c.emit_all.result (record { in_full = c.requires.in_full; small = c.requires.small }) c.emit_all.ensures.ok c.emit_all.ensures.stopped c.kept_of.result c.kept_of.ensures.cause)

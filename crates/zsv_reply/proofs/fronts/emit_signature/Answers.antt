@@ -7,7 +7,7 @@ use Rattle.zsv_request.specs.zsv_message.zsv_parts.SignatureRecords.{EmitsTsigRe
 use Rattle.zsv_request.specs.zsv_message.zsv_parts.declared.tsig.TsigRecord.{TsigRecord}
 use Rattle.zsv_reply.specs.Replies.{tsig_plain}
 use Rattle.zsv_reply.specs.Writing.{EmitsFront}
-use Rattle.zsv_reply.proofs.FrontLaws.{front_kept, front_refused}
+use Rattle.zsv_reply.proofs.FrontLaws.{IsSet, front_kept, front_refused}
 use Rattle.zsv_reply.proofs.Lending.{once_yielded}
 use Rattle.zsv_reply.proofs.OptRecords.{signature_stands}
 use Rattle.zsv_reply.proofs.Sections.{if_err, if_ok}
@@ -19,8 +19,8 @@ returns-in-Some-clause-ok c =
     let new = state c.emit_all.new.self in
     let yields = once_yielded (λ (lender : Bor TsigRecord). lender.now) c.once.result c.in-Some.signature c.once.ensures.item in
     if_ok c.kept_of.result (λ kept emits back. subst (λ (s : Option (Bor TsigRecord)). EmitsFront TsigRecordAt tsig_plain (option_to_list (option_copied s)) kept old new) (sym c.in-Some.is)
-    (emits (c.in-Some.signature.now ∷ []) yields (subst (λ (s : Option (Bor TsigRecord)). AllByRecursion TsigReadsBack (option_to_list (option_copied s))) c.in-Some.is back)))
-    (front_kept TsigRecordAt tsig_plain TsigReadsBack EmitsTsigRecord RefusesTsigRecord signature_stands once_steps (λ (lender : Bor TsigRecord). lender.now) _ _ (λ s old new one. one) (λ s old e new refused. refused) c.once.result old new c.emit_all.result c.requires.in_full c.requires.small c.emit_all.ensures.ok c.emit_all.ensures.stopped c.kept_of.result c.kept_of.ensures.ok)
+    (emits (c.in-Some.signature.now ∷ []) yields (subst (λ (s : Option (Bor TsigRecord)). AllByRecursion TsigReadsBack (option_to_list (option_copied s))) c.in-Some.is back)).0)
+    (front_kept IsSet TsigRecordAt tsig_plain TsigReadsBack EmitsTsigRecord RefusesTsigRecord signature_stands once_steps (λ (lender : Bor TsigRecord). lender.now) _ _ (λ s old new one. one) (λ s old e new refused. refused) c.once.result old new c.emit_all.result (record { in_full = c.requires.in_full; small = c.requires.small }) c.emit_all.ensures.ok c.emit_all.ensures.stopped c.kept_of.result c.kept_of.ensures.ok)
 
 pub returns-in-Some-clause-cause : goal.returns-in-Some-clause-cause
 returns-in-Some-clause-cause c =
@@ -28,4 +28,4 @@ returns-in-Some-clause-cause c =
     let new = state c.emit_all.new.self in
     let yields = once_yielded (λ (lender : Bor TsigRecord). lender.now) c.once.result c.in-Some.signature c.once.ensures.item in
     if_err c.kept_of.result (λ e memory back. memory (c.in-Some.signature.now ∷ []) yields (subst (λ (s : Option (Bor TsigRecord)). AllByRecursion TsigReadsBack (option_to_list (option_copied s))) c.in-Some.is back))
-    (front_refused TsigRecordAt tsig_plain TsigReadsBack EmitsTsigRecord RefusesTsigRecord signature_stands once_steps (λ (lender : Bor TsigRecord). lender.now) _ _ (λ s old new one. one) (λ s old e new refused. refused) c.once.result old new c.emit_all.result c.requires.in_full c.requires.small c.emit_all.ensures.ok c.emit_all.ensures.stopped c.kept_of.result c.kept_of.ensures.cause)
+    (front_refused IsSet TsigRecordAt tsig_plain TsigReadsBack EmitsTsigRecord RefusesTsigRecord signature_stands once_steps (λ (lender : Bor TsigRecord). lender.now) _ _ (λ s old new one. one) (λ s old e new refused. refused) c.once.result old new c.emit_all.result (record { in_full = c.requires.in_full; small = c.requires.small }) c.emit_all.ensures.ok c.emit_all.ensures.stopped c.kept_of.result c.kept_of.ensures.cause)
