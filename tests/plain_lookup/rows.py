@@ -10,10 +10,13 @@ import struct
 import sys
 
 sys.dont_write_bytecode = True
+TESTS = os.path.dirname(os.path.dirname(os.path.realpath(__file__)))
+sys.path.append(f"{TESTS}/rows")
+import compress
 import lookup
 import wire
 
-ROWS = os.path.join(os.path.dirname(os.path.realpath(__file__)), "../rows/vectors")
+ROWS = f"{TESTS}/rows/vectors"
 LIMITS = {"udp": 512, "tcp": 65535}
 NUMBERS = {word: type for type, word in wire.TYPE_WORDS.items()}
 ORIGIN = "example.com."
@@ -21,6 +24,10 @@ ORIGIN = "example.com."
 
 def name_of(text):
     return tuple(label.encode() for label in text.split(".") if label)
+
+
+def strings_of(words):
+    return b"".join(bytes([len(word)]) + word.encode() for word in words)
 
 
 def data_of(type, text):
@@ -31,9 +38,13 @@ def data_of(type, text):
         return ipaddress.ip_address(text).packed
     if type in wire.NAMES:
         return name_of(text)
-    if type in (lookup.SOA, lookup.MX, lookup.SRV):
+    if type in (lookup.SOA, lookup.MX, lookup.SRV, wire.HTTPS):
         return tuple(int(word) if word.isdigit() else name_of(word) for word in words)
-    return b"".join(bytes([len(word)]) + word.encode() for word in words)  # TXT
+    if type == wire.NAPTR:
+        order, preference, *strings, replacement = words
+        numbers = struct.pack(">HH", int(order), int(preference))
+        return numbers + strings_of(word.strip('"') for word in strings) + wire.name_octets(name_of(replacement))
+    return strings_of(words)  # HINFO, TXT
 
 
 def records_of(lines):
@@ -50,10 +61,14 @@ def zone_of(text):
 
 
 def answer(origin, zone, protocol, *messages):
-    """The replies to messages, as their octets, with names in full."""
-    requests = [wire.read_request(bytes.fromhex(octets)) for octets in messages]
-    replies = [lookup.reply(zone_of(zone), name_of(origin), request) for request in requests]
-    return "\t".join(wire.reply_octets(reply, LIMITS[protocol]).hex() for reply in replies)
+    """The replies to messages, as their octets, with pointers, up to the transport's limit."""
+    replies = []
+    for message in map(bytes.fromhex, messages):
+        reply = lookup.reply(zone_of(zone), name_of(origin), wire.read_request(message))
+        sections = [list(map(wire.record_octets, it)) for it in (reply.answers, reply.authorities, reply.additionals)]
+        # (the questions are all that stands behind the header of a message here)
+        replies.append(compress.laid_out(reply.id, reply.flags, len(reply.questions), message[12:], sections, LIMITS[protocol]))
+    return "\t".join(octets.hex() for octets in replies)
 
 
 def row(zone, protocol, questions):

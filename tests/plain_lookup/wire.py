@@ -1,13 +1,13 @@
-"""Messages as octets: both kinds are written, with names in full, and read, with pointers (RFC 1035, section 4.1)."""
+"""Messages as octets: requests and records are written, with names in full, and both kinds read, with pointers (RFC 1035, 4.1)."""
 
 import struct
 
 from lookup import A, AAAA, ANAME, CNAME, MX, NS, SOA, SRV, Record, Reply, Request
 
-PTR, TC = 12, 0x0200
+PTR, NAPTR, HTTPS = 12, 35, 65
 NAMES = {CNAME, NS, PTR, ANAME}
-TYPE_WORDS = {A: "A", NS: "NS", CNAME: "CNAME", SOA: "SOA", PTR: "PTR", MX: "MX", 16: "TXT", AAAA: "AAAA", SRV: "SRV",
-              43: "DS", 255: "ANY", ANAME: "ANAME"}
+TYPE_WORDS = {A: "A", NS: "NS", CNAME: "CNAME", SOA: "SOA", 10: "NULL", PTR: "PTR", 13: "HINFO", MX: "MX", 16: "TXT",
+              AAAA: "AAAA", SRV: "SRV", NAPTR: "NAPTR", 43: "DS", HTTPS: "HTTPS", 255: "ANY", ANAME: "ANAME"}
 
 
 class Malformed(Exception):
@@ -43,22 +43,10 @@ def record_octets(record):
     return name_octets(record.owner) + struct.pack(">HHIH", record.type, 1, record.ttl, len(data)) + data
 
 
-def reply_octets(reply, limit):
-    """A section ends before the first record that doesn't fit; the next one is tried still, and TC says that some are left out
-    (RFC 2181, section 9)."""
-    octets, counts, flags = question_octets(reply.questions), [len(reply.questions)], reply.flags
-    for section in (reply.answers, reply.authorities, reply.additionals):
-        counts.append(0)
-        for record in map(record_octets, section):
-            if 12 + len(octets) + len(record) > limit:
-                flags |= TC
-                break
-            octets, counts[-1] = octets + record, counts[-1] + 1
-    return struct.pack(">6H", reply.id, flags, *counts) + octets
-
-
 def reply_length(reply):
-    return len(reply_octets(reply, 65535))
+    """How many octets the whole reply takes, at most: with names in full."""
+    sections = (reply.answers, reply.authorities, reply.additionals)
+    return 12 + len(question_octets(reply.questions)) + sum(len(record_octets(it)) for records in sections for it in records)
 
 
 def framed(message):

@@ -6,8 +6,9 @@
                                       grammar and with dnspython: by hand, since the gate needs no dnspython
 
 The layouts are those of RFC 1035, section 4.1, RFC 6891, section 6.1, and RFC 8945, section 4.2, written here by hand and
-independent of the libraries. Each reply, but to an update or an operation that dnspython doesn't know, is read back by it, which
-is to find the same sections. Which fronts of a request are requests is told by `grammar.py`.
+independent of the libraries; the pointers of replies, and which records are cut, are told by `compress.py`. Each reply, but to an
+update or an operation that dnspython doesn't know, is read back by it, which is to find the same records as in the reply in full.
+Which fronts of a request are requests is told by `grammar.py`.
 
 To compare: a request has a reply exactly where `grammar.py` says that it is one, and dnspython reads it, or the difference has
 one of the causes of ROWS.md (`CAUSES`). These are counted; the status is 1 where a difference has none, or where rows printed
@@ -23,6 +24,7 @@ import dns.message
 import dns.opcode
 
 sys.dont_write_bytecode = True
+import compress
 import grammar
 
 VECTORS = os.path.join(os.path.dirname(os.path.realpath(__file__)), "vectors")
@@ -83,16 +85,21 @@ def has_operation(octets):
     return op_code_of(octets) in [it.value for it in dns.opcode.Opcode]
 
 
-def reply(flags=0x8400, questions=(question(),), answers=(), authorities=(), additionals=()):
-    octets = request(flags, questions, answers, authorities, additionals)
+def reply(flags=0x8400, questions=(question(),), answers=(), authorities=(), additionals=(), maximum=65535):
+    """The reply that holds these records, which are given in full, or as many as fit: then TC is set."""
+    sections = [answers, authorities, additionals]
+    octets = compress.laid_out(ID, flags, len(questions), b"".join(questions), sections, maximum)
     if is_update(octets) or not has_operation(octets):
         # (of an update dnspython asks that its first section be a zone's)
         return octets
-    read = dns.message.from_wire(octets)
+    read = dns.message.from_wire(octets, one_rr_per_rrset=True)
     assert len(read.question) == (1 if questions else 0)
-    assert sum(len(it) for it in read.answer) == len(answers)
+    if read.flags & dns.flags.TC:
+        assert len(read.answer) <= len(answers)
+        return octets
+    assert (len(read.answer), len(read.authority)) == (len(answers), len(authorities))
     assert (read.edns >= 0) == any(it[:3] == b"\0\0\x29" for it in additionals)
-    assert bool(read.flags & dns.flags.TC) == bool(flags & 0x200)
+    assert compress.same_by_dnspython(octets, request(flags, questions, *sections))
     return octets
 
 
@@ -159,11 +166,18 @@ def rows():
     yield "counts that nothing stands for", "host", "tcp", [
         (header(0, [65535] * 4), None), (header(0, [0, 1, 0, 0]), None), (header(0, [0, 0, 1, 0]), None), (header(0, [0, 0, 0, 1]), None)]
     yield "octets behind the last record are free", "host", "tcp", [(with_opt(opt()) + b"\xff", found(opt()))]
-    cut = lambda payload, count: (with_opt(opt(payload)), reply(0x8600, answers=[address(n + 1) for n in range(count)], additionals=[opt(payload)]))
+    forty = [address(n + 1) for n in range(40)]
+
+    def cut(payload, count, flags=0x8600, options=1):
+        told = reply(answers=forty, additionals=[opt(payload)], maximum=payload)
+        assert struct.unpack(">6H", told[:12]) == (ID, flags, 1, count, 0, options)
+        return with_opt(opt(payload)), told
+    # The header and the question have 33 octets, each address 16, whose owner has 17 in full, and the options 11.
     yield "a datagram is as long as its sender takes: forty addresses, of which so many fit, and the options behind them", "forty", "udp", [
-        cut(512, 15), cut(540, 16), cut(605, 18)]
-    yield "sixteen addresses fit, and behind them not the options", "forty", "udp", [
-        (with_opt(opt(530)), reply(0x8600, answers=[address(n + 1) for n in range(16)]))]
+        cut(512, 29), cut(540, 31), cut(605, 35)]
+    yield "an address is written where its owner fits in full, though it points; behind the last one the options fit, or not", "forty", "udp", [
+        cut(529, 30), cut(530, 31, options=0), cut(539, 31, options=0), cut(673, 39), cut(674, 40, options=0),
+        cut(683, 40, options=0), cut(684, 40, 0x8400)]
 
 
 def requests():

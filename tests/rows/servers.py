@@ -3,8 +3,8 @@
 
     tests/rows/servers.py    prints each row: a comment, the question and the answer
 
-The layouts are those of `messages.py`, written by hand from the RFCs; the zones are those of `vectors/data`. Each reply is read
-back by dnspython, which is to find the same sections in it."""
+The layouts are those of `messages.py`, written by hand from the RFCs, with the pointers of `compress.py`; the zones are those of
+`vectors/data`. Each reply is read back by dnspython, which is to find the same records in it as in the reply in full."""
 from messages import A, NS, OPT, SOA, WWW, address, entry, header, name, opt, question, reply, request, show, start
 
 TXT, MX, AAAA, DS, ANY, AXFR = 16, 15, 28, 43, 255, 252
@@ -197,8 +197,8 @@ def identifiers():
         (asked(WWW, A, 0, opt(data=nsid())), told(AA, answers=[address()], additionals=[opt(data=nsid())]))]
     yield "none any more", HOST + "; nsid 6162; nsid none", LOCAL, "tcp", [
         (asked(WWW, A, 0, opt(data=nsid())), told(AA, answers=[address()], additionals=[opt()]))]
-    # The header and the question have 33 octets, the address 31, an OPT record with this option 15 beside the identifier.
-    for length, fits in ((433, True), (434, False)):
+    # The header and the question have 33 octets, the address 16, an OPT record with this option 15 beside the identifier.
+    for length, fits in ((448, True), (449, False)):
         identifier = b"i" * length
         records = [opt(512, data=nsid(identifier))] if fits else []
         yield f"one of {length} octets in a datagram of 512", f"{HOST}; nsid {identifier.hex()}", LOCAL, "udp", [
