@@ -5,8 +5,8 @@
                  [--show N]
 
 Each zone is written as a zone file, and its questions are sent to one run of COMMAND ORIGIN ZONEFILE 0; or, with --unproved, all
-are asked of the libraries, which needs no proof. Compared are the header, the questions as octets, and each section's records in
-order. The status is 1 if a reply differs. README.md says more."""
+are asked of the libraries, which needs no proof. Compared are the header, the questions as octets, each section's records in
+order, and at last all octets. The status is 1 if a reply differs. README.md says more."""
 
 import argparse
 import collections
@@ -85,7 +85,10 @@ def difference(request, expected, octets, any_case):
     sent = wire.question_octets(request.questions)
     if octets[12:12 + len(sent)] != sent:
         return ["the question section isn't as it was sent"]
-    if reply == expected or any_case and without_case(reply) == without_case(expected):
+    if reply == expected:
+        wanted = wire.reply_octets(expected)
+        return [] if any_case or octets == wanted else [f"- {wanted.hex()}", f"+ {octets.hex()}"]
+    if any_case and without_case(reply) == without_case(expected):
         return []
     wanted, had = wire.reply_lines(expected), wire.reply_lines(reply)
     return [*(f"- {line}" for line in wanted), *(f"+ {line}" for line in had)]
@@ -208,7 +211,7 @@ def main():
     parser.add_argument("--unproved", action="store_true", help="ask the libraries, by tests/rows/vectors")
     parser.add_argument("--stage", choices=["first", "full"], default="full")
     parser.add_argument("--types", type=lambda text: [WORDS[word] for word in text.split(",")], default="A,NS,SOA")
-    parser.add_argument("--any-case", action="store_true", help="names in records are compared up to case")
+    parser.add_argument("--any-case", action="store_true", help="names in records are compared up to case, and pointers not")
     parser.add_argument("--show", type=int, default=3, help="how many differences are printed")
     words = parser.parse_args()
     try:

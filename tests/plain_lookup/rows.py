@@ -10,13 +10,10 @@ import struct
 import sys
 
 sys.dont_write_bytecode = True
-TESTS = os.path.dirname(os.path.dirname(os.path.realpath(__file__)))
-sys.path.append(f"{TESTS}/rows")
-import compress
 import lookup
 import wire
 
-ROWS = f"{TESTS}/rows/vectors"
+ROWS = os.path.join(os.path.dirname(os.path.realpath(__file__)), "../rows/vectors")
 LIMITS = {"udp": 512, "tcp": 65535}
 NUMBERS = {word: type for type, word in wire.TYPE_WORDS.items()}
 ORIGIN = "example.com."
@@ -65,9 +62,8 @@ def answer(origin, zone, protocol, *messages):
     replies = []
     for message in map(bytes.fromhex, messages):
         reply = lookup.reply(zone_of(zone), name_of(origin), wire.read_request(message))
-        sections = [list(map(wire.record_octets, it)) for it in (reply.answers, reply.authorities, reply.additionals)]
         # (the questions are all that stands behind the header of a message here)
-        replies.append(compress.laid_out(reply.id, reply.flags, len(reply.questions), message[12:], sections, LIMITS[protocol]))
+        replies.append(wire.reply_octets(reply, message[12:], LIMITS[protocol]))
     return "\t".join(octets.hex() for octets in replies)
 
 

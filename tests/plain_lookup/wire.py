@@ -1,7 +1,11 @@
-"""Messages as octets: requests and records are written, with names in full, and both kinds read, with pointers (RFC 1035, 4.1)."""
+"""Messages as octets: both kinds are written, replies with the pointers of `rows/compress.py`, and read (RFC 1035, section 4.1)."""
 
+import os
 import struct
+import sys
 
+sys.path.append(os.path.join(os.path.dirname(os.path.dirname(os.path.realpath(__file__))), "rows"))
+import compress
 from lookup import A, AAAA, ANAME, CNAME, MX, NS, SOA, SRV, Record, Reply, Request
 
 PTR, NAPTR, HTTPS = 12, 35, 65
@@ -43,10 +47,15 @@ def record_octets(record):
     return name_octets(record.owner) + struct.pack(">HHIH", record.type, 1, record.ttl, len(data)) + data
 
 
+def reply_octets(reply, asked=None, limit=65535):
+    """The reply up to a limit, behind the questions as they were sent, or in full."""
+    asked = question_octets(reply.questions) if asked is None else asked
+    sections = [list(map(record_octets, it)) for it in (reply.answers, reply.authorities, reply.additionals)]
+    return compress.laid_out(reply.id, reply.flags, len(reply.questions), asked, sections, limit)
+
+
 def reply_length(reply):
-    """How many octets the whole reply takes, at most: with names in full."""
-    sections = (reply.answers, reply.authorities, reply.additionals)
-    return 12 + len(question_octets(reply.questions)) + sum(len(record_octets(it)) for records in sections for it in records)
+    return len(reply_octets(reply))
 
 
 def framed(message):
