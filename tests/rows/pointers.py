@@ -48,15 +48,14 @@ class Row:
         self.lines += [line for line, _ in records]
         return [octets for _, octets in records]
 
-    def told(self, text, kind, answers=(), authorities=(), additionals=(), octets=(), without=(), is_cut=False, ident=ID, asked=None):
-        """A question for a name or of octets, and its reply, in which these octets stand and those don't."""
+    def told(self, text, kind, answers=(), authorities=(), additionals=(), octets=(), is_cut=False, ident=ID, asked=None):
+        """A question for a name or of octets, and its reply, in which these octets stand in order."""
         asked = asked or question(text, kind)
         maximum = 512 if self.transport == "udp" else 65535
         reply = compress.laid_out(ident, 0x8400, 1, asked, [answers, authorities, additionals], maximum)
         place = 0
         for part in octets:
             place = reply.index(part, place) + len(part)
-        assert not [part for part in without if part in reply]
         assert bool(reply[2] & 2) == is_cut
         if asked == question(text, kind):
             full = compress.in_full(reply)
@@ -132,8 +131,8 @@ def limits():
     yield row
 
     row = Row("a name at the place 16381 is kept, and its suffix at 16383 isn't: places have fourteen bits")
-    # Header and question take 33 octets, each of 31 records 524, of which two strings have 255, the next one 90; an owner, the fixed
-    # fields of an MX record and its preference, which stand before the name, take 14: in all 16381.
+    # Header and question take 33 octets, each of 31 records 524, of which two strings have 255, the next one 90; an owner, the
+    # fixed fields of an MX record and its preference, which stand before the name, take 14: in all 16381.
     strings = [(letter * 255, "s" * 255) for letter in "abcdefghijklmnopqrstuvwxyz01234"] + [("t" * 38, "s" * 38)]
     found = row.holds(*((f"{WWW} 60 IN HINFO {first} {second}", entry(WWW, HINFO, 60, string(first) + string(second)))
                         for first, second in strings))
@@ -146,8 +145,8 @@ def limits():
 
 
 def rolled_back():
-    # Header and question take 29 octets, the owner and the fixed fields 12, the first name 244, the second 210, of 225 in full; 20 more
-    # octets would pass 512.
+    # Header and question take 29 octets, the owner and the fixed fields 12, the first name 244, the second 210, of 225 in full;
+    # 20 more octets would pass 512.
     labels = lambda letter, *lengths: ".".join(letter * length for length in lengths) + ".sub.example.com."
     begins = start(labels("m", 63, 63, 63, 45), labels("r", 63, 63, 63, 15))
     row = Row("names of a record that is cut behind them aren't pointed to: a zone's start, whose names fit, and name servers behind it", "udp", begins)
