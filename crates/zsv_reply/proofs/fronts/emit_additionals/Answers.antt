@@ -26,6 +26,9 @@ returns-in_err-both-clause-cause g c = if_passed_on _ c.from_residual-in_err-bot
     let two = options_few (option_to_list (option_copied c.args.edns)) c.in_ok-options.options (state c.emit_front.new.encoder) (state c.emit_edns.new.encoder) (c.in_ok-options.ensures.ok options) in
     absurd (omega (arith, c.in_err-both.ensures, one, two, c.requires.small, c.in_ok-kept.ensures.writes.modes.maximum)))
 
+pub returns-in_err-options-clause-writes : goal.returns-in_err-options-clause-writes
+returns-in_err-options-clause-writes g c = writes_then (state c.args.encoder.now) (state c.emit_front.new.encoder) (state c.emit_edns.new.encoder) c.emit_front.ensures.writes c.emit_edns.ensures.writes
+
 pub returns-in_err-signed-clause-writes : goal.returns-in_err-signed-clause-writes
 returns-in_err-signed-clause-writes g c =
     let old = state c.args.encoder.now in
