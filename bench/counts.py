@@ -105,12 +105,15 @@ def read_counts(path):
 
 
 def check_kinds(kinds, names, kind):
-    """Hits are to be hits, misses and deep names misses, names below cuts referrals, and those below the wildcard hits."""
+    """Hits are to be hits, misses and deep names misses, names below cuts referrals, and those below the wildcard hits; hosts of
+    many addresses have as many answers, and names below name servers that are alike are referrals to all of them."""
     hit, miss, referral = {(replies.NO_ERROR, 1, 0)}, {(replies.NX_DOMAIN, 0, 1)}, {(replies.NO_ERROR, 0, 1)}
     wanted = {
         "hit": hit, "opt": hit, "short": set(), "miss": miss, "deep": miss, "empty": set(),
         "cuts.hit": hit, "cuts.miss": miss, "cuts.delegation": referral, "cuts.referral": referral,
         "cuts.wildcard": hit, "cuts.deep": hit, "cuts.empty": set(),
+        "sets.answers28": {(replies.NO_ERROR, generate.ADDRESSES, 0)}, "sets.empty": set(),
+        "sets.adversarial": {(replies.NO_ERROR, 0, len(generate.ALIKE_SERVERS))},
     }
     if kind in wanted and set(kinds) != wanted[kind]:
         raise Failed(f"replies of a wrong kind to {names}.{kind}: {dict(kinds)}")

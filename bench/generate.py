@@ -3,12 +3,13 @@
 
     generate.py zone NAMES                 a zone file with NAMES hosts under example.com.
     generate.py cuts NAMES                 one with as many cuts too, and a wildcard
+    generate.py sets NAMES                 one with hosts of 28 addresses too, and a cut of name servers that share nearly all
     generate.py questions KIND NAMES COUNT a stream of COUNT questions for the zone of that kind
     generate.py all FOLDER [COUNT]         all of them, as files in FOLDER
 
 KIND is one of hit, opt, miss, mixed, deep, short, empty; or, for the zone with cuts, of cuts.hit, cuts.miss,
-cuts.delegation, cuts.referral, cuts.wildcard, cuts.deep, cuts.empty. Everything is written to standard
-output, but for `all`. The same arguments give the same octets: each file has a
+cuts.delegation, cuts.referral, cuts.wildcard, cuts.deep, cuts.empty; or, for the zone with sets, of
+sets.answers28, sets.adversarial, sets.empty. Everything is written to standard output, but for `all`. The same arguments give the same octets: each file has a
 generator of random numbers of its own, seeded by its arguments.
 """
 
@@ -24,6 +25,10 @@ KINDS = ("empty", "hit", "opt", "miss", "mixed", "deep", "short")
 CUTS = "cuts."
 CUT_KINDS = tuple(CUTS + kind for kind in ("empty", "hit", "miss", "delegation", "referral", "wildcard", "deep"))
 WILD = f"w.{ORIGIN}"
+# Those of the zone that has large sets beside its hosts.
+SETS = "sets."
+SET_KINDS = tuple(SETS + kind for kind in ("empty", "answers28", "adversarial"))
+ALL_KINDS = KINDS + CUT_KINDS + SET_KINDS
 
 TYPE_A, TYPE_NS, TYPE_CNAME, TYPE_SOA, TYPE_AAAA, TYPE_OPT = 1, 2, 5, 6, 28, 41
 CLASS_IN = 1
@@ -31,6 +36,12 @@ CLASS_IN = 1
 # A question of so many one-octet labels under the origin has 253 of the 255 octets of a name.
 DEEP_LABELS = 120
 LETTERS = "abcdefghijklmnopqrstuvwxyz"
+
+# So many addresses, with pointers for their owners, fill most of a datagram of 512 octets.
+ADDRESSES = 28
+ALIKE = f"alike.{ORIGIN}"
+# Name servers whose names differ in one octet, in the last of their labels: none has a suffix of another's, which is seen late.
+ALIKE_SERVERS = ["a." * DEEP_LABELS + last + "." for last in LETTERS + "0123456789"]
 
 
 def host(number):
@@ -73,18 +84,35 @@ def cuts_zone(names):
     return lines
 
 
-def is_of_cuts(kind):
-    return kind.startswith(CUTS)
+def many(number):
+    """The name of a host of ADDRESSES addresses."""
+    return f"m{number:05}.{ORIGIN}"
+
+
+def sets_zone(names):
+    """The lines of a zone of so many hosts, one more of ADDRESSES addresses for each hundred of them, shuffled, and a cut whose
+    name servers are ALIKE_SERVERS."""
+    lines = zone(names)
+    numbers = list(range(names // 100 + 1))
+    random.Random(f"sets {names}").shuffle(numbers)
+    for number in numbers:
+        lines += [f"{many(number)} 3600 IN A 172.{16 | number >> 8}.{number & 255}.{last}" for last in range(ADDRESSES)]
+    return lines + [f"{ALIKE} 3600 IN NS {server}" for server in ALIKE_SERVERS]
+
+
+def zone_prefix(kind):
+    """What the kinds of questions for the same zone begin with."""
+    return next((prefix for prefix in (CUTS, SETS) if kind.startswith(prefix)), "")
 
 
 def empty_of(kind):
     """The kind without questions for the same zone."""
-    return CUTS + "empty" if is_of_cuts(kind) else "empty"
+    return zone_prefix(kind) + "empty"
 
 
 def zone_of(names, kind):
     """The file of the zone that a kind of questions is for."""
-    return f"{names}.cuts.zone" if is_of_cuts(kind) else f"{names}.zone"
+    return f"{names}.{zone_prefix(kind)}zone"
 
 
 def wire_name(name):
@@ -132,6 +160,14 @@ CUT_NAMES = {
 }
 
 
+# The same for the zone with sets.
+SET_NAMES = {
+    "answers28": lambda dice, names: many(dice.randrange(names // 100 + 1)),
+    "adversarial": lambda dice, names: f"{dice.choice(LETTERS)}{dice.randrange(1000):03}.{ALIKE}",
+}
+NAMES_OF = {prefix + kind: name_of for prefix, names in ((CUTS, CUT_NAMES), (SETS, SET_NAMES)) for kind, name_of in names.items()}
+
+
 def mixed(dice, names):
     """A name and a type: 50 in 100 a host's A, 25 a missing name, 10 a type that a host lacks, 5 each the
     origin's SOA, its NS, and a name outside the zone. Half of the names have letters of random case."""
@@ -158,9 +194,8 @@ def questions(kind, names, count):
     dice = random.Random(f"questions {kind} {names}")
     if kind == empty_of(kind):
         return []
-    if is_of_cuts(kind) and kind in CUT_KINDS:
-        name_of = CUT_NAMES[kind[len(CUTS) :]]
-        return [question(n, name_of(dice, names), TYPE_A) for n in range(count)]
+    if kind in NAMES_OF:
+        return [question(n, NAMES_OF[kind](dice, names), TYPE_A) for n in range(count)]
     if kind == "hit":
         return [question(n, host(dice.randrange(names)), TYPE_A) for n in range(count)]
     if kind == "opt":
@@ -193,14 +228,14 @@ def stream(kind, names, count):
     return framed(questions(kind, names, count))
 
 
-def write_all(folder, count):
-    """Writes each zone and each stream into a folder."""
+def write_all(folder, count, sizes=SIZES):
+    """Writes each zone and each stream into a folder, of these sizes."""
     os.makedirs(folder, exist_ok=True)
-    for names in SIZES:
-        for kind, lines_of in (("empty", zone), (CUTS + "empty", cuts_zone)):
+    for names in sizes:
+        for kind, lines_of in (("empty", zone), (CUTS + "empty", cuts_zone), (SETS + "empty", sets_zone)):
             with open(os.path.join(folder, zone_of(names, kind)), "wb") as out:
                 out.write(zone_text(names, lines_of))
-        for kind in KINDS + CUT_KINDS:
+        for kind in ALL_KINDS:
             with open(os.path.join(folder, f"{names}.{kind}"), "wb") as out:
                 out.write(stream(kind, names, count))
 
@@ -211,6 +246,8 @@ def main(words):
             sys.stdout.buffer.write(zone_text(int(words[1])))
         elif len(words) == 2 and words[0] == "cuts":
             sys.stdout.buffer.write(zone_text(int(words[1]), cuts_zone))
+        elif len(words) == 2 and words[0] == "sets":
+            sys.stdout.buffer.write(zone_text(int(words[1]), sets_zone))
         elif len(words) == 4 and words[0] == "questions":
             sys.stdout.buffer.write(stream(words[1], int(words[2]), int(words[3])))
         elif len(words) in (2, 3) and words[0] == "all":
