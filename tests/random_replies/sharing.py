@@ -154,7 +154,9 @@ class Zone:
                 self.add_addresses(host)
 
     def add_soa(self, owner):
-        self.add(owner, lookup.SOA, (self.host(owner), self.host(owner), 1, 2, 3, 4, 2**32 - 1))
+        """One SOA at a name: a zone file may have no second one."""
+        if not lookup.set_of(self.lines, owner, lookup.SOA):
+            self.add(owner, lookup.SOA, (self.host(owner), self.host(owner), 1, 2, 3, 4, 2**32 - 1))
 
     def add_name(self):
         dice = self.dice
