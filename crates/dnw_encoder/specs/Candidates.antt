@@ -88,8 +88,8 @@ pub record IsKeptSuffix (labels : List (List ℕ)) (front start stop : ℕ) (c :
 
 -- Such names are kept beside the others, at most one a label; the longest first, if there is room
 -- for it.
-pub record KeepsSuffixes (labels : List (List ℕ)) (front start stop : ℕ) (old new : List Candidate) :
-    Type 0 where
+pub record KeepsSuffixes (labels : List (List ℕ)) (front start stop : ℕ)
+    (old new : List Candidate) : Type 0 where
   pub added : List Candidate
   pub appended : new ≡ old ++ added
   pub each : (c : Candidate) → In c added → IsKeptSuffix labels front start stop c
@@ -110,8 +110,8 @@ pub record IsSuffixEntry (labels : List (List ℕ)) (front last start stop : ℕ
   pub small : e.place < 16383
   pub end : e.end ≡ stop
 
-pub record PushesSuffixes (labels : List (List ℕ)) (front last start stop : ℕ) (old new : List Entry) :
-    Type 0 where
+pub record PushesSuffixes (labels : List (List ℕ)) (front last start stop : ℕ)
+    (old new : List Entry) : Type 0 where
   pub added : List Entry
   pub appended : new ≡ old ++ added
   pub each : (e : Entry) → In e added → IsSuffixEntry labels front last start stop e

@@ -21,7 +21,8 @@ written_name s name = encoded_name s.encoding name
 -- names that end these labels and begin there are kept.
 pub record WritesFront (labels : List (List ℕ)) (front : ℕ) (rest : List ℕ) (old new : State) :
     Type 0 where
-  pub octets : new.octets ≡ written_at old.octets old.offset (take front (label_octets labels) ++ rest)
+  pub octets : new.octets
+      ≡ written_at old.octets old.offset (take front (label_octets labels) ++ rest)
   pub offset : new.offset ≡ old.offset + (front + length rest)
   pub candidates : KeepsSuffixes labels front old.offset new.offset old.candidates new.candidates
   pub places : new.places ≡ old.places
