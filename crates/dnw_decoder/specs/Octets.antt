@@ -10,12 +10,9 @@ octets_16 n = to_be_bytes w16 n
 unfoldable pub octets_32 : ℕ → List ℕ
 octets_32 n = to_be_bytes w32 n
 
--- The number in the two octets at a place, and in the four.
+-- The number in the two octets at a place.
 abbrev pub number_16 : List ℕ → ℕ → ℕ
 number_16 message place = 256 * get_or message place 0 + get_or message (place + 1) 0
-
-abbrev pub number_32 : List ℕ → ℕ → ℕ
-number_32 message place = 65536 * number_16 message place + number_16 message (place + 2)
 
 -- These octets stand in the message from a place on, and end behind them.
 pub record Stands (message : List ℕ) (place : ℕ) (octets : List ℕ) (end : ℕ) : Type 0 where

@@ -1,14 +1,16 @@
 -- Laws of the search for the longest name that ends another one.
-use Rattle.std.proofs.Common.{◌≡◌, ℕ, ◌+◌, ◌<◌, ◌≤◌, inl, inr, List, length, take, get_or, Option, Some, None, refl, ap, subst, ◌∙◌, arith}
+use Rattle.std.proofs.Common.{◌≡◌, ℕ, ◌+◌, ◌-◌, ◌<◌, ◌≤◌, inl, inr, true, List, [], ◌∷◌, ◌++◌, length, take, drop, get_or, Option, Some, None, refl, sym, ap, subst, ◌∙◌, arith}
 use Rattle.std.specs.List.{slice_range}
+use Rattle.std.proofs.lemmas.List.{get_or-drop, get_or-take, length-append, length-drop, length-take, drop-append-le}
+use Rattle.dnw_decoder.specs.dnw_name.DomainName.{domain_name, name_octets}
 use Rattle.dnw_decoder.specs.dnw_label.Labels.{label_octets}
-use Rattle.dnw_encoder.specs.Candidates.{AreWithin, candidate_of, candidates_of, FindsLongest, IsNameBehind, NoneBefore}
+use Rattle.dnw_encoder.specs.Candidates.{AreWithin, ClashesAt, IsWithin, candidate_of, candidates_of, FindsLongest, IsNameBehind, NoneBefore}
 use Rattle.dnw_encoder.specs.Members.{In}
 use Rattle.dnw_encoder.specs.State.{Candidate}
 use Rattle.dnw_encoder.specs.declared.candidates.Entry.{Entry}
 use Rattle.dnw_encoder.specs.declared.candidates.Suffix.{Suffix}
 use Rattle.dnw_encoder.proofs.CandidateLaws.{blank, in_all, in_get, in_map, in_map_back, in_more}
-use Rattle.dnw_encoder.proofs.SuffixLaws.{behind_length}
+use Rattle.dnw_encoder.proofs.SuffixLaws.{behind_length, drop_front}
 
 -- What was found among all entries, if something was.
 abbrev pub Found : List ℕ → List Entry → List (List ℕ) → ℕ → Option Suffix → Type 0
@@ -68,3 +70,67 @@ search_end octets es i labels front (Some found) le within s = record {
       λ before rest split spelled.
       omega (arith, s.among.5, s.none from.0 (in_all es i from.0 le from.1) before rest split (ap (λ (x : Candidate). x.octets) from.2 ∙ spelled));
 }
+
+-- One that is the whole name is the longest.
+pub search_whole : (octets : List ℕ) (es : List Entry) (i : ℕ) (labels : List (List ℕ)) (front whole : ℕ) (found : Option Suffix) → i < length es → AreWithin octets es → Searched octets es i labels front found → whole < front → IsNameBehind labels whole (slice_range octets (get_or es i blank).from (get_or es i blank).to) → whole ≡ 0 → FindsLongest (candidates_of octets es) labels (Some (record { front = whole; place = (get_or es i blank).place }))
+search_whole octets es i labels front whole found lt within s less is zero = record {
+  kept = candidate_of octets (get_or es i blank);
+  among = in_map_back (candidate_of octets) (get_or es i blank) es (in_get es i blank lt);
+  behind = is;
+  labelled = omega (arith, s.within, less);
+  place = refl;
+  small = (within (get_or es i blank) (in_get es i blank lt)).small;
+  longest = λ c member before rest split spelled. omega (arith, zero);
+}
+
+-- ---- octets that clash with a name's end
+-- No octets that go to an end, and hold the one before or at a place, are a name that ends these labels.
+abbrev pub Barred : List ℕ → List (List ℕ) → ℕ → ℕ → Type 0
+Barred octets labels to clash =
+    (from : ℕ) → from ≤ clash → (before rest : List (List ℕ)) → labels ≡ before ++ rest → slice_range octets from to ≡ name_octets (domain_name true rest) → ⊥
+
+pub bar_start : (octets : List ℕ) (labels : List (List ℕ)) → Barred octets labels 0 0
+bar_start octets labels from le before rest split spelled =
+    absurd (omega (arith, ap length spelled, length-append (label_octets rest) (0 ∷ []), length-take (0 - from) (drop from octets)))
+
+-- An octet of a part is one of the whole.
+part_get : (octets : List ℕ) (from to i : ℕ) → from + i < to → get_or (slice_range octets from to) i 0 ≡ get_or octets (from + i) 0
+part_get octets from to i lt =
+    get_or-take (to - from) (drop from octets) i 0 (omega (arith, lt)) ∙ get_or-drop from octets i 0
+
+part_length : (octets : List ℕ) (from to : ℕ) → from ≤ to → to ≤ length octets → length (slice_range octets from to) ≡ to - from
+part_length octets from to order within = omega (arith, length-take (to - from) (drop from octets), length-drop from octets, order, within)
+
+-- What ends labels is there in the octets of all.
+end_get : (labels before rest : List (List ℕ)) (i : ℕ) → labels ≡ before ++ rest → get_or (name_octets (domain_name true rest)) i 0 ≡ get_or (label_octets labels ++ 0 ∷ []) (length (label_octets before) + i) 0
+end_get labels before rest i split =
+    let all = label_octets labels in
+    let front = length (label_octets before) in
+    let within : front ≤ length all = omega (arith, behind_length labels before rest (name_octets (domain_name true rest)) split refl, length-append (label_octets rest) (0 ∷ [])) in
+    ap (λ (t : List ℕ). get_or (t ++ 0 ∷ []) i 0) (sym (drop_front labels before rest front split refl))
+    ∙ ap (λ (t : List ℕ). get_or t i 0) (sym (drop-append-le front all (0 ∷ []) within))
+    ∙ get_or-drop front (all ++ 0 ∷ []) i 0
+
+pub bar_clash : (octets : List ℕ) (labels : List (List ℕ)) (e : Entry) (place : ℕ) → IsWithin octets e → ClashesAt labels (slice_range octets e.from e.to) place → Barred octets labels e.to (e.from + place)
+bar_clash octets labels e place w clash from le before rest split spelled =
+    let own = part_length octets e.from e.to w.order w.within in
+    let lt : e.from + place < e.to = omega (arith, clash.own, own) in
+    let long = part_length octets from e.to (omega (arith, le, lt)) w.within in
+    let k = e.from + place - from in
+    let at = behind_length labels before rest (slice_range octets from e.to) split spelled in
+    let index : length (label_octets before) + k ≡ length (label_octets labels) + 1 - length (slice_range octets e.from e.to) + place =
+    omega (arith, own, lt, long, at, le, clash.short) in
+    let same : get_or octets (e.from + place) 0 ≡ get_or (slice_range octets from e.to) k 0 =
+    ap (λ (n : ℕ). get_or octets n 0) (omega (arith, le)) ∙ sym (part_get octets from e.to k (omega (arith, le, lt))) in
+    clash.other (
+    part_get octets e.from e.to place lt
+    ∙ same
+    ∙ ap (λ (t : List ℕ). get_or t k 0) spelled
+    ∙ end_get labels before rest k split
+    ∙ ap (λ (n : ℕ). get_or (label_octets labels ++ 0 ∷ []) n 0) index
+    )
+
+-- So an entry that holds it is none.
+pub barred_none : (octets : List ℕ) (labels : List (List ℕ)) (e : Entry) (to clash front : ℕ) → Barred octets labels to clash → e.to ≡ to → e.from ≤ clash → NoneBefore labels front (slice_range octets e.from e.to)
+barred_none octets labels e to clash front barred at le before rest split spelled =
+    absurd (barred e.from le before rest split (ap (λ (n : ℕ). slice_range octets e.from n) (sym at) ∙ spelled))

@@ -1,11 +1,13 @@
 -- Names to which later ones may point, as they are kept (RFC 1035, section 4.1.4).
-use Rattle.std.specs.Prelude.{◌≡◌, ℕ, ◌+◌, ◌<◌, ◌≤◌, true, List, [], ◌∷◌, ◌++◌, length, map, slice_range, Option, Some, None}
+use Rattle.std.specs.Prelude.{◌≡◌, ℕ, ◌+◌, ◌-◌, ◌<◌, ◌≤◌, true, List, [], ◌∷◌, ◌++◌, length, map, get_or, slice_range, Option, Some, None}
 use Rattle.std.proofs.Common.{◌⊎◌}
 use Rattle.dnw_decoder.specs.dnw_name.DomainName.{domain_name, name_octets}
 use Rattle.dnw_decoder.specs.dnw_label.Labels.{label_octets}
 use Rattle.dnw_encoder.specs.Members.{In}
 use Rattle.dnw_encoder.specs.State.{Candidate}
 use Rattle.dnw_encoder.specs.declared.candidates.Entry.{Entry}
+use Rattle.dnw_encoder.specs.declared.candidates.Meeting.{Meeting}
+use Rattle.dnw_encoder.specs.declared.candidates.Meeting.TheVariants.{Ends, Clashes, Apart}
 use Rattle.dnw_encoder.specs.declared.candidates.Suffix.{Suffix}
 
 -- An entry tells which of the octets are its name's.
@@ -53,6 +55,21 @@ abbrev pub NoneBefore : List (List ℕ) → ℕ → List ℕ → Type 0
 NoneBefore labels front octets =
     (before rest : List (List ℕ)) → labels ≡ before ++ rest
     → octets ≡ name_octets (domain_name true rest) → front ≤ length (label_octets before)
+
+-- An octet of these isn't the one that stands as far from the end of the name of these labels.
+pub record ClashesAt (labels : List (List ℕ)) (octets : List ℕ) (place : ℕ) : Type 0 where
+  pub own : place < length octets
+  pub short : length octets ≤ length (label_octets labels) + 1
+  pub other : get_or octets place 0
+      ≡ get_or (label_octets labels ++ 0 ∷ [])
+      (length (label_octets labels) + 1 - length octets + place) 0
+      → ⊥
+
+-- What octets are to the end of a name of these labels.
+abbrev pub Meets : List (List ℕ) → ℕ → List ℕ → Meeting → Type 0
+Meets labels before octets (Ends front) = (front < before) × IsNameBehind labels front octets
+Meets labels before octets (Clashes place) = ClashesAt labels octets place
+Meets labels before octets Apart = NoneBefore labels before octets
 
 -- A name that ends these labels is kept, and no longer one is; the end alone is none.
 pub record IsLongest (cs : List Candidate) (labels : List (List ℕ)) (s : Suffix) : Type 0 where

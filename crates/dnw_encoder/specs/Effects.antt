@@ -159,8 +159,8 @@ pub record Stores (start end : ℕ) (old new : State) : Type 0 where
   pub sound : Sound old → Sound new
   pub modes : SameModes old new
 
--- A name that stands in full at a place, and those that end it, may become candidates; the name does
--- where pointers are written and there is room.
+-- A name that stands in full at a place, and those that end it, may become candidates; the name
+-- does where pointers are written and there is room.
 pub record StoresName (name : DomainName) (start : ℕ) (old new : State) : Type 0 where
   pub octets : new.octets ≡ old.octets
   pub offset : new.offset ≡ old.offset

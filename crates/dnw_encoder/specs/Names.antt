@@ -17,8 +17,8 @@ encoded_name encoding name =
 abbrev pub written_name : State → DomainName → DomainName
 written_name s name = encoded_name s.encoding name
 
--- The first so many octets of labels were written, and others behind them: the end or a pointer. The
--- names that end these labels and begin there are kept.
+-- The first so many octets of labels were written, and others behind them: the end or a pointer.
+-- The names that end these labels and begin there are kept.
 pub record WritesFront (labels : List (List ℕ)) (front : ℕ) (rest : List ℕ) (old new : State) :
     Type 0 where
   pub octets : new.octets

@@ -1,7 +1,7 @@
 //! The names to which later ones may point (RFC 1035 4.1.4).
-ghost use Rattle.std.specs.Prelude.{◌≡◌, ◌↔◌, ◌+◌, ◌<◌, ◌≤◌, ◌^◌, ◌∷◌, [], ◌++◌, true, length, filter, nat_le, slice_range, IfSome, OnOk, OnErr, MatchOption};
+ghost use Rattle.std.specs.Prelude.{◌≡◌, ◌↔◌, ◌+◌, ◌<◌, ◌≤◌, ◌^◌, ◌∷◌, [], ◌++◌, true, length, filter, get_or, nat_le, slice_range, IfSome, OnOk, OnErr};
 ghost use Rattle.dnw_decoder.specs.dnw_label.Labels.{label_octets};
-ghost use Rattle.dnw_encoder.specs.Candidates.{AreWithin, FindsAmong, FindsLongest, IsNameBehind, IsWithin, KeepsOctets, KeepsSuffixes, NoneBefore, PushesSuffixes, SplitsAt, candidates_of};
+ghost use Rattle.dnw_encoder.specs.Candidates.{AreWithin, FindsAmong, FindsLongest, IsWithin, KeepsOctets, KeepsSuffixes, Meets, PushesSuffixes, SplitsAt, candidates_of};
 ghost use Rattle.dnw_encoder.specs.Members.{In};
 ghost use Rattle.dnw_encoder.specs.State.{Candidate};
 ghost use Rattle.dnw_encoder.specs.declared.candidates.Entry.{Entry};
@@ -104,41 +104,90 @@ fn splits_at(name: &Name, front: usize) -> bool
     labels.len() - rest.len() == front
 }
 
-// Behind how many octets of a name octets are the name that ends it, if there are fewer.
-fn front_of(octets: &[u8], name: &Name, before: usize) -> Option<usize>
+// What octets are to the end of a name.
+enum Meeting {
+    // The name that ends it behind so many octets.
+    Ends(usize),
+    // They are none that ends it: this octet of theirs isn't the one that stands as far from the name's end.
+    Clashes(usize),
+    // None that ends it behind fewer octets than were asked.
+    Apart,
+}
+
+// A place at which octets are others, of those that both have. They are read from both ends at once, so that one near
+// either is found soon.
+fn clash_of(octets: &[u8], others: &[u8]) -> Option<usize>
+    ensures { IfSome result (λ place. (place < length octets.now) × (place < length others.now)
+        × (get_or octets.now place 0 ≡ get_or others.now place 0 → ⊥)) }
+{
+    let both = octets.len().min(others.len());
+    'octets: for place in 0..both {
+        if octets[place] != others[place] {
+            return Some(place);
+        }
+        let behind = both - 1 - place;
+        if octets[behind] != others[behind] {
+            return Some(behind);
+        }
+    }
+    None
+}
+
+// What octets are to the end of a name: whether they are the name that ends it behind fewer octets than so many.
+#[inline(always)]
+fn meeting_of(octets: &[u8], name: &Name, before: usize) -> Meeting
     requires { before ≤ length (label_octets name.now.labels) }
-    ensures { MatchOption result (NoneBefore name.now.labels before octets.now)
-        (λ front. (front < before) × IsNameBehind name.now.labels front octets.now) }
+    ensures { Meets name.now.labels before octets.now result }
 {
     let labels = name.as_octets();
     if octets.len() > labels.len() + 1 {
-        return None;
+        return Meeting::Apart;
     }
     let front = labels.len() + 1 - octets.len();
     if front >= before {
-        return None;
+        return Meeting::Apart;
     }
-    if is_name_of(octets, &labels[front..]) && splits_at(name, front) {
-        Some(front)
-    } else {
-        None
+    let rest = &labels[front..];
+    if is_name_of(octets, rest) {
+        if splits_at(name, front) {
+            return Meeting::Ends(front);
+        }
+        return Meeting::Apart;
+    }
+    match clash_of(octets, rest) {
+        Some(place) => Meeting::Clashes(place),
+        None => Meeting::Apart,
     }
 }
 
-// The longest name among entries that ends a name.
+// The longest name among entries that ends a name. Octets that clash with its end are read once: a name that is kept with
+// others, and holds them too, is left out.
 fn longest_of(entries: &[Entry], octets: &[u8], name: &Name) -> Option<Suffix>
     requires { AreWithin octets.now entries.now }
     ensures { FindsLongest (candidates_of octets.now entries.now) name.now.labels result }
 {
     let mut front = name.as_octets().len();
     let mut longest = None;
+    let (mut to, mut clash) = (0, 0);
     'entries: for entry in entries {
-        if let Some(found) = front_of(entry.octets(octets), name, front) {
-            front = found;
-            longest = Some(Suffix {
-                front,
-                place: entry.place,
-            });
+        if entry.to != to || clash < entry.from {
+            match meeting_of(entry.octets(octets), name, front) {
+                Meeting::Ends(found) => {
+                    front = found;
+                    longest = Some(Suffix {
+                        front,
+                        place: entry.place,
+                    });
+                    if front == 0 {
+                        return longest;
+                    }
+                }
+                Meeting::Clashes(place) => {
+                    to = entry.to;
+                    clash = entry.from + place;
+                }
+                Meeting::Apart => {}
+            }
         }
     }
     longest

@@ -52,13 +52,6 @@ name_cmp = name_cmp_by label_cmp
 abbrev pub is_at_or_below : DomainName → DomainName → Bool
 is_at_or_below name ancestor = ends_with label_eq name.labels ancestor.labels
 
-abbrev pub IsAtOrBelow : DomainName → DomainName → Type 0
-IsAtOrBelow name ancestor = is_at_or_below name ancestor ≡ true
-
--- A name is in a zone where it is the origin or lies below it.
-abbrev pub IsInZone : DomainName → DomainName → Type 0
-IsInZone name origin = IsAtOrBelow name origin
-
 -- `localhost.`, whose names are the host's own (RFC 6761 6.3).
 abbrev pub localhost : DomainName
 localhost = domain_name true (codes "localhost" ∷ [])

@@ -1,5 +1,5 @@
--- Laws of addresses in lists: each takes octets, octets that begin with one end it in one place, and
--- why a text is none.
+-- Laws of addresses in lists: each takes octets, octets that begin with one end it in one place,
+-- and why a text is none.
 use Rattle.std.proofs.Common.{◌≡◌, ℕ, ◌<◌, List, [], ◌++◌, length, length-append, refl, sym, ◌∙◌, arith}
 use Rattle.std.specs.Net.Addr.{ipv4_bits}
 use Rattle.drd_fields.specs.dnw_decoder.Octets.{octets_32}

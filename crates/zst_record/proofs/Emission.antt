@@ -1,6 +1,7 @@
 -- A record that is written piece by piece.
-use Rattle.std.proofs.Common.{◌≡◌, ℕ, ◌+◌, ◌^◌, ◌<◌, ◌≤◌, inr, List, ◌++◌, length, refl, sym, ap, subst, ◌∙◌, arith}
+use Rattle.std.proofs.Common.{◌≡◌, ℕ, ◌+◌, ◌^◌, ◌<◌, ◌≤◌, inr, List, [], ◌∷◌, ◌++◌, length, slice_index_or, refl, sym, ap, subst, ◌∙◌, arith}
 use Rattle.std.specs.Prelude.{Result, Ok, Err, OnOk, OnErr}
+use Rattle.std.specs.Int.{to_be_bytes, w32}
 use Rattle.drd_rdata.specs.dnw_codes.DNSClass.{class_number}
 use Rattle.drd_rdata.specs.dnw_codes.RecordType.{record_type_number}
 use Rattle.drd_rdata.specs.dnw_codes.declared.error.ProtoError.{ProtoError}
@@ -125,6 +126,42 @@ behind_emitted v p n a b c d opens ab room emits bc fills long short =
       size = λ readable. omega (arith, fills.offset, opens.offset, written_size (type_of v) readable.message readable.place v readable.end (refl, readable.there) b c emits);
       fits = omega (arith, fills.offset, within);
     }
+
+-- ---- an address behind its length, in one write
+pub four_octets : (octets : List ℕ) (n : ℕ) → octets ≡ to_be_bytes w32 n → slice_index_or octets 0 0 ∷ slice_index_or octets 1 0 ∷ slice_index_or octets 2 0 ∷ slice_index_or octets 3 0 ∷ [] ≡ octets_32 n
+unfolding octets_32
+four_octets octets n is =
+    subst (λ (o : List ℕ). slice_index_or o 0 0 ∷ slice_index_or o 1 0 ∷ slice_index_or o 2 0 ∷ slice_index_or o 3 0 ∷ [] ≡ to_be_bytes w32 n) (sym is) refl
+
+pub four_written : (n : ℕ) → length (octets_32 n ++ []) ≡ 4
+unfolding octets_32
+four_written n = refl
+
+address_emitted : (v : RData) (bits : ℕ) (old new : State) → ((m : List ℕ) (p q : ℕ) → IsReadable v → Stands m p (octets_32 bits) q → HoldsAs (type_of v) m p v q) → length (written_octets v) ≡ 4 → WritesOctets (octets_16 4 ++ octets_32 bits) old new → old.offset + 6 ≤ old.maximum → EmitsBehindLength v old new
+address_emitted v bits old new holds four octets room =
+    let end : new.offset ≡ old.offset + 2 + 4 = omega (arith, octets.offset, length-octets_32 bits) in
+    record {
+      stays = λ readable none full small.
+          let there = puts_stands (octets_16 4 ++ octets_32 bits) old new full.sound octets in
+          record {
+            of = λ later agrees.
+                let both = stands_split later old.offset (octets_16 4) (octets_32 bits) new.offset (there.of later agrees) in
+                record {
+                  len = 4;
+                  number = both.0;
+                  small = omega arith;
+                  data_there = inr (omega arith, holds later (old.offset + 2) (old.offset + 2 + 4) readable (subst (λ (q : ℕ). Stands later (old.offset + 2) (octets_32 bits) q) end both.1));
+                  filled = end;
+                };
+          };
+      size = λ readable. omega (arith, end, four);
+      fits = omega (arith, end, room);
+    }
+
+pub address_written : (v : RData) (bits : ℕ) (octets : List ℕ) (old new : State) (r : Result (Unit {0}) ProtoError) → ((m : List ℕ) (p q : ℕ) → IsReadable v → Stands m p (octets_32 bits) q → HoldsAs (type_of v) m p v q) → length (written_octets v) ≡ 4 → octets ≡ octets_16 4 ++ octets_32 bits → OnOk r (WritesOctets octets old new) → OnOk r (old.offset + length octets ≤ old.maximum) → OnOk r (EmitsBehindLength v old new)
+address_written v bits octets old new (Ok done) holds four is written fits =
+    address_emitted v bits old new holds four (subst (λ (o : List ℕ). WritesOctets o old new) is written) (omega (arith, fits, ap length is, length-octets_32 bits))
+address_written v bits octets old new (Err e) holds four is written fits = written
 
 -- Why they are refused.
 pub place_refused : (v : RData) (a : State) (e : ProtoError) → IsRefusal a 2 e → RefusesBehindLength v a e

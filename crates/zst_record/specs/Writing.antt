@@ -18,9 +18,9 @@ use Rattle.zst_record.specs.Records.{IsOwnClass, IsOwnType, RecordAt, ReadsBackA
 use Rattle.zst_record.specs.declared.records.Record.{Record}
 
 -- A record was written, within the maximum. One that reads back alone stands there, in the finished
--- message too, and takes its plain size at most. A maximum that was set is a number of 16 bits. Where
--- names are written with pointers, an owner of labels takes two octets if it is a candidate, and has
--- become one if there was room.
+-- message too, and takes its plain size at most. A maximum that was set is a number of 16 bits.
+-- Where names are written with pointers, an owner of labels takes two octets if it is a candidate,
+-- and has become one if there was room.
 pub record EmitsRecord (r : Record) (old new : State) : Type 0 where
   pub stays : ReadsBackAlone r → WritesInFull old → old.maximum < 2 ^ 16
       → StaysTrue new new.offset (λ message. RecordAt message old.offset r new.offset)

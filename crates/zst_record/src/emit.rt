@@ -1,6 +1,8 @@
 //! Records that are written (RFC 1035 section 4.1.3).
 
-ghost use Rattle.std.specs.Prelude.{◌≡◌, ◌+◌, ◌<◌, ◌^◌, IfErr, OnOk, length};
+ghost use Rattle.std.specs.Prelude.{◌≡◌, ◌+◌, ◌++◌, ◌<◌, ◌^◌, IfErr, OnOk, length};
+ghost use Rattle.std.specs.Net.Addr.{ipv4_bits};
+ghost use Rattle.drd_rdata.specs.dnw_decoder.Octets.{octets_16, octets_32};
 ghost use Rattle.drd_rdata.specs.dnw_encoder.Effects.{Writes, IsRefusal};
 ghost use Rattle.drd_rdata.specs.dnw_encoder.Encoders.{state};
 ghost use Rattle.drd_rdata.specs.dnw_name.DomainName.{name_octets};
@@ -8,7 +10,7 @@ ghost use Rattle.zst_record.specs.Lending.{seen};
 ghost use Rattle.zst_record.specs.Writing.{EmitsHead, EmitsBehindLength, EmitsRecord, RefusesBehindLength, RefusesRecord, head_numbers};
 
 use crate::records::{Record, RecordRef};
-use drd_rdata::{BinEncodable, BinEncoder, ProtoError, RData};
+use drd_rdata::{A, BinEncodable, BinEncoder, ProtoError, RData};
 
 impl RecordRef<'_> {
     // The numbers of type, class and time to live, as they stand behind the owner.
@@ -35,6 +37,24 @@ impl RecordRef<'_> {
     }
 }
 
+// The octets of an address behind their number.
+fn counted_address(a: &A) -> [u8; 6]
+    ensures { result ≡ octets_16 4 ++ octets_32 (ipv4_bits a.now.0) }
+{
+    let [first, second, third, fourth] = a.0.to_bits().to_be_bytes();
+    [0, 4, first, second, third, fourth]
+}
+
+// Writes an address behind its length, which is known: in one write.
+fn emit_address(encoder: &mut BinEncoder<'_>, a: &A) -> Result<(), ProtoError>
+    ensures same_reference { encoder.new.buffer.ghost_name ≡ encoder.old.buffer.ghost_name }
+    ensures writes { Writes (state encoder.old) (state encoder.new) }
+    ensures ok { OnOk result (EmitsBehindLength (RData.A a.now) (state encoder.old) (state encoder.new)) }
+    ensures cause { IfErr result (RefusesBehindLength (RData.A a.now) (state encoder.old)) }
+{
+    encoder.emit_vec(&counted_address(a))
+}
+
 // Writes data behind their length.
 fn emit_behind_length(encoder: &mut BinEncoder<'_>, rdata: &RData) -> Result<(), ProtoError>
     ensures same_reference { encoder.new.buffer.ghost_name ≡ encoder.old.buffer.ghost_name }
@@ -42,6 +62,9 @@ fn emit_behind_length(encoder: &mut BinEncoder<'_>, rdata: &RData) -> Result<(),
     ensures ok { OnOk result (EmitsBehindLength rdata.now (state encoder.old) (state encoder.new)) }
     ensures cause { IfErr result (RefusesBehindLength rdata.now (state encoder.old)) }
 {
+    if let RData::A(a) = rdata {
+        return emit_address(encoder, a);
+    }
     let length = encoder.place::<u16>()?;
     rdata.emit(encoder)?;
     match u16::try_from(encoder.len_since_place(&length)) {

@@ -14,24 +14,10 @@ use Rattle.zsv_request.specs.zsv_message.zsv_parts.Questions.{Asked}
 use Rattle.zsv_request.specs.zsv_message.zsv_parts.declared.header.Header.{Header}
 use Rattle.zsv_request.specs.zsv_message.zsv_parts.declared.question.Query.{Query}
 use Rattle.zsv_request.proofs.zsv_message_lemmas.zst_record_lemmas.dnw_encoder_lemmas.Laws.{modes_then, puts_stands, puts_writes}
+use Rattle.zsv_request.proofs.zsv_message_lemmas.zst_record_lemmas.dnw_encoder_lemmas.PointerLaws.{stays_alike}
 use Rattle.zsv_reply.specs.Replies.{ReplyParts, first_labels, leaves_room}
 use Rattle.zsv_reply.specs.Writing.{EmitsQuestions, IsEmitted, IsEncoded, LeadsRecords, lets_point}
 use Rattle.zsv_reply.proofs.FrontLaws.{in_full_then}
-
--- What stands in an encoder of the same octets and open places.
-stays_alike : (s t : State) (bound : ℕ) (P : List ℕ → Type 0) → t.octets ≡ s.octets → t.places ≡ s.places → StaysTrue s bound P → StaysTrue t bound P
-stays_alike s t bound P octets places h = record {
-  of = λ later a. h.of later (record {
-    there = λ i lt f. a.there i lt (fixed i f);
-    same = λ i lt f. a.same i lt (fixed i f) ∙ ap (λ (o : List ℕ). get_or o i 0) octets;
-  });
-}
-  where
-    fixed : (i : ℕ) → Fixed s i → Fixed t i
-    fixed i f = record {
-      there = omega (arith, f.there, ap length octets);
-      shut = λ r member low high. f.shut r (subst (λ (rs : List OpenPlace). In r rs) places member) low high;
-    }
 
 -- A name that was written is kept: this is one writing call.
 pub stored_writes : (name : DomainName) (start : ℕ) (a b c : State) → Writes a b → StoresName name start b c → a.offset ≤ start → Writes a c

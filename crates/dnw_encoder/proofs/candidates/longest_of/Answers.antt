@@ -1,31 +1,62 @@
-use Rattle.std.proofs.Common.{ℕ, List, subst, arith}
-use Rattle.dnw_encoder.specs.Candidates.{IsNameBehind, NoneBefore}
+use Rattle.std.proofs.Common.{ℕ, ◌+◌, List, get_or, refl, subst, arith}
+use Rattle.dnw_encoder.specs.Candidates.{ClashesAt, IsNameBehind, NoneBefore}
+use Rattle.dnw_encoder.specs.declared.candidates.Entry.{Entry}
 use Rattle.dnw_encoder.proofs.CandidateLaws.{blank, in_get}
-use Rattle.dnw_encoder.proofs.LongestLaws.{search_start, search_other, search_longer, search_end}
+use Rattle.dnw_encoder.proofs.LongestLaws.{search_start, search_other, search_longer, search_whole, search_end, bar_start, bar_clash, barred_none}
 use Rattle.dnw_encoder.proofs.candidates.longest_of.Goals as goal
-use Rattle.dnw_encoder.proofs.candidates.longest_of.Goals.{in-Some, in_default}
+use Rattle.dnw_encoder.proofs.candidates.longest_of.Goals.{then-entry-to+in-Ends+else-front-eq0, then-entry-to+in-Clashes, then-entry-to+in-Apart, else-entry-to+else-clash-entry}
 
 pub entries-init : goal.entries-init
-entries-init c = search_start c.args.octets.now c.args.entries.now c.args.name.now.labels c.as_octets-front.result.now c.as_octets-front.ensures.octets
+entries-init c =
+    (search_start c.args.octets.now c.args.entries.now c.args.name.now.labels c.as_octets-front.result.now c.as_octets-front.ensures.octets, bar_start c.args.octets.now c.args.name.now.labels)
 
 pub octets-requires : goal.octets-requires
 octets-requires c = c.requires _ (in_get c.args.entries.now c.entries.entry-index blank (omega arith))
 
-pub front_of-requires : goal.front_of-requires
-front_of-requires c = c.entries.invariant.within
+pub meeting_of-requires : goal.meeting_of-requires
+meeting_of-requires c = c.entries.invariant.0.within
 
 pub entries-preserved : goal.entries-preserved
 entries-preserved c =
-    elim c.match-front_of.branch [
-      | in-Some w ↦
-          rw (w.front-is, w.longest-is)
-          (search_longer c.args.octets.now c.args.entries.now c.entries.entry-index c.args.name.now.labels c.entries.front w.in-Some.found c.entries.longest c.entries-test.true c.entries.invariant w.in-Some.ensures.0
-          (subst (λ (o : List ℕ). IsNameBehind c.args.name.now.labels w.in-Some.found o) c.octets.ensures w.in-Some.ensures.1))
-      | in_default w ↦
-          rw (w.front-is, w.longest-is)
-          (search_other c.args.octets.now c.args.entries.now c.entries.entry-index c.args.name.now.labels c.entries.front c.entries.longest c.entries-test.true c.entries.invariant
-          (subst (λ (o : List ℕ). NoneBefore c.args.name.now.labels c.entries.front o) c.octets.ensures w.in_default.ensures))
+    let octets = c.args.octets.now in
+    let entries = c.args.entries.now in
+    let labels = c.args.name.now.labels in
+    let i = c.entries.entry-index in
+    let e : Entry = get_or entries i blank in
+    let more = c.entries-test.true in
+    let searched = c.entries.invariant.0 in
+    let barred = c.entries.invariant.1 in
+    elim c.if-entry-to.branch [
+      | then-entry-to+in-Ends+else-front-eq0 w ↦
+          rw (w.front-is, w.longest-is, w.to-is, w.clash-is) (
+            search_longer octets entries i labels c.entries.front w.in-Ends.found c.entries.longest more searched w.in-Ends.ensures.0
+                (subst (λ (o : List ℕ). IsNameBehind labels w.in-Ends.found o) w.octets.ensures w.in-Ends.ensures.1),
+            barred,
+          )
+      | then-entry-to+in-Clashes w ↦
+          let bars = bar_clash octets labels e w.in-Clashes.place (c.requires e (in_get entries i blank more)) (subst (λ (o : List ℕ). ClashesAt labels o w.in-Clashes.place) w.octets.ensures w.in-Clashes.ensures) in
+          rw (w.front-is, w.longest-is, w.to-is, w.clash-is) (
+            search_other octets entries i labels c.entries.front c.entries.longest more searched (barred_none octets labels e e.to (e.from + w.in-Clashes.place) c.entries.front bars refl (omega arith)),
+            bars,
+          )
+      | then-entry-to+in-Apart w ↦
+          rw (w.front-is, w.longest-is, w.to-is, w.clash-is) (
+            search_other octets entries i labels c.entries.front c.entries.longest more searched
+                (subst (λ (o : List ℕ). NoneBefore labels c.entries.front o) w.octets.ensures w.in-Apart.ensures),
+            barred,
+          )
+      | else-entry-to+else-clash-entry w ↦
+          rw (w.front-is, w.longest-is, w.to-is, w.clash-is) (
+            search_other octets entries i labels c.entries.front c.entries.longest more searched (barred_none octets labels e c.entries.to c.entries.clash c.entries.front barred (omega (arith, w.if-entry-to.false)) (omega (arith, w.if-clash-entry.false))),
+            barred,
+          )
     ]
 
 pub returns : goal.returns
-returns c = search_end c.args.octets.now c.args.entries.now c.entries.entry-index c.args.name.now.labels c.entries.front c.entries.longest (omega arith) c.requires c.entries.invariant
+returns c = search_end c.args.octets.now c.args.entries.now c.entries.entry-index c.args.name.now.labels c.entries.front c.entries.longest (omega arith) c.requires c.entries.invariant.0
+
+pub returns-then-front-eq0 : goal.returns-then-front-eq0
+returns-then-front-eq0 c =
+    search_whole c.args.octets.now c.args.entries.now c.entries.entry-index c.args.name.now.labels c.entries.front c.in-Ends.found c.entries.longest c.entries-test.true c.requires c.entries.invariant.0 c.in-Ends.ensures.0
+    (subst (λ (o : List ℕ). IsNameBehind c.args.name.now.labels c.in-Ends.found o) c.octets.ensures c.in-Ends.ensures.1)
+    c.if-front-eq0.true
