@@ -92,12 +92,18 @@ impl BinEncoder<'_> {
         ensures name { OnOk result (IsDomainName name.now) }
         ensures err { OnErr result (state self.new ≡ state self.old) }
     {
+        let labels = name.as_octets();
+        if front == 0 {
+            put_at(self.buffer, self.offset, rest)?;
+            self.offset += rest.len();
+            return Ok(());
+        }
         let size = front + rest.len();
         self.buffer.reserve(size)?;
         let end = self.offset + size;
         self.candidates.keep_name(name, front, self.offset, end)?;
         // There is room, and so no growth is refused.
-        let _ = write_at(self.buffer, self.offset, &name.as_octets()[..front], rest);
+        let _ = write_at(self.buffer, self.offset, &labels[..front], rest);
         self.offset = end;
         Ok(())
     }
