@@ -21,7 +21,7 @@ use Rattle.std.proofs.lemmas.Grind.{flat_map-append}
 use Rattle.drd_fields.specs.Writing.{encoded_field, encoded_fields, string_octets, field_octets, fields_octets, EmitsField, EmitsFields, EmitsData, EndsWithin, IsTooLong, SomeTooLong}
 
 -- Octets written behind others that were written.
-written_then : (o : List ℕ) (place : ℕ) (a b : List ℕ) → place ≤ length o → written_at (written_at o place a) (place + length a) b ≡ written_at o place (a ++ b)
+pub written_then : (o : List ℕ) (place : ℕ) (a b : List ℕ) → place ≤ length o → written_at (written_at o place a) (place + length a) b ≡ written_at o place (a ++ b)
 written_then o place a b le =
     let front : length (take place o ++ a) ≡ place + length a = omega (arith, length-append (take place o) a, length-take place o) in
     let w = written_at o place a in

@@ -1,5 +1,5 @@
 -- A record that is written piece by piece.
-use Rattle.std.proofs.Common.{◌≡◌, ℕ, ◌+◌, ◌^◌, ◌<◌, ◌≤◌, inr, List, [], ◌∷◌, ◌++◌, length, slice_index_or, refl, sym, ap, subst, ◌∙◌, arith}
+use Rattle.std.proofs.Common.{◌≡◌, ℕ, ◌+◌, ◌^◌, ◌<◌, ◌≤◌, inr, List, [], ◌∷◌, ◌++◌, length, length-append, slice_index_or, refl, sym, ap, subst, ◌∙◌, arith}
 use Rattle.std.specs.Prelude.{Result, Ok, Err, OnOk, OnErr}
 use Rattle.std.specs.Int.{to_be_bytes, w32}
 use Rattle.drd_rdata.specs.dnw_codes.DNSClass.{class_number}
@@ -9,14 +9,14 @@ use Rattle.drd_rdata.specs.dnw_codes.declared.record_type.RecordType.TheVariants
 use Rattle.drd_rdata.specs.dnw_decoder.Octets.{octets_16, octets_32, Stands}
 use Rattle.drd_rdata.specs.dnw_decoder.Spelling.{NameAt}
 use Rattle.drd_rdata.proofs.dnw_decoder_lemmas.Standing.{length-octets_32, stands_split}
-use Rattle.drd_rdata.specs.dnw_encoder.Effects.{Has, Sound, StaysTrue, Keeps, Writes, WritesOctets, Opens, Fills, IsRefusal, place_of}
-use Rattle.drd_rdata.proofs.dnw_encoder_lemmas.Laws.{holds_more, holds_same, holds_written, keeps_then, modes_then, puts_stands}
+use Rattle.drd_rdata.specs.dnw_encoder.Effects.{Has, SameModes, Sound, StaysTrue, Keeps, Writes, WritesOctets, Opens, Fills, IsRefusal, place_of, written_at}
+use Rattle.drd_rdata.proofs.dnw_encoder_lemmas.Laws.{holds_more, holds_same, holds_written, keeps_then, modes_then, puts_stands, puts_writes, writes_then, written_length}
 use Rattle.drd_fields.specs.dnw_encoder.Members.{In}
 use Rattle.drd_rdata.specs.dnw_encoder.Names.{EmitsName}
 use Rattle.drd_rdata.proofs.dnw_encoder_lemmas.PlaceLaws.{opens_open}
 use Rattle.drd_rdata.specs.dnw_encoder.State.{Candidate, State, is_lower}
 use Rattle.drd_rdata.specs.dnw_name.DomainName.{DomainName, name_octets}
-use Rattle.drd_rdata.proofs.drd_fields_lemmas.WritingLaws.{refused_front, refused_later, within_then}
+use Rattle.drd_rdata.proofs.drd_fields_lemmas.WritingLaws.{refused_front, refused_later, within_then, written_then}
 use Rattle.drd_rdata.specs.Reading.{HoldsAs, IsReadable}
 use Rattle.drd_rdata.specs.Types.{type_of}
 use Rattle.drd_rdata.specs.Writing.{EmitsRData, RefusesRData, WritesInFull, written_octets}
@@ -127,42 +127,6 @@ behind_emitted v p n a b c d opens ab room emits bc fills long short =
       fits = omega (arith, fills.offset, within);
     }
 
--- ---- an address behind its length, in one write
-pub four_octets : (octets : List ℕ) (n : ℕ) → octets ≡ to_be_bytes w32 n → slice_index_or octets 0 0 ∷ slice_index_or octets 1 0 ∷ slice_index_or octets 2 0 ∷ slice_index_or octets 3 0 ∷ [] ≡ octets_32 n
-unfolding octets_32
-four_octets octets n is =
-    subst (λ (o : List ℕ). slice_index_or o 0 0 ∷ slice_index_or o 1 0 ∷ slice_index_or o 2 0 ∷ slice_index_or o 3 0 ∷ [] ≡ to_be_bytes w32 n) (sym is) refl
-
-pub four_written : (n : ℕ) → length (octets_32 n ++ []) ≡ 4
-unfolding octets_32
-four_written n = refl
-
-address_emitted : (v : RData) (bits : ℕ) (old new : State) → ((m : List ℕ) (p q : ℕ) → IsReadable v → Stands m p (octets_32 bits) q → HoldsAs (type_of v) m p v q) → length (written_octets v) ≡ 4 → WritesOctets (octets_16 4 ++ octets_32 bits) old new → old.offset + 6 ≤ old.maximum → EmitsBehindLength v old new
-address_emitted v bits old new holds four octets room =
-    let end : new.offset ≡ old.offset + 2 + 4 = omega (arith, octets.offset, length-octets_32 bits) in
-    record {
-      stays = λ readable none full small.
-          let there = puts_stands (octets_16 4 ++ octets_32 bits) old new full.sound octets in
-          record {
-            of = λ later agrees.
-                let both = stands_split later old.offset (octets_16 4) (octets_32 bits) new.offset (there.of later agrees) in
-                record {
-                  len = 4;
-                  number = both.0;
-                  small = omega arith;
-                  data_there = inr (omega arith, holds later (old.offset + 2) (old.offset + 2 + 4) readable (subst (λ (q : ℕ). Stands later (old.offset + 2) (octets_32 bits) q) end both.1));
-                  filled = end;
-                };
-          };
-      size = λ readable. omega (arith, end, four);
-      fits = omega (arith, end, room);
-    }
-
-pub address_written : (v : RData) (bits : ℕ) (octets : List ℕ) (old new : State) (r : Result (Unit {0}) ProtoError) → ((m : List ℕ) (p q : ℕ) → IsReadable v → Stands m p (octets_32 bits) q → HoldsAs (type_of v) m p v q) → length (written_octets v) ≡ 4 → octets ≡ octets_16 4 ++ octets_32 bits → OnOk r (WritesOctets octets old new) → OnOk r (old.offset + length octets ≤ old.maximum) → OnOk r (EmitsBehindLength v old new)
-address_written v bits octets old new (Ok done) holds four is written fits =
-    address_emitted v bits old new holds four (subst (λ (o : List ℕ). WritesOctets o old new) is written) (omega (arith, fits, ap length is, length-octets_32 bits))
-address_written v bits octets old new (Err e) holds four is written fits = written
-
 -- Why they are refused.
 pub place_refused : (v : RData) (a : State) (e : ProtoError) → IsRefusal a 2 e → RefusesBehindLength v a e
 place_refused v a e refused = λ readable none small. refused_front 2 (length (written_octets v)) a e refused
@@ -213,3 +177,77 @@ pub rest_refused : (r : Record) (a b : State) (e : ProtoError) → EmitsHead r a
 rest_refused r a b e head ab refused = λ alone small.
     subst (λ (n : ℕ). IsRefusal a n e) (omega arith)
     (refused_later (2 + length (written_octets r.rdata)) (length (name_octets r.name) + 8) a b e ab.modes (omega (arith, head.size)) (refused alone.rdata (no_options (type_of r.rdata) alone.of_zones) (omega (arith, small, ab.modes.maximum))))
+
+-- ---- an address in one piece behind its owner
+pub eight_octets : (octets : List ℕ) (r : Record) → octets ≡ head_numbers r → slice_index_or octets 0 0 ∷ slice_index_or octets 1 0 ∷ slice_index_or octets 2 0 ∷ slice_index_or octets 3 0 ∷ slice_index_or octets 4 0 ∷ slice_index_or octets 5 0 ∷ slice_index_or octets 6 0 ∷ slice_index_or octets 7 0 ∷ [] ≡ head_numbers r
+unfolding octets_32
+eight_octets octets r is =
+    subst (λ (o : List ℕ). slice_index_or o 0 0 ∷ slice_index_or o 1 0 ∷ slice_index_or o 2 0 ∷ slice_index_or o 3 0 ∷ slice_index_or o 4 0 ∷ slice_index_or o 5 0 ∷ slice_index_or o 6 0 ∷ slice_index_or o 7 0 ∷ [] ≡ head_numbers r) (sym is) refl
+
+pub four_octets : (octets : List ℕ) (n : ℕ) → octets ≡ to_be_bytes w32 n → slice_index_or octets 0 0 ∷ slice_index_or octets 1 0 ∷ slice_index_or octets 2 0 ∷ slice_index_or octets 3 0 ∷ [] ≡ octets_32 n
+unfolding octets_32
+four_octets octets n is =
+    subst (λ (o : List ℕ). slice_index_or o 0 0 ∷ slice_index_or o 1 0 ∷ slice_index_or o 2 0 ∷ slice_index_or o 3 0 ∷ [] ≡ to_be_bytes w32 n) (sym is) refl
+
+pub four_written : (n : ℕ) → length (octets_32 n ++ []) ≡ 4
+unfolding octets_32
+four_written n = refl
+
+-- Data whose octets are those of a number of 32 bits, wherever they can be read.
+abbrev pub IsNumber : RData → ℕ → Type 0
+IsNumber v bits =
+    ((m : List ℕ) (p q : ℕ) → IsReadable v → Stands m p (octets_32 bits) q → HoldsAs (type_of v) m p v q) × (length (written_octets v) ≡ 4)
+
+number_emitted : (v : RData) (bits : ℕ) (old new : State) → IsNumber v bits → WritesOctets (octets_16 4 ++ octets_32 bits) old new → old.offset + 6 ≤ old.maximum → EmitsBehindLength v old new
+number_emitted v bits old new is octets room =
+    let end : new.offset ≡ old.offset + 2 + 4 = omega (arith, octets.offset, length-octets_32 bits) in
+    record {
+      stays = λ readable none full small.
+          let there = puts_stands (octets_16 4 ++ octets_32 bits) old new full.sound octets in
+          record {
+            of = λ later agrees.
+                let both = stands_split later old.offset (octets_16 4) (octets_32 bits) new.offset (there.of later agrees) in
+                record {
+                  len = 4;
+                  number = both.0;
+                  small = omega arith;
+                  data_there = inr (omega arith, is.0 later (old.offset + 2) (old.offset + 2 + 4) readable (subst (λ (q : ℕ). Stands later (old.offset + 2) (octets_32 bits) q) end both.1));
+                  filled = end;
+                };
+          };
+      size = λ readable. omega (arith, end, is.1);
+      fits = omega (arith, end, room);
+    }
+
+-- Between a front and a rest that were written at once.
+abbrev between : State → List ℕ → State
+between s front = record s { octets = written_at s.octets s.offset front; offset = s.offset + length front }
+
+pub address_emitted : (r : Record) (bits : ℕ) (a b d : State) → IsNumber r.rdata bits → EmitsName r.name a b → Writes a b → b.offset ≤ length b.octets → WritesOctets (head_numbers r ++ (octets_16 4 ++ octets_32 bits)) b d → b.offset + 14 ≤ b.maximum → r.ttl < 2 ^ 32 → EmitsRecord r a d
+address_emitted r bits a b d is name ab within w room small =
+    let head = head_numbers r in
+    let address = octets_16 4 ++ octets_32 bits in
+    let c = between b head in
+    let modes : SameModes b c = record { maximum = refl; encoding = refl; canonical = refl; points = refl } in
+    let first : WritesOctets head b c = record { octets = refl; offset = refl; candidates = refl; places = refl; modes = modes } in
+    let second : WritesOctets address c d = record {
+      octets = w.octets ∙ sym (written_then b.octets b.offset head address within);
+      offset = omega (arith, w.offset, length-append head address);
+      candidates = w.candidates;
+      places = w.places;
+      modes = record { maximum = w.modes.maximum; encoding = w.modes.encoding; canonical = w.modes.canonical; points = w.modes.points };
+    } in
+    let bc = puts_writes head b c within first in
+    let cd = puts_writes address c d (written_length b.octets b.offset head within).1 second in
+    record_emitted r a c d (head_emitted r a b c name ab first bc small) (writes_then a b c ab bc)
+    (number_emitted r.rdata bits c d is second (omega (arith, room, length-octets_32 r.ttl))) cd
+
+pub address_written : (r : Record) (bits : ℕ) (octets : List ℕ) (a b d : State) (done : Result (Unit {0}) ProtoError) → IsNumber r.rdata bits → EmitsName r.name a b → Writes a b → b.offset ≤ length b.octets → r.ttl < 2 ^ 32 → octets ≡ head_numbers r ++ (octets_16 4 ++ octets_32 bits) → OnOk done (WritesOctets octets b d) → OnOk done (b.offset + length octets ≤ b.maximum) → OnOk done (EmitsRecord r a d)
+address_written r bits octets a b d (Ok done) is name ab within small same written fits =
+    address_emitted r bits a b d is name ab within (subst (λ (o : List ℕ). WritesOctets o b d) same written) (omega (arith, fits, ap length same, length-append (head_numbers r) (octets_16 4 ++ octets_32 bits), length-octets_32 r.ttl, length-octets_32 bits)) small
+address_written r bits octets a b d (Err e) is name ab within small same written fits = written
+
+pub address_refused : (r : Record) (bits : ℕ) (octets : List ℕ) (a b : State) (e : ProtoError) → IsNumber r.rdata bits → octets ≡ head_numbers r ++ (octets_16 4 ++ octets_32 bits) → EmitsName r.name a b → Writes a b → IsRefusal b (length octets) e → RefusesRecord r a e
+address_refused r bits octets a b e is same name ab refused = λ alone small.
+    subst (λ (n : ℕ). IsRefusal a n e) (omega (arith, is.1, ap length same, length-append (head_numbers r) (octets_16 4 ++ octets_32 bits), length-octets_32 r.ttl, length-octets_32 bits))
+    (refused_later (length octets) (length (name_octets r.name)) a b e ab.modes (omega (arith, name.size)) refused)

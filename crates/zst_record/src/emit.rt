@@ -35,24 +35,31 @@ impl RecordRef<'_> {
         self.name.emit(encoder)?;
         encoder.emit_vec(&self.head_numbers())
     }
-}
 
-// The octets of an address behind their number.
-fn counted_address(a: &A) -> [u8; 6]
-    ensures { result ≡ octets_16 4 ++ octets_32 (ipv4_bits a.now.0) }
-{
-    let [first, second, third, fourth] = a.0.to_bits().to_be_bytes();
-    [0, 4, first, second, third, fourth]
-}
+    // What stands behind the owner of an address: type, class and time to live, and the address behind its length.
+    fn address_octets(&self, a: &A) -> [u8; 14]
+        ensures octets { result ≡ head_numbers (seen self.now) ++ (octets_16 4 ++ octets_32 (ipv4_bits a.now.0)) }
+        ensures small { self.now.ttl < 2 ^ 32 }
+    {
+        let [kind, kind_low, class, class_low, highest, high, low, lowest] = self.head_numbers();
+        let [first, second, third, fourth] = a.0.to_bits().to_be_bytes();
+        [
+            kind, kind_low, class, class_low, highest, high, low, lowest, 0, 4, first, second,
+            third, fourth,
+        ]
+    }
 
-// Writes an address behind its length, which is known: in one write.
-fn emit_address(encoder: &mut BinEncoder<'_>, a: &A) -> Result<(), ProtoError>
-    ensures same_reference { encoder.new.buffer.ghost_name ≡ encoder.old.buffer.ghost_name }
-    ensures writes { Writes (state encoder.old) (state encoder.new) }
-    ensures ok { OnOk result (EmitsBehindLength (RData.A a.now) (state encoder.old) (state encoder.new)) }
-    ensures cause { IfErr result (RefusesBehindLength (RData.A a.now) (state encoder.old)) }
-{
-    encoder.emit_vec(&counted_address(a))
+    // Writes an address, whose length is known: what is behind the owner in one piece.
+    fn emit_address(&self, encoder: &mut BinEncoder<'_>, a: &A) -> Result<(), ProtoError>
+        requires { self.now.rdata.now ≡ RData.A a.now }
+        ensures same_reference { encoder.new.buffer.ghost_name ≡ encoder.old.buffer.ghost_name }
+        ensures writes { Writes (state encoder.old) (state encoder.new) }
+        ensures ok { OnOk result (EmitsRecord (seen self.now) (state encoder.old) (state encoder.new)) }
+        ensures cause { IfErr result (RefusesRecord (seen self.now) (state encoder.old)) }
+    {
+        self.name.emit(encoder)?;
+        encoder.emit_vec(&self.address_octets(a))
+    }
 }
 
 // Writes data behind their length.
@@ -62,9 +69,6 @@ fn emit_behind_length(encoder: &mut BinEncoder<'_>, rdata: &RData) -> Result<(),
     ensures ok { OnOk result (EmitsBehindLength rdata.now (state encoder.old) (state encoder.new)) }
     ensures cause { IfErr result (RefusesBehindLength rdata.now (state encoder.old)) }
 {
-    if let RData::A(a) = rdata {
-        return emit_address(encoder, a);
-    }
     let length = encoder.place::<u16>()?;
     rdata.emit(encoder)?;
     match u16::try_from(encoder.len_since_place(&length)) {
@@ -80,6 +84,9 @@ impl BinEncodable for RecordRef<'_> {
 
     /// Writes owner, type, class and time to live, then the data behind their length.
     fn emit(&self, encoder: &mut BinEncoder<'_>) -> Result<(), ProtoError> {
+        if let RData::A(a) = self.rdata {
+            return self.emit_address(encoder, a);
+        }
         self.emit_head(encoder)?;
         emit_behind_length(encoder, self.rdata)
     }

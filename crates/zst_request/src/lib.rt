@@ -11,6 +11,7 @@ pub use zst_handler::{
     NxProofKind, ProtoError, RData, Record, RecordRef, RecordSet, RecordType, ResponseCode, RrKey,
     RrsetRecords, SOA, SRV, Salt, SaltLenError, ZoneSettings, ZoneType,
 };
+pub use zst_key::NameKey;
 
 mod blocklist;
 mod request;

@@ -1,6 +1,7 @@
 //! What a server asks of the handler of a zone.
 
 ghost use Rattle.std.specs.Prelude.{◌≡◌, false, IfOk, IsNone, OnErr, option_copied};
+ghost use Rattle.zst_handler.specs.dnw_name.DomainName.{lowercase_name};
 ghost use Rattle.zst_request.specs.Handling.{AnswersQuestion, Consults, HandlerAnswers, LacksProof, Updates};
 ghost use Rattle.zst_request.specs.Views.{View, axfr_policy_of, nx_proof_kind_of, origin_of, zone_type_of};
 
@@ -13,6 +14,7 @@ use zst_handler::{
     AuthLookup, AxfrPolicy, LookupControlFlow, LookupError, LookupOptions, Name, NxProofKind,
     RecordType, ResponseCode, ZoneType,
 };
+use zst_key::NameKey;
 
 /// What a server asks of the handler of a zone. Beside an answer stands what the reply to a signed request is signed with, if
 /// it is to be signed. A call that may take memory is handed where from, and answers an `AllocError` where none is left.
@@ -58,6 +60,28 @@ pub trait ZoneHandler: Drop {
     >
         ensures flow { IfOk result (λ given. AnswersQuestion (view self.now) request.now.name.now request.now.query_type options given.0) }
         ensures context { IfOk result (λ given. IsNone given.1) };
+
+    /// What `search` answers, where the key of the request's name is known: so a server makes it once for all that it asks.
+    fn search_at<'z>(
+        &'z self,
+        alloc: Global,
+        key: &NameKey,
+        request: &ZoneRequest<'_>,
+        options: LookupOptions,
+    ) -> Result<
+        (
+            LookupControlFlow<AuthLookup<'z>>,
+            Option<TSigResponseContext>,
+        ),
+        AllocError,
+    >
+        requires { key.now ≡ lowercase_name request.now.name.now }
+        ensures flow { IfOk result (λ given. AnswersQuestion (view self.now) request.now.name.now request.now.query_type options given.0) }
+        ensures context { IfOk result (λ given. IsNone given.1) }
+    {
+        let _ = key;
+        self.search(alloc, request, options)
+    }
 
     /// What the handler answers to a name and a type. A stored zone always continues; a list of blocked names breaks off
     /// with its own records for those that it blocks, and skips all others.
@@ -210,6 +234,22 @@ impl ZoneHandler for Box<dyn ZoneHandler> {
         AllocError,
     > {
         (**self).search(alloc, request, options)
+    }
+
+    fn search_at<'z>(
+        &'z self,
+        alloc: Global,
+        key: &NameKey,
+        request: &ZoneRequest<'_>,
+        options: LookupOptions,
+    ) -> Result<
+        (
+            LookupControlFlow<AuthLookup<'z>>,
+            Option<TSigResponseContext>,
+        ),
+        AllocError,
+    > {
+        (**self).search_at(alloc, key, request, options)
     }
 
     fn lookup<'z>(

@@ -4,25 +4,28 @@ ghost use Rattle.std.specs.Prelude.{◌≡◌, false, None, IfOk, IsSomeAnd, map
 ghost use Rattle.zst_request.specs.Handling.{AnswersQuestion, Consults, GivesWay};
 ghost use Rattle.zst_request.specs.dnw_codes.RecordType.{same_record_type};
 ghost use Rattle.zst_request.specs.dnw_codes.declared.record_type.RecordType.TheVariants.{AXFR};
+ghost use Rattle.zst_request.specs.dnw_name.DomainName.{lowercase_name};
 ghost use Rattle.zsv_answer.specs.Consulting.{ChainAnswers, FirstAnswers, Settles};
 ghost use Rattle.zsv_answer.specs.Resolution.{enforced, enforced_by};
 
 use std::alloc::{AllocError, Global};
 use zst_request::{
-    AuthLookup, LookupControlFlow, LookupError, LookupOptions, ResponseCode, ZoneHandler,
+    AuthLookup, LookupControlFlow, LookupError, LookupOptions, NameKey, ResponseCode, ZoneHandler,
     ZoneRequest,
 };
 
-// What one handler answers.
+// What one handler answers to a request, of whose name this is the key.
 fn searched<'z, H: ZoneHandler>(
     handler: &'z H,
     alloc: Global,
+    key: &NameKey,
     request: &ZoneRequest<'_>,
     options: LookupOptions,
 ) -> Result<LookupControlFlow<AuthLookup<'z>>, AllocError>
+    requires { key.now ≡ lowercase_name request.now.name.now }
     ensures { IfOk result (AnswersQuestion (H.view handler.now) request.now.name.now request.now.query_type options) }
 {
-    let (flow, _context) = handler.search(alloc, request, options)?;
+    let (flow, _context) = handler.search_at(alloc, key, request, options)?;
     Ok(flow)
 }
 
@@ -44,13 +47,15 @@ fn consulted_of<'z, H: ZoneHandler>(
 fn first_answer<'z, H: ZoneHandler>(
     handlers: &'z [H],
     alloc: Global,
+    key: &NameKey,
     request: &ZoneRequest<'_>,
     options: LookupOptions,
 ) -> Result<Option<(usize, &'z H, LookupControlFlow<AuthLookup<'z>>)>, AllocError>
+    requires { key.now ≡ lowercase_name request.now.name.now }
     ensures { IfOk result (FirstAnswers H.view handlers.now request.now.name.now request.now.query_type options) }
 {
     'handlers: for (place, handler) in handlers.iter().enumerate() {
-        match searched(handler, alloc, request, options)? {
+        match searched(handler, alloc, key, request, options)? {
             LookupControlFlow::Skip => {}
             flow => return Ok(Some((place, handler, flow))),
         }
@@ -105,13 +110,15 @@ fn settled<'z, H: ZoneHandler>(
 pub(crate) fn answer_of<'z, H: ZoneHandler>(
     handlers: &'z [H],
     alloc: Global,
+    key: &NameKey,
     request: &ZoneRequest<'_>,
     options: LookupOptions,
 ) -> Result<Option<(&'z H, Result<AuthLookup<'z>, LookupError>)>, AllocError>
-    requires { same_record_type request.now.query_type AXFR ≡ false }
+    requires key { key.now ≡ lowercase_name request.now.name.now }
+    requires kind { same_record_type request.now.query_type AXFR ≡ false }
     ensures { IfOk result (ChainAnswers H.view handlers.now request.now.name.now request.now.query_type options) }
 {
-    let Some((place, handler, flow)) = first_answer(handlers, alloc, request, options)? else {
+    let Some((place, handler, flow)) = first_answer(handlers, alloc, key, request, options)? else {
         return Ok(None);
     };
     match flow {

@@ -1,6 +1,7 @@
 //! Chains of handlers, each under the name from which on it answers.
 
 ghost use Rattle.std.specs.Prelude.{◌≡◌, [], IfOk, OnErr, OnOk, option_map};
+ghost use Rattle.zst_key.specs.Ancestors.{nearest_in};
 ghost use Rattle.zst_key.specs.dnw_name.DomainName.{lowercase_name};
 ghost use Rattle.zsv_catalog.specs.Chains.{chain_at, chain_for, with_chain, without_chain};
 
@@ -31,7 +32,15 @@ impl<H: Drop> Chains<H> {
             ≡ option_map (λ chain. chain.items) (chain_for self.now.chains.entries name.now)) }
     {
         let key = NameKey::of(alloc, name)?;
-        match nearest(&self.chains, &key)? {
+        self.find_at(&key)
+    }
+
+    // The chain for the name of a key, as `find` gives it.
+    pub(crate) fn find_at(&self, key: &NameKey) -> Result<Option<&[H]>, AllocError>
+        ensures { IfOk result (λ found. option_map (λ chain. chain.now) found
+            ≡ option_map (λ chain. chain.items) (option_map (λ entry. entry.1) (nearest_in (chain_at self.now.chains.entries) key.now))) }
+    {
+        match nearest(&self.chains, key)? {
             Some((_, chain)) => Ok(Some(chain)),
             None => Ok(None),
         }

@@ -10,6 +10,7 @@ use crate::chains::Chains;
 use drd_types::{EdnsCode, EdnsOption, NSIDPayload};
 use std::alloc::{AllocError, Global};
 use std::net::SocketAddr;
+use zst_key::NameKey;
 use zsv_answer::{
     Edns, LookupOptions, MessageRequest, MessageType, OpCode, Protocol, Query, RecordType,
     RequestTsig, Response, ResponseCode, ResponseInfo, TsigRecord, TsigVerdict, ZoneHandler,
@@ -64,7 +65,8 @@ fn question_response<'z, H: ZoneHandler>(
     ensures operation { IfOk result (λ r. r.metadata.op_code ≡ message.now.metadata.op_code) }
 {
     let metadata = message.metadata();
-    let handlers = match chains.find(alloc, &question.name)? {
+    let key = NameKey::of(alloc, &question.name)?;
+    let handlers = match chains.find_at(&key)? {
         Some(handlers) => handlers,
         None => return Ok(error_response(metadata, ResponseCode::Refused)),
     };
@@ -72,7 +74,7 @@ fn question_response<'z, H: ZoneHandler>(
         return Ok(error_response(metadata, ResponseCode::ServFail));
     }
     let request = asked(message, question, src);
-    chain_response(handlers, alloc, metadata, options, &request)
+    chain_response(handlers, alloc, &key, metadata, options, &request)
 }
 
 // A query asks one question.

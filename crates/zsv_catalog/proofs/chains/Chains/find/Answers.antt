@@ -1,23 +1,11 @@
-use Rattle.std.proofs.Common.{◌≡◌, ◌∙◌, List, Option, Some, None, Vec, Global, ap, subst}
-use Rattle.std.specs.Prelude.{option_map}
+use Rattle.std.proofs.Common.{◌≡◌, Option, subst}
+use Rattle.std.specs.Prelude.{IfOk, option_map}
 use Rattle.zst_key.specs.Ancestors.{nearest_in}
 use Rattle.zst_key.specs.dnw_name.DomainName.{DomainName}
 use Rattle.zsv_catalog.specs.Chains.{chain_at}
 use Rattle.zsv_catalog.proofs.chains.Chains.find.Goals as goal
 
-abbrev items_of : {H : Type 0} → Option (DomainName × Vec H Global) → Option (List H)
-items_of found = option_map (λ chain. chain.items) (option_map (λ entry. entry.1) found)
-
-pub returns-in-Some : goal.returns-in-Some
-returns-in-Some g c =
-    let chains = c.args.self.now.chains.entries in
-    let there = subst (λ (o : Option _). option_map (λ p. (p.0.now, p.1.now)) o ≡ nearest_in (chain_at chains) c.in_ok-key.key) c.in-Some.is c.in_ok-chain.ensures in
-    let at = subst (λ (name : DomainName). Some (c.in-Some.field-0-0.now, c.in-Some.chain.now) ≡ nearest_in (chain_at chains) name) c.in_ok-key.ensures.key there in
-    ap Some c.deref.ensures.value ∙ ap items_of at
-
 pub returns : goal.returns
 returns g c =
     let chains = c.args.self.now.chains.entries in
-    let there = subst (λ (o : Option _). option_map (λ p. (p.0.now, p.1.now)) o ≡ nearest_in (chain_at chains) c.in_ok-key.key) c.in-None.is c.in_ok-chain.ensures in
-    let at = subst (λ (name : DomainName). None ≡ nearest_in (chain_at chains) name) c.in_ok-key.ensures.key there in
-    ap items_of at
+    subst (λ (name : DomainName). IfOk c.find_at.result (λ found. option_map (λ chain. chain.now) found ≡ option_map (λ chain. chain.items) (option_map (λ entry. entry.1) (nearest_in (chain_at chains) name)))) c.in_ok-key.ensures.key c.find_at.ensures

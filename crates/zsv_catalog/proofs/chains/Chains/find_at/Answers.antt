@@ -1,0 +1,21 @@
+use Rattle.std.proofs.Common.{◌≡◌, ◌∙◌, List, Option, Some, None, Vec, Global, ap, subst}
+use Rattle.std.specs.Prelude.{option_map}
+use Rattle.zst_key.specs.Ancestors.{nearest_in}
+use Rattle.zst_key.specs.dnw_name.DomainName.{DomainName}
+use Rattle.zsv_catalog.specs.Chains.{chain_at}
+use Rattle.zsv_catalog.proofs.chains.Chains.find_at.Goals as goal
+
+abbrev items_of : {H : Type 0} → Option (DomainName × Vec H Global) → Option (List H)
+items_of found = option_map (λ chain. chain.items) (option_map (λ entry. entry.1) found)
+
+pub returns-in-Some : goal.returns-in-Some
+returns-in-Some g c =
+    let chains = c.args.self.now.chains.entries in
+    let there = subst (λ (o : Option _). option_map (λ p. (p.0.now, p.1.now)) o ≡ nearest_in (chain_at chains) c.args.key.now) c.in-Some.is c.in_ok-chain.ensures in
+    ap Some c.deref.ensures.value ∙ ap items_of there
+
+pub returns : goal.returns
+returns g c =
+    let chains = c.args.self.now.chains.entries in
+    let there = subst (λ (o : Option _). option_map (λ p. (p.0.now, p.1.now)) o ≡ nearest_in (chain_at chains) c.args.key.now) c.in-None.is c.in_ok-chain.ensures in
+    ap items_of there
