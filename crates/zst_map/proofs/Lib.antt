@@ -13,6 +13,7 @@ pub mod ZoneNodes
 pub mod ZoneOnce
 pub mod ZoneOrder
 pub mod NodeSets
+pub mod Places
 pub use Rattle.zst_handler.proofs.zst_record_lemmas.PutRecords
 pub use Rattle.zst_handler.proofs.zst_record_lemmas.dnw_name_lemmas
 pub use Rattle.zst_handler.proofs.zst_record_lemmas.drd_words_lemmas

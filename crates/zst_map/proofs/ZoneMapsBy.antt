@@ -1,18 +1,18 @@
 -- What the map's own calls say of a zone.
 use Rattle.std.proofs.Common.{◌≡◌, ℕ, ◌∙◌, sym, ap, subst, Vec, Global}
-use Rattle.std.specs.Prelude.{Bool, true, List, [], ◌&&◌, Option}
+use Rattle.std.specs.Prelude.{Bool, true, false, List, [], ◌∷◌, ◌&&◌, Option, Some, None, cond}
 use Rattle.std.specs.Bool.{beq}
 use Rattle.std.specs.List.{filter}
 use Rattle.std.specs.List.Sorted.{IsStrictlySortedBy}
 use Rattle.std.specs.Map.{keys_of, lookup}
 use Rattle.std.specs.BTreeMap.{insert_entry, is_at}
-use Rattle.std.specs.Ordering.{is_le}
+use Rattle.std.specs.Ordering.{is_eq, is_le}
 use Rattle.std.specs.declared.cmp.Ordering.{Ordering}
 use Rattle.zst_handler.specs.dnw_name.DomainName.{DomainName, is_at_or_below, name_cmp}
 use Rattle.zst_key.specs.NameKeys.{name_key}
 use Rattle.zst_key.specs.declared.key.NameKey.{NameKey}
 use Rattle.zst_key.proofs.KeyLemmas.{key-below}
-use Rattle.zst_key.proofs.KeyOrder.{keys-order}
+use Rattle.zst_key.proofs.KeyOrder.{key-order, keys-order}
 use Rattle.zst_handler.specs.zst_record.RecordSets.{RRset}
 use Rattle.zst_handler.specs.Lookups.{sets_of_name}
 use Rattle.zst_handler.specs.Zones.{rrset_at}
@@ -22,6 +22,7 @@ use Rattle.zst_map.specs.Changes.{owner_of, set_of_type, type_in}
 use Rattle.zst_map.specs.declared.change.Change.{Change}
 use Rattle.zst_map.proofs.ZoneEntries.{at_key, key_cmp, node_sets, stored_at}
 use Rattle.zst_map.proofs.NamedSets.{named_in}
+use Rattle.zst_map.proofs.Places.{first_at, found_from, there_exists}
 use Rattle.zst_map.proofs.ZoneNodes.{exists_from, first_begins, from_key}
 
 abbrev pub Node : Type 0
@@ -79,3 +80,37 @@ set_there entries zone key change there is view same found =
     ∙ stored_at name_key sets entries (owner_of change) (type_in change) is
     ∙ ap (λ (q : List ℕ). set_of_type (type_in change) (node_sets name_key sets (lookup (at_key name_key sets q) entries))) (sym same)
     ∙ ap (λ (o : Option Node). set_of_type (type_in change) (node_sets name_key sets o)) (sym found)
+
+-- ---- what stands at a name
+abbrev from_in : DomainName → Entries → Entries
+from_in key entries = filter (λ (e : NameKey × Node). is_le (name_cmp key e.0) && true) entries
+
+first_in : (entries : Entries) (key : DomainName) (first : Entries) → IsZone name_key sets entries
+    → from_in key entries ≡ first → first_at name_key sets (name_key key) first ≡ lookup (is_at (name_cmp key)) entries
+first_in entries key first is from =
+    sym (looked_by_key key entries ∙ found_from name_key sets (name_key key) entries is.ordered
+    ∙ ap (first_at name_key sets (name_key key)) (sym (from_by_key key entries) ∙ from))
+
+-- The first key is this one.
+pub found_first : (entries : Entries) (key : DomainName) (owner : NameKey) (node : Node) (later : Entries) → IsZone name_key sets entries
+    → from_in key entries ≡ (owner, node) ∷ later → is_eq (name_cmp key owner) ≡ true → Some node ≡ lookup (is_at (name_cmp key)) entries
+found_first entries key owner node later is from same =
+    sym (ap (λ (b : Bool). cond b (Some node) None) (ap is_eq (key-order key owner) ∙ same)) ∙ first_in entries key ((owner, node) ∷ later) is from
+
+-- The first key is another one.
+pub found_past : (entries : Entries) (key : DomainName) (owner : NameKey) (node : Node) (later : Entries) → IsZone name_key sets entries
+    → from_in key entries ≡ (owner, node) ∷ later → is_eq (name_cmp key owner) ≡ false → None ≡ lookup (is_at (name_cmp key)) entries
+found_past entries key owner node later is from other =
+    sym (ap (λ (b : Bool). cond b (Some node) None) (ap is_eq (key-order key owner) ∙ other)) ∙ first_in entries key ((owner, node) ∷ later) is from
+
+-- There is no key.
+pub found_none : (entries : Entries) (key : DomainName) → IsZone name_key sets entries
+    → from_in key entries ≡ [] → None ≡ lookup (is_at (name_cmp key)) entries
+found_none entries key is from = first_in entries key [] is from
+
+-- A name under which something stands exists.
+pub exists_there : (entries : Entries) (zone : List RRset) (key : DomainName) (node : Node) → IsZone name_key sets entries → sets_of name_key sets entries ≡ zone
+    → Some node ≡ lookup (is_at (name_cmp key)) entries → true ≡ exists_alike zone key
+exists_there entries zone key node is view there =
+    sym (there_exists name_key sets key entries node is.nodes is.ordered (sym (looked_by_key key entries) ∙ sym there))
+    ∙ ap (λ (z : List RRset). exists_alike z key) view

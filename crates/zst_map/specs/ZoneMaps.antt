@@ -10,6 +10,8 @@ use Rattle.zst_handler.specs.dnw_name.DomainName.{DomainName, is_at_or_below}
 use Rattle.zst_handler.specs.dnw_codes.RecordType.{record_type_number}
 use Rattle.zst_key.specs.NameKeys.{name_key}
 use Rattle.zst_handler.specs.zst_record.RecordSets.{RRset}
+use Rattle.zst_handler.specs.Lookups.{sets_of_name}
+use Rattle.zst_map.specs.declared.map.Place.{Place}
 
 -- The set's owner has this key.
 pub record IsOwnedAt (key : List ℕ) (set : RRset) : Type 0 where
@@ -19,6 +21,11 @@ pub record IsOwnedAt (key : List ℕ) (set : RRset) : Type 0 where
 abbrev pub exists_alike : List RRset → DomainName → Bool
 exists_alike sets name =
     list_any (λ set. beq set.name.fqdn name.fqdn && is_at_or_below set.name name) sets
+
+-- This stands at the name: all its sets, and whether it exists so.
+pub record IsPlace (sets : List RRset) (name : DomainName) (place : Place) : Type 0 where
+  pub sets_are : place.sets.now ≡ sets_of_name sets name
+  pub exists_is : place.exists ≡ exists_alike sets name
 
 -- Each type is above those before it.
 abbrev pub TypesRise : List RRset → Type 0

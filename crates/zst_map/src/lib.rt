@@ -21,4 +21,4 @@ mod node;
 mod zone_sets;
 
 pub use iter::ZoneSetsIter;
-pub use zone_sets::{Match, ZoneSets};
+pub use zone_sets::{Match, Search, ZoneSets};

@@ -8,7 +8,7 @@ ghost use Rattle.zst_handler.specs.Lookups.{sets_of_name};
 ghost use Rattle.zst_handler.specs.Updates.{Replaces};
 ghost use Rattle.zst_handler.specs.Zones.{AreInOrder, rrset_at};
 ghost use Rattle.zst_map.specs.Changes.{alters, is_only, made, owner_of, set_of_type, type_in, with_change, without_type};
-ghost use Rattle.zst_map.specs.ZoneMaps.{TypesRise, exists_alike, place_from};
+ghost use Rattle.zst_map.specs.ZoneMaps.{IsPlace, TypesRise, place_from};
 
 use crate::change::Change;
 use std::alloc::{AllocError, Global};
@@ -19,6 +19,15 @@ use std::marker::Model;
 use std::mem;
 use zst_handler::{RecordSet, RecordType};
 use zst_key::NameKey;
+
+/// What stands at the name of a key.
+#[derive(Clone, Copy)]
+pub(crate) struct Place<'z> {
+    /// All sets at the name, by rising type.
+    pub(crate) sets: &'z [RecordSet],
+    /// Whether an owner equals the name or lies below it, where both end at the root or neither does.
+    pub(crate) exists: bool,
+}
 
 /// The sets of a zone, by owner in canonical order (RFC 4034 section 6.1), then by type.
 #[derive(Drop)]
@@ -73,14 +82,32 @@ impl ZoneMap {
         }
     }
 
-    /// Whether an owner equals the name of a key or lies below it, where both end at the root or neither does. The first
-    /// key that is not before this one tells.
-    pub fn exists_alike(&self, key: &NameKey) -> bool
-        ensures { result ≡ exists_alike self.now key.now }
+    /// What stands at the name of a key. Where this is the first of all keys, the map is not searched.
+    #[inline(always)]
+    pub(crate) fn place_at(&self, key: &NameKey) -> Place<'_>
+        ensures { IsPlace self.now key.now result }
+    {
+        match self.nodes.first_key_value() {
+            Some((owner, sets)) if owner == key => Place { sets, exists: true },
+            _ => self.searched_place(key),
+        }
+    }
+
+    // What stands at the name of a key, by one search of the map: the first key that is not before this one tells. `cmp`
+    // is cheaper here than `==`.
+    fn searched_place(&self, key: &NameKey) -> Place<'_>
+        ensures { IsPlace self.now key.now result }
     {
         match self.nodes.range(key..).next() {
-            Some((owner, _)) => owner.is_below(key),
-            None => false,
+            Some((owner, sets)) if key.cmp(owner).is_eq() => Place { sets, exists: true },
+            Some((owner, _)) => Place {
+                sets: &[],
+                exists: owner.is_below(key),
+            },
+            None => Place {
+                sets: &[],
+                exists: false,
+            },
         }
     }
 

@@ -13,13 +13,14 @@ ghost use Rattle.zst_handler.specs.Lookups.{sets_of_name};
 ghost use Rattle.zst_handler.specs.Updates.{Replaces, upsert_changes, upserted};
 ghost use Rattle.zst_handler.specs.Zones.{Adds, AreInOrder, exists_in, rrset_at};
 ghost use Rattle.zst_map.specs.Changes.{alters, made, owner_of, type_in};
-ghost use Rattle.zst_map.specs.Searches.{lent, looked_for, match_set, sought_in};
+ghost use Rattle.zst_map.specs.Searches.{IsSearch, lent, looked_for, match_set, sought_in};
+ghost use Rattle.zst_map.specs.ZoneMaps.{IsPlace, exists_alike};
 
 use crate::apart::is_kept_out;
 use crate::change::Change;
 use crate::index::Index;
 use crate::iter::ZoneSetsIter;
-use crate::map::ZoneMap;
+use crate::map::{Place, ZoneMap};
 use crate::node::{cut_of, find_set, here};
 use std::alloc::{AllocError, Global};
 use std::collections::BTreeMap;
@@ -59,6 +60,18 @@ impl<'z> Match<'z> {
         let owner = name.to_lowercase()?;
         AnswerSet::renamed(alloc, self.set, owner)
     }
+}
+
+/// What a search finds for a name and a type.
+#[derive(Clone, Copy)]
+pub enum Search<'z> {
+    /// The set that answers.
+    Found(Match<'z>),
+    /// No set does.
+    Absent {
+        /// Whether the name exists: whether an owner equals it or lies below it (RFC 4592 section 2.2.2).
+        exists: bool,
+    },
 }
 
 /// What is sought at a name and the names above it.
@@ -138,7 +151,16 @@ impl ZoneSets {
     pub fn exists(&self, key: &NameKey) -> Result<bool, AllocError>
         ensures { IfOk result (λ there. there ≡ exists_in self.now key.now) }
     {
-        if self.sets.exists_alike(key) {
+        self.exists_given(key, self.sets.place_at(key).exists)
+    }
+
+    // What `exists` answers, where it is known whether an owner that ends at the root as the name does, or as the name
+    // doesn't, equals the name or lies below it.
+    fn exists_given(&self, key: &NameKey, is_alike: bool) -> Result<bool, AllocError>
+        requires { is_alike ≡ exists_alike self.now key.now }
+        ensures { IfOk result (λ there. there ≡ exists_in self.now key.now) }
+    {
+        if is_alike {
             return Ok(true);
         }
         if key.is_fqdn() && !self.index.has_relative {
@@ -146,7 +168,7 @@ impl ZoneSets {
         }
         let mut other = key.clone()?;
         other.to_other_flag();
-        Ok(self.sets.exists_alike(&other))
+        Ok(self.sets.place_at(&other).exists)
     }
 
     /// Adds a record, whose owner has this key, to the set of its owner and type, in place of the one with equal data;
@@ -241,9 +263,7 @@ impl ZoneSets {
     }
 
     /// Which set answers the name of a key and a type: that of the cut at or above it; else what its own sets answer;
-    /// else what the nearest wildcard answers (RFC 1034 section 4.3.2 step 3). The map is searched once for the name, and
-    /// once for a cut that is found. For the zone's start and a name right below it no cut is searched.
-    #[inline(always)]
+    /// else what the nearest wildcard answers (RFC 1034 section 4.3.2 step 3).
     pub fn search(
         &self,
         key: &NameKey,
@@ -251,17 +271,29 @@ impl ZoneSets {
     ) -> Result<Option<Match<'_>>, AllocError>
         ensures { IfOk result (λ answer. option_map (match_set key.now) answer ≡ found self.now key.now record_type) }
     {
+        match self.find(key, record_type)? {
+            Search::Found(set) => Ok(Some(set)),
+            Search::Absent { .. } => Ok(None),
+        }
+    }
+
+    /// What `search` answers; where it answers nothing, whether the name exists. The map is searched once for the name, and
+    /// once for a cut that is found. For the zone's start and a name right below it no cut is searched.
+    #[inline(always)]
+    pub fn find(&self, key: &NameKey, record_type: RecordType) -> Result<Search<'_>, AllocError>
+        ensures { IfOk result (IsSearch self.now key.now record_type) }
+    {
         if !self.index.has_cuts {
-            return self.search_uncut(key, self.sets.sets_at(key), record_type);
+            return self.find_uncut(key, self.sets.place_at(key), record_type);
         }
         let cut = match self.start_above(key) {
-            Some(start) => return self.search_near(key, start, record_type),
-            None if self.is_start(key) => return self.search_start(key, record_type),
+            Some(start) => return self.find_near(key, start, record_type),
+            None if self.is_start(key) => return self.find_start(key, record_type),
             None => self.delegation(key, record_type)?,
         };
         match cut {
-            Some(set) => Ok(Some(Match::own(set))),
-            None => self.search_uncut(key, self.sets.sets_at(key), record_type),
+            Some(set) => Ok(Search::Found(Match::own(set))),
+            None => self.find_uncut(key, self.sets.place_at(key), record_type),
         }
     }
 
@@ -283,59 +315,57 @@ impl ZoneSets {
         }
     }
 
-    // What `search` answers, where the name's own sets are to tell whether a cut begins there.
-    fn search_start(
-        &self,
-        key: &NameKey,
-        record_type: RecordType,
-    ) -> Result<Option<Match<'_>>, AllocError>
-        ensures { IfOk result (λ answer. option_map (match_set key.now) answer ≡ found self.now key.now record_type) }
+    // What `find` answers, where the name's own sets are to tell whether a cut begins there.
+    fn find_start(&self, key: &NameKey, record_type: RecordType) -> Result<Search<'_>, AllocError>
+        ensures { IfOk result (IsSearch self.now key.now record_type) }
     {
-        let sets = self.sets.sets_at(key);
-        match self.delegation_at(key, sets, record_type)? {
-            Some(set) => Ok(Some(Match::own(set))),
-            None => self.search_uncut(key, sets, record_type),
+        let place = self.sets.place_at(key);
+        match self.delegation_at(key, place.sets, record_type)? {
+            Some(set) => Ok(Search::Found(Match::own(set))),
+            None => self.find_uncut(key, place, record_type),
         }
     }
 
-    // What `search` answers, from the name above on, at which no index need be searched.
-    fn search_near(
+    // What `find` answers, from the name above on, at which no index need be searched.
+    fn find_near(
         &self,
         key: &NameKey,
         above: &NameKey,
         record_type: RecordType,
-    ) -> Result<Option<Match<'_>>, AllocError>
+    ) -> Result<Search<'_>, AllocError>
         requires { above.now ≡ parent key.now }
-        ensures { IfOk result (λ answer. option_map (match_set key.now) answer ≡ found self.now key.now record_type) }
+        ensures { IfOk result (IsSearch self.now key.now record_type) }
     {
-        let sets = self.sets.sets_at(key);
-        match self.delegation_near(key, above, sets, record_type)? {
-            Some(set) => Ok(Some(Match::own(set))),
-            None => self.search_uncut(key, sets, record_type),
+        let place = self.sets.place_at(key);
+        match self.delegation_near(key, above, place.sets, record_type)? {
+            Some(set) => Ok(Search::Found(Match::own(set))),
+            None => self.find_uncut(key, place, record_type),
         }
     }
 
-    // Which set answers the name of a key, whose own sets these are, and a type, where no cut is at or above the name.
+    // What `find` answers to the name of a key, at which this stands, where no cut is at or above the name.
     #[inline(always)]
-    fn search_uncut<'z>(
+    fn find_uncut<'z>(
         &'z self,
         key: &NameKey,
-        sets: &'z [RecordSet],
+        place: Place<'z>,
         record_type: RecordType,
-    ) -> Result<Option<Match<'z>>, AllocError>
+    ) -> Result<Search<'z>, AllocError>
         requires uncut { delegation self.now key.now record_type ≡ None }
-        requires own { sets.now ≡ sets_of_name self.now key.now }
-        ensures { IfOk result (λ answer. option_map (match_set key.now) answer ≡ found self.now key.now record_type) }
+        requires own { IsPlace self.now key.now place }
+        ensures { IfOk result (IsSearch self.now key.now record_type) }
     {
-        if let Some(set) = here(sets, record_type) {
-            return Ok(Some(Match::own(set)));
+        if let Some(set) = here(place.sets, record_type) {
+            return Ok(Search::Found(Match::own(set)));
         }
         match self.wildcard(key, record_type)? {
-            Some(set) => Ok(Some(Match {
+            Some(set) => Ok(Search::Found(Match {
                 set,
                 is_wildcard: true,
             })),
-            None => Ok(None),
+            None => Ok(Search::Absent {
+                exists: self.exists_given(key, place.exists)?,
+            }),
         }
     }
 

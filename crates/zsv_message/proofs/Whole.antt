@@ -1,10 +1,13 @@
 -- A message is read, or refused by what stands first that can't be read.
-use Rattle.std.proofs.Common.{◌≡◌, ℕ, ◌≤◌, Bool, false, List, [], ◌∷◌, length, Option, Err, sym, ap, subst, inl, inr, ◌∙◌, ◌⊎◌, arith}
+use Rattle.std.proofs.Common.{◌≡◌, ℕ, ◌≤◌, Bool, true, false, List, [], ◌∷◌, length, Option, None, Err, refl, sym, ap, subst, inl, inr, ◌∙◌, ◌⊎◌, arith}
+use Rattle.std.proofs.lemmas.Bool.{and_parts, eqb-true}
+use Rattle.std.specs.Prelude.{◌==◌, ◌&&◌}
 use Rattle.zst_edns.specs.declared.edns.Edns.{Edns}
 use Rattle.zsv_sections.specs.zst_record.dnw_codes.declared.error.DecodeError.{DecodeError}
 use Rattle.zsv_sections.specs.zst_record.dnw_decoder.Reading.{IsCut, IsWantOfMemory, Reading, reading}
 use Rattle.zsv_sections.specs.zst_record.declared.records.Record.{Record}
 use Rattle.zsv_sections.specs.zsv_parts.declared.header.Header.{Header}
+use Rattle.zsv_sections.specs.zsv_parts.declared.header.HeaderCounts.{HeaderCounts}
 use Rattle.zsv_sections.specs.zsv_parts.declared.header.Metadata.{Metadata}
 use Rattle.zsv_sections.specs.zsv_parts.declared.header.OpCode.{OpCode}
 use Rattle.zsv_sections.specs.zsv_parts.declared.question.Query.{Query}
@@ -13,7 +16,10 @@ use Rattle.zsv_sections.specs.zsv_parts.Headers.{HeaderAt, header_of}
 use Rattle.zsv_sections.specs.zsv_parts.Questions.{Asked, AskedAt, QuestionAt, RefusesQuestions}
 use Rattle.zsv_sections.specs.zsv_parts.Wire.{Entries}
 use Rattle.zsv_sections.proofs.zsv_parts_lemmas.Questions.{question_once}
-use Rattle.zsv_message.specs.Messages.{AdditionalsAt, IsMessage, Message, ReadsMessage, RefusesAdditionals, RefusesMessage, before_additionals, is_update, joined_metadata, no_additionals, no_answers, no_authorities, no_header, no_questions}
+use Rattle.zsv_message.specs.declared.records.HeldRecords.{HeldRecords}
+use Rattle.zsv_message.specs.Holding.{additionals_held, answers_held, authorities_held, message_of, signature_held}
+use Rattle.zsv_message.specs.Messages.{AdditionalsAt, IsMessage, Message, ReadsMessage, RefusesAdditionals, RefusesMessage, bare_message, before_additionals, counts_no_records, in_additionals, is_update, joined_metadata, no_additionals, no_answers, no_authorities, no_header, no_questions}
+use Rattle.zsv_sections.specs.declared.placing.Placing.{Placing}
 use Rattle.zsv_sections.specs.Sections.{RefusesSection, SectionAt}
 use Rattle.zsv_sections.proofs.Sectioning.{section_end}
 
@@ -117,6 +123,18 @@ is_message octets h asked answers authorities additionals edns signature metadat
   metadata = joined ∙ ap (λ (h : Header). joined_metadata h.metadata edns) a.means;
 }
 
+-- It is held in a list.
+pub is_held : (octets : List ℕ) (metadata : Metadata) (asked : Asked) (answers authorities additionals : List Record) (edns : Option Edns) (signature : Option TsigRecord) (held : Option HeldRecords) → answers_held held ≡ answers → authorities_held held ≡ authorities → additionals_held held ≡ additionals → signature_held held ≡ signature
+    → IsMessage octets (record { metadata = metadata; asked = asked; answers = answers; authorities = authorities; additionals = additionals; edns = edns; signature = signature }) → IsMessage octets (message_of metadata asked edns held)
+is_held octets metadata asked answers authorities additionals edns signature held first second third last is =
+    let same : record { metadata = metadata; asked = asked; answers = answers; authorities = authorities; additionals = additionals; edns = edns; signature = signature } ≡ message_of metadata asked edns held =
+    λ i. record { metadata = metadata; asked = asked; answers = sym first i; authorities = sym second i; additionals = sym third i; edns = edns; signature = sym last i } in
+    subst (λ (m : Message). IsMessage octets m) same is
+
+-- Where memory is wanted behind the last record.
+pub memory_err : (octets : List ℕ) (e : DecodeError) → 12 ≤ length octets → IsWantOfMemory e → ReadsMessage octets (Err e)
+memory_err octets e long memory = (inl (memory, long), inl memory)
+
 -- The questions behind a header that was read.
 pub asks_of : (octets : List ℕ) (begin read asked_reader : Reading) (h : Header) (asked : Asked) → begin ≡ reading octets 0 → HeaderAt begin.octets begin.index h read.index → read.octets ≡ begin.octets → AskedAt read.octets read.index h.counts.queries asked asked_reader.index → Asks octets h asked asked_reader.index
 asks_of octets begin read asked_reader h asked start at same there =
@@ -127,3 +145,31 @@ asks_of octets begin read asked_reader h asked start at same there =
       long = omega (arith, at_start.within, at_start.behind);
       there = subst (λ (p : ℕ). AskedAt octets p h.counts.queries asked asked_reader.index) at_start.behind (subst (λ (o : List ℕ). AskedAt o read.index h.counts.queries asked asked_reader.index) octets_are there);
     }
+
+-- ---- no records
+-- Where none are counted, none stand.
+none_stand : (at : Placing) (message : List ℕ) (place count : ℕ) → count ≡ 0 → SectionAt at message place count [] place
+none_stand at message place count none = (refl, sym none)
+
+none_added : (op : OpCode) (message : List ℕ) (place count : ℕ) → count ≡ 0 → AdditionalsAt message op place count [] None None place
+none_added op message place count none = record {
+  standing = [];
+  there = none_stand (in_additionals op) message place count none;
+  rest = refl;
+  options = tt;
+  signs = tt;
+}
+
+none_counted : (counts : HeaderCounts) → counts_no_records counts ≡ true → (counts.answers ≡ 0) × (counts.authorities ≡ 0) × (counts.additionals ≡ 0)
+none_counted counts e =
+    let first = and_parts (counts.answers == 0 && counts.authorities == 0) (counts.additionals == 0) e in
+    let second = and_parts (counts.answers == 0) (counts.authorities == 0) first.0 in
+    (eqb-true counts.answers 0 second.0, eqb-true counts.authorities 0 second.1, eqb-true counts.additionals 0 first.1)
+
+-- All of it was read where questions alone are counted.
+pub is_bare_message : (octets : List ℕ) (h : Header) (asked : Asked) (place : ℕ) → Asks octets h asked place → counts_no_records h.counts ≡ true → IsMessage octets (bare_message h.metadata asked)
+is_bare_message octets h asked place asks none =
+    let op = h.metadata.op_code in
+    let counts = none_counted h.counts none in
+    is_message octets h asked [] [] [] None None h.metadata place place place place asks (none_stand (before_additionals op) octets place h.counts.answers counts.0)
+    (none_stand (before_additionals op) octets place h.counts.authorities counts.1) (none_added op octets place h.counts.additionals counts.2) refl

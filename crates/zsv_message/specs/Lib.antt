@@ -1,4 +1,5 @@
 pub mod Gathering
+pub mod Holding
 pub mod Messages
 pub use Rattle.zsv_sections.specs.zst_record
 pub use Rattle.zsv_sections.specs.zsv_parts

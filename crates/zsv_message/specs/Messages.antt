@@ -1,5 +1,5 @@
 -- Messages: RFC 1035, section 4.1; RFC 6891, section 6.1; RFC 8945, section 4.2.
-use Rattle.std.specs.Prelude.{◌≡◌, ℕ, ◌-◌, ◌<◌, ◌≤◌, Bool, true, false, not, ◌||◌, ◌⊎◌, ◌++◌, List, [], ◌∷◌, length, Option, Some, None, find, Result, Ok, Err}
+use Rattle.std.specs.Prelude.{◌≡◌, ℕ, ◌-◌, ◌<◌, ◌≤◌, Bool, true, false, not, ◌&&◌, ◌||◌, ◌==◌, ◌⊎◌, ◌++◌, List, [], ◌∷◌, length, Option, Some, None, find, Result, Ok, Err}
 use Rattle.std.specs.List.{filter}
 use Rattle.zsv_sections.specs.zst_record.dnw_codes.declared.error.DecodeError.{DecodeError}
 use Rattle.zsv_sections.specs.zst_record.dnw_codes.DNSClass.{class_number}
@@ -10,6 +10,7 @@ use Rattle.zsv_sections.specs.zst_record.declared.records.Record.{Record}
 use Rattle.zsv_sections.specs.zst_record.Records.{RecordAt}
 use Rattle.zst_edns.specs.Edns.{IsEdnsOf}
 use Rattle.zst_edns.specs.declared.edns.Edns.{Edns}
+use Rattle.zsv_sections.specs.zsv_parts.declared.header.HeaderCounts.{HeaderCounts}
 use Rattle.zsv_sections.specs.zsv_parts.declared.header.Metadata.{Metadata}
 use Rattle.zsv_sections.specs.zsv_parts.declared.header.OpCode.{OpCode}
 use Rattle.zsv_sections.specs.zsv_parts.declared.header.OpCode.TheVariants as operations
@@ -31,6 +32,22 @@ pub record Message : Type 0 where
   pub additionals : List Record
   pub edns : Option Edns
   pub signature : Option TsigRecord
+
+-- A header counts no records in any section behind the questions.
+abbrev pub counts_no_records : HeaderCounts → Bool
+counts_no_records counts = counts.answers == 0 && counts.authorities == 0 && counts.additionals == 0
+
+-- A message of questions alone.
+abbrev pub bare_message : Metadata → Asked → Message
+bare_message m asked = record {
+  metadata = m;
+  asked = asked;
+  answers = [];
+  authorities = [];
+  additionals = [];
+  edns = None;
+  signature = None;
+}
 
 -- The options of a message, its class the payload, its TTL eight bits of the response code, the
 -- version and the flags (RFC 6891, section 6.1.3).

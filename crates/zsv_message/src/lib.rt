@@ -13,6 +13,7 @@ pub use zsv_sections::{
 };
 
 mod additionals;
+mod records;
 mod request;
 
 pub use request::MessageRequest;

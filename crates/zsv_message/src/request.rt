@@ -1,15 +1,16 @@
 //! Messages that are read (RFC 1035 section 4.1, RFC 6891 section 6.1, RFC 8945 section 4.2).
 
 ghost use Rattle.std.specs.Prelude.{◌≡◌, ◌≤◌, option_copied};
-ghost use Rattle.zsv_message.specs.Messages.{ReadsMessage, edns_version, is_update, joined_metadata, payload_taken};
+ghost use Rattle.zsv_message.specs.Messages.{ReadsMessage, bare_message, counts_no_records, edns_version, is_update, joined_metadata, payload_taken};
 
 use crate::additionals::Additionals;
+use crate::records::HeldRecords;
 use std::alloc::Global;
 use std::marker::Model;
 use zst_edns::Edns;
 use zsv_sections::{
-    BinDecoder, DecodeError, Header, Metadata, OpCode, Placing, Queries, Record, ResponseCode,
-    TsigRecord, read_section,
+    BinDecoder, DecodeError, Header, HeaderCounts, Metadata, OpCode, Placing, Queries, Record,
+    ResponseCode, TsigRecord, read_section,
 };
 
 /// A message: what header and options say, its questions, and its records by section.
@@ -17,21 +18,19 @@ use zsv_sections::{
 pub struct MessageRequest<'m> {
     metadata: Metadata,
     queries: Queries<'m>,
-    answers: Vec<Record>,
-    authorities: Vec<Record>,
-    additionals: Vec<Record>,
     edns: Option<Edns>,
-    // The signature, in a list of at most one: it is large, and few messages have one.
-    signature: Vec<TsigRecord>,
+    // Its records, in a list of at most one: few requests have any but options.
+    held: Vec<HeldRecords>,
 }
 
 impl<'m> Model for MessageRequest<'m> {
     ghost use Rattle.std.specs.Prelude.{slice_get};
+    ghost use Rattle.zsv_message.specs.Holding.{message_of};
     ghost use Rattle.zsv_message.specs.Messages.{Message};
 
     ghost Value = { Message };
 
-    ghost view = { λ m. record { metadata = m.metadata; asked = m.queries; answers = m.answers.items; authorities = m.authorities.items; additionals = m.additionals.items; edns = m.edns; signature = slice_get m.signature.items 0 } };
+    ghost view = { λ m. message_of m.metadata m.queries m.edns (slice_get m.held.items 0) };
 }
 
 // Whether an operation changes a zone (RFC 2136 section 1.3).
@@ -54,7 +53,26 @@ fn joined(metadata: Metadata, edns: &Option<Edns>) -> Metadata
     }
 }
 
+// Whether a header counts no records, as those of most requests without options do.
+fn counts_no_records(counts: HeaderCounts) -> bool
+    ensures { result ≡ counts_no_records counts }
+{
+    counts.answers == 0 && counts.authorities == 0 && counts.additionals == 0
+}
+
 impl<'m> MessageRequest<'m> {
+    // The message of questions alone.
+    fn bare(alloc: Global, metadata: Metadata, queries: Queries<'m>) -> MessageRequest<'m>
+        ensures { result ≡ bare_message metadata queries.entry }
+    {
+        MessageRequest {
+            metadata,
+            queries,
+            edns: None,
+            held: Vec::new(alloc),
+        }
+    }
+
     /// The message that octets hold: a header, and as many questions and records as it counts, each where it may stand.
     /// Octets behind the last record are ignored. Where the octets are refused, the error is that of the first question or
     /// record that can't be read, or may not stand where it does. A message without a whole header takes no memory.
@@ -64,6 +82,10 @@ impl<'m> MessageRequest<'m> {
         let mut decoder = BinDecoder::new(octets);
         let header = Header::read(&mut decoder)?;
         let counts = header.counts;
+        let queries = Queries::read(alloc, &mut decoder, counts.queries)?;
+        if counts_no_records(counts) {
+            return Ok(MessageRequest::bare(alloc, header.metadata, queries));
+        }
         let is_update = is_update(header.metadata.op_code);
         let before = Placing {
             is_update,
@@ -71,7 +93,6 @@ impl<'m> MessageRequest<'m> {
             is_signed: false,
             has_options: false,
         };
-        let queries = Queries::read(alloc, &mut decoder, counts.queries)?;
         let answers = read_section(alloc, &mut decoder, before, counts.answers)?;
         let authorities = read_section(alloc, &mut decoder, before, counts.authorities)?;
         let found = Additionals::read(alloc, &mut decoder, counts.additionals, is_update)?;
@@ -81,14 +102,12 @@ impl<'m> MessageRequest<'m> {
             signature,
             ..
         } = found;
+        let held = HeldRecords::listed(alloc, answers, authorities, records, signature)?;
         Ok(MessageRequest {
             metadata: joined(header.metadata, &edns),
             queries,
-            answers,
-            authorities,
-            additionals: records,
             edns,
-            signature,
+            held,
         })
     }
 
@@ -110,21 +129,30 @@ impl<'m> MessageRequest<'m> {
     pub fn answers(&self) -> &[Record]
         ensures { result.now ≡ self.now.answers }
     {
-        &self.answers
+        match self.held.first() {
+            Some(held) => &held.answers,
+            None => &[],
+        }
     }
 
     /// The records of the authority section; of an update what it changes (RFC 2136 section 2.5).
     pub fn authorities(&self) -> &[Record]
         ensures { result.now ≡ self.now.authorities }
     {
-        &self.authorities
+        match self.held.first() {
+            Some(held) => &held.authorities,
+            None => &[],
+        }
     }
 
     /// The additional records, without options and a signature by a shared key.
     pub fn additionals(&self) -> &[Record]
         ensures { result.now ≡ self.now.additionals }
     {
-        &self.additionals
+        match self.held.first() {
+            Some(held) => &held.additionals,
+            None => &[],
+        }
     }
 
     /// The options of the message (RFC 6891 section 6.1).
@@ -160,6 +188,6 @@ impl<'m> MessageRequest<'m> {
     pub fn signature(&self) -> Option<&TsigRecord>
         ensures { option_copied result ≡ self.now.signature }
     {
-        self.signature.first()
+        self.held.first()?.signature.first()
     }
 }

@@ -1,12 +1,20 @@
-use Rattle.std.proofs.Common.{ℕ, List, ap, subst, ◌∙◌, ◌⊎◌}
+use Rattle.std.proofs.Common.{ℕ, List, ap, subst, sym, ◌∙◌, ◌⊎◌}
 use Rattle.std.specs.Prelude.{slice_get}
 use Rattle.std.proofs.lemmas.Result.{err_from_is_err_and}
 use Rattle.zsv_sections.specs.zst_record.dnw_decoder.Reading.{IsWantOfMemory, Reading}
 use Rattle.zsv_sections.specs.zst_record.declared.records.Record.{Record}
 use Rattle.zsv_sections.specs.declared.placing.Placing.{Placing}
 use Rattle.zsv_sections.specs.Sections.{RefusesSection, SectionAt}
-use Rattle.zsv_message.proofs.Whole.{additionals_err, answers_err, asks_of, authorities_err, before_of, is_message}
+use Rattle.zsv_message.proofs.Whole.{additionals_err, answers_err, asks_of, authorities_err, before_of, is_bare_message, is_held, is_message, memory_err}
+use Rattle.zsv_message.specs.Messages.{IsMessage, Message}
 use Rattle.zsv_message.proofs.request.MessageRequest.read.Goals as goal
+
+pub returns-then-counts_no_records : goal.returns-then-counts_no_records
+returns-then-counts_no_records c =
+    let octets = c.args.octets.now in
+    let h = c.in_ok-header.header in
+    let asks = asks_of octets c.new-decoder.result c.read.new.decoder c.read-2.new.decoder h c.in_ok-queries.queries c.new-decoder.ensures c.in_ok-header.ensures.header c.in_ok-header.ensures.same c.in_ok-queries.ensures.ok in
+    subst (λ (m : Message). IsMessage octets m) (sym c.bare.ensures) (is_bare_message octets h c.in_ok-queries.queries c.read-2.new.decoder.index asks (sym c.counts_no_records.ensures ∙ c.if-counts_no_records.true))
 
 pub returns-in_err-answers : goal.returns-in_err-answers
 returns-in_err-answers c =
@@ -74,5 +82,15 @@ returns c =
     let found = subst (λ (a : Placing). SectionAt a octets start h.counts.answers c.in_ok-answers.answers.items middle) at (rw first at c.in_ok-answers.ensures.ok) in
     let more = subst (λ (a : Placing). SectionAt a octets middle h.counts.authorities c.in_ok-authorities.authorities.items place) at (rw second at c.in_ok-authorities.ensures.ok) in
     let last = (rw same at c.in_ok-found.ensures.ok) h.metadata.op_code c.is_update-is_update.ensures in
-    is_message octets h c.in_ok-queries.queries c.in_ok-answers.answers.items c.in_ok-authorities.authorities.items c.in_ok-found.found.records.items c.in_ok-found.found.edns (slice_get c.in_ok-found.found.signature.items 0)
-    c.joined.result start middle place c.read-3.new.decoder.index asks found more last c.joined.ensures
+    let held = slice_get c.in_ok-held.held.items 0 in
+    is_held octets c.joined.result c.in_ok-queries.queries c.in_ok-answers.answers.items c.in_ok-authorities.authorities.items c.in_ok-found.found.records.items c.in_ok-found.found.edns (slice_get c.in_ok-found.found.signature.items 0) held
+    c.in_ok-held.ensures.answers c.in_ok-held.ensures.authorities c.in_ok-held.ensures.additionals c.in_ok-held.ensures.signature
+    (is_message octets h c.in_ok-queries.queries c.in_ok-answers.answers.items c.in_ok-authorities.authorities.items c.in_ok-found.found.records.items c.in_ok-found.found.edns (slice_get c.in_ok-found.found.signature.items 0)
+    c.joined.result start middle place c.read-3.new.decoder.index asks found more last c.joined.ensures)
+
+pub returns-in_err-held : goal.returns-in_err-held
+returns-in_err-held c =
+    let p = err_from_is_err_and c.from_residual-in_err-held.result c.from_residual-in_err-held.ensures.1 in
+    let octets = c.args.octets.now in
+    let asks = asks_of octets c.new-decoder.result c.read.new.decoder c.read-2.new.decoder c.in_ok-header.header c.in_ok-queries.queries c.new-decoder.ensures c.in_ok-header.ensures.header c.in_ok-header.ensures.same c.in_ok-queries.ensures.ok in
+    rw (p.1, p.2) (memory_err octets c.in_err-held.field-0.0 asks.long c.in_err-held.ensures.memory)

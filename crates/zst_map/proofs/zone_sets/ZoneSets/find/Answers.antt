@@ -2,9 +2,9 @@ use Rattle.std.proofs.Common.{◌∙◌, ap, sym, List, None, ◌≡◌}
 use Rattle.zst_handler.specs.zst_record.RecordSets.{RRset}
 use Rattle.zst_handler.specs.Found.{delegation}
 use Rattle.zst_map.proofs.Searched.{no_delegation}
-use Rattle.zst_map.proofs.zone_sets.ZoneSets.search.Goals as goal
+use Rattle.zst_map.proofs.zone_sets.ZoneSets.find.Goals as goal
 
-pub search_uncut-requires-clause-uncut : goal.search_uncut-requires-clause-uncut
-search_uncut-requires-clause-uncut c =
+pub find_uncut-requires-clause-uncut : goal.find_uncut-requires-clause-uncut
+find_uncut-requires-clause-uncut c =
     sym (ap (λ (zone : List RRset). delegation zone c.args.key.now c.args.record_type) c.self.view_is)
     ∙ no_delegation c.self.inside.sets (c.self.invariant.uncut c.if-not-self.true) c.args.key.now c.args.record_type
