@@ -1,19 +1,20 @@
 //! A zone kept in memory, and what it answers.
 
-ghost use Rattle.std.specs.Prelude.{◌≡◌, ◌↔◌, [], false, Some, None, IsTrue, option_copied, IfOk, IfErr, OnOk, OnErr};
+ghost use Rattle.std.specs.Prelude.{◌≡◌, ◌↔◌, [], true, false, Some, None, IsTrue, option_copied, IfOk, IfErr, OnOk, OnErr};
 ghost use Rattle.zst_map.specs.dnw_name.DomainName.{is_at_or_below, lowercase_name};
 ghost use Rattle.zst_map.specs.zst_handler.Answers.{LookupAnswers, denial_error};
 ghost use Rattle.zst_map.specs.zst_handler.Lookups.{denial};
 ghost use Rattle.zst_map.specs.dnw_codes.declared.dns_class.DNSClass.TheVariants.{IN};
+ghost use Rattle.zst_map.specs.dnw_codes.RecordType.{same_record_type};
 ghost use Rattle.zst_map.specs.dnw_codes.declared.record_type.RecordType.TheVariants as types;
 ghost use Rattle.zst_map.specs.zst_record.RecordSets.{none_left};
 ghost use Rattle.zst_map.specs.zst_handler.Updates.{Upserts, ZoneReplaces, upsert_changes};
-ghost use Rattle.zst_map.specs.zst_handler.Zones.{rrset_at, empty_zone, AddsTo, AreInOrder, AreStored, ZoneReadsBack};
+ghost use Rattle.zst_map.specs.zst_handler.Zones.{exists_in, rrset_at, empty_zone, AddsTo, AreInOrder, AreStored, ZoneReadsBack};
 ghost use Rattle.zst_zone.specs.Makings.{PutsAll, RefusesAll, RefusesEntry, first_refusal, is_own_key, refusal};
 ghost use Rattle.zst_zone.specs.Starts.{RefusesSet, first_data, minimum_of, serial_of};
 
 use crate::back::all_read_back;
-use crate::lookup::lookup;
+use crate::lookup::{all_of, answer_from};
 use std::alloc::{AllocError, Global};
 use std::collections::BTreeMap;
 use std::marker::{Model, PhantomData};
@@ -21,8 +22,8 @@ use std::mem;
 use thiserror::Error;
 use zst_map::{
     AuthLookup, AxfrPolicy, DNSClass, LookupControlFlow, LookupError, LookupOptions, Name, NameKey,
-    NxProofKind, RData, Record, RecordSet, RecordType, ResponseCode, RrKey, ZoneSets, ZoneSettings,
-    ZoneType,
+    NxProofKind, RData, Record, RecordSet, RecordType, ResponseCode, RrKey, Search, ZoneSets,
+    ZoneSettings, ZoneType,
 };
 
 /// Why a zone is not changed or made.
@@ -236,7 +237,34 @@ impl<K> InMemoryZoneHandler<K> {
         requires { key.now ≡ lowercase_name name.now }
         ensures { IfOk result (λ flow. LookupAnswers self.now name.now record_type options flow) }
     {
-        match lookup(&self.sets, alloc, name, key, record_type, options)? {
+        if record_type == RecordType::ANY {
+            return self.lookup_any(alloc, name, key, record_type, options);
+        }
+        match self.sets.find(key, record_type)? {
+            Search::Found(first) => {
+                let found = answer_from(&self.sets, alloc, name, record_type, options, first)?;
+                Ok(LookupControlFlow::Continue(Ok(found)))
+            }
+            Search::Absent { exists } => {
+                Ok(LookupControlFlow::Continue(Err(self.denied(key, exists))))
+            }
+        }
+    }
+
+    // What `lookup` answers to a name, which has this key, and the type ANY: all sets of the name.
+    fn lookup_any(
+        &self,
+        alloc: Global,
+        name: &Name,
+        key: &NameKey,
+        record_type: RecordType,
+        options: LookupOptions,
+    ) -> Result<LookupControlFlow<AuthLookup<'_>>, AllocError>
+        requires key { key.now ≡ lowercase_name name.now }
+        requires any { same_record_type record_type types.ANY ≡ true }
+        ensures { IfOk result (λ flow. LookupAnswers self.now name.now record_type options flow) }
+    {
+        match all_of(alloc, self.sets.sets_at(key), options)? {
             Some(found) => Ok(LookupControlFlow::Continue(Ok(found))),
             None => Ok(LookupControlFlow::Continue(Err(self.denial(key)?))),
         }
@@ -247,13 +275,21 @@ impl<K> InMemoryZoneHandler<K> {
     pub fn denial(&self, key: &NameKey) -> Result<LookupError, AllocError>
         ensures { IfOk result (λ e. e ≡ denial_error (denial self.now key.now)) }
     {
-        if self.sets.exists(key)? {
-            return Ok(LookupError::NameExists);
+        Ok(self.denied(key, self.sets.exists(key)?))
+    }
+
+    // Why nothing is found for the name of a key, which exists or doesn't.
+    fn denied(&self, key: &NameKey, exists: bool) -> LookupError
+        requires { exists ≡ exists_in self.now.sets key.now }
+        ensures { result ≡ denial_error (denial self.now key.now) }
+    {
+        if exists {
+            return LookupError::NameExists;
         }
         if self.is_in_zone(key) {
-            Ok(LookupError::ResponseCode(ResponseCode::NXDomain))
+            LookupError::ResponseCode(ResponseCode::NXDomain)
         } else {
-            Ok(LookupError::ResponseCode(ResponseCode::Refused))
+            LookupError::ResponseCode(ResponseCode::Refused)
         }
     }
 

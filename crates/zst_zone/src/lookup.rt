@@ -1,15 +1,12 @@
 //! What the sets of a zone answer to a name and a type (RFC 1034 section 4.3.2).
 
-ghost use Rattle.std.specs.Prelude.{◌≡◌, ◌++◌, true, false, Some, IfOk, option_copied};
-ghost use Rattle.zst_map.specs.dnw_codes.RecordType.{same_record_type};
-ghost use Rattle.zst_map.specs.dnw_codes.declared.record_type.RecordType.TheVariants as types;
-ghost use Rattle.zst_map.specs.dnw_name.DomainName.{lowercase_name};
+ghost use Rattle.std.specs.Prelude.{◌≡◌, ◌++◌, Some, IfOk, option_copied};
 ghost use Rattle.zst_map.specs.zst_handler.Answers.{ShowsAnswer, records_if, sets_shown};
 ghost use Rattle.zst_map.specs.zst_handler.Chains.{first_target};
 ghost use Rattle.zst_map.specs.zst_handler.Found.{found, is_address};
-ghost use Rattle.zst_map.specs.zst_handler.Lookups.{additionals, alias_answer, alias_ttl, behind_alias, has_additionals, is_flattened, listed, sets_of_name};
+ghost use Rattle.zst_map.specs.zst_handler.Lookups.{additionals, alias_answer, alias_ttl, behind_alias, has_additionals, is_flattened, listed};
 ghost use Rattle.zst_map.specs.Searches.{match_set};
-ghost use Rattle.zst_zone.specs.Answering.{AnswersAll, AnswersOne, AnswersSet, IsBehind};
+ghost use Rattle.zst_zone.specs.Answering.{AnswersAll, AnswersSet, IsBehind};
 
 use crate::chain::{alias_chain, first_target, leads};
 use std::alloc::{AllocError, Global};
@@ -18,33 +15,8 @@ use zst_map::{
     RecordType, ZoneSets,
 };
 
-/// What the sets of a zone answer to a name, which has this key, and a type; None where nothing is found.
-pub(crate) fn lookup<'z>(
-    sets: &'z ZoneSets,
-    alloc: Global,
-    name: &Name,
-    key: &NameKey,
-    record_type: RecordType,
-    options: LookupOptions,
-) -> Result<Option<AuthLookup<'z>>, AllocError>
-    requires { key.now ≡ lowercase_name name.now }
-    ensures any { same_record_type record_type types.ANY ≡ true
-        → IfOk result (AnswersAll options (sets_of_name sets.now name.now)) }
-    ensures one { same_record_type record_type types.ANY ≡ false
-        → IfOk result (AnswersOne options sets.now name.now record_type (found sets.now name.now record_type)) }
-{
-    if record_type == RecordType::ANY {
-        return all_of(alloc, sets.sets_at(key), options);
-    }
-    let Some(first) = sets.search(key, record_type)? else {
-        return Ok(None);
-    };
-    let answer = answer_from(sets, alloc, name, record_type, options, first)?;
-    Ok(Some(answer))
-}
-
-// All sets of a name, if there is one.
-fn all_of(
+/// All sets of a name, if there is one.
+pub(crate) fn all_of(
     alloc: Global,
     sets: &[RecordSet],
     options: LookupOptions,
@@ -64,8 +36,8 @@ fn all_of(
     }))
 }
 
-// What the set that was found first answers: its alias chain, and what goes with it.
-fn answer_from<'z>(
+/// What the set that was found first answers: its alias chain, and what goes with it.
+pub(crate) fn answer_from<'z>(
     sets: &'z ZoneSets,
     alloc: Global,
     name: &Name,

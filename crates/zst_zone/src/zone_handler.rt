@@ -3,8 +3,8 @@
 use crate::handler::InMemoryZoneHandler;
 use std::alloc::{AllocError, Global};
 use zst_request::{
-    AuthLookup, AxfrPolicy, LookupControlFlow, LookupError, LookupOptions, Name, NxProofKind,
-    RecordType, TSigResponseContext, ZoneHandler, ZoneRequest, ZoneType,
+    AuthLookup, AxfrPolicy, LookupControlFlow, LookupError, LookupOptions, Name, NameKey,
+    NxProofKind, RecordType, TSigResponseContext, ZoneHandler, ZoneRequest, ZoneType,
 };
 
 impl<K: Drop> ZoneHandler for InMemoryZoneHandler<K> {
@@ -28,7 +28,7 @@ impl<K: Drop> ZoneHandler for InMemoryZoneHandler<K> {
         self.nx_proof_kind()
     }
 
-    /// What `lookup` answers; a zone is handed over by `zone_transfer` alone, so a question for that is broken off.
+    /// What `search_at` answers.
     fn search<'z>(
         &'z self,
         alloc: Global,
@@ -41,10 +41,29 @@ impl<K: Drop> ZoneHandler for InMemoryZoneHandler<K> {
         ),
         AllocError,
     > {
+        let key = NameKey::of(alloc, request.name)?;
+        self.search_at(alloc, &key, request, options)
+    }
+
+    /// What `lookup` answers; a zone is handed over by `zone_transfer` alone, so a question for that is broken off. It makes
+    /// no key of the name.
+    fn search_at<'z>(
+        &'z self,
+        alloc: Global,
+        key: &NameKey,
+        request: &ZoneRequest<'_>,
+        options: LookupOptions,
+    ) -> Result<
+        (
+            LookupControlFlow<AuthLookup<'z>>,
+            Option<TSigResponseContext>,
+        ),
+        AllocError,
+    > {
         if request.query_type == RecordType::AXFR {
             return Ok((LookupControlFlow::Break(Err(LookupError::NetError)), None));
         }
-        let flow = self.lookup(alloc, request.name, request.query_type, options)?;
+        let flow = self.lookup_at(alloc, request.name, key, request.query_type, options)?;
         Ok((flow, None))
     }
 

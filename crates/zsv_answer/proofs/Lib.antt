@@ -1,2 +1,3 @@
 pub mod Answering
+pub mod Shapes
 pub mod zsv_reply_lemmas

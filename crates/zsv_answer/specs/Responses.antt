@@ -1,5 +1,5 @@
 -- The headers and lists of replies: RFC 1035, section 4.1.1.
-use Rattle.std.specs.Prelude.{ℕ, Bool, false, List, [], ◌++◌, Option, None, if◌then◌else◌}
+use Rattle.std.specs.Prelude.{ℕ, Bool, true, false, not, ◌&&◌, List, [], ◌++◌, Option, None, if◌then◌else◌}
 use Rattle.zsv_reply.specs.Replies.{ReplyParts}
 use Rattle.zsv_reply.specs.Writing.{AllReadBack, IsEncoded}
 use Rattle.zsv_reply.specs.zst_record.declared.records.Record.{Record}
@@ -12,6 +12,8 @@ use Rattle.zsv_request.specs.Requests.{limit_of}
 use Rattle.zsv_request.specs.declared.protocol.Protocol.{Protocol}
 use Rattle.zst_request.specs.zst_codes.declared.response_code.ResponseCode.{ResponseCode}
 use Rattle.zst_request.specs.zst_handler.Answers.{additionals_in, answers_in}
+use Rattle.zst_request.specs.zst_handler.declared.auth_lookup.AuthLookup.{AuthLookup}
+use Rattle.zst_request.specs.zst_handler.declared.auth_lookup.AuthLookup.TheVariants as auths
 use Rattle.zsv_answer.specs.Shown.{shown_if}
 use Rattle.zsv_answer.specs.declared.response.Response.{Response}
 
@@ -69,3 +71,12 @@ abbrev pub parts_of : Response → ReplyParts
 parts_of r =
     parts_with r.metadata r.is_referral (shown_if r.asked (answers_in r.found))
     (if r.is_forwarded then [] else additionals_in r.found) (answers_in r.beside)
+
+-- Nothing was looked up.
+abbrev pub is_empty : AuthLookup → Bool
+is_empty auths.Empty = true
+is_empty other = false
+
+-- What was found is no referral, and nothing stands as authority beside it.
+abbrev pub has_no_authority : Bool → AuthLookup → Bool
+has_no_authority referral beside = not referral && is_empty beside

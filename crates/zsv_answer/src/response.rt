@@ -1,14 +1,15 @@
 //! What a reply holds in full, and its octets.
 
 ghost use Rattle.std.specs.Prelude.{◌≡◌, [], false, IfOk, None, Some, if◌then◌else◌, option_copied};
-ghost use Rattle.zst_request.specs.zst_handler.Answers.{additionals_in, answers_in};
-ghost use Rattle.zsv_answer.specs.Responses.{Sends, error_parts, parts_of, parts_with, reply_metadata};
+ghost use Rattle.zst_request.specs.zst_handler.Answers.{additionals_in, answers_in, records_in};
+ghost use Rattle.zsv_answer.specs.Responses.{Sends, error_parts, has_no_authority, parts_of, parts_with, reply_metadata};
 ghost use Rattle.zsv_answer.specs.Shown.{shown_if};
 ghost use Rattle.zsv_answer.specs.zsv_reply.Writing.{FitsOpCode};
 
 use crate::records::ShownRecords;
 use std::alloc::{AllocError, Global};
-use zst_request::{AuthLookup, LookupRecordsIter};
+use std::iter;
+use zst_request::{AuthLookup, LookupRecords, LookupRecordsIter, RecordRef};
 use zsv_reply::{
     Edns, MessageResponseBuilder, MessageType, Metadata, Queries, RecordType, ResponseCode,
     ResponseInfo,
@@ -62,9 +63,64 @@ impl Response<'_> {
         self.found.additional_records()
     }
 
-    /// The octets of the reply with these options to these questions, within the limit of its transport, and its header as
-    /// it was written. Where each record reads back, they are the reply of what it holds.
-    pub fn encode(
+    // Whether nothing stands as authority but what was found, and that is no referral.
+    fn has_no_authority(&self) -> bool
+        ensures { result ≡ has_no_authority self.now.is_referral self.now.beside }
+    {
+        !self.is_referral && matches!(&self.beside, AuthLookup::Empty)
+    }
+
+    // The reply that holds what stands beside alone, as a denial does.
+    fn encode_beside(
+        &self,
+        alloc: Global,
+        edns: Option<&Edns>,
+        queries: &Queries<'_>,
+        protocol: Protocol,
+    ) -> Result<(ResponseInfo, Vec<u8>), AllocError>
+        requires { FitsOpCode self.now.metadata }
+        ensures { IfOk result (λ sent. Sends (parts_with self.now.metadata false [] [] (answers_in self.now.beside))
+            (option_copied edns.entry) queries.now protocol sent.0 sent.1.items) }
+    {
+        let beside = self.beside.iter();
+        MessageResponseBuilder::new(queries, edns)
+            .build(
+                self.metadata,
+                iter::empty::<RecordRef<'_>>(),
+                iter::empty::<RecordRef<'_>>(),
+                beside,
+                iter::empty::<RecordRef<'_>>(),
+            )
+            .encode(alloc, protocol)
+    }
+
+    // The reply that holds these records alone, as most answers do: those of them that are shown.
+    fn encode_answer(
+        &self,
+        answers: &LookupRecords<'_>,
+        alloc: Global,
+        edns: Option<&Edns>,
+        queries: &Queries<'_>,
+        protocol: Protocol,
+    ) -> Result<(ResponseInfo, Vec<u8>), AllocError>
+        requires { FitsOpCode self.now.metadata }
+        ensures { IfOk result (λ sent. Sends (parts_with self.now.metadata false (shown_if self.now.asked (records_in answers.now)) [] [])
+            (option_copied edns.entry) queries.now protocol sent.0 sent.1.items) }
+    {
+        let shown = ShownRecords::new(answers.iter(), self.asked);
+        MessageResponseBuilder::new(queries, edns)
+            .build(
+                self.metadata,
+                shown,
+                iter::empty::<RecordRef<'_>>(),
+                iter::empty::<RecordRef<'_>>(),
+                iter::empty::<RecordRef<'_>>(),
+            )
+            .encode(alloc, protocol)
+    }
+
+    // The reply, whatever it holds.
+    fn encode_all(
         &self,
         alloc: Global,
         edns: Option<&Edns>,
@@ -83,6 +139,30 @@ impl Response<'_> {
                 self.additionals(),
             )
             .encode(alloc, protocol)
+    }
+
+    /// The octets of the reply with these options to these questions, within the limit of its transport, and its header as
+    /// it was written. Where each record reads back, they are the reply of what it holds.
+    pub fn encode(
+        &self,
+        alloc: Global,
+        edns: Option<&Edns>,
+        queries: &Queries<'_>,
+        protocol: Protocol,
+    ) -> Result<(ResponseInfo, Vec<u8>), AllocError>
+        requires { FitsOpCode self.now.metadata }
+        ensures { IfOk result (λ sent. Sends (parts_of self.now) (option_copied edns.entry) queries.now protocol sent.0 sent.1.items) }
+    {
+        match &self.found {
+            AuthLookup::Empty => self.encode_beside(alloc, edns, queries, protocol),
+            AuthLookup::Records {
+                answers,
+                additionals: None,
+            } if self.has_no_authority() => {
+                self.encode_answer(answers, alloc, edns, queries, protocol)
+            }
+            _ => self.encode_all(alloc, edns, queries, protocol),
+        }
     }
 }
 

@@ -11,7 +11,7 @@ returns-in_ok-last-in-Continue g c =
     let t = c.args.request.now.query_type in
     let first = subst (FirstAnswers view c.args.handlers.now name t c.args.options) c.in-Some.is c.in_ok-place.ensures in
     let asks = subst (λ (flow : Flow). AnswersQuestion (view c.in-Some.handler.now) name t c.args.options flow) c.in-Continue.is first.2 in
-    (first.1, continues_resolve (map view c.args.handlers.now) (view c.in-Some.handler.now) name t c.args.options c.in-Continue.told c.in_ok-last-in-Continue.last c.requires asks c.in_ok-last-in-Continue.ensures)
+    (first.1, continues_resolve (map view c.args.handlers.now) (view c.in-Some.handler.now) name t c.args.options c.in-Continue.told c.in_ok-last-in-Continue.last c.requires.kind asks c.in_ok-last-in-Continue.ensures)
 
 pub returns-in-Skip : goal.returns-in-Skip
 returns-in-Skip g c =
