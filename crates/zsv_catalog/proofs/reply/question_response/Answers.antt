@@ -20,7 +20,7 @@ returns-in-None-clause-parts g c =
     let view = g.H.ZoneHandler.view in
     let chains = c.args.chains.now.chains.entries in
     let name = c.args.question.now.name in
-    let found = subst (λ (o : Option _). option_map (λ chain. chain.now) o ≡ option_map (λ chain. chain.items) (chain_for chains name)) c.in-None.is (subst (λ (n : DomainName). option_map (λ chain. chain.now) c.in_ok-handlers.handlers ≡ option_map (λ chain. chain.items) (option_map (λ entry. entry.1) (nearest_in (chain_at chains) n))) c.in_ok-key.ensures.key c.in_ok-handlers.ensures) in
+    let found = subst (λ (o : Option _). option_map (λ chain. chain.now) o ≡ option_map (λ chain. chain.items) (chain_for chains name)) c.in-None.is (subst (λ (n : DomainName). option_map (λ chain. chain.now) c.in_ok-handlers.field-0 ≡ option_map (λ chain. chain.items) (option_map (λ entry. entry.1) (nearest_in (chain_at chains) n))) c.in_ok-key.ensures.key c.in_ok-handlers.ensures) in
     let none = found_views view chains name None found in
     record {
       no_chain = λ _. subst (λ (m : Metadata). parts_of c.error_response.result ≡ error_parts m responses.Refused) c.metadata-metadata.ensures c.error_response.ensures;
@@ -33,7 +33,7 @@ returns-then-eq-clause-parts g c =
     let view = g.H.ZoneHandler.view in
     let chains = c.args.chains.now.chains.entries in
     let name = c.args.question.now.name in
-    let found = subst (λ (o : Option _). option_map (λ chain. chain.now) o ≡ option_map (λ chain. chain.items) (chain_for chains name)) c.in-Some.is (subst (λ (n : DomainName). option_map (λ chain. chain.now) c.in_ok-handlers.handlers ≡ option_map (λ chain. chain.items) (option_map (λ entry. entry.1) (nearest_in (chain_at chains) n))) c.in_ok-key.ensures.key c.in_ok-handlers.ensures) in
+    let found = subst (λ (o : Option _). option_map (λ chain. chain.now) o ≡ option_map (λ chain. chain.items) (chain_for chains name)) c.in-Some.is (subst (λ (n : DomainName). option_map (λ chain. chain.now) c.in_ok-handlers.field-0 ≡ option_map (λ chain. chain.items) (option_map (λ entry. entry.1) (nearest_in (chain_at chains) n))) c.in_ok-key.ensures.key c.in_ok-handlers.ensures) in
     let some = found_views view chains name (Some c.in-Some.handlers.now) found in
     record {
       no_chain = λ none. absurd (none-some _ (sym none ∙ some));
@@ -49,7 +49,7 @@ returns-clause-parts g c =
     let name = question.name in
     let d = c.args.options.dnssec_ok in
     let means = map view c.in-Some.handlers.now in
-    let found = subst (λ (o : Option _). option_map (λ chain. chain.now) o ≡ option_map (λ chain. chain.items) (chain_for chains name)) c.in-Some.is (subst (λ (n : DomainName). option_map (λ chain. chain.now) c.in_ok-handlers.handlers ≡ option_map (λ chain. chain.items) (option_map (λ entry. entry.1) (nearest_in (chain_at chains) n))) c.in_ok-key.ensures.key c.in_ok-handlers.ensures) in
+    let found = subst (λ (o : Option _). option_map (λ chain. chain.now) o ≡ option_map (λ chain. chain.items) (chain_for chains name)) c.in-Some.is (subst (λ (n : DomainName). option_map (λ chain. chain.now) c.in_ok-handlers.field-0 ≡ option_map (λ chain. chain.items) (option_map (λ entry. entry.1) (nearest_in (chain_at chains) n))) c.in_ok-key.ensures.key c.in_ok-handlers.ensures) in
     let some = found_views view chains name (Some c.in-Some.handlers.now) found in
     IfOk-weaker c.chain_response.result _ _ (λ r told.
     let by_name = subst (λ (n : DomainName). ChainParts means c.metadata-metadata.result d n c.asked-request.result.query_type (parts_of r)) c.asked-request.ensures.name told in

@@ -15,21 +15,22 @@ use Rattle.zst_zone.proofs.handler.InMemoryZoneHandler.lookup_at.Goals as goal
 
 pub answer_from-requires : goal.answer_from-requires
 answer_from-requires g c =
-    found-match c.self.inside.sets c.args.key.now c.args.name.now c.args.record_type c.in-Found.first c.requires (sym (rw c.in-Found.is at c.in_ok-find.ensures))
+    found-match c.self.inside.sets c.args.key.now c.args.name.now c.args.record_type c.in-Found.first c.requires (sym (rw c.in-Found.is at c.in_ok-first.ensures))
 
-pub returns-in-Found : goal.returns-in-Found
-returns-in-Found g c =
-    let there = answer_from-requires g c in
-    tells c.args.self.now c.args.name.now c.args.record_type c.args.options (Some c.in_ok-found.found) (flows.Continue (Ok c.in_ok-found.found))
-    (λ any. absurd (true≢false (sym any ∙ ?)))
-    (λ one. subst (λ (ss : List RRset). AnswersOne c.args.options ss c.args.name.now c.args.record_type (found ss c.args.name.now c.args.record_type) (Some c.in_ok-found.found)) (ap (λ (z : Zone). z.sets) c.self.view_is)
-    (subst (λ (o : Option RRset). AnswersOne c.args.options c.self.inside.sets c.args.name.now c.args.record_type o (Some c.in_ok-found.found)) (sym there) c.in_ok-found.ensures))
+pub returns-in_ok-found-in-Found : goal.returns-in_ok-found-in-Found
+returns-in_ok-found-in-Found g c =
+    let there = found-match c.self.inside.sets c.args.key.now c.args.name.now c.args.record_type c.in-Found.first c.requires (sym (rw c.in-Found.is at c.in_ok-first.ensures)) in
+    tells c.args.self.now c.args.name.now c.args.record_type c.args.options (Some c.in_ok-found-in-Found.found) (flows.Continue (Ok c.in_ok-found-in-Found.found))
+    (λ any. absurd (true≢false (sym any ∙ sym c.eq.ensures ∙ c.if-eq.false)))
+    (λ one. subst (λ (ss : List RRset). AnswersOne c.args.options ss c.args.name.now c.args.record_type (found ss c.args.name.now c.args.record_type) (Some c.in_ok-found-in-Found.found)) (ap (λ (z : Zone). z.sets) c.self.view_is)
+    (subst (λ (o : Option RRset). AnswersOne c.args.options c.self.inside.sets c.args.name.now c.args.record_type o (Some c.in_ok-found-in-Found.found)) (sym there) c.in_ok-found-in-Found.ensures))
     refl
 
 pub returns-in-Absent : goal.returns-in-Absent
 returns-in-Absent g c =
-    let none = found-none c.self.inside.sets c.args.key.now c.args.name.now c.args.record_type c.requires (sym (rw c.in-Absent.is at c.in_ok-find.ensures).0) in
+    let none = found-none c.self.inside.sets c.args.key.now c.args.name.now c.args.record_type c.requires (sym (rw c.in-Absent.is at c.in_ok-first.ensures).0) in
     tells c.args.self.now c.args.name.now c.args.record_type c.args.options None (flows.Continue (Err c.denied.result))
-    (λ any. absurd (true≢false (sym any ∙ ?)))
-    (λ one. ?)
+    (λ any. absurd (true≢false (sym any ∙ sym c.eq.ensures ∙ c.if-eq.false)))
+    (λ one. subst (λ (ss : List RRset). AnswersOne c.args.options ss c.args.name.now c.args.record_type (found ss c.args.name.now c.args.record_type) None) (ap (λ (z : Zone). z.sets) c.self.view_is)
+    (subst (λ (o : Option RRset). AnswersOne c.args.options c.self.inside.sets c.args.name.now c.args.record_type o None) (sym none) refl))
     (ap (λ (e : LookupError). flows.Continue (Err e)) (c.denied.ensures ∙ ap denial_error (denial-keyed c.args.self.now c.args.key.now c.args.name.now c.requires)))

@@ -1,4 +1,4 @@
-use Rattle.std.proofs.Common.{◌≡◌, Option, subst}
+use Rattle.std.proofs.Common.{◌≡◌, subst}
 use Rattle.std.specs.Prelude.{IfOk, option_map}
 use Rattle.zst_key.specs.Ancestors.{nearest_in}
 use Rattle.zst_key.specs.dnw_name.DomainName.{DomainName}

@@ -1,4 +1,4 @@
-use Rattle.std.proofs.Common.{◌≡◌, ◌∙◌, List, Option, Some, None, Vec, Global, ap, subst}
+use Rattle.std.proofs.Common.{◌≡◌, ◌∙◌, List, Option, Some, Vec, Global, ap, subst}
 use Rattle.std.specs.Prelude.{option_map}
 use Rattle.zst_key.specs.Ancestors.{nearest_in}
 use Rattle.zst_key.specs.dnw_name.DomainName.{DomainName}
@@ -14,8 +14,8 @@ returns-in-Some g c =
     let there = subst (λ (o : Option _). option_map (λ p. (p.0.now, p.1.now)) o ≡ nearest_in (chain_at chains) c.args.key.now) c.in-Some.is c.in_ok-chain.ensures in
     ap Some c.deref.ensures.value ∙ ap items_of there
 
-pub returns : goal.returns
-returns g c =
+pub returns-in-None : goal.returns-in-None
+returns-in-None g c =
     let chains = c.args.self.now.chains.entries in
     let there = subst (λ (o : Option _). option_map (λ p. (p.0.now, p.1.now)) o ≡ nearest_in (chain_at chains) c.args.key.now) c.in-None.is c.in_ok-chain.ensures in
     ap items_of there
