@@ -1,7 +1,6 @@
 -- What a response holds where nothing was found, and where an answer is all that it holds.
 use Rattle.std.proofs.Common.{◌≡◌, ◌∙◌, Bool, true, false, List, [], Some, None, Option, refl, sym, ap, true≢false}
-use Rattle.std.specs.Prelude.{◌&&◌, not, if◌then◌else◌}
-use Rattle.zsv_reply.specs.Replies.{ReplyParts}
+use Rattle.std.specs.Prelude.{if◌then◌else◌}
 use Rattle.zsv_reply.specs.zst_record.declared.records.Record.{Record}
 use Rattle.zst_request.specs.dnw_codes.declared.record_type.RecordType.{RecordType}
 use Rattle.zst_request.specs.zst_handler.Answers.{additionals_in, answers_in, records_in}
