@@ -1,5 +1,5 @@
 -- Laws of names that are kept beside others.
-use Rattle.std.proofs.Common.{◌≡◌, ℕ, ◌+◌, ◌-◌, ◌<◌, ◌≤◌, inl, inr, true, List, [], ◌∷◌, ◌++◌, length, take, drop, get_or, refl, sym, ap, subst, ◌∙◌, arith, append_assoc, length-append, append-nil}
+use Rattle.std.proofs.Common.{◌≡◌, ℕ, ◌+◌, ◌-◌, ◌<◌, ◌≤◌, ◌⊎◌, inl, inr, true, List, [], ◌∷◌, ◌++◌, length, take, drop, get_or, refl, sym, ap, subst, ◌∙◌, arith, append_assoc, length-append, append-nil}
 use Rattle.std.specs.List.{All, slice_range}
 use Rattle.std.proofs.lemmas.List.{drop_at, take_all}
 use Rattle.std.proofs.lemmas.List.Elements.{All-tail}
@@ -24,7 +24,7 @@ pub record Pushed (labels : List (List ℕ)) (front last start stop : ℕ) (rest
   pub added : List Entry
   pub appended : new ≡ old ++ added
   pub each : (e : Entry) → In e added → IsSuffixEntry labels front last start stop e
-  pub counted : length added ≡ length done
+  pub counted : length added ≤ length done
   pub whole : 0 < length done → (e : Entry) × In e added × (e.from + length (name_octets (domain_name true labels)) ≡ last)
 
 pub push_start : (labels : List (List ℕ)) (front last start stop : ℕ) (octets : List ℕ) (entries : List Entry) → All IsLabel labels → octets ≡ label_octets labels → Pushed labels front last start stop octets entries entries
@@ -37,7 +37,7 @@ push_start labels front last start stop octets entries are e = record {
   added = [];
   appended = sym (append-nil entries);
   each = λ x member. absurd member;
-  counted = refl;
+  counted = omega arith;
   whole = λ some. absurd (omega (arith, some));
 }
 
@@ -101,6 +101,36 @@ push_more labels front last start stop rest old new later at e n behind w cut gr
           };
         }
 
+-- One is left out, which isn't the first.
+push_none : (labels : List (List ℕ)) (front last start stop : ℕ) (rest : List ℕ) (old new later : List Entry) (n : ℕ) (behind : List ℕ) → (w : Pushed labels front last start stop rest old new) → rest ≡ n ∷ behind → later ≡ new → 0 < length (label_octets w.done) → OneMore labels front last start stop n behind old later
+push_none labels front last start stop rest old new later n behind w cut same some = by w.left w.split (sym w.octets ∙ cut) w.labelled
+  where
+    any : (done : List (List ℕ)) → 0 < length (label_octets done) → 0 < length done
+    any [] lt = absurd (omega (arith, lt))
+    any (l ∷ ls) lt = omega arith
+
+    by : (left : List (List ℕ)) → labels ≡ w.done ++ left → label_octets left ≡ n ∷ behind → All IsLabel left → OneMore labels front last start stop n behind old later
+    by [] split octets labelled = absurd (omega (arith, ap length octets))
+    by (l ∷ ls) split octets labelled =
+        let long : length l ≡ n = ap (λ (t : List ℕ). get_or t 0 0) octets in
+        let rest_of : l ++ label_octets ls ≡ behind = ap (λ (t : List ℕ). drop 1 t) octets in
+        let left_of : drop n behind ≡ label_octets ls = ap (λ (t : List ℕ). drop n t) (sym rest_of) ∙ drop_at l (label_octets ls) n long in
+        record {
+          fits = omega (arith, ap length rest_of, length-append l (label_octets ls), long);
+          more = record {
+            done = w.done ++ l ∷ [];
+            left = ls;
+            split = split ∙ sym (append_assoc w.done (l ∷ []) ls);
+            octets = left_of;
+            labelled = All-tail IsLabel l ls labelled;
+            added = w.added;
+            appended = same ∙ w.appended;
+            each = w.each;
+            counted = omega (arith, w.counted, length-append w.done (l ∷ []));
+            whole = λ more. w.whole (any w.done some);
+          };
+        }
+
 -- The next name is put.
 pub push_next : (labels : List (List ℕ)) (front last start stop : ℕ) (octets rest : List ℕ) (old new later : List Entry) (n : ℕ) (behind : List ℕ) (place : ℕ) → octets ≡ label_octets labels → (w : Pushed labels front last start stop rest old new) → rest ≡ n ∷ behind → length octets - length rest < front → start + (length octets - length rest) < 16383 → length (label_octets labels) + 1 ≤ last → place ≡ start + (length octets - length rest) → later ≡ new ++ record { from = last - 1 - length rest; to = last; place = place; end = stop } ∷ [] → OneMore labels front last start stop n behind old later
 push_next labels front last start stop octets rest old new later n behind place all w cut early small fits here grown =
@@ -112,6 +142,13 @@ push_next labels front last start stop octets rest old new later n behind place 
     entry_next labels front last start stop rest old new (length octets - length rest) e w (omega (arith, at)) early small room refl refl here refl in
     push_more labels front last start stop rest old new later (length octets - length rest) e n behind w cut grown is
     (λ none. omega (arith, none, at, room, long, length-append (label_octets labels) (0 ∷ [])))
+
+-- The next name is put, or left out.
+pub push_step : (labels : List (List ℕ)) (front last start stop : ℕ) (octets rest : List ℕ) (old new later : List Entry) (n : ℕ) (behind : List ℕ) (place : ℕ) → octets ≡ label_octets labels → (w : Pushed labels front last start stop rest old new) → rest ≡ n ∷ behind → length octets - length rest < front → start + (length octets - length rest) < 16383 → length (label_octets labels) + 1 ≤ last → place ≡ start + (length octets - length rest) → (later ≡ new ++ record { from = last - 1 - length rest; to = last; place = place; end = stop } ∷ []) ⊎ ((0 < length octets - length rest) × (later ≡ new)) → OneMore labels front last start stop n behind old later
+push_step labels front last start stop octets rest old new later n behind place all w cut early small fits here grown = elim grown [
+  | inl put ↦ push_next labels front last start stop octets rest old new later n behind place all w cut early small fits here put
+  | inr none ↦ push_none labels front last start stop rest old new later n behind w cut none.1 (omega (arith, none.0, pushed_octets labels front last start stop octets rest old new all w))
+]
 
 octets_some : (ls : List (List ℕ)) → 0 < length ls → 0 < length (label_octets ls)
 octets_some [] lt = absurd (omega (arith, lt))

@@ -1,5 +1,5 @@
 -- Laws of the search for the longest name that ends another one.
-use Rattle.std.proofs.Common.{◌≡◌, ℕ, ◌+◌, ◌-◌, ◌<◌, ◌≤◌, inl, inr, true, List, [], ◌∷◌, ◌++◌, length, take, drop, get_or, Option, Some, None, refl, sym, ap, subst, ◌∙◌, arith}
+use Rattle.std.proofs.Common.{◌≡◌, ℕ, ◌+◌, ◌-◌, ◌<◌, ◌≤◌, ◌⊎◌, inl, inr, true, List, [], ◌∷◌, ◌++◌, length, take, drop, get_or, Option, Some, None, refl, sym, ap, subst, ◌∙◌, arith}
 use Rattle.std.specs.List.{slice_range}
 use Rattle.std.proofs.lemmas.List.{get_or-drop, get_or-take, length-append, length-drop, length-take, drop-append-le}
 use Rattle.dnw_decoder.specs.dnw_name.DomainName.{domain_name, name_octets}
@@ -134,3 +134,16 @@ bar_clash octets labels e place w clash from le before rest split spelled =
 pub barred_none : (octets : List ℕ) (labels : List (List ℕ)) (e : Entry) (to clash front : ℕ) → Barred octets labels to clash → e.to ≡ to → e.from ≤ clash → NoneBefore labels front (slice_range octets e.from e.to)
 barred_none octets labels e to clash front barred at le before rest split spelled =
     absurd (barred e.from le before rest split (ap (λ (n : ℕ). slice_range octets e.from n) (sym at) ∙ spelled))
+
+-- Nor is one that is too long, or that is no longer than what was found.
+pub cannot_end : (octets : List ℕ) (labels : List (List ℕ)) (e : Entry) (whole front to clash : ℕ) → IsWithin octets e → whole ≡ length (label_octets labels) + 1 → Barred octets labels to clash → (whole < e.to - e.from) ⊎ (front + (e.to - e.from) ≤ whole) ⊎ ((e.to ≡ to) × (e.from ≤ clash)) → NoneBefore labels front (slice_range octets e.from e.to)
+cannot_end octets labels e whole front to clash w all barred why before rest split spelled =
+    let long = part_length octets e.from e.to w.order w.within in
+    let at = behind_length labels before rest (slice_range octets e.from e.to) split spelled in
+    elim why [
+      | inl longer ↦ absurd (omega (arith, longer, long, at, all))
+      | inr other ↦ elim other [
+        | inl later ↦ omega (arith, later, long, at, all)
+        | inr held ↦ barred_none octets labels e to clash front barred held.0 held.1 before rest split spelled
+      ]
+    ]

@@ -1,5 +1,5 @@
 //! The names to which later ones may point (RFC 1035 4.1.4).
-ghost use Rattle.std.specs.Prelude.{◌≡◌, ◌↔◌, ◌+◌, ◌<◌, ◌≤◌, ◌^◌, ◌∷◌, [], ◌++◌, true, length, filter, get_or, nat_le, slice_range, IfSome, OnOk, OnErr};
+ghost use Rattle.std.specs.Prelude.{◌≡◌, ◌↔◌, ◌+◌, ◌<◌, ◌≤◌, ◌^◌, ◌-◌, ◌∷◌, [], ◌++◌, ◌⊎◌, true, false, length, filter, get_or, nat_le, slice_range, IfSome, OnOk, OnErr};
 ghost use Rattle.dnw_decoder.specs.dnw_label.Labels.{label_octets};
 ghost use Rattle.dnw_encoder.specs.Candidates.{AreWithin, FindsAmong, FindsLongest, IsWithin, KeepsOctets, KeepsSuffixes, Meets, PushesSuffixes, SplitsAt, candidates_of};
 ghost use Rattle.dnw_encoder.specs.Members.{In};
@@ -27,6 +27,18 @@ pub(crate) struct Entry {
 }
 
 impl Entry {
+    // Whether its name may end one of so many octets, behind fewer than so many of them, and doesn't hold an octet among
+    // those that go to an end.
+    #[inline(always)]
+    fn may_end(&self, whole: usize, before: usize, to: usize, octet: usize) -> bool
+        requires { self.now.from ≤ self.now.to }
+        ensures { result ≡ false → (whole < self.now.to - self.now.from) ⊎ (before + (self.now.to - self.now.from) ≤ whole)
+            ⊎ ((self.now.to ≡ to) × (self.now.from ≤ octet)) }
+    {
+        let size = self.to - self.from;
+        size <= whole && whole - size < before && (self.to != to || octet < self.from)
+    }
+
     // The name's octets among those of all.
     #[inline]
     fn octets<'o>(&self, all: &'o [u8]) -> &'o [u8]
@@ -167,10 +179,11 @@ fn longest_of(entries: &[Entry], octets: &[u8], name: &Name) -> Option<Suffix>
     ensures { FindsLongest (candidates_of octets.now entries.now) name.now.labels result }
 {
     let mut front = name.as_octets().len();
+    let whole = front + 1;
     let mut longest = None;
     let (mut to, mut clash) = (0, 0);
     'entries: for entry in entries {
-        if entry.to != to || clash < entry.from {
+        if entry.may_end(whole, front, to, clash) {
             match meeting_of(entry.octets(octets), name, front) {
                 Meeting::Ends(found) => {
                     front = found;
@@ -200,7 +213,52 @@ fn is_kept(count: usize, place: usize) -> bool
     count < MOST && place <= LAST_PLACE
 }
 
-// Puts an entry for a name and for each that ends it and begins in its first so many octets, as long as there is room.
+// Behind which octet the last labels of a name begin, so many of them.
+#[inline(never)]
+fn start_of_last(name: &Name, count: usize) -> usize {
+    let labels = name.as_octets();
+    let mut more = usize::from(name.num_labels()).saturating_sub(count);
+    let mut start = 0;
+    'labels: while more > 0 && start < labels.len() {
+        start = start.saturating_add(1 + usize::from(labels[start]));
+        more -= 1;
+    }
+    start
+}
+
+// Behind which octet the names begin that are kept of those that end a name, beside the name itself and so many others. Of a
+// long one the shorter are kept, to which others are more likely to point.
+#[inline]
+fn start_of_kept(name: &Name, front: usize, others: usize) -> usize {
+    // (a label has two octets at least)
+    if front <= 2 * MOST {
+        return 0;
+    }
+    start_of_last(name, (MOST - 1).saturating_sub(others))
+}
+
+// Puts the entry of a name that begins behind so many octets of a name, but for those between it and a later one.
+#[inline(always)]
+fn push_but_between(
+    entries: &mut SmallVec<Entry, 8>,
+    at: usize,
+    later: usize,
+    entry: Entry,
+) -> Result<(), AllocError>
+    ensures ok { OnOk result ((entries.new.items ≡ entries.old.items ++ entry ∷ [])
+        ⊎ ((0 < at) × (entries.new.items ≡ entries.old.items))) }
+    ensures err { OnErr result (entries.new.items ≡ entries.old.items) }
+{
+    if at > 0 && at < later {
+        return Ok(());
+    }
+    match entries.push(entry) {
+        Ok(()) => Ok(()),
+        Err(_) => Err(AllocError),
+    }
+}
+
+// Puts an entry for a name and for those that end it and begin in its first so many octets, as long as there is room.
 // Their octets among those of all end at a place.
 fn push_entries(
     entries: &mut SmallVec<Entry, 8>,
@@ -216,6 +274,7 @@ fn push_entries(
     ensures err { OnErr result (entries.new.items ≡ entries.old.items) }
 {
     let before = entries.len();
+    let later = start_of_kept(name, front, before);
     let labels = name.as_octets();
     let mut rest = labels;
     'labels: while let Some((length, behind)) = rest.split_first() {
@@ -229,7 +288,7 @@ fn push_entries(
             place: (start + at) as u16,
             end,
         };
-        if entries.push(entry).is_err() {
+        if push_but_between(entries, at, later, entry).is_err() {
             entries.truncate(before);
             return Err(AllocError);
         }

@@ -56,6 +56,31 @@ fn append_name(buffer: &mut Vec<u8>, name: &Name, encoding: NameEncoding)
     buffer.push_reserved(0);
 }
 
+// Appends few octets, for which there is room.
+fn append_few(buffer: &mut Vec<u8>, octets: &[u8])
+    requires { vec_len buffer.old + length octets.now ≤ vec_capacity buffer.old }
+    ensures { buffer.new.items ≡ buffer.old.items ++ octets.now }
+{
+    'octets: for i in 0..octets.len() {
+        buffer.push_reserved(octets[i]);
+    }
+}
+
+// Puts a name's front and the few octets behind it at a place, over what is there and behind it. There is room for them.
+fn put_front(buffer: &mut Vec<u8>, place: usize, front: &[u8], rest: &[u8])
+    requires within { place ≤ length buffer.old.items }
+    requires room { vec_len buffer.old + (length front.now + length rest.now) ≤ vec_capacity buffer.old }
+    ensures { buffer.new.items ≡ written_at buffer.old.items place (front.now ++ rest.now) }
+{
+    if place == buffer.len() {
+        append(buffer, front, false);
+        append_few(buffer, rest);
+        return;
+    }
+    // There is room, and so no growth is refused.
+    let _ = write_at(buffer, place, front, rest);
+}
+
 // Puts a name in full at a place, over what is there and behind it.
 fn write_name(
     buffer: &mut Vec<u8>,
@@ -102,8 +127,7 @@ impl BinEncoder<'_> {
         self.buffer.reserve(size)?;
         let end = self.offset + size;
         self.candidates.keep_name(name, front, self.offset, end)?;
-        // There is room, and so no growth is refused.
-        let _ = write_at(self.buffer, self.offset, &labels[..front], rest);
+        put_front(self.buffer, self.offset, &labels[..front], rest);
         self.offset = end;
         Ok(())
     }

@@ -1,10 +1,10 @@
-use Rattle.std.proofs.Common.{ℕ, ◌+◌, List, get_or, refl, subst, arith}
+use Rattle.std.proofs.Common.{ℕ, ◌+◌, List, get_or, length, refl, subst, ap, arith}
 use Rattle.dnw_encoder.specs.Candidates.{ClashesAt, IsNameBehind, NoneBefore}
 use Rattle.dnw_encoder.specs.declared.candidates.Entry.{Entry}
 use Rattle.dnw_encoder.proofs.CandidateLaws.{blank, in_get}
-use Rattle.dnw_encoder.proofs.LongestLaws.{search_start, search_other, search_longer, search_whole, search_end, bar_start, bar_clash, barred_none}
+use Rattle.dnw_encoder.proofs.LongestLaws.{search_start, search_other, search_longer, search_whole, search_end, bar_start, bar_clash, barred_none, cannot_end}
 use Rattle.dnw_encoder.proofs.candidates.longest_of.Goals as goal
-use Rattle.dnw_encoder.proofs.candidates.longest_of.Goals.{then-entry-to+in-Ends+else-front-eq0, then-entry-to+in-Clashes, then-entry-to+in-Apart, else-entry-to+else-clash-entry}
+use Rattle.dnw_encoder.proofs.candidates.longest_of.Goals.{then-may_end+in-Ends+else-front-eq0, then-may_end+in-Clashes, then-may_end+in-Apart, else-may_end}
 
 pub entries-init : goal.entries-init
 entries-init c =
@@ -12,6 +12,9 @@ entries-init c =
 
 pub octets-requires : goal.octets-requires
 octets-requires c = c.requires _ (in_get c.args.entries.now c.entries.entry-index blank (omega arith))
+
+pub may_end-requires : goal.may_end-requires
+may_end-requires c = (c.requires _ (in_get c.args.entries.now c.entries.entry-index blank (omega arith))).order
 
 pub meeting_of-requires : goal.meeting_of-requires
 meeting_of-requires c = c.entries.invariant.0.within
@@ -26,28 +29,29 @@ entries-preserved c =
     let more = c.entries-test.true in
     let searched = c.entries.invariant.0 in
     let barred = c.entries.invariant.1 in
-    elim c.if-entry-to.branch [
-      | then-entry-to+in-Ends+else-front-eq0 w ↦
+    elim c.if-may_end.branch [
+      | then-may_end+in-Ends+else-front-eq0 w ↦
           rw (w.front-is, w.longest-is, w.to-is, w.clash-is) (
             search_longer octets entries i labels c.entries.front w.in-Ends.found c.entries.longest more searched w.in-Ends.ensures.0
                 (subst (λ (o : List ℕ). IsNameBehind labels w.in-Ends.found o) w.octets.ensures w.in-Ends.ensures.1),
             barred,
           )
-      | then-entry-to+in-Clashes w ↦
+      | then-may_end+in-Clashes w ↦
           let bars = bar_clash octets labels e w.in-Clashes.place (c.requires e (in_get entries i blank more)) (subst (λ (o : List ℕ). ClashesAt labels o w.in-Clashes.place) w.octets.ensures w.in-Clashes.ensures) in
           rw (w.front-is, w.longest-is, w.to-is, w.clash-is) (
             search_other octets entries i labels c.entries.front c.entries.longest more searched (barred_none octets labels e e.to (e.from + w.in-Clashes.place) c.entries.front bars refl (omega arith)),
             bars,
           )
-      | then-entry-to+in-Apart w ↦
+      | then-may_end+in-Apart w ↦
           rw (w.front-is, w.longest-is, w.to-is, w.clash-is) (
             search_other octets entries i labels c.entries.front c.entries.longest more searched
                 (subst (λ (o : List ℕ). NoneBefore labels c.entries.front o) w.octets.ensures w.in-Apart.ensures),
             barred,
           )
-      | else-entry-to+else-clash-entry w ↦
+      | else-may_end w ↦
           rw (w.front-is, w.longest-is, w.to-is, w.clash-is) (
-            search_other octets entries i labels c.entries.front c.entries.longest more searched (barred_none octets labels e c.entries.to c.entries.clash c.entries.front barred (omega (arith, w.if-entry-to.false)) (omega (arith, w.if-clash-entry.false))),
+            search_other octets entries i labels c.entries.front c.entries.longest more searched
+                (cannot_end octets labels e _ c.entries.front c.entries.to c.entries.clash (c.requires e (in_get entries i blank more)) (omega (arith, ap length c.as_octets-front.ensures.octets)) barred (c.may_end.ensures w.if-may_end.false)),
             barred,
           )
     ]
