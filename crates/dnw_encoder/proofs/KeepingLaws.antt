@@ -1,18 +1,18 @@
 -- Laws of names that are kept beside others.
-use Rattle.std.proofs.Common.{◌≡◌, ℕ, ◌+◌, ◌-◌, ◌<◌, ◌≤◌, ◌⊎◌, inl, inr, true, List, [], ◌∷◌, ◌++◌, length, take, drop, get_or, refl, sym, ap, subst, ◌∙◌, arith, append_assoc, length-append, append-nil}
+use Rattle.std.proofs.Common.{◌≡◌, ℕ, ◌+◌, ◌-◌, ◌<◌, ◌≤◌, inl, inr, true, List, [], ◌∷◌, ◌++◌, length, take, drop, get_or, refl, sym, ap, subst, ◌∙◌, arith, append_assoc, length-append, append-nil}
 use Rattle.std.specs.List.{All, slice_range}
 use Rattle.std.proofs.lemmas.List.{drop_at, take_all}
 use Rattle.std.proofs.lemmas.List.Elements.{All-tail}
 use Rattle.dnw_decoder.specs.dnw_label.Label.{IsLabel}
 use Rattle.dnw_decoder.specs.dnw_label.Labels.{label_octets}
 use Rattle.dnw_decoder.specs.dnw_name.DomainName.{domain_name, name_octets}
-use Rattle.dnw_encoder.specs.Candidates.{AreWithin, IsWithin, candidate_of, candidates_of, KeepsSuffixes, IsSuffixEntry, PushesSuffixes}
+use Rattle.dnw_encoder.specs.Candidates.{AreWithin, IsWithin, candidate_of, candidates_of, KeepsSuffixes, IsSuffixEntry, PushesOthers, PushesSuffixes, SplitsAt}
 use Rattle.dnw_encoder.specs.Members.{In}
 use Rattle.dnw_encoder.specs.State.{Candidate}
 use Rattle.dnw_encoder.specs.declared.candidates.Entry.{Entry}
 use Rattle.dnw_encoder.proofs.CandidateLaws.{candidates_grown, unchanged, in_append, in_map, in_map_back}
-use Rattle.dnw_encoder.proofs.MemberLaws.{in_push, in_front, in_last}
-use Rattle.dnw_encoder.proofs.SuffixLaws.{octets_split, octets_one}
+use Rattle.dnw_encoder.proofs.MemberLaws.{in_push}
+use Rattle.dnw_encoder.proofs.SuffixLaws.{drop_front, octets_split}
 
 -- How far names of a name's labels were put among the entries.
 pub record Pushed (labels : List (List ℕ)) (front last start stop : ℕ) (rest : List ℕ) (old new : List Entry) : Type 0 where
@@ -24,21 +24,27 @@ pub record Pushed (labels : List (List ℕ)) (front last start stop : ℕ) (rest
   pub added : List Entry
   pub appended : new ≡ old ++ added
   pub each : (e : Entry) → In e added → IsSuffixEntry labels front last start stop e
-  pub counted : length added ≤ length done
-  pub whole : 0 < length done → (e : Entry) × In e added × (e.from + length (name_octets (domain_name true labels)) ≡ last)
+  pub counted : length added < length done
 
-pub push_start : (labels : List (List ℕ)) (front last start stop : ℕ) (octets : List ℕ) (entries : List Entry) → All IsLabel labels → octets ≡ label_octets labels → Pushed labels front last start stop octets entries entries
-push_start labels front last start stop octets entries are e = record {
-  done = [];
-  left = labels;
-  split = refl;
-  octets = e;
-  labelled = are;
+some_done : (ls : List (List ℕ)) → 0 < length (label_octets ls) → 0 < length ls
+some_done [] lt = absurd (omega (arith, lt))
+some_done (l ∷ ls) lt = omega arith
+
+labels_behind : (xs ys : List (List ℕ)) → All IsLabel (xs ++ ys) → All IsLabel ys
+labels_behind [] ys are = are
+labels_behind (x ∷ xs) ys are = labels_behind xs ys (All-tail IsLabel x (xs ++ ys) are)
+
+pub push_start : (labels : List (List ℕ)) (front last start stop begin : ℕ) (octets : List ℕ) (entries : List Entry) → All IsLabel labels → octets ≡ label_octets labels → 0 < begin → SplitsAt labels begin → Pushed labels front last start stop (drop begin octets) entries entries
+push_start labels front last start stop begin octets entries are e some s = record {
+  done = s.0;
+  left = s.1;
+  split = s.2;
+  octets = ap (λ (t : List ℕ). drop begin t) e ∙ drop_front labels s.0 s.1 begin s.2 s.3;
+  labelled = labels_behind s.0 s.1 (subst (λ (ls : List (List ℕ)). All IsLabel ls) s.2 are);
   added = [];
   appended = sym (append-nil entries);
   each = λ x member. absurd member;
-  counted = omega arith;
-  whole = λ some. absurd (omega (arith, some));
+  counted = omega (arith, some_done s.0 (omega (arith, some, s.3)));
 }
 
 pub pushed_octets : (labels : List (List ℕ)) (front last start stop : ℕ) (octets rest : List ℕ) (old new : List Entry) → octets ≡ label_octets labels → (w : Pushed labels front last start stop rest old new) → length octets ≡ length (label_octets w.done) + length rest
@@ -64,20 +70,14 @@ pub record OneMore (labels : List (List ℕ)) (front last start stop : ℕ) (n :
   pub more : Pushed labels front last start stop (drop n behind) old new
 
 -- One more.
-push_more : (labels : List (List ℕ)) (front last start stop : ℕ) (rest : List ℕ) (old new later : List Entry) (at : ℕ) (e : Entry) (n : ℕ) (behind : List ℕ) → (w : Pushed labels front last start stop rest old new) → rest ≡ n ∷ behind → later ≡ new ++ e ∷ [] → IsSuffixEntry labels front last start stop e → (length (label_octets w.done) ≡ 0 → e.from + length (name_octets (domain_name true labels)) ≡ last) → OneMore labels front last start stop n behind old later
-push_more labels front last start stop rest old new later at e n behind w cut grown is first = by w.left w.split (sym w.octets ∙ cut) w.labelled
+push_more : (labels : List (List ℕ)) (front last start stop : ℕ) (rest : List ℕ) (old new later : List Entry) (at : ℕ) (e : Entry) (n : ℕ) (behind : List ℕ) → (w : Pushed labels front last start stop rest old new) → rest ≡ n ∷ behind → later ≡ new ++ e ∷ [] → IsSuffixEntry labels front last start stop e → OneMore labels front last start stop n behind old later
+push_more labels front last start stop rest old new later at e n behind w cut grown is = by w.left w.split (sym w.octets ∙ cut) w.labelled
   where
     appended : later ≡ old ++ (w.added ++ e ∷ [])
     appended = grown ∙ ap (λ (es : List Entry). es ++ e ∷ []) w.appended ∙ append_assoc old w.added (e ∷ [])
 
     each : (x : Entry) → In x (w.added ++ e ∷ []) → IsSuffixEntry labels front last start stop x
     each x member = elim (in_push x e w.added member) [ inl before ↦ w.each x before | inr same ↦ subst (λ (y : Entry). IsSuffixEntry labels front last start stop y) same is ]
-
-    whole : (done : List (List ℕ)) → done ≡ w.done → (x : Entry) × In x (w.added ++ e ∷ []) × (x.from + length (name_octets (domain_name true labels)) ≡ last)
-    whole [] is_none = (e, in_last e w.added, first (ap (λ (ls : List (List ℕ)). length (label_octets ls)) (sym is_none)))
-    whole (l ∷ ls) is_some =
-        let found = w.whole (omega (arith, ap length is_some)) in
-        (found.0, in_front found.0 w.added (e ∷ []) found.1, found.2)
 
     by : (left : List (List ℕ)) → labels ≡ w.done ++ left → label_octets left ≡ n ∷ behind → All IsLabel left → OneMore labels front last start stop n behind old later
     by [] split octets labelled = absurd (omega (arith, ap length octets))
@@ -97,37 +97,6 @@ push_more labels front last start stop rest old new later at e n behind w cut gr
             appended = appended;
             each = each;
             counted = omega (arith, w.counted, length-append w.added (e ∷ []), length-append w.done (l ∷ []));
-            whole = λ some. whole w.done refl;
-          };
-        }
-
--- One is left out, which isn't the first.
-push_none : (labels : List (List ℕ)) (front last start stop : ℕ) (rest : List ℕ) (old new later : List Entry) (n : ℕ) (behind : List ℕ) → (w : Pushed labels front last start stop rest old new) → rest ≡ n ∷ behind → later ≡ new → 0 < length (label_octets w.done) → OneMore labels front last start stop n behind old later
-push_none labels front last start stop rest old new later n behind w cut same some = by w.left w.split (sym w.octets ∙ cut) w.labelled
-  where
-    any : (done : List (List ℕ)) → 0 < length (label_octets done) → 0 < length done
-    any [] lt = absurd (omega (arith, lt))
-    any (l ∷ ls) lt = omega arith
-
-    by : (left : List (List ℕ)) → labels ≡ w.done ++ left → label_octets left ≡ n ∷ behind → All IsLabel left → OneMore labels front last start stop n behind old later
-    by [] split octets labelled = absurd (omega (arith, ap length octets))
-    by (l ∷ ls) split octets labelled =
-        let long : length l ≡ n = ap (λ (t : List ℕ). get_or t 0 0) octets in
-        let rest_of : l ++ label_octets ls ≡ behind = ap (λ (t : List ℕ). drop 1 t) octets in
-        let left_of : drop n behind ≡ label_octets ls = ap (λ (t : List ℕ). drop n t) (sym rest_of) ∙ drop_at l (label_octets ls) n long in
-        record {
-          fits = omega (arith, ap length rest_of, length-append l (label_octets ls), long);
-          more = record {
-            done = w.done ++ l ∷ [];
-            left = ls;
-            split = split ∙ sym (append_assoc w.done (l ∷ []) ls);
-            octets = left_of;
-            labelled = All-tail IsLabel l ls labelled;
-            added = w.added;
-            appended = same ∙ w.appended;
-            each = w.each;
-            counted = omega (arith, w.counted, length-append w.done (l ∷ []));
-            whole = λ more. w.whole (any w.done some);
           };
         }
 
@@ -141,37 +110,32 @@ push_next labels front last start stop octets rest old new later n behind place 
     let is : IsSuffixEntry labels front last start stop e =
     entry_next labels front last start stop rest old new (length octets - length rest) e w (omega (arith, at)) early small room refl refl here refl in
     push_more labels front last start stop rest old new later (length octets - length rest) e n behind w cut grown is
-    (λ none. omega (arith, none, at, room, long, length-append (label_octets labels) (0 ∷ [])))
-
--- The next name is put, or left out.
-pub push_step : (labels : List (List ℕ)) (front last start stop : ℕ) (octets rest : List ℕ) (old new later : List Entry) (n : ℕ) (behind : List ℕ) (place : ℕ) → octets ≡ label_octets labels → (w : Pushed labels front last start stop rest old new) → rest ≡ n ∷ behind → length octets - length rest < front → start + (length octets - length rest) < 16383 → length (label_octets labels) + 1 ≤ last → place ≡ start + (length octets - length rest) → (later ≡ new ++ record { from = last - 1 - length rest; to = last; place = place; end = stop } ∷ []) ⊎ ((0 < length octets - length rest) × (later ≡ new)) → OneMore labels front last start stop n behind old later
-push_step labels front last start stop octets rest old new later n behind place all w cut early small fits here grown = elim grown [
-  | inl put ↦ push_next labels front last start stop octets rest old new later n behind place all w cut early small fits here put
-  | inr none ↦ push_none labels front last start stop rest old new later n behind w cut none.1 (omega (arith, none.0, pushed_octets labels front last start stop octets rest old new all w))
-]
-
-octets_some : (ls : List (List ℕ)) → 0 < length ls → 0 < length (label_octets ls)
-octets_some [] lt = absurd (omega (arith, lt))
-octets_some (l ∷ ls) lt = omega (arith, octets_one l ls)
 
 -- The end, or where no more are kept.
-pub push_end : (labels : List (List ℕ)) (front last start stop : ℕ) (octets rest : List ℕ) (old new : List Entry) → octets ≡ label_octets labels → (w : Pushed labels front last start stop rest old new) → (0 < front → length new < 64 → start + (length octets - length rest) < 16383 → 0 < length rest → front ≤ length octets - length rest) → PushesSuffixes labels front last start stop old new
-push_end labels front last start stop octets rest old new e w stops = record {
+pub push_end : (labels : List (List ℕ)) (front last start stop : ℕ) (rest : List ℕ) (old new : List Entry) → Pushed labels front last start stop rest old new → PushesOthers labels front last start stop old new
+push_end labels front last start stop rest old new w = record {
   added = w.added;
   appended = w.appended;
   each = w.each;
   few = omega (arith, w.counted, ap length w.split, length-append w.done w.left);
-  whole = λ some room small labelled. by w.done refl some room small labelled;
 }
-  where
-    by : (done : List (List ℕ)) → done ≡ w.done → 0 < front → length old < 64 → start < 16383 → 0 < length labels → (x : Entry) × In x w.added × (x.from + length (name_octets (domain_name true labels)) ≡ last)
-    by (l ∷ ls) is some room small labelled = w.whole (omega (arith, ap length is))
-    by [] is some room small labelled =
-        let none : length (label_octets w.done) ≡ 0 = ap (λ (ls : List (List ℕ)). length (label_octets ls)) (sym is) in
-        let at = pushed_octets labels front last start stop octets rest old new e w in
-        let same : length new ≡ length old = omega (arith, ap length w.appended, length-append old w.added, w.counted, ap length is) in
-        let left : length w.left ≡ length labels = omega (arith, ap length w.split, length-append w.done w.left, ap length is) in
-        absurd (omega (arith, stops some (omega (arith, room, same)) (omega (arith, small, at, none)) (omega (arith, ap length w.octets, octets_some w.left (omega (arith, left, labelled)))), at, none, some))
+
+-- The name itself is put, and then the others.
+pub push_both : (labels : List (List ℕ)) (front last start stop : ℕ) (octets : List ℕ) (old with_name new : List Entry) (place : ℕ) → octets ≡ label_octets labels → with_name ≡ old ++ record { from = last - 1 - length octets; to = last; place = place; end = stop } ∷ [] → 0 < front → start < 16383 → length (label_octets labels) + 1 ≤ last → place ≡ start → PushesOthers labels front last start stop with_name new → PushesSuffixes labels front last start stop old new
+push_both labels front last start stop octets old with_name new place all put early small fits here p =
+    let e : Entry = record { from = last - 1 - length octets; to = last; place = place; end = stop } in
+    let from : e.from + length (name_octets (domain_name true labels)) ≡ last = omega (arith, ap length all, fits, length-append (label_octets labels) (0 ∷ [])) in
+    let is : IsSuffixEntry labels front last start stop e = record { before = []; rest = labels; split = refl; early = omega (arith, early); from = from; to = refl; place = omega (arith, here); small = omega (arith, here, small); end = refl } in
+    record {
+      added = e ∷ p.added;
+      appended = p.appended ∙ ap (λ (es : List Entry). es ++ p.added) put ∙ append_assoc old (e ∷ []) p.added;
+      each = λ x member. elim member [
+        | inl same ↦ subst (λ (y : Entry). IsSuffixEntry labels front last start stop y) same is
+        | inr later ↦ p.each x later
+      ];
+      few = omega (arith, p.few);
+      whole = λ some room low labelled. (e, inl refl, from);
+    }
 
 -- The last of some octets.
 slice_last : (xs ys : List ℕ) (from to : ℕ) → to ≡ length (xs ++ ys) → from + length ys ≡ to → slice_range (xs ++ ys) from to ≡ ys

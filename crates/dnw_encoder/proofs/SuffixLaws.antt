@@ -109,6 +109,15 @@ walk_more labels front rest n behind w cut before = by w.left w.split (sym w.oct
 pub walk_end : (labels : List (List ℕ)) (front : ℕ) (rest : List ℕ) → (w : Walked labels front rest) → front ≡ length (label_octets w.done) → SplitsAt labels front
 walk_end labels front rest w e = (w.done, w.left, w.split, e)
 
+pub walked_at : (labels : List (List ℕ)) (front : ℕ) (octets rest : List ℕ) → octets ≡ label_octets labels → Walked labels front rest → SplitsAt labels (length octets - length rest)
+walked_at labels front octets rest e w = (w.done, w.left, w.split, omega (arith, walked_octets labels front octets rest e w))
+
+-- The first label ends behind its octets and that of its length.
+pub splits_one : (labels : List (List ℕ)) (octets : List ℕ) (n : ℕ) → octets ≡ label_octets labels → 0 < length (label_octets labels) → n ≡ 1 + get_or octets 0 0 → SplitsAt labels n
+splits_one [] octets n e some first = absurd (omega (arith, some))
+splits_one (l ∷ ls) octets n e some first =
+    (l ∷ [], ls, refl, omega (arith, first, ap (λ (t : List ℕ). get_or t 0 0) e, octets_one l []))
+
 -- Where the walk comes to a place, or to the end, a front ends there or none does.
 pub walk_decides : (labels : List (List ℕ)) (front : ℕ) (octets rest : List ℕ) (test : Bool) → octets ≡ label_octets labels → (w : Walked labels front rest) → (front ≤ length (label_octets w.done)) ⊎ (length rest ≡ 0) → (test ≡ true → length octets - length rest ≡ front) × (length octets - length rest ≡ front → test ≡ true) → (test ≡ true → SplitsAt labels front) × (SplitsAt labels front → test ≡ true)
 walk_decides labels front octets rest test e w stops decides =

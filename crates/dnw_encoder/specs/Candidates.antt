@@ -127,6 +127,15 @@ pub record IsSuffixEntry (labels : List (List ℕ)) (front last start stop : ℕ
   pub small : e.place < 16383
   pub end : e.end ≡ stop
 
+-- Entries for such names are put, but none for the name of all these labels.
+pub record PushesOthers (labels : List (List ℕ)) (front last start stop : ℕ)
+    (old new : List Entry) : Type 0 where
+  pub added : List Entry
+  pub appended : new ≡ old ++ added
+  pub each : (e : Entry) → In e added → IsSuffixEntry labels front last start stop e
+  pub few : length added < length labels
+
+-- Such entries are put, that for the name of all these labels too.
 pub record PushesSuffixes (labels : List (List ℕ)) (front last start stop : ℕ)
     (old new : List Entry) : Type 0 where
   pub added : List Entry

@@ -1,7 +1,7 @@
 //! The names to which later ones may point (RFC 1035 4.1.4).
 ghost use Rattle.std.specs.Prelude.{◌≡◌, ◌↔◌, ◌+◌, ◌<◌, ◌≤◌, ◌^◌, ◌-◌, ◌∷◌, [], ◌++◌, ◌⊎◌, true, false, length, filter, get_or, nat_le, slice_range, IfSome, OnOk, OnErr};
 ghost use Rattle.dnw_decoder.specs.dnw_label.Labels.{label_octets};
-ghost use Rattle.dnw_encoder.specs.Candidates.{AreWithin, FindsAmong, FindsLongest, IsWithin, KeepsOctets, KeepsSuffixes, Meets, PushesSuffixes, SplitsAt, candidates_of};
+ghost use Rattle.dnw_encoder.specs.Candidates.{AreWithin, FindsAmong, FindsLongest, IsWithin, KeepsOctets, KeepsSuffixes, Meets, PushesOthers, PushesSuffixes, SplitsAt, candidates_of};
 ghost use Rattle.dnw_encoder.specs.Members.{In};
 ghost use Rattle.dnw_encoder.specs.State.{Candidate};
 ghost use Rattle.dnw_encoder.specs.declared.candidates.Entry.{Entry};
@@ -35,8 +35,11 @@ impl Entry {
         ensures { result ≡ false → (whole < self.now.to - self.now.from) ⊎ (before + (self.now.to - self.now.from) ≤ whole)
             ⊎ ((self.now.to ≡ to) × (self.now.from ≤ octet)) }
     {
+        if self.to == to && self.from <= octet {
+            return false;
+        }
         let size = self.to - self.from;
-        size <= whole && whole - size < before && (self.to != to || octet < self.from)
+        size <= whole && whole - size < before
     }
 
     // The name's octets among those of all.
@@ -215,68 +218,62 @@ fn is_kept(count: usize, place: usize) -> bool
 
 // Behind which octet the last labels of a name begin, so many of them.
 #[inline(never)]
-fn start_of_last(name: &Name, count: usize) -> usize {
+fn start_of_last(name: &Name, count: usize) -> usize
+    ensures { SplitsAt name.now.labels result }
+{
     let labels = name.as_octets();
     let mut more = usize::from(name.num_labels()).saturating_sub(count);
-    let mut start = 0;
-    'labels: while more > 0 && start < labels.len() {
-        start = start.saturating_add(1 + usize::from(labels[start]));
+    let mut rest = labels;
+    'labels: while let Some((length, behind)) = rest.split_first() {
+        if more == 0 {
+            return labels.len() - rest.len();
+        }
         more -= 1;
+        let (_, later) = behind.split_at(usize::from(*length));
+        rest = later;
     }
-    start
+    labels.len() - rest.len()
 }
 
-// Behind which octet the names begin that are kept of those that end a name, beside the name itself and so many others. Of a
-// long one the shorter are kept, to which others are more likely to point.
+// Behind which octet the names begin that are kept beside a name, which they end, and so many others. Of a long one the
+// shorter are kept, to which others are more likely to point.
 #[inline]
-fn start_of_kept(name: &Name, front: usize, others: usize) -> usize {
-    // (a label has two octets at least)
-    if front <= 2 * MOST {
-        return 0;
-    }
-    start_of_last(name, (MOST - 1).saturating_sub(others))
-}
-
-// Puts the entry of a name that begins behind so many octets of a name, but for those between it and a later one.
-#[inline(always)]
-fn push_but_between(
-    entries: &mut SmallVec<Entry, 8>,
-    at: usize,
-    later: usize,
-    entry: Entry,
-) -> Result<(), AllocError>
-    ensures ok { OnOk result ((entries.new.items ≡ entries.old.items ++ entry ∷ [])
-        ⊎ ((0 < at) × (entries.new.items ≡ entries.old.items))) }
-    ensures err { OnErr result (entries.new.items ≡ entries.old.items) }
+fn start_of_others(name: &Name, front: usize, others: usize) -> usize
+    requires { 0 < length (label_octets name.now.labels) }
+    ensures splits { SplitsAt name.now.labels result }
+    ensures some { 0 < result }
 {
-    if at > 0 && at < later {
-        return Ok(());
+    // (a label has two octets at least)
+    if front > 2 * MOST {
+        let start = start_of_last(name, (MOST - 1).saturating_sub(others));
+        if start > 0 {
+            return start;
+        }
     }
-    match entries.push(entry) {
-        Ok(()) => Ok(()),
-        Err(_) => Err(AllocError),
-    }
+    1 + usize::from(name.as_octets()[0])
 }
 
-// Puts an entry for a name and for those that end it and begin in its first so many octets, as long as there is room.
-// Their octets among those of all end at a place.
+// Puts an entry for each name that ends a name behind a place and begins in its first so many octets, as long as there is
+// room. Their octets among those of all end at a place.
 fn push_entries(
     entries: &mut SmallVec<Entry, 8>,
     name: &Name,
+    behind: usize,
     front: usize,
     to: usize,
     start: usize,
     end: usize,
 ) -> Result<(), AllocError>
+    requires some { 0 < behind }
+    requires splits { SplitsAt name.now.labels behind }
     requires octets { length (label_octets name.now.labels) + 1 ≤ to }
     requires fits { start + length (label_octets name.now.labels) < 2 ^ 64 }
-    ensures ok { OnOk result (PushesSuffixes name.now.labels front to start end entries.old.items entries.new.items) }
+    ensures ok { OnOk result (PushesOthers name.now.labels front to start end entries.old.items entries.new.items) }
     ensures err { OnErr result (entries.new.items ≡ entries.old.items) }
 {
     let before = entries.len();
-    let later = start_of_kept(name, front, before);
     let labels = name.as_octets();
-    let mut rest = labels;
+    let mut rest = &labels[behind..];
     'labels: while let Some((length, behind)) = rest.split_first() {
         let at = labels.len() - rest.len();
         if at >= front || !is_kept(entries.len(), start + at) {
@@ -288,12 +285,48 @@ fn push_entries(
             place: (start + at) as u16,
             end,
         };
-        if push_but_between(entries, at, later, entry).is_err() {
+        if entries.push(entry).is_err() {
             entries.truncate(before);
             return Err(AllocError);
         }
         let (_, later) = behind.split_at(usize::from(*length));
         rest = later;
+    }
+    Ok(())
+}
+
+// Puts an entry for a name, whose octets are the last, and for those that end it and begin in its first so many octets, as
+// long as there is room.
+fn push_name(
+    entries: &mut SmallVec<Entry, 8>,
+    name: &Name,
+    front: usize,
+    to: usize,
+    start: usize,
+    end: usize,
+) -> Result<(), AllocError>
+    requires some { 0 < length (label_octets name.now.labels) }
+    requires early { 0 < front }
+    requires small { start < 16383 }
+    requires octets { length (label_octets name.now.labels) + 1 ≤ to }
+    requires fits { start + length (label_octets name.now.labels) < 2 ^ 64 }
+    ensures ok { OnOk result (PushesSuffixes name.now.labels front to start end entries.old.items entries.new.items) }
+    ensures err { OnErr result (entries.new.items ≡ entries.old.items) }
+{
+    let before = entries.len();
+    let entry = Entry {
+        from: to - 1 - name.as_octets().len(),
+        to,
+        place: start as u16,
+        end,
+    };
+    if entries.push(entry).is_err() {
+        return Err(AllocError);
+    }
+    let behind = start_of_others(name, front, before);
+    if push_entries(entries, name, behind, front, to, start, end).is_err() {
+        entries.truncate(before);
+        return Err(AllocError);
     }
     Ok(())
 }
@@ -383,7 +416,7 @@ impl Candidates {
             return Err(AllocError);
         }
         let to = self.octets.len();
-        push_entries(&mut self.entries, name, front, to, start, end)
+        push_name(&mut self.entries, name, front, to, start, end)
     }
 
     // Leaves out the names whose octets end behind an offset.

@@ -16,9 +16,9 @@ returns-clause-ok c =
     ∙ ap (λ (t : List ℕ). t ++ 0 ∷ []) (c.in_ok-extend_from_slice.ensures.ok ∙ ap (λ (t : List ℕ). before ++ t) c.as_octets.ensures.octets)
     ∙ append_assoc before labels (0 ∷ []) in
     rw (sym c.self.view_is)
-    (on_ok_weaker c.push_entries.result (λ pushed.
-    (keeping c.args.name.now.labels c.args.front c.len-to.result c.args.start c.args.end before c.push.new.self.items c.self.inside.entries.items c.push_entries.new.entries.items c.self.invariant grown c.len-to.ensures.value c.requires.front pushed).keeps)
-    c.push_entries.ensures.ok)
+    (on_ok_weaker c.push_name.result (λ pushed.
+    (keeping c.args.name.now.labels c.args.front c.len-to.result c.args.start c.args.end before c.push.new.self.items c.self.inside.entries.items c.push_name.new.entries.items c.self.invariant grown c.len-to.ensures.value c.requires.front pushed).keeps)
+    c.push_name.ensures.ok)
 
 pub invariant_of-self : goal.invariant_of-self
 invariant_of-self c = rw (ap (λ v. v.items) c.in_err-extend_from_slice.ensures.err) c.self.invariant
@@ -43,21 +43,21 @@ invariant_of-self-2 c =
     pushed
     ∙ ap (λ (t : List ℕ). t ++ 0 ∷ []) (c.in_ok-extend_from_slice.ensures.ok ∙ ap (λ (t : List ℕ). before ++ t) c.as_octets.ensures.octets)
     ∙ append_assoc before labels (0 ∷ []) in
-    on_either c.push_entries.result
-    (on_ok_weaker c.push_entries.result (λ entries.
-    (keeping c.args.name.now.labels c.args.front c.len-to.result c.args.start c.args.end before c.push.new.self.items c.self.inside.entries.items c.push_entries.new.entries.items c.self.invariant grown c.len-to.ensures.value c.requires.front entries).within)
-    c.push_entries.ensures.ok)
-    (on_err_weaker c.push_entries.result (λ same.
+    on_either c.push_name.result
+    (on_ok_weaker c.push_name.result (λ entries.
+    (keeping c.args.name.now.labels c.args.front c.len-to.result c.args.start c.args.end before c.push.new.self.items c.self.inside.entries.items c.push_name.new.entries.items c.self.invariant grown c.len-to.ensures.value c.requires.front entries).within)
+    c.push_name.ensures.ok)
+    (on_err_weaker c.push_name.result (λ same.
     subst (λ (es : List Entry). AreWithin c.push.new.self.items es) (sym same) (unchanged before (labels ++ 0 ∷ []) c.push.new.self.items c.self.inside.entries.items c.self.invariant grown).within)
-    c.push_entries.ensures.err)
+    c.push_name.ensures.err)
 
 pub returns-clause-err : goal.returns-clause-err
 returns-clause-err c =
-    on_err_weaker c.push_entries.result (λ same.
+    on_err_weaker c.push_name.result (λ same.
     ap (λ (es : List Entry). candidates_of c.push.new.self.items es) same
     ∙ (unchanged c.self.inside.octets.items (c.as_octets.result.now ++ 0 ∷ []) c.push.new.self.items c.self.inside.entries.items c.self.invariant
     (on_accepted c.push.result (sym c.is_err.ensures.value ∙ c.if-is_err.false) c.push.ensures.ok
     ∙ ap (λ (t : List ℕ). t ++ 0 ∷ []) c.in_ok-extend_from_slice.ensures.ok
     ∙ append_assoc c.self.inside.octets.items c.as_octets.result.now (0 ∷ []))).same
     ∙ c.self.view_is)
-    c.push_entries.ensures.err
+    c.push_name.ensures.err
