@@ -1,5 +1,5 @@
 -- Answers, as their records come one after the other.
-use Rattle.std.specs.Prelude.{◌≡◌, ℕ, Bool, true, false, List, [], ◌∷◌, ◌++◌, map, drop, Option, Some, None, Ok, Err, option_map, if◌then◌else◌}
+use Rattle.std.specs.Prelude.{◌≡◌, ℕ, Bool, true, false, List, [], ◌∷◌, ◌++◌, map, drop, not, ◌&&◌, is_some, Option, Some, None, Ok, Err, option_map, if◌then◌else◌}
 use Rattle.std.proofs.Common.{Box, Global}
 use Rattle.zst_record.specs.drd_rdata.Types.{type_of}
 use Rattle.std.specs.List.{flat_map}
@@ -85,6 +85,21 @@ abbrev pub answers_in : AuthLookup → List Record
 answers_in auths.Empty = []
 answers_in (auths.Records answers additionals) = records_in answers
 answers_in (auths.Response answers authorities additionals) = answers.items
+
+-- Sets that a zone lends as it has them, whose list takes no memory.
+abbrev pub is_own : AnswerSet → Bool
+is_own answer = not (is_some answer.owner)
+
+abbrev pub is_lent : LookupRecords → Bool
+is_lent lookups.Empty = true
+is_lent (lookups.Records options set) = is_own set
+is_lent other = false
+
+abbrev pub lends_all : AuthLookup → Bool
+lends_all auths.Empty = true
+lends_all (auths.Records answers None) = is_lent answers
+lends_all (auths.Records answers (Some additionals)) = is_lent answers && is_lent additionals
+lends_all (auths.Response answers authorities additionals) = false
 
 -- The records that go with them.
 abbrev pub additionals_in : AuthLookup → List Record

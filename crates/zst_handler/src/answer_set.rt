@@ -3,7 +3,7 @@
 ghost use Rattle.std.specs.Prelude.{◌≡◌, Some, IfOk, map, option_copied};
 ghost use Rattle.zst_record.specs.Lending.{seen};
 ghost use Rattle.zst_record.specs.RecordSets.{flattened_set, renamed};
-ghost use Rattle.zst_handler.specs.Answers.{first_of, set_in, shown, shown_as, under};
+ghost use Rattle.zst_handler.specs.Answers.{first_of, is_own, set_in, shown, shown_as, under};
 
 use crate::lookup_options::LookupOptions;
 use std::alloc::{AllocError, Global};
@@ -83,6 +83,13 @@ impl<'z> AnswerSet<'z> {
             }),
             Err(_) => Err(AllocError),
         }
+    }
+
+    // Whether it is a set as the zone has it, and takes no memory.
+    pub(crate) fn is_own(&self) -> bool
+        ensures { result ≡ is_own self.now }
+    {
+        self.owner.is_none()
     }
 
     // The first record, under its own name.

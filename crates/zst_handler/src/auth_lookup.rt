@@ -1,7 +1,7 @@
 //! What a handler answers to a name and a type.
 
 ghost use Rattle.std.specs.Prelude.{◌≡◌, IsSome, Some};
-ghost use Rattle.zst_handler.specs.Answers.{additionals_in, additionals_of, answers_in, authorities_of, first_type, none_in, without_additionals, zone_additionals, zone_records};
+ghost use Rattle.zst_handler.specs.Answers.{additionals_in, additionals_of, answers_in, authorities_of, first_type, lends_all, none_in, without_additionals, zone_additionals, zone_records};
 
 use crate::lookup_records::{LookupRecords, LookupRecordsIter};
 use zst_record::{Record, RecordType};
@@ -40,6 +40,24 @@ impl<'z> AuthLookup<'z> {
         AuthLookup::Records {
             answers,
             additionals,
+        }
+    }
+
+    /// Whether a zone lends all records as it has them, so that their lists take no memory.
+    pub fn is_lent(&self) -> bool
+        ensures { result ≡ lends_all self.now }
+    {
+        match self {
+            AuthLookup::Empty => true,
+            AuthLookup::Records {
+                answers,
+                additionals: None,
+            } => answers.is_lent(),
+            AuthLookup::Records {
+                answers,
+                additionals: Some(additionals),
+            } => answers.is_lent() && additionals.is_lent(),
+            AuthLookup::Response { .. } => false,
         }
     }
 

@@ -3,7 +3,7 @@
 ghost use Rattle.std.specs.Prelude.{◌≡◌};
 ghost use Rattle.std.specs.Iterator.{YieldsFirstBy, item_count};
 ghost use Rattle.zst_record.specs.Lending.{seen};
-ghost use Rattle.zst_handler.specs.Answers.{all_shown, first_type, none_in, records_in, set_in, shown};
+ghost use Rattle.zst_handler.specs.Answers.{all_shown, first_type, is_lent, none_in, records_in, set_in, shown};
 
 use crate::answer_set::{AnswerSet, Guise, dress};
 use crate::lookup_options::LookupOptions;
@@ -36,6 +36,17 @@ impl<'z> LookupRecords<'z> {
         ensures { records_in result ≡ all_shown options.dnssec_ok sets.entry.items }
     {
         LookupRecords::ManyRecords(options, sets)
+    }
+
+    /// Whether a zone lends the records as it has them, so that the list takes no memory.
+    pub fn is_lent(&self) -> bool
+        ensures { result ≡ is_lent self.now }
+    {
+        match self {
+            LookupRecords::Empty => true,
+            LookupRecords::Records(_, set) => set.is_own(),
+            LookupRecords::ManyRecords(_, _) | LookupRecords::Section(_) => false,
+        }
     }
 
     /// Whether there are no records.

@@ -14,7 +14,7 @@ ghost use Rattle.zst_zone.specs.Makings.{PutsAll, RefusesAll, RefusesEntry, firs
 ghost use Rattle.zst_zone.specs.Starts.{RefusesSet, first_data, minimum_of, serial_of};
 
 use crate::back::all_read_back;
-use crate::lookup::{all_of, answer_from};
+use crate::lookup::{all_of, answer_alone, answer_from};
 use std::alloc::{AllocError, Global};
 use std::collections::BTreeMap;
 use std::marker::{Model, PhantomData};
@@ -222,7 +222,29 @@ impl<K> InMemoryZoneHandler<K> {
     ) -> Result<LookupControlFlow<AuthLookup<'_>>, AllocError>
         ensures { IfOk result (λ flow. LookupAnswers self.now self.now.origin record_type options flow) }
     {
+        if record_type == RecordType::SOA {
+            return self.lookup_start(alloc, options);
+        }
         self.lookup_at(alloc, &self.origin, &self.origin_key, record_type, options)
+    }
+
+    // What `lookup` answers to the zone's origin and the type SOA: most often that record alone.
+    fn lookup_start(
+        &self,
+        alloc: Global,
+        options: LookupOptions,
+    ) -> Result<LookupControlFlow<AuthLookup<'_>>, AllocError>
+        ensures { IfOk result (λ flow. LookupAnswers self.now self.now.origin RecordType.SOA options flow) }
+    {
+        let (name, key) = (&self.origin, &self.origin_key);
+        match self.sets.find(key, RecordType::SOA)? {
+            Search::Found(first) if first.set.record_type() == RecordType::SOA => {
+                let found =
+                    answer_alone(&self.sets, alloc, name, RecordType::SOA, options, first)?;
+                Ok(LookupControlFlow::Continue(Ok(found)))
+            }
+            _ => self.lookup_at(alloc, name, key, RecordType::SOA, options),
+        }
     }
 
     /// What `lookup` answers to a name, which has this key, and a type.

@@ -1,8 +1,8 @@
 //! What the sets of a zone answer to a name and a type (RFC 1034 section 4.3.2).
 
-ghost use Rattle.std.specs.Prelude.{◌≡◌, ◌++◌, Some, IfOk, option_copied};
+ghost use Rattle.std.specs.Prelude.{◌≡◌, ◌++◌, false, None, Some, IfOk, option_copied};
 ghost use Rattle.zst_map.specs.zst_handler.Answers.{ShowsAnswer, records_if, sets_shown};
-ghost use Rattle.zst_map.specs.zst_handler.Chains.{first_target};
+ghost use Rattle.zst_map.specs.zst_handler.Chains.{first_target, leads};
 ghost use Rattle.zst_map.specs.zst_handler.Found.{found, is_address};
 ghost use Rattle.zst_map.specs.zst_handler.Lookups.{additionals, alias_answer, alias_ttl, behind_alias, has_additionals, is_flattened, listed};
 ghost use Rattle.zst_map.specs.Searches.{match_set};
@@ -34,6 +34,28 @@ pub(crate) fn all_of(
         answers: LookupRecords::many(options, lent),
         additionals: None,
     }))
+}
+
+/// What a set answers that was found first, leads nowhere and takes nothing with it.
+pub(crate) fn answer_alone<'z>(
+    sets: &'z ZoneSets,
+    alloc: Global,
+    name: &Name,
+    record_type: RecordType,
+    options: LookupOptions,
+    first: Match<'z>,
+) -> Result<AuthLookup<'z>, AllocError>
+    requires found { found sets.now name.now record_type ≡ Some (match_set name.now first) }
+    requires kept { is_flattened record_type first.set.now ≡ false }
+    requires leads { leads record_type first.set.now ≡ None }
+    requires alone { has_additionals first.set.now.record_type ≡ false }
+    ensures { IfOk result (AnswersSet options sets.now name.now record_type (match_set name.now first.entry)) }
+{
+    let answers = LookupRecords::new(options, first.answer(alloc, name)?);
+    Ok(AuthLookup::Records {
+        answers,
+        additionals: None,
+    })
 }
 
 /// What the set that was found first answers: its alias chain, and what goes with it.

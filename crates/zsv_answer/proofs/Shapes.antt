@@ -7,6 +7,7 @@ use Rattle.zst_request.specs.zst_handler.Answers.{additionals_in, answers_in, re
 use Rattle.zst_request.specs.zst_handler.declared.auth_lookup.AuthLookup.{AuthLookup}
 use Rattle.zst_request.specs.zst_handler.declared.auth_lookup.AuthLookup.TheVariants as auths
 use Rattle.zst_request.specs.zst_handler.declared.lookup_records.LookupRecords.{LookupRecords}
+use Rattle.zst_request.specs.zst_handler.declared.lookup_records.LookupRecords.TheVariants as lookups
 use Rattle.zsv_answer.specs.Responses.{has_no_authority, parts_of, parts_with}
 use Rattle.zsv_answer.specs.Shown.{shown_if}
 use Rattle.zsv_answer.specs.declared.response.Response.{Response}
@@ -25,19 +26,20 @@ none_found r true beside = refl
 none_found r false beside = refl
 
 -- Where nothing was found, what stands beside is all.
-pub beside_alone : (r : Response) → r.found ≡ auths.Empty → parts_with r.metadata false [] [] (answers_in r.beside) ≡ parts_of r
+pub beside_alone : (r : Response) → r.found ≡ auths.Empty → parts_with r.metadata false [] [] (records_in r.beside) ≡ parts_of r
 beside_alone r found =
-    let beside = answers_in r.beside in
+    let beside = records_in r.beside in
     sym (ap (λ (f : AuthLookup). parts_with r.metadata r.is_referral (shown_if r.asked (answers_in f)) (if r.is_forwarded then [] else additionals_in f) beside) found
     ∙ ap (λ (shown : List Record). parts_with r.metadata r.is_referral shown (if r.is_forwarded then [] else []) beside) (none_shown r.asked)
     ∙ ap (λ (more : List Record). parts_with r.metadata r.is_referral [] more beside) (either_way r.is_forwarded [])
     ∙ none_found r r.is_referral beside)
 
-no_authority : (referral : Bool) (beside : AuthLookup) → has_no_authority referral beside ≡ true → (referral ≡ false) × (answers_in beside ≡ [])
+no_authority : (referral : Bool) (beside : LookupRecords) → has_no_authority referral beside ≡ true → (referral ≡ false) × (records_in beside ≡ [])
 no_authority true beside e = absurd (true≢false (sym e))
-no_authority false auths.Empty e = (refl, refl)
-no_authority false (auths.Records answers additionals) e = absurd (true≢false (sym e))
-no_authority false (auths.Response answers authorities additionals) e = absurd (true≢false (sym e))
+no_authority false lookups.Empty e = (refl, refl)
+no_authority false (lookups.Records options set) e = absurd (true≢false (sym e))
+no_authority false (lookups.ManyRecords options many) e = absurd (true≢false (sym e))
+no_authority false (lookups.Section records) e = absurd (true≢false (sym e))
 
 -- Where nothing goes with an answer, and nothing stands as authority, it is all.
 pub answer_alone : (r : Response) (answers : LookupRecords) (additionals : Option LookupRecords) → additionals ≡ None → r.found ≡ auths.Records answers additionals → has_no_authority r.is_referral r.beside ≡ true
@@ -45,7 +47,12 @@ pub answer_alone : (r : Response) (answers : LookupRecords) (additionals : Optio
 answer_alone r answers additionals none_go found alone =
     let none = no_authority r.is_referral r.beside alone in
     let shown = shown_if r.asked (records_in answers) in
-    sym (ap (λ (f : AuthLookup). parts_with r.metadata r.is_referral (shown_if r.asked (answers_in f)) (if r.is_forwarded then [] else additionals_in f) (answers_in r.beside)) (found ∙ ap (auths.Records answers) none_go)
-    ∙ ap (λ (more : List Record). parts_with r.metadata r.is_referral shown more (answers_in r.beside)) (either_way r.is_forwarded [])
-    ∙ ap (λ (referral : Bool). parts_with r.metadata referral shown [] (answers_in r.beside)) none.0
+    sym (ap (λ (f : AuthLookup). parts_with r.metadata r.is_referral (shown_if r.asked (answers_in f)) (if r.is_forwarded then [] else additionals_in f) (records_in r.beside)) (found ∙ ap (auths.Records answers) none_go)
+    ∙ ap (λ (more : List Record). parts_with r.metadata r.is_referral shown more (records_in r.beside)) (either_way r.is_forwarded [])
+    ∙ ap (λ (referral : Bool). parts_with r.metadata referral shown [] (records_in r.beside)) none.0
     ∙ ap (λ (beside : List Record). parts_with r.metadata false shown [] beside) none.1)
+
+-- A response whose lists were given back holds no records.
+pub none_left : (r : Response) → r.found ≡ auths.Empty → r.beside ≡ lookups.Empty → parts_of r ≡ parts_with r.metadata false [] [] []
+none_left r found beside =
+    sym (beside_alone r found) ∙ ap (λ (records : LookupRecords). parts_with r.metadata false [] [] (records_in records)) beside

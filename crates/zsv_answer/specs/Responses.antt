@@ -11,9 +11,9 @@ use Rattle.zsv_reply.specs.zsv_message.zsv_parts.declared.header.Metadata.{Metad
 use Rattle.zsv_request.specs.Requests.{limit_of}
 use Rattle.zsv_request.specs.declared.protocol.Protocol.{Protocol}
 use Rattle.zst_request.specs.zst_codes.declared.response_code.ResponseCode.{ResponseCode}
-use Rattle.zst_request.specs.zst_handler.Answers.{additionals_in, answers_in}
-use Rattle.zst_request.specs.zst_handler.declared.auth_lookup.AuthLookup.{AuthLookup}
-use Rattle.zst_request.specs.zst_handler.declared.auth_lookup.AuthLookup.TheVariants as auths
+use Rattle.zst_request.specs.zst_handler.Answers.{additionals_in, answers_in, is_lent, lends_all, records_in}
+use Rattle.zst_request.specs.zst_handler.declared.lookup_records.LookupRecords.{LookupRecords}
+use Rattle.zst_request.specs.zst_handler.declared.lookup_records.LookupRecords.TheVariants as lookups
 use Rattle.zsv_answer.specs.Shown.{shown_if}
 use Rattle.zsv_answer.specs.declared.response.Response.{Response}
 
@@ -70,13 +70,17 @@ Sends parts edns asked transport info reply =
 abbrev pub parts_of : Response → ReplyParts
 parts_of r =
     parts_with r.metadata r.is_referral (shown_if r.asked (answers_in r.found))
-    (if r.is_forwarded then [] else additionals_in r.found) (answers_in r.beside)
+    (if r.is_forwarded then [] else additionals_in r.found) (records_in r.beside)
+
+-- The handlers lend all records of a response as they have them.
+abbrev pub lends_records : Response → Bool
+lends_records r = lends_all r.found && is_lent r.beside
 
 -- Nothing was looked up.
-abbrev pub is_empty : AuthLookup → Bool
-is_empty auths.Empty = true
+abbrev pub is_empty : LookupRecords → Bool
+is_empty lookups.Empty = true
 is_empty other = false
 
 -- What was found is no referral, and nothing stands as authority beside it.
-abbrev pub has_no_authority : Bool → AuthLookup → Bool
+abbrev pub has_no_authority : Bool → LookupRecords → Bool
 has_no_authority referral beside = not referral && is_empty beside

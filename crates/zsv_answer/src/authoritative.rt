@@ -1,7 +1,7 @@
 //! What is answered for a zone that this server answers for (RFC 1034 section 4.3.2).
 
 ghost use Rattle.std.specs.Prelude.{◌≡◌, IfOk};
-ghost use Rattle.zst_request.specs.zst_handler.Answers.{additionals_in, answers_in};
+ghost use Rattle.zst_request.specs.zst_handler.Answers.{additionals_in, answers_in, records_in};
 ghost use Rattle.zsv_answer.specs.Consulting.{found_by};
 ghost use Rattle.zsv_answer.specs.Parts.{AtOrigin, AuthoritativeParts, BesideAnswer, DeniedParts, is_referral};
 ghost use Rattle.zsv_answer.specs.Resolution.{reason_in, resolution_in, resolved};
@@ -9,16 +9,43 @@ ghost use Rattle.zsv_answer.specs.Responses.{parts_of};
 
 use crate::response::{Response, bare_response, reply_header};
 use std::alloc::{AllocError, Global};
-use zst_request::{AuthLookup, LookupControlFlow, LookupError, LookupOptions, ZoneHandler};
+use zst_request::{
+    AuthLookup, LookupControlFlow, LookupError, LookupOptions, LookupRecords, ZoneHandler,
+};
 use zsv_reply::{Metadata, RecordType, ResponseCode};
 
-// What a handler found that continues.
-fn found_by<'z>(flow: LookupControlFlow<AuthLookup<'z>>) -> AuthLookup<'z>
-    ensures { answers_in result ≡ found_by flow.entry }
+// The records that answer, of a zone or of a message.
+fn records_of(found: AuthLookup<'_>) -> LookupRecords<'_>
+    ensures { records_in result ≡ answers_in found.entry }
+{
+    match found {
+        AuthLookup::Empty => LookupRecords::Empty,
+        AuthLookup::Records { answers, .. } => answers,
+        AuthLookup::Response { answers, .. } => LookupRecords::Section(answers),
+    }
+}
+
+// What a handler found that continues, whatever it is.
+#[inline(never)]
+fn found_otherwise<'z>(flow: LookupControlFlow<AuthLookup<'z>>) -> LookupRecords<'z>
+    ensures { records_in result ≡ found_by flow.entry }
 {
     match flow {
-        LookupControlFlow::Continue(Ok(found)) => found,
-        _ => AuthLookup::Empty,
+        LookupControlFlow::Continue(Ok(found)) => records_of(found),
+        _ => LookupRecords::Empty,
+    }
+}
+
+// What a handler found that continues: most often records of a zone alone.
+fn found_by<'z>(flow: LookupControlFlow<AuthLookup<'z>>) -> LookupRecords<'z>
+    ensures { records_in result ≡ found_by flow.entry }
+{
+    match flow {
+        LookupControlFlow::Continue(Ok(AuthLookup::Records {
+            answers,
+            additionals: None,
+        })) => answers,
+        other => found_otherwise(other),
     }
 }
 
@@ -28,8 +55,8 @@ fn at_origin<'z, H: ZoneHandler>(
     alloc: Global,
     options: LookupOptions,
     record_type: RecordType,
-) -> Result<AuthLookup<'z>, AllocError>
-    ensures { IfOk result (λ found. AtOrigin (H.view handler.now) options.dnssec_ok record_type (answers_in found)) }
+) -> Result<LookupRecords<'z>, AllocError>
+    ensures { IfOk result (λ found. AtOrigin (H.view handler.now) options.dnssec_ok record_type (records_in found)) }
 {
     let flow = handler.lookup_origin(alloc, record_type, options)?;
     Ok(found_by(flow))
@@ -41,13 +68,13 @@ fn beside_answer<'z, H: ZoneHandler>(
     alloc: Global,
     options: LookupOptions,
     record_type: RecordType,
-) -> Result<AuthLookup<'z>, AllocError>
-    ensures { IfOk result (λ found. BesideAnswer (H.view handler.now) options.dnssec_ok record_type (answers_in found)) }
+) -> Result<LookupRecords<'z>, AllocError>
+    ensures { IfOk result (λ found. BesideAnswer (H.view handler.now) options.dnssec_ok record_type (records_in found)) }
 {
     if record_type == RecordType::SOA {
         at_origin(handler, alloc, options, RecordType::NS)
     } else {
-        Ok(AuthLookup::Empty)
+        Ok(LookupRecords::Empty)
     }
 }
 

@@ -9,7 +9,7 @@ ghost use Rattle.zsv_answer.specs.Responses.{parts_of, parts_with};
 ghost use Rattle.zsv_answer.specs.Shown.{hidden_but, shown_if};
 
 use crate::response::{Response, bare_response, reply_header};
-use zst_request::{AuthLookup, LookupError, LookupOptions};
+use zst_request::{AuthLookup, LookupError, LookupOptions, LookupRecords};
 use zsv_reply::{Metadata, RecordType, ResponseCode};
 
 // The header of a reply that is forwarded: it says that recursion is available.
@@ -47,7 +47,7 @@ fn found_response<'z>(
         is_referral: false,
         is_forwarded: true,
         asked,
-        beside: AuthLookup::Empty,
+        beside: LookupRecords::Empty,
     }
 }
 

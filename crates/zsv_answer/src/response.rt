@@ -2,7 +2,7 @@
 
 ghost use Rattle.std.specs.Prelude.{◌≡◌, [], false, IfOk, None, Some, if◌then◌else◌, option_copied};
 ghost use Rattle.zst_request.specs.zst_handler.Answers.{additionals_in, answers_in, records_in};
-ghost use Rattle.zsv_answer.specs.Responses.{Sends, error_parts, has_no_authority, parts_of, parts_with, reply_metadata};
+ghost use Rattle.zsv_answer.specs.Responses.{Sends, error_parts, has_no_authority, lends_records, parts_of, parts_with, reply_metadata};
 ghost use Rattle.zsv_answer.specs.Shown.{shown_if};
 ghost use Rattle.zsv_answer.specs.zsv_reply.Writing.{FitsOpCode};
 
@@ -29,10 +29,26 @@ pub struct Response<'z> {
     // The type that is asked for, where the records of signed zones are left out.
     pub(crate) asked: Option<RecordType>,
     // What stands as authority beside it, or where nothing was found.
-    pub(crate) beside: AuthLookup<'z>,
+    pub(crate) beside: LookupRecords<'z>,
 }
 
 impl Response<'_> {
+    /// Whether the handlers lend all its records as they have them, so that their lists take no memory.
+    pub fn is_lent(&self) -> bool
+        ensures { result ≡ lends_records self.now }
+    {
+        self.found.is_lent() && self.beside.is_lent()
+    }
+
+    /// Gives the lists of its records back, so that it holds none.
+    #[inline(never)]
+    pub fn clear(&mut self)
+        ensures { parts_of self.new ≡ parts_with self.old.metadata false [] [] [] }
+    {
+        self.found = AuthLookup::Empty;
+        self.beside = LookupRecords::Empty;
+    }
+
     // The records that answer.
     fn answers(&self) -> ShownRecords<'_>
         ensures { result ≡ (if self.now.is_referral then [] else shown_if self.now.asked (answers_in self.now.found)) }
@@ -67,7 +83,7 @@ impl Response<'_> {
     fn has_no_authority(&self) -> bool
         ensures { result ≡ has_no_authority self.now.is_referral self.now.beside }
     {
-        !self.is_referral && matches!(&self.beside, AuthLookup::Empty)
+        !self.is_referral && matches!(&self.beside, LookupRecords::Empty)
     }
 
     // The reply that holds what stands beside alone, as a denial does.
@@ -79,7 +95,7 @@ impl Response<'_> {
         protocol: Protocol,
     ) -> Result<(ResponseInfo, Vec<u8>), AllocError>
         requires { FitsOpCode self.now.metadata }
-        ensures { IfOk result (λ sent. Sends (parts_with self.now.metadata false [] [] (answers_in self.now.beside))
+        ensures { IfOk result (λ sent. Sends (parts_with self.now.metadata false [] [] (records_in self.now.beside))
             (option_copied edns.entry) queries.now protocol sent.0 sent.1.items) }
     {
         let beside = self.beside.iter();
@@ -198,7 +214,7 @@ pub(crate) fn bare_response(metadata: Metadata) -> Response<'static>
         is_referral: false,
         is_forwarded: false,
         asked: None,
-        beside: AuthLookup::Empty,
+        beside: LookupRecords::Empty,
     }
 }
 

@@ -120,6 +120,14 @@ pub record PartsOf (chains : List (DomainName × List View)) (nsid : Option (Lis
       parts.edns
   pub whole : parts ≡ with_edns parts.edns plain
 
+-- The octets of a reply of these parts, with the options that answer those of a request, and its
+-- header.
+abbrev pub SendsWith : ReplyParts → Option (List ℕ) → Message → Protocol → Header → List ℕ → Type 0
+SendsWith plain nsid request transport info reply =
+    (edns : Option Edns)
+    × AnswersEdns request.edns (nsid_for request.edns nsid) plain.metadata.response_code edns
+    × Sends plain edns request.asked transport info reply
+
 -- The octets of a reply to a request, and its header: of the parts that the chains give, where each
 -- record can be read back.
 abbrev pub RepliesBy : List (DomainName × List View) → Option (List ℕ) → Message → Protocol

@@ -3,12 +3,13 @@
 ghost use Rattle.std.specs.Prelude.{◌≡◌, [], IfOk, OnOk, option_copied};
 ghost use Rattle.zsv_answer.specs.Responses.{parts_of};
 ghost use Rattle.zsv_answer.specs.zsv_reply.Writing.{FitsOpCode};
-ghost use Rattle.zsv_catalog.specs.Catalogs.{AnswersEdns, AnswersQuery, IsReplyEdns, KindParts, PlainParts, QueryParts, QuestionParts, RepliesBy, has_other_version, identifier, nsid_for};
+ghost use Rattle.zsv_catalog.specs.Catalogs.{AnswersEdns, AnswersQuery, IsReplyEdns, KindParts, PlainParts, QueryParts, QuestionParts, RepliesBy, SendsWith, has_other_version, identifier, nsid_for};
 ghost use Rattle.zsv_catalog.specs.Chains.{views_of};
 
 use crate::chains::Chains;
 use drd_types::{EdnsCode, EdnsOption, NSIDPayload};
 use std::alloc::{AllocError, Global};
+use std::mem;
 use std::net::SocketAddr;
 use zst_key::NameKey;
 use zsv_answer::{
@@ -209,6 +210,22 @@ fn reply_edns(
     Ok(Some(edns_of(alloc, asked, nsid, response_code)?))
 }
 
+// The octets of a response with the options that answer a request's, and its header as it was written.
+fn sent_by(
+    response: &Response<'_>,
+    nsid: Option<&NSIDPayload>,
+    alloc: Global,
+    message: &MessageRequest<'_>,
+    protocol: Protocol,
+) -> Result<(ResponseInfo, Vec<u8>), AllocError>
+    requires { FitsOpCode response.now.metadata }
+    ensures { IfOk result (λ sent. SendsWith (parts_of response.now) (option_copied nsid.entry) message.now protocol sent.0 sent.1.items) }
+{
+    let code = response.metadata.response_code;
+    let edns = reply_edns(alloc, message.edns(), nsid, code)?;
+    response.encode(alloc, edns.as_ref(), message.queries(), protocol)
+}
+
 /// The reply of these chains to a request, and its header as it was written, within the limit of its transport. A request has
 /// an operation that four bits hold, as each that is read.
 pub fn reply_by<H: ZoneHandler>(
@@ -222,10 +239,14 @@ pub fn reply_by<H: ZoneHandler>(
     requires { FitsOpCode message.now.metadata }
     ensures { IfOk result (λ sent. RepliesBy (views_of H.view chains.now.chains.entries) (option_copied nsid.entry) message.now protocol sent.0 sent.1.items) }
 {
-    let response = response_to(chains, alloc, message, src)?;
-    let code = response.metadata.response_code;
-    let edns = reply_edns(alloc, message.edns(), nsid, code)?;
-    response.encode(alloc, edns.as_ref(), message.queries(), protocol)
+    let mut response = response_to(chains, alloc, message, src)?;
+    let sent = sent_by(&response, nsid, alloc, message, protocol);
+    // (the drop of a response costs much even where it holds nothing of its own)
+    if !response.is_lent() {
+        response.clear();
+    }
+    mem::forget(response);
+    sent
 }
 
 /// The reply of these chains to a query with these options, and its header as it was written, within the limit of its

@@ -65,6 +65,7 @@ fn kept_together(first: Kept, second: Kept) -> Result<Kept, ProtoError>
 }
 
 /// Writes as many records of a list as fit.
+#[inline(always)]
 pub(crate) fn emit_front<I: Iterator>(
     encoder: &mut BinEncoder<'_>,
     records: I,

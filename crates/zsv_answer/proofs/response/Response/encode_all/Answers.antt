@@ -1,7 +1,7 @@
 use Rattle.std.proofs.Common.{◌≡◌, ◌∙◌, Bor, List, [], refl, sym, ap, subst}
 use Rattle.std.proofs.lemmas.Result.{IfOk-weaker}
 use Rattle.std.specs.Prelude.{option_copied, if◌then◌else◌}
-use Rattle.zst_request.specs.zst_handler.Answers.{answers_in}
+use Rattle.zst_request.specs.zst_handler.Answers.{answers_in, records_in}
 use Rattle.zsv_reply.proofs.Lending.{lent_yielded}
 use Rattle.zsv_reply.specs.Writing.{IsEncoded}
 use Rattle.zsv_reply.specs.zst_record.declared.records.Record.{Record}
@@ -16,7 +16,7 @@ returns c =
     let response = c.args.self.now in
     let parts = with_edns (option_copied c.args.edns) (parts_of response) in
     let above = if response.is_referral then shown_if response.asked (answers_in response.found) else [] in
-    let behind = answers_in response.beside in
+    let behind = records_in response.beside in
     let same : c.build.result.queries.now ≡ c.args.queries.now = ap (λ r. r.queries.now) c.build.ensures ∙ ap (λ (q : Bor Asked). q.now) c.new.ensures.queries in
     IfOk-weaker c.encode.result _ _ (λ sent told back.
     subst (λ (asked : Asked). IsEncoded sent.0 sent.1.items parts asked (limit_of c.args.protocol (option_copied c.args.edns))) same

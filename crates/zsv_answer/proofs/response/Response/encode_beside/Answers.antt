@@ -1,7 +1,7 @@
 use Rattle.std.proofs.Common.{◌≡◌, ◌∙◌, Bor, List, [], false, refl, sym, ap, subst}
 use Rattle.std.proofs.lemmas.Result.{IfOk-weaker}
 use Rattle.std.specs.Prelude.{option_copied}
-use Rattle.zst_request.specs.zst_handler.Answers.{answers_in}
+use Rattle.zst_request.specs.zst_handler.Answers.{records_in}
 use Rattle.zsv_reply.proofs.Lending.{lent_yielded, none_yielded}
 use Rattle.zsv_reply.specs.Writing.{IsEncoded}
 use Rattle.zsv_reply.specs.zst_record.Lending.{seen}
@@ -14,7 +14,7 @@ use Rattle.zsv_answer.proofs.response.Response.encode_beside.Goals as goal
 pub returns : goal.returns
 returns c =
     let response = c.args.self.now in
-    let behind = answers_in response.beside in
+    let behind = records_in response.beside in
     let parts = with_edns (option_copied c.args.edns) (parts_with response.metadata false [] [] behind) in
     let same : c.build.result.queries.now ≡ c.args.queries.now = ap (λ r. r.queries.now) c.build.ensures ∙ ap (λ (q : Bor Asked). q.now) c.new.ensures.queries in
     IfOk-weaker c.encode.result _ _ (λ sent told back.
