@@ -129,6 +129,40 @@ enum Meeting {
     Apart,
 }
 
+// Eight octets from a place on, as one number.
+#[inline(always)]
+fn word(octets: &[u8], at: usize) -> u64
+    requires { at + 8 ≤ length octets.now }
+{
+    u64::from_be_bytes([
+        octets[at],
+        octets[at + 1],
+        octets[at + 2],
+        octets[at + 3],
+        octets[at + 4],
+        octets[at + 5],
+        octets[at + 6],
+        octets[at + 7],
+    ])
+}
+
+// How many of the octets that both have are the same at either end, counted by eights.
+fn same_at_ends(octets: &[u8], others: &[u8], both: usize) -> usize
+    requires own { both ≤ length octets.now }
+    requires other { both ≤ length others.now }
+{
+    let half = both / 2;
+    let mut same = 0;
+    'words: while half - same >= 8 {
+        let behind = both - same - 8;
+        if word(octets, same) != word(others, same) || word(octets, behind) != word(others, behind) {
+            return same;
+        }
+        same += 8;
+    }
+    same
+}
+
 // A place at which octets are others, of those that both have. They are read from both ends at once, so that one near
 // either is found soon.
 fn clash_of(octets: &[u8], others: &[u8]) -> Option<usize>
@@ -136,7 +170,7 @@ fn clash_of(octets: &[u8], others: &[u8]) -> Option<usize>
         × (get_or octets.now place 0 ≡ get_or others.now place 0 → ⊥)) }
 {
     let both = octets.len().min(others.len());
-    'octets: for place in 0..both {
+    'octets: for place in same_at_ends(octets, others, both)..both {
         if octets[place] != others[place] {
             return Some(place);
         }
@@ -235,22 +269,23 @@ fn start_of_last(name: &Name, count: usize) -> usize
     labels.len() - rest.len()
 }
 
-// Behind which octet the names begin that are kept beside a name, which they end, and so many others. Of a long one the
-// shorter are kept, to which others are more likely to point.
+// Behind which octet the names begin that are kept beside a name, which they end, and so many others: the longest, or of a
+// long name the shorter, where those are wanted.
 #[inline]
-fn start_of_others(name: &Name, front: usize, others: usize) -> usize
+fn start_of_others(name: &Name, shorter: bool, others: usize) -> usize
     requires { 0 < length (label_octets name.now.labels) }
     ensures splits { SplitsAt name.now.labels result }
     ensures some { 0 < result }
 {
+    let labels = name.as_octets();
     // (a label has two octets at least)
-    if front > 2 * MOST {
+    if shorter && labels.len() > 2 * MOST {
         let start = start_of_last(name, (MOST - 1).saturating_sub(others));
         if start > 0 {
             return start;
         }
     }
-    1 + usize::from(name.as_octets()[0])
+    1 + usize::from(labels[0])
 }
 
 // Puts an entry for each name that ends a name behind a place and begins in its first so many octets, as long as there is
@@ -296,10 +331,11 @@ fn push_entries(
 }
 
 // Puts an entry for a name, whose octets are the last, and for those that end it and begin in its first so many octets, as
-// long as there is room.
+// long as there is room; the shorter of a long name, where those are wanted.
 fn push_name(
     entries: &mut SmallVec<Entry, 8>,
     name: &Name,
+    shorter: bool,
     front: usize,
     to: usize,
     start: usize,
@@ -323,7 +359,7 @@ fn push_name(
     if entries.push(entry).is_err() {
         return Err(AllocError);
     }
-    let behind = start_of_others(name, front, before);
+    let behind = start_of_others(name, shorter, before);
     if push_entries(entries, name, behind, front, to, start, end).is_err() {
         entries.truncate(before);
         return Err(AllocError);
@@ -395,10 +431,12 @@ impl Candidates {
     }
 
     // Keeps a name that stands at a place, and each that ends it and begins in its first so many octets, as long as there
-    // is room. Where memory is refused all stays as it was.
+    // is room: the longest first, or of a long name the shorter, where those are wanted. Where memory is refused all stays
+    // as it was.
     pub(crate) fn keep_name(
         &mut self,
         name: &Name,
+        shorter: bool,
         front: usize,
         start: usize,
         end: usize,
@@ -416,7 +454,7 @@ impl Candidates {
             return Err(AllocError);
         }
         let to = self.octets.len();
-        push_name(&mut self.entries, name, front, to, start, end)
+        push_name(&mut self.entries, name, shorter, front, to, start, end)
     }
 
     // Leaves out the names whose octets end behind an offset.

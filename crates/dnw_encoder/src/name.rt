@@ -126,7 +126,8 @@ impl BinEncoder<'_> {
         let size = front + rest.len();
         self.buffer.reserve(size)?;
         let end = self.offset + size;
-        self.candidates.keep_name(name, front, self.offset, end)?;
+        self.candidates
+            .keep_name(name, false, front, self.offset, end)?;
         put_front(self.buffer, self.offset, &labels[..front], rest);
         self.offset = end;
         Ok(())

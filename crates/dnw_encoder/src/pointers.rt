@@ -48,8 +48,8 @@ impl BinEncoder<'_> {
     }
 
     /// Keeps a name that stands in full at a place, outside the open places, and those that end it, as ones that later
-    /// names may point to, where names are written with pointers and there is room. A name that doesn't stand there in
-    /// full isn't kept.
+    /// names may point to, where names are written with pointers and there is room. Of those that end a long name the shorter
+    /// are kept, to which others are more likely to point. A name that doesn't stand there in full isn't kept.
     pub fn store_name(&mut self, name: &Name, start: usize) -> Result<(), ProtoError>
         requires { (r : OpenPlace) → In r (state self.old).places → start < r.to
             → r.from < start + length (name_octets name.now) → ⊥ }
@@ -64,7 +64,7 @@ impl BinEncoder<'_> {
         let front = name.as_octets().len();
         match self
             .candidates
-            .keep_name(name, front, start, start + front + 1)
+            .keep_name(name, true, front, start, start + front + 1)
         {
             Ok(()) => Ok(()),
             Err(refused) => Err(ProtoError::Memory(refused)),
