@@ -165,6 +165,7 @@ fn same_at_ends(octets: &[u8], others: &[u8], both: usize) -> usize
 
 // A place at which octets are others, of those that both have. They are read from both ends at once, so that one near
 // either is found soon.
+#[inline(never)]
 fn clash_of(octets: &[u8], others: &[u8]) -> Option<usize>
     ensures { IfSome result (λ place. (place < length octets.now) × (place < length others.now)
         × (get_or octets.now place 0 ≡ get_or others.now place 0 → ⊥)) }
