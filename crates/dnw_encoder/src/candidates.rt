@@ -155,7 +155,9 @@ fn same_at_ends(octets: &[u8], others: &[u8], both: usize) -> usize
     let mut same = 0;
     'words: while half - same >= 8 {
         let behind = both - same - 8;
-        if word(octets, same) != word(others, same) || word(octets, behind) != word(others, behind) {
+        if word(octets, same) != word(others, same)
+            || word(octets, behind) != word(others, behind)
+        {
             return same;
         }
         same += 8;

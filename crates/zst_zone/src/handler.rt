@@ -239,8 +239,7 @@ impl<K> InMemoryZoneHandler<K> {
         let (name, key) = (&self.origin, &self.origin_key);
         match self.sets.find(key, RecordType::SOA)? {
             Search::Found(first) if first.set.record_type() == RecordType::SOA => {
-                let found =
-                    answer_alone(&self.sets, alloc, name, RecordType::SOA, options, first)?;
+                let found = answer_alone(&self.sets, alloc, name, RecordType::SOA, options, first)?;
                 Ok(LookupControlFlow::Continue(Ok(found)))
             }
             _ => self.lookup_at(alloc, name, key, RecordType::SOA, options),

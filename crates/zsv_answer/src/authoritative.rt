@@ -41,10 +41,14 @@ fn found_by<'z>(flow: LookupControlFlow<AuthLookup<'z>>) -> LookupRecords<'z>
     ensures { records_in result ≡ found_by flow.entry }
 {
     match flow {
-        LookupControlFlow::Continue(Ok(AuthLookup::Records {
-            answers,
-            additionals: None,
-        })) => answers,
+        LookupControlFlow::Continue(
+            Ok(
+                AuthLookup::Records {
+                    answers,
+                    additionals: None,
+                },
+            ),
+        ) => answers,
         other => found_otherwise(other),
     }
 }
