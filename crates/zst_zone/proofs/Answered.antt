@@ -138,3 +138,8 @@ module _ (options : LookupOptions) (sets : List RRset) (name : DomainName) (t : 
         shows options (record { answers = match_set name m ∷ []; additionals = additionals sets (match_set name m) }) answers more
             (shows-one options.dnssec_ok (match_set name m) x (records_in answers) first own) (later ∙ ap (sets_shown options.dnssec_ok) more-match),
       )
+
+-- Nothing goes beside a set whose type has nothing beside it.
+pub nothing-beside : (sets : List RRset) (first : RRset) (b : Bool) → has_additionals first.record_type ≡ false → records_if None ≡ sets_shown b (additionals sets first)
+nothing-beside sets first b none =
+    ap (λ (has : Bool). sets_shown b (cond has (addresses sets (first_target first.records)) [])) (sym none)
