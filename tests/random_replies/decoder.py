@@ -129,11 +129,20 @@ def decode(octets):
     return Message(id, flags, asked, question_end, sections)
 
 
-def keep(kept, name, count):
-    """Keeps the suffixes of a name that begin with its first labels, so many, as candidates: by their octets, their place."""
+def left_out_of(name):
+    """How many of the longest suffixes of a question's name are no candidates: of a long name the shorter are."""
+    labels = len(name.labels) - (name.labels[:1] == (b"*",))  # (a wildcard's label isn't counted)
+    return labels - (CANDIDATES - 1) if len(octets_of(name.labels)) - 1 > 2 * CANDIDATES else 0
+
+
+def keep(kept, name, count, left_out=0):
+    """Keeps the suffixes of a name that begin with its first labels, so many, as candidates: by their octets, their place.
+    Behind the name itself the first may be left out."""
     place = name.place
     for at in range(count):
-        if len(kept) < CANDIDATES and place < LAST_PLACE:
+        if 0 < at < left_out:
+            pass
+        elif len(kept) < CANDIDATES and place < LAST_PLACE:
             kept.setdefault(octets_of(name.labels[at:]), place)
         place += 1 + len(name.labels[at])
 
@@ -157,7 +166,7 @@ def check_pointers(message):
     candidates there were, and how many names came behind the last place that is kept."""
     kept, pointing, beyond, first = {}, 0, 0, None
     if message.asked:
-        keep(kept, message.asked[0], len(message.asked[0].labels))
+        keep(kept, message.asked[0], len(message.asked[0].labels), left_out_of(message.asked[0]))
     for record in (it for section in message.sections for it in section):
         if record.end - record.place > len(record.in_full):
             raise Wrong(f"the record at {record.place} is longer than in full")

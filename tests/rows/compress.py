@@ -97,6 +97,14 @@ def suffixes(name):
         at += 1 + name[at]
 
 
+def kept_of_question(name):
+    """Where those begin that are kept for a question's name: the longest first, but beside a long name the shorter."""
+    starts = list(suffixes(name))
+    count = len(starts) - (name[:2] == b"\1*")  # (a wildcard's label isn't counted)
+    left_out = count - (MOST - 1) if len(name) - 1 > 2 * MOST else 0
+    return starts[:1] + starts[max(left_out, 1):]
+
+
 class Encoder:
     def __init__(self, maximum=65535):
         self.octets, self.maximum = bytearray(), maximum
@@ -177,7 +185,7 @@ def laid_out(ident, flags, questions, asked, sections, maximum=65535):
         end, is_full = end_of(encoder.octets, 12)
         if is_full:
             name = bytes(encoder.octets[12:end])
-            encoder.keep(name, suffixes(name), 12, end)
+            encoder.keep(name, kept_of_question(name), 12, end)
     counts = []
     for records in sections:
         # Options stand behind the additional records, whether or not these are all there, and signatures last.
