@@ -1,4 +1,4 @@
-use Rattle.std.proofs.Common.{sym, ap, None}
+use Rattle.std.proofs.Common.{sym, None}
 use Rattle.zst_zone.proofs.Answered.{answers-one, nothing-beside}
 use Rattle.zst_zone.proofs.lookup.answer_alone.Goals as goal
 
