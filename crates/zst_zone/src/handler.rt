@@ -222,10 +222,10 @@ impl<K> InMemoryZoneHandler<K> {
     ) -> Result<LookupControlFlow<AuthLookup<'_>>, AllocError>
         ensures { IfOk result (λ flow. LookupAnswers self.now self.now.origin record_type options flow) }
     {
-        if record_type == RecordType::SOA {
-            return self.lookup_start(alloc, options);
+        match record_type {
+            RecordType::SOA => self.lookup_start(alloc, options),
+            _ => self.lookup_at(alloc, &self.origin, &self.origin_key, record_type, options),
         }
-        self.lookup_at(alloc, &self.origin, &self.origin_key, record_type, options)
     }
 
     // What `lookup` answers to the zone's origin and the type SOA: most often that record alone.
