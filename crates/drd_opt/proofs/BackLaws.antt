@@ -3,12 +3,12 @@ use Rattle.std.proofs.Common.{◌≡◌, ℕ, ◌+◌, ◌-◌, ◌/◌, ◌%◌
 use Rattle.std.proofs.lemmas.List.{take_at, drop_all, length-append, length-take, nil_from_length}
 use Rattle.std.proofs.lemmas.List.Elements.{All-nil}
 use Rattle.std.specs.List.{All}
-use Rattle.drd_option.specs.Codes.{edns_code_number, edns_code_of}
-use Rattle.drd_option.specs.Options.{option_octets, HasNoForm, IsOptionOf}
-use Rattle.drd_option.specs.Subnets.{family_of, address_size, address_octets, prefix_octets, prefix_size, subnet_head, subnet_octets, SubnetAt}
-use Rattle.drd_option.specs.declared.subnet.ClientSubnet.{ClientSubnet}
-use Rattle.drd_option.specs.declared.option.EdnsOption.{EdnsOption}
-use Rattle.drd_option.specs.declared.option.EdnsOption.TheVariants.{DAU, Subnet, NSID, Unknown}
+use Rattle.drd_opt.specs.Codes.{edns_code_number, edns_code_of}
+use Rattle.drd_opt.specs.Options.{option_octets, HasNoForm, IsOptionOf}
+use Rattle.drd_opt.specs.Subnets.{family_of, address_size, address_octets, prefix_octets, prefix_size, subnet_head, subnet_octets, SubnetAt}
+use Rattle.drd_opt.specs.declared.subnet.ClientSubnet.{ClientSubnet}
+use Rattle.drd_opt.specs.declared.option.EdnsOption.{EdnsOption}
+use Rattle.drd_opt.specs.declared.option.EdnsOption.TheVariants.{DAU, Subnet, NSID, Unknown}
 use Rattle.drd_opt.specs.Entries.{Entry, RawOption, raw_option, raw_of, options_octets, entries_octets, FitsLengths}
 use Rattle.drd_opt.specs.Reading.{IsEntryOf, AreEntriesOf, BreaksOff, HoldsEntries}
 use Rattle.drd_opt.proofs.ReadingLaws.{left_same, stuck_short, stuck_broken}

@@ -5,13 +5,13 @@ use Rattle.std.proofs.lemmas.List.Elements.{All-head, All-tail, All-cons, All-ni
 use Rattle.std.specs.List.{All}
 use Rattle.std.specs.declared.net.ip_addr.IpAddr.{IpAddr}
 use Rattle.std.specs.declared.net.ip_addr.IpAddr.TheVariants.{V4, V6}
-use Rattle.drd_option.proofs.CodeLaws.{number_of_code}
-use Rattle.drd_option.specs.Codes.{edns_code_number}
-use Rattle.drd_option.specs.Options.{option_octets, IsOptionOf}
-use Rattle.drd_option.specs.Subnets.{family_of, address_size, address_octets, prefix_size, subnet_head, subnet_octets}
-use Rattle.drd_option.specs.declared.subnet.ClientSubnet.{ClientSubnet}
-use Rattle.drd_option.specs.declared.option.EdnsOption.{EdnsOption}
-use Rattle.drd_option.specs.declared.option.EdnsOption.TheVariants.{DAU, Subnet, NSID, Unknown}
+use Rattle.drd_opt.proofs.CodeLaws.{number_of_code}
+use Rattle.drd_opt.specs.Codes.{edns_code_number}
+use Rattle.drd_opt.specs.Options.{option_octets, IsOptionOf}
+use Rattle.drd_opt.specs.Subnets.{family_of, address_size, address_octets, prefix_size, subnet_head, subnet_octets}
+use Rattle.drd_opt.specs.declared.subnet.ClientSubnet.{ClientSubnet}
+use Rattle.drd_opt.specs.declared.option.EdnsOption.{EdnsOption}
+use Rattle.drd_opt.specs.declared.option.EdnsOption.TheVariants.{DAU, Subnet, NSID, Unknown}
 use Rattle.drd_opt.specs.Entries.{Entry, RawOption, raw_of, FitsLengths}
 use Rattle.drd_opt.specs.Reading.{IsEntryOf, AreEntriesOf, HoldsEntries}
 

@@ -1,9 +1,9 @@
 -- Codes and octets without a form of their own.
 use Rattle.std.proofs.Common.{◌≡◌, ℕ, ◌↔◌, Bool, true, false, not, List, refl, arith}
 use Rattle.std.specs.Prelude.{IsTrue}
-use Rattle.drd_option.specs.Options.{HasNoForm}
-use Rattle.drd_option.specs.Subnets.{SubnetAt}
-use Rattle.drd_option.specs.declared.subnet.ClientSubnet.{ClientSubnet}
+use Rattle.drd_opt.specs.Options.{HasNoForm}
+use Rattle.drd_opt.specs.Subnets.{SubnetAt}
+use Rattle.drd_opt.specs.declared.subnet.ClientSubnet.{ClientSubnet}
 
 pub no_form : (begins : Bool) (number : ℕ) (octets : List ℕ) → number ≡ 8 → (IsTrue begins ↔ ((subnet : ClientSubnet) × (end : ℕ) × SubnetAt octets 0 subnet end)) → IsTrue (not begins) ↔ HasNoForm number octets
 no_form true number octets eight is =

@@ -1,12 +1,12 @@
 -- Octets hold options in one way: those that are read have the same codes, by number, and the same octets.
 use Rattle.std.proofs.Common.{◌≡◌, ℕ, ◌-◌, ◌/◌, ◌%◌, List, [], ◌∷◌, ◌++◌, inl, inr, length, take, replicate, map, refl, sym, ap, subst, ◌∙◌, arith, append-nil}
-use Rattle.drd_option.proofs.dnw_decoder_lemmas.Standing.{stands_same}
-use Rattle.drd_option.specs.Codes.{edns_code_number}
-use Rattle.drd_option.specs.Options.{option_octets, IsOptionOf}
-use Rattle.drd_option.specs.Subnets.{family_of, address_size, address_octets, prefix_octets, prefix_size, subnet_head, subnet_octets, SubnetAt}
-use Rattle.drd_option.specs.declared.subnet.ClientSubnet.{ClientSubnet}
-use Rattle.drd_option.specs.declared.option.EdnsOption.{EdnsOption}
-use Rattle.drd_option.specs.declared.option.EdnsOption.TheVariants.{DAU, Subnet, NSID, Unknown}
+use Rattle.drd_fields.proofs.dnw_decoder_lemmas.Standing.{stands_same}
+use Rattle.drd_opt.specs.Codes.{edns_code_number}
+use Rattle.drd_opt.specs.Options.{option_octets, IsOptionOf}
+use Rattle.drd_opt.specs.Subnets.{family_of, address_size, address_octets, prefix_octets, prefix_size, subnet_head, subnet_octets, SubnetAt}
+use Rattle.drd_opt.specs.declared.subnet.ClientSubnet.{ClientSubnet}
+use Rattle.drd_opt.specs.declared.option.EdnsOption.{EdnsOption}
+use Rattle.drd_opt.specs.declared.option.EdnsOption.TheVariants.{DAU, Subnet, NSID, Unknown}
 use Rattle.drd_opt.specs.Entries.{Entry, RawOption, raw_option, raw_of, options_octets}
 use Rattle.drd_opt.proofs.FitLaws.{small_family, size_of_family}
 use Rattle.drd_opt.specs.Reading.{IsEntryOf, AreEntriesOf, BreaksOff, HoldsEntries, EntriesAt}

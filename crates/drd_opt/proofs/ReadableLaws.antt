@@ -4,21 +4,21 @@ use Rattle.std.proofs.lemmas.Bool.{and_parts, eqb-true}
 use Rattle.std.proofs.lemmas.List.{drop_at, length-append, length-drop, length-replicate, length-take, take-append-drop}
 use Rattle.std.proofs.lemmas.List.Elements.{All-nil, All-cons, All-head, All-tail}
 use Rattle.std.specs.List.{All, list_all}
-use Rattle.drd_option.specs.dnw_codes.declared.error.DecodeError.{DecodeError}
-use Rattle.drd_option.specs.dnw_decoder.Reading.{IsWantOfMemory}
-use Rattle.drd_option.proofs.dnw_decoder_lemmas.Standing.{stands_split}
-use Rattle.drd_option.specs.Codes.{edns_code_number, edns_code_of}
-use Rattle.drd_option.proofs.CodeLaws.{number_of_code}
-use Rattle.drd_option.specs.Options.{HasNoForm, IsOptionOf, option_code, option_octets}
-use Rattle.drd_option.specs.Subnets.{family_of, address_octets, address_size, prefix_size, subnet_head, subnet_octets, RefusesSubnet, SubnetAt}
-use Rattle.drd_option.specs.declared.code.EdnsCode.{EdnsCode}
-use Rattle.drd_option.specs.declared.option.EdnsOption.{EdnsOption}
-use Rattle.drd_option.specs.declared.option.EdnsOption.TheVariants.{DAU, Subnet, NSID, Unknown}
-use Rattle.drd_option.specs.declared.subnet.ClientSubnet.{ClientSubnet}
+use Rattle.drd_fields.specs.dnw_codes.declared.error.DecodeError.{DecodeError}
+use Rattle.drd_fields.specs.dnw_decoder.Reading.{IsWantOfMemory}
+use Rattle.drd_fields.proofs.dnw_decoder_lemmas.Standing.{stands_split}
+use Rattle.drd_opt.specs.Codes.{edns_code_number, edns_code_of}
+use Rattle.drd_opt.proofs.CodeLaws.{number_of_code}
+use Rattle.drd_opt.specs.Options.{HasNoForm, IsOptionOf, option_code, option_octets}
+use Rattle.drd_opt.specs.Subnets.{family_of, address_octets, address_size, prefix_size, subnet_head, subnet_octets, RefusesSubnet, SubnetAt}
+use Rattle.drd_opt.specs.declared.code.EdnsCode.{EdnsCode}
+use Rattle.drd_opt.specs.declared.option.EdnsOption.{EdnsOption}
+use Rattle.drd_opt.specs.declared.option.EdnsOption.TheVariants.{DAU, Subnet, NSID, Unknown}
+use Rattle.drd_opt.specs.declared.subnet.ClientSubnet.{ClientSubnet}
 use Rattle.drd_opt.specs.Entries.{Entry, RawOption, raw_option, FitsLengths, options_octets, raw_octets}
 use Rattle.drd_opt.proofs.FitLaws.{option_fits}
 use Rattle.drd_opt.specs.Reading.{AreEntriesOf, HoldsEntries}
-use Rattle.drd_option.proofs.drd_fields_lemmas.ReadableLaws.{whole}
+use Rattle.drd_fields.proofs.ReadableLaws.{whole}
 use Rattle.drd_opt.specs.Readable.{StandsSomewhere, HasOwnForm, IsPadded}
 
 -- ---- entries one by one

@@ -4,8 +4,8 @@ use Rattle.std.proofs.lemmas.Grind.{flat_map-append}
 use Rattle.std.proofs.lemmas.List.{take_at, drop_at, length-append}
 use Rattle.std.proofs.lemmas.List.Elements.{All-head, All-tail, All-push}
 use Rattle.std.specs.List.{All}
-use Rattle.drd_option.specs.dnw_decoder.Octets.{number_16, Stands}
-use Rattle.drd_option.proofs.dnw_decoder_lemmas.Standing.{stands_same, stands_joined}
+use Rattle.drd_fields.specs.dnw_decoder.Octets.{number_16, Stands}
+use Rattle.drd_fields.proofs.dnw_decoder_lemmas.Standing.{stands_same, stands_joined}
 use Rattle.drd_opt.specs.Entries.{Entry, RawOption, raw_option, raw_octets, options_octets, FitsLengths}
 use Rattle.drd_opt.specs.Reading.{IsEntryOf, AreEntriesOf, BreaksOff, EndsInside, HoldsEntries, IsRefused, EntriesAt, HasRead}
 

@@ -2,16 +2,16 @@
 use Rattle.std.proofs.Common.{◌≡◌, ℕ, ◌+◌, ◌-◌, ◌≤◌, false, List, [], ◌∷◌, ◌++◌, ◌⊎◌, inl, inr, length, map, refl, sym, ap, subst, ◌∙◌, arith, append-nil}
 use Rattle.std.proofs.lemmas.Grind.{flat_map-append}
 use Rattle.std.proofs.lemmas.List.{length-append, map-append}
-use Rattle.drd_option.specs.dnw_codes.declared.error.ProtoError.{ProtoError}
-use Rattle.drd_option.specs.dnw_decoder.Octets.{octets_16}
-use Rattle.drd_option.specs.dnw_encoder.Effects.{WritesOctets, IsRefusal}
-use Rattle.drd_option.specs.dnw_encoder.State.{State, writes_pointers}
-use Rattle.drd_option.specs.dnw_encoder.declared.modes.NameEncoding.TheVariants.{Uncompressed}
-use Rattle.drd_option.specs.dnw_encoder.declared.modes.RDataEncoding.TheVariants.{Other}
-use Rattle.drd_option.specs.drd_fields.Fields.{rest}
-use Rattle.drd_option.specs.drd_fields.Writing.{EmitsData, EmitsFields, EndsWithin, RefusesFields}
-use Rattle.drd_option.proofs.drd_fields_lemmas.WritingLaws.{puts_then, puts_rest, emits_one, refused_front, refused_later}
-use Rattle.drd_option.specs.Options.{option_octets, IsLong}
+use Rattle.drd_fields.specs.dnw_codes.declared.error.ProtoError.{ProtoError}
+use Rattle.drd_fields.specs.dnw_decoder.Octets.{octets_16}
+use Rattle.drd_fields.specs.dnw_encoder.Effects.{WritesOctets, IsRefusal}
+use Rattle.drd_fields.specs.dnw_encoder.State.{State, writes_pointers}
+use Rattle.drd_fields.specs.dnw_encoder.declared.modes.NameEncoding.TheVariants.{Uncompressed}
+use Rattle.drd_fields.specs.dnw_encoder.declared.modes.RDataEncoding.TheVariants.{Other}
+use Rattle.drd_fields.specs.Fields.{rest}
+use Rattle.drd_fields.specs.Writing.{EmitsData, EmitsFields, EndsWithin, RefusesFields}
+use Rattle.drd_fields.proofs.WritingLaws.{puts_then, puts_rest, emits_one, refused_front, refused_later}
+use Rattle.drd_opt.specs.Options.{option_octets, IsLong}
 use Rattle.drd_opt.specs.Entries.{Entry, raw_option, raw_of, raw_octets, options_octets, entries_octets, HasLong}
 
 in_full : writes_pointers Uncompressed ≡ false

@@ -1,6 +1,6 @@
-pub use Rattle.drd_option.proofs.drd_fields_lemmas.BackLaws
-pub use Rattle.drd_option.proofs.drd_fields_lemmas.EqualityLaws
-pub use Rattle.drd_option.proofs.drd_fields_lemmas.OnceLaws
-pub use Rattle.drd_option.proofs.drd_fields_lemmas.WritingLaws
-pub use Rattle.drd_option.proofs.drd_fields_lemmas.OrderLaws
-pub use Rattle.drd_option.proofs.drd_fields_lemmas.ReadableLaws
+pub use Rattle.drd_fields.proofs.BackLaws
+pub use Rattle.drd_fields.proofs.EqualityLaws
+pub use Rattle.drd_fields.proofs.OnceLaws
+pub use Rattle.drd_fields.proofs.WritingLaws
+pub use Rattle.drd_fields.proofs.OrderLaws
+pub use Rattle.drd_fields.proofs.ReadableLaws

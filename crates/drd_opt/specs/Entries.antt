@@ -3,13 +3,13 @@ use Rattle.std.specs.Prelude.{ℕ, ◌<◌, ◌≤◌, ◌^◌, Bool, not, List,
 use Rattle.std.proofs.Common.{◌⊎◌}
 use Rattle.std.specs.List.{All, filter, flat_map}
 use Rattle.std.specs.Fmt.{decimal}
-use Rattle.drd_option.specs.dnw_codes.declared.error.ProtoError.{ProtoError}
-use Rattle.drd_option.specs.dnw_decoder.Octets.{octets_16}
-use Rattle.drd_option.specs.Codes.{edns_code_number, same_edns_code}
-use Rattle.drd_option.specs.Options.{option_octets, IsLong}
+use Rattle.drd_fields.specs.dnw_codes.declared.error.ProtoError.{ProtoError}
+use Rattle.drd_fields.specs.dnw_decoder.Octets.{octets_16}
+use Rattle.drd_opt.specs.Codes.{edns_code_number, same_edns_code}
+use Rattle.drd_opt.specs.Options.{option_octets, IsLong}
 use Rattle.hex.specs.Hex.{encode_lower}
-use Rattle.drd_option.specs.declared.code.EdnsCode.{EdnsCode}
-use Rattle.drd_option.specs.declared.option.EdnsOption.{EdnsOption}
+use Rattle.drd_opt.specs.declared.code.EdnsCode.{EdnsCode}
+use Rattle.drd_opt.specs.declared.option.EdnsOption.{EdnsOption}
 
 abbrev pub Entry : Type 0
 Entry = EdnsCode × EdnsOption

@@ -5,8 +5,8 @@ use denote.Struct.Tuple.{Tuple}
 use Rattle.std.specs.contracts.alloc.Global as global
 use Rattle.std.specs.contracts.vec.Vec as vec
 use Rattle.std.specs.contracts.impls.GlobalAllocator.TheImpl.{ghosts}
-use Rattle.drd_option.specs.contracts.code.EdnsCode as code
-use Rattle.drd_option.specs.contracts.option.EdnsOption as option
+use Rattle.drd_opt.specs.contracts.code.EdnsCode as code
+use Rattle.drd_opt.specs.contracts.option.EdnsOption as option
 use Rattle.drd_opt.specs.Entries.{Entry}
 use Rattle.drd_opt.specs.contracts.opt.OPT.{the_row}
 use Rattle.drd_opt.specs.declared.opt.OPT.{OPT}

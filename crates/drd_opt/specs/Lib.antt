@@ -1,11 +1,14 @@
+pub mod Codes
 pub mod Entries
 pub mod Equality
 pub mod EqualityLaws
 pub mod Lending
+pub mod Options
 pub mod Order
 pub mod OrderLaws
 pub mod Readable
 pub mod Reading
 pub mod SortedLaws
-pub use Rattle.drd_option.specs.drd_fields
-pub mod drd_option
+pub mod Subnets
+pub mod Texts
+pub mod drd_fields

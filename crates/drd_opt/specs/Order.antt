@@ -5,8 +5,8 @@ use Rattle.std.specs.Cmp.Lexicographic.{slice_cmp}
 use Rattle.std.specs.List.{count_by}
 use Rattle.std.specs.Ordering.{on, then_cmp, nat_cmp, is_gt, is_lt}
 use Rattle.std.specs.declared.cmp.Ordering.{Ordering}
-use Rattle.drd_option.specs.Options.{counted_cmp}
-use Rattle.drd_option.specs.drd_fields.Order.{octets_cmp}
+use Rattle.drd_opt.specs.Options.{counted_cmp}
+use Rattle.drd_fields.specs.Order.{octets_cmp}
 use Rattle.drd_opt.specs.Entries.{Entry, RawOption, raw_of, raw_octets, options_octets}
 use Rattle.drd_opt.specs.Equality.{same_raw}
 

@@ -11,9 +11,9 @@ use Rattle.std.specs.List.{All}
 use Rattle.std.specs.Ordering.{on, nat_cmp, is_eq, is_gt, eq_by_cmp, ordering_then}
 use Rattle.std.specs.declared.cmp.Ordering.{Ordering}
 use Rattle.std.specs.declared.cmp.Ordering.TheVariants.{Less, Equal, Greater}
-use Rattle.drd_option.specs.dnw_decoder.Octets.{octets_16}
-use Rattle.drd_option.specs.drd_fields.Order.{octets_cmp}
-use Rattle.drd_option.proofs.drd_fields_lemmas.OrderLaws.{short_orders, cmp_fronts, then_assoc}
+use Rattle.drd_fields.specs.dnw_decoder.Octets.{octets_16}
+use Rattle.drd_fields.specs.Order.{octets_cmp}
+use Rattle.drd_fields.proofs.OrderLaws.{short_orders, cmp_fronts, then_assoc}
 use Rattle.drd_opt.specs.Entries.{Entry, RawOption, FitsLengths, raw_of, raw_octets, options_octets}
 use Rattle.drd_opt.specs.Equality.{same_raw, same_counts, same_entries}
 use Rattle.drd_opt.specs.EqualityLaws.{raw_same, raw_refl, permutation_told, permutation_tells}

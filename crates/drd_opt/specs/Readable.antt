@@ -1,11 +1,11 @@
 -- Which options under their codes stand in some record data of type OPT (RFC 6891 6.1.2).
 use Rattle.std.specs.Prelude.{◌≡◌, ◌==◌, true, drop, length}
 use Rattle.std.specs.List.{list_all}
-use Rattle.drd_option.specs.Options.{HasNoForm}
-use Rattle.drd_option.specs.Subnets.{address_octets, address_size, prefix_size}
-use Rattle.drd_option.specs.declared.subnet.ClientSubnet.{ClientSubnet}
-use Rattle.drd_option.specs.declared.option.EdnsOption.{EdnsOption}
-use Rattle.drd_option.specs.declared.option.EdnsOption.TheVariants.{Subnet, Unknown}
+use Rattle.drd_opt.specs.Options.{HasNoForm}
+use Rattle.drd_opt.specs.Subnets.{address_octets, address_size, prefix_size}
+use Rattle.drd_opt.specs.declared.subnet.ClientSubnet.{ClientSubnet}
+use Rattle.drd_opt.specs.declared.option.EdnsOption.{EdnsOption}
+use Rattle.drd_opt.specs.declared.option.EdnsOption.TheVariants.{Subnet, Unknown}
 use Rattle.drd_opt.specs.Entries.{Entry, RawOption, FitsLengths}
 use Rattle.drd_opt.specs.Reading.{IsEntryOf}
 

@@ -2,12 +2,12 @@
 use Rattle.std.specs.Prelude.{◌≡◌, ℕ, ◌+◌, ◌<◌, ◌≤◌, List, [], ◌∷◌, ◌++◌, length}
 use Rattle.std.proofs.Common.{◌⊎◌}
 use Rattle.std.specs.List.{All}
-use Rattle.drd_option.specs.dnw_codes.declared.error.DecodeError.{DecodeError}
-use Rattle.drd_option.specs.dnw_codes.declared.error.DecodeError.TheVariants.{InsufficientBytes}
-use Rattle.drd_option.specs.dnw_decoder.Octets.{number_16, Stands}
-use Rattle.drd_option.specs.dnw_decoder.Reading.{IsWantOfMemory}
-use Rattle.drd_option.specs.Codes.{edns_code_of}
-use Rattle.drd_option.specs.Options.{IsOptionOf}
+use Rattle.drd_fields.specs.dnw_codes.declared.error.DecodeError.{DecodeError}
+use Rattle.drd_fields.specs.dnw_codes.declared.error.DecodeError.TheVariants.{InsufficientBytes}
+use Rattle.drd_fields.specs.dnw_decoder.Octets.{number_16, Stands}
+use Rattle.drd_fields.specs.dnw_decoder.Reading.{IsWantOfMemory}
+use Rattle.drd_opt.specs.Codes.{edns_code_of}
+use Rattle.drd_opt.specs.Options.{IsOptionOf}
 use Rattle.drd_opt.specs.Entries.{Entry, RawOption, FitsLengths, options_octets}
 
 -- An entry is the option of a code and octets, under the code that the number stands for.

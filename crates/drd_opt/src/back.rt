@@ -1,6 +1,6 @@
 //! What was written reads back.
 ghost use Rattle.std.specs.Prelude.{◌≡◌, ℕ, List, true};
-ghost use Rattle.drd_option.specs.dnw_decoder.Octets.{Stands};
+ghost use Rattle.drd_fields.specs.dnw_decoder.Octets.{Stands};
 ghost use Rattle.drd_opt.specs.Entries.{entries_octets};
 ghost use Rattle.drd_opt.specs.Equality.{same_entries};
 ghost use Rattle.drd_opt.specs.Reading.{EntriesAt, HoldsEntries};

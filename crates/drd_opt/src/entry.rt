@@ -1,12 +1,14 @@
 //! An option under its code.
 ghost use Rattle.std.specs.Prelude.{◌≡◌, ◌≤◌, ◌⊎◌, length, IfErr, OnOk};
 ghost use Rattle.std.specs.Fmt.{WritesOnOk};
-ghost use Rattle.drd_option.specs.dnw_encoder.Encoders.{state};
-ghost use Rattle.drd_option.specs.dnw_encoder.Effects.{Writes, WritesOctets, IsRefusal};
-ghost use Rattle.drd_option.specs.Options.{option_octets, IsLong};
+ghost use Rattle.drd_fields.specs.dnw_encoder.Encoders.{state};
+ghost use Rattle.drd_fields.specs.dnw_encoder.Effects.{Writes, WritesOctets, IsRefusal};
+ghost use Rattle.drd_opt.specs.Options.{option_octets, IsLong};
 ghost use Rattle.drd_opt.specs.Entries.{raw_of, raw_octets, entry_print};
 
-use drd_option::{BinEncodable, BinEncoder, EdnsCode, EdnsOption, ProtoError};
+use crate::code::EdnsCode;
+use crate::option::EdnsOption;
+use drd_fields::{BinEncodable, BinEncoder, ProtoError};
 use std::fmt;
 
 // Writes the code, the number of octets, and the octets.

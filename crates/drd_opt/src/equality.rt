@@ -4,7 +4,8 @@ ghost use Rattle.std.specs.List.{count_by, list_all, sum_by};
 ghost use Rattle.drd_opt.specs.Entries.{raw_of};
 ghost use Rattle.drd_opt.specs.Equality.{same_entries, same_raw, hash_number};
 
-use drd_option::{EdnsCode, EdnsOption};
+use crate::code::EdnsCode;
+use crate::option::EdnsOption;
 use std::hash::{FoldHasher, Hash, Hasher};
 
 // Whether code and octets are the same.

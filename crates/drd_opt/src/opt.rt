@@ -2,12 +2,12 @@
 ghost use Rattle.std.specs.Prelude.{◌≡◌, ◌↔◌, ◌≤◌, ◌⊎◌, ◌∷◌, ◌++◌, [], ℕ, List, Some, length, map, find, slice_get, option_map, All, IfOk, OnOk, OnErr, IsTrue, IsPermutation};
 ghost use Rattle.std.specs.Borrow.{sem};
 ghost use Rattle.std.specs.Cmp.{partial_equiv_from_equiv};
-ghost use Rattle.drd_option.specs.dnw_encoder.declared.modes.RDataEncoding.TheVariants.{Other};
-ghost use Rattle.drd_option.specs.drd_fields.Fields.{rest};
-ghost use Rattle.drd_option.specs.drd_fields.Order.{octets_cmp};
-ghost use Rattle.drd_option.specs.drd_fields.Writing.{EmitsData, RefusesFields};
-ghost use Rattle.drd_option.specs.Codes.{edns_code_of};
-ghost use Rattle.drd_option.specs.Options.{option_code, option_octets};
+ghost use Rattle.drd_fields.specs.dnw_encoder.declared.modes.RDataEncoding.TheVariants.{Other};
+ghost use Rattle.drd_fields.specs.Fields.{rest};
+ghost use Rattle.drd_fields.specs.Order.{octets_cmp};
+ghost use Rattle.drd_fields.specs.Writing.{EmitsData, RefusesFields};
+ghost use Rattle.drd_opt.specs.Codes.{edns_code_of};
+ghost use Rattle.drd_opt.specs.Options.{option_code, option_octets};
 ghost use Rattle.drd_opt.specs.Entries.{Entry, entries_octets, entries_print, entries_without, options_of, raw_of, AreCountable, FitsLengths, HasLong};
 ghost use Rattle.drd_opt.specs.Equality.{same_entries, entries_input};
 ghost use Rattle.drd_opt.specs.EqualityLaws.{entries_equiv, entries_fed};
@@ -15,13 +15,14 @@ ghost use Rattle.drd_opt.specs.Lending.{LendsOptions};
 ghost use Rattle.drd_opt.specs.Order.{entries_cmp, canonical_entries};
 ghost use Rattle.drd_opt.specs.Reading.{EntriesAt, HoldsEntries, RefusesEntries};
 
+use crate::code::EdnsCode;
 use crate::entry::{emit_entry, fmt_entry};
 use crate::equality::{are_same, sum_of_weights};
+use crate::option::EdnsOption;
 use crate::order::cmp_entries;
 use crate::read::read_entries;
-use drd_option::{
-    BinDecoder, BinEncodable, BinEncoder, DecodeError, EdnsCode, EdnsOption, ProtoError,
-    RecordDataDecodable, Restrict,
+use drd_fields::{
+    BinDecoder, BinEncodable, BinEncoder, DecodeError, ProtoError, RecordDataDecodable, Restrict,
 };
 use std::alloc::{AllocError, Global};
 use std::cmp::Ordering;

@@ -7,8 +7,9 @@ ghost use Rattle.drd_opt.specs.Entries.{Entry, raw_of};
 ghost use Rattle.drd_opt.specs.Equality.{same_raw};
 ghost use Rattle.drd_opt.specs.Order.{raw_cmp, entries_cmp, is_below, IsLeastMore};
 
+use crate::code::EdnsCode;
 use crate::equality::{count_of, is_same};
-use drd_option::{EdnsCode, EdnsOption};
+use crate::option::EdnsOption;
 use std::cmp::Ordering;
 
 // The order of two options: by code, by the number of octets, then by these.

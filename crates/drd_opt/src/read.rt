@@ -1,12 +1,14 @@
 //! Options that are read.
 ghost use Rattle.std.specs.Prelude.{◌≡◌, ◌+◌, ◌<◌, ◌≤◌, ◌⊎◌, ◌++◌, ℕ, [], List, length, drop, IfOk, IfErr, OnOk, OnErr, All, MatchOption};
-ghost use Rattle.drd_option.specs.dnw_codes.declared.error.DecodeError.TheVariants.{InsufficientBytes};
-ghost use Rattle.drd_option.specs.dnw_decoder.Octets.{Stands};
-ghost use Rattle.drd_option.specs.dnw_decoder.Reading.{IsWantOfMemory};
+ghost use Rattle.drd_fields.specs.dnw_codes.declared.error.DecodeError.TheVariants.{InsufficientBytes};
+ghost use Rattle.drd_fields.specs.dnw_decoder.Octets.{Stands};
+ghost use Rattle.drd_fields.specs.dnw_decoder.Reading.{IsWantOfMemory};
 ghost use Rattle.drd_opt.specs.Entries.{Entry, RawOption, FitsLengths, raw_option, raw_octets};
 ghost use Rattle.drd_opt.specs.Reading.{HoldsEntries, IsEntryOf, IsRefused, EntriesAt, RefusesEntries, BreaksOff, EndsInside};
 
-use drd_option::{BinDecoder, DecodeError, EdnsCode, EdnsOption, ProtoError};
+use crate::code::EdnsCode;
+use crate::option::EdnsOption;
+use drd_fields::{BinDecoder, DecodeError, ProtoError};
 use std::alloc::Global;
 
 // The code and the octets of the first option, which moves the decoder behind it; or nothing, where the octets break off.

@@ -1,14 +1,17 @@
 //! Options of a message (RFC 6891 6.1.2).
 ghost use Rattle.std.specs.Prelude.{◌≡◌, ◌↔◌, ◌==◌, ◌<◌, ℕ, true, IsTrue};
 ghost use Rattle.std.specs.List.{All, list_all};
-ghost use Rattle.drd_option.specs.Codes.{edns_code_number, edns_code_of};
-ghost use Rattle.drd_option.specs.Options.{HasNoForm, option_code};
-ghost use Rattle.drd_option.specs.Subnets.{SubnetAt};
-ghost use Rattle.drd_option.specs.declared.subnet.ClientSubnet.{ClientSubnet as Network};
+ghost use Rattle.drd_opt.specs.Codes.{edns_code_number, edns_code_of};
+ghost use Rattle.drd_opt.specs.Options.{HasNoForm, option_code};
+ghost use Rattle.drd_opt.specs.Subnets.{SubnetAt};
+ghost use Rattle.drd_opt.specs.declared.subnet.ClientSubnet.{ClientSubnet as Network};
 ghost use Rattle.drd_opt.specs.Readable.{HasOwnForm, IsPadded, StandsSomewhere};
 
+use crate::code::EdnsCode;
 use crate::opt::OPT;
-use drd_option::{BinDecodable, ClientSubnet, EdnsCode, EdnsOption};
+use crate::option::EdnsOption;
+use crate::subnet::ClientSubnet;
+use drd_fields::BinDecodable;
 use std::net::IpAddr;
 
 /// Whether each option is one that is read under its code.

@@ -6,6 +6,8 @@ pub mod TextsLaws
 pub mod ListTexts
 pub mod Words
 pub mod Writing
+pub mod Lists
+pub mod Reading
 pub use Rattle.drd_words.specs.dnw_codes
 pub use Rattle.dnw_encoder.specs.dnw_decoder
 pub use Rattle.drd_words.specs.dnw_label

@@ -1,4 +1,5 @@
-//! The keys of services' parameters, and what their values are lists of, in octets and in texts (RFC 9460 2.1).
+//! The keys of services' parameters, what their values are lists of, in octets and in texts, and those lists: keys,
+//! protocols and addresses, and octets as they are (RFC 9460 2.1).
 #![tactic(auto)]
 
 pub use dnw_encoder::{BinDecodable, BinDecoder, BinEncodable, BinEncoder};
@@ -7,13 +8,20 @@ pub use drd_words::{
     unescaped, words_of_text,
 };
 
+mod emit;
 mod entry;
 mod key;
+mod lists;
 mod octets;
+mod print;
+mod read;
 mod texts;
 mod words;
 
+pub use emit::emit_entries;
 pub use entry::{Entry, octets_of_all, read_all};
 pub use key::SvcParamKey;
+pub use lists::{Alpn, EchConfigList, IpHint, Mandatory, Unknown};
+pub use read::{read_alpn, read_mandatory};
 pub use texts::{entries_of, fmt_list};
 pub use words::{base64_octets, parts_of, unquoted};

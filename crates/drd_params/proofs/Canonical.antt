@@ -3,7 +3,7 @@ use Rattle.std.proofs.Common.{◌≡◌, ◌==◌, ◌&&◌, ◌+◌, Bool, true
 use Rattle.std.specs.Cmp.Lexicographic.{pointwise, same_text}
 use Rattle.std.proofs.lemmas.Cmp.{nat_list_eq_equiv}
 use Rattle.std.proofs.lemmas.Bool.Decides.{nat_tests}
-use Rattle.drd_address.specs.drd_fields.Equality.{Tells, fields_eq}
+use Rattle.drd_params.specs.drd_fields.Equality.{Tells, fields_eq}
 use Rattle.drd_params.specs.Equality.{told_length, value_kind, params_code}
 use Rattle.drd_param_keys.specs.Keys.{key_number, key_of}
 use Rattle.drd_params.specs.Params.{Param, Rise, AreParams, part_octets, param_octets, params_octets}

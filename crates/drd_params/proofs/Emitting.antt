@@ -4,15 +4,15 @@ use Rattle.std.specs.List.{Contains, flat_map}
 use Rattle.std.specs.Prelude.{String, Result, Ok, Err, IfErr, OnOk}
 use Rattle.std.specs.String.{string_bytes}
 use Rattle.std.specs.declared.alloc.Global.{Global}
-use Rattle.drd_address.specs.dnw_codes.declared.error.ProtoError.{ProtoError}
-use Rattle.drd_address.specs.dnw_decoder.Octets.{octets_16}
-use Rattle.drd_address.specs.dnw_encoder.Effects.{IsRefusal, WritesOctets}
-use Rattle.drd_address.specs.dnw_encoder.State.{State}
-use Rattle.drd_address.specs.drd_fields.Writing.{IsTooLong}
-use Rattle.drd_address.proofs.drd_fields_lemmas.WritingLaws.{puts_then}
-use Rattle.drd_param_lists.proofs.Emitting.{refused-behind}
+use Rattle.drd_params.specs.dnw_codes.declared.error.ProtoError.{ProtoError}
+use Rattle.drd_params.specs.dnw_decoder.Octets.{octets_16}
+use Rattle.drd_params.specs.dnw_encoder.Effects.{IsRefusal, WritesOctets}
+use Rattle.drd_params.specs.dnw_encoder.State.{State}
+use Rattle.drd_params.specs.drd_fields.Writing.{IsTooLong}
+use Rattle.drd_fields.proofs.WritingLaws.{puts_then}
+use Rattle.drd_param_keys.proofs.Emitting.{refused-behind}
 use Rattle.drd_param_keys.specs.Entries.{text_octets}
-use Rattle.drd_param_lists.specs.declared.lists.Alpn.{Alpn}
+use Rattle.drd_param_keys.specs.declared.lists.Alpn.{Alpn}
 use Rattle.drd_params.specs.Params.{Param, param_octets}
 use Rattle.drd_params.specs.Values.{value_octets}
 use Rattle.drd_params.specs.Writing.{HasLongText, IsOversized, RefusesEmitParams, RefusesValueWriting}

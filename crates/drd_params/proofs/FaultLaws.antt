@@ -7,23 +7,23 @@ use Rattle.std.specs.String.{string_bytes}
 use Rattle.std.specs.declared.alloc.Global.{Global}
 use Rattle.std.proofs.lemmas.List.Concat.{flat_map-cons}
 use Rattle.std.proofs.lemmas.Str.{IsUtf8-string_bytes}
-use Rattle.drd_address.specs.dnw_codes.declared.error.DecodeError.{DecodeError}
-use Rattle.drd_address.specs.declared.a.A.{A}
-use Rattle.drd_address.specs.declared.aaaa.AAAA.{AAAA}
+use Rattle.drd_params.specs.dnw_codes.declared.error.DecodeError.{DecodeError}
+use Rattle.drd_params.specs.declared.a.A.{A}
+use Rattle.drd_params.specs.declared.aaaa.AAAA.{AAAA}
 use Rattle.drd_param_keys.specs.EntryLaws.{strings_same, key_laws, string_laws}
-use Rattle.drd_address.specs.EntryLaws.{length_a, a_laws, aaaa_laws}
+use Rattle.drd_params.specs.AddressLaws.{length_a, a_laws, aaaa_laws}
 use Rattle.drd_param_keys.specs.Keys.{key_number, key_of}
 use Rattle.drd_params.specs.Params.{Param, param_octets, params_octets, IsParam, Rise, AreParams, RefusesParam, IsOutOfOrder, RefusesParams}
 use Rattle.drd_params.specs.Refusals.{HasMore, RefusesValue}
-use Rattle.drd_param_lists.specs.Lists.{IsMissing}
+use Rattle.drd_param_keys.specs.Lists.{IsMissing}
 use Rattle.drd_param_keys.specs.Entries.{IsShortOf, BeginsNoUtf8, RefusesText, RefusesNext, key_octets, text_octets}
 use Rattle.drd_params.specs.Values.{IsValueOf, value_octets}
-use Rattle.drd_address.specs.Entries.{a_octets, aaaa_octets}
+use Rattle.drd_params.specs.AddressEntries.{a_octets, aaaa_octets}
 use Rattle.drd_param_keys.specs.declared.key.SvcParamKey.{SvcParamKey}
 use Rattle.drd_param_keys.specs.declared.key.SvcParamKey.TheVariants as key
 use Rattle.drd_params.specs.declared.value.SvcParamValue.{SvcParamValue}
 use Rattle.drd_params.specs.declared.value.SvcParamValue.TheVariants as value
-use Rattle.drd_param_lists.proofs.NoLists.{none-some}
+use Rattle.drd_param_keys.proofs.NoLists.{none-some}
 use Rattle.drd_params.proofs.ReadParams.{param_same, part_same}
 
 -- ---- lists of entries

@@ -3,9 +3,9 @@ use Rattle.std.proofs.Common.{◌≡◌, ◌==◌, ◌&&◌, Bool, false, ℕ, �
 use Rattle.std.specs.List.{flat_map}
 use Rattle.std.proofs.lemmas.Bool.Decides.{nat_tests}
 use Rattle.std.proofs.lemmas.List.Concat.{flat_map-cons}
-use Rattle.drd_address.specs.drd_fields.Equality.{Tells, TellsApart}
-use Rattle.drd_address.proofs.drd_fields_lemmas.EqualityLaws.{front_tells}
-pub use Rattle.drd_address.proofs.drd_fields_lemmas.EqualityLaws.{short_apart, string_apart}
+use Rattle.drd_params.specs.drd_fields.Equality.{Tells, TellsApart}
+use Rattle.drd_fields.proofs.EqualityLaws.{front_tells}
+pub use Rattle.drd_fields.proofs.EqualityLaws.{short_apart, string_apart}
 
 module _ {T : Type 0} (spelled : T → List ℕ) where
   pub lists-more : (b c : Bool) (x y : T) (xs ys left right : List T) → left ≡ x ∷ xs → right ≡ y ∷ ys → TellsApart b (spelled x) (spelled y) → Tells c (flat_map spelled xs) (flat_map spelled ys) → Tells (b && c) (flat_map spelled left) (flat_map spelled right)

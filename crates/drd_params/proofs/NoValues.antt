@@ -3,16 +3,16 @@ use Rattle.std.proofs.Common.{◌≡◌, ℕ, ◌<◌, ◌⊎◌, inl, inr, List
 use Rattle.std.specs.List.{flat_map}
 use Rattle.std.specs.Prelude.{String}
 use Rattle.std.specs.declared.alloc.Global.{Global}
-use Rattle.drd_address.specs.dnw_codes.declared.error.DecodeError.{DecodeError}
-use Rattle.drd_address.specs.dnw_codes.declared.error.DecodeError.TheVariants.{IncorrectRDataLengthRead, InsufficientBytes}
-use Rattle.drd_address.specs.dnw_decoder.Reading.{IsWantOfMemory}
-use Rattle.drd_address.specs.declared.a.A.{A}
-use Rattle.drd_address.specs.declared.aaaa.AAAA.{AAAA}
+use Rattle.drd_params.specs.dnw_codes.declared.error.DecodeError.{DecodeError}
+use Rattle.drd_params.specs.dnw_codes.declared.error.DecodeError.TheVariants.{IncorrectRDataLengthRead, InsufficientBytes}
+use Rattle.drd_params.specs.dnw_decoder.Reading.{IsWantOfMemory}
+use Rattle.drd_params.specs.declared.a.A.{A}
+use Rattle.drd_params.specs.declared.aaaa.AAAA.{AAAA}
 use Rattle.drd_param_keys.specs.Entries.{IsShortOf, RefusesNext, key_octets, text_octets}
-use Rattle.drd_param_lists.specs.Lists.{AreKeys, AreProtocols, NoKeys, NoProtocols}
+use Rattle.drd_param_keys.specs.Lists.{AreKeys, AreProtocols, NoKeys, NoProtocols}
 use Rattle.drd_params.specs.Refusals.{NoValue}
 use Rattle.drd_params.specs.Values.{IsValueOf, value_octets}
-use Rattle.drd_address.specs.Entries.{a_octets, aaaa_octets}
+use Rattle.drd_params.specs.AddressEntries.{a_octets, aaaa_octets}
 use Rattle.drd_param_keys.specs.declared.key.SvcParamKey.{SvcParamKey}
 use Rattle.drd_param_keys.specs.declared.key.SvcParamKey.TheVariants as key
 use Rattle.drd_params.specs.declared.value.SvcParamValue.{SvcParamValue}

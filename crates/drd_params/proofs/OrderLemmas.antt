@@ -5,7 +5,7 @@ use Rattle.std.specs.Ordering.{ordering_then}
 use Rattle.std.specs.declared.cmp.Ordering.{Ordering}
 use Rattle.std.specs.declared.cmp.Ordering.TheVariants.{Less, Equal, Greater}
 use Rattle.std.proofs.lemmas.List.Concat.{flat_map-cons}
-use Rattle.drd_address.specs.drd_fields.Order.{octets_cmp, OrdersFronts}
+use Rattle.drd_params.specs.drd_fields.Order.{octets_cmp, OrdersFronts}
 
 pub then-equal : (o : Ordering) → ordering_then o Equal ≡ o
 then-equal Less = refl

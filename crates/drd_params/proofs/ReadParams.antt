@@ -1,9 +1,9 @@
 -- Parameters that are read one behind the other.
 use Rattle.std.proofs.Common.{◌≡◌, ℕ, ◌+◌, ◌/◌, ◌%◌, ◌<◌, ◌≤◌, inl, inr, List, [], ◌∷◌, ◌++◌, length, length-append, refl, sym, ap, subst, ◌∙◌, arith, append-nil}
 use Rattle.std.proofs.lemmas.List.Concat.{flat_map-cons}
-use Rattle.drd_address.specs.dnw_codes.declared.error.DecodeError.{DecodeError}
-use Rattle.drd_address.specs.dnw_codes.declared.error.DecodeError.TheVariants.{InsufficientBytes, SvcParamsOutOfOrder}
-use Rattle.drd_address.specs.dnw_decoder.Octets.{octets_16}
+use Rattle.drd_params.specs.dnw_codes.declared.error.DecodeError.{DecodeError}
+use Rattle.drd_params.specs.dnw_codes.declared.error.DecodeError.TheVariants.{InsufficientBytes, SvcParamsOutOfOrder}
+use Rattle.drd_params.specs.dnw_decoder.Octets.{octets_16}
 use Rattle.drd_param_keys.specs.EntryLaws.{fronts_same}
 use Rattle.drd_param_keys.specs.Keys.{key_number, key_of}
 use Rattle.drd_params.specs.Params.{Param, part_octets, param_octets, params_octets, IsParam, Rise, BeginsNoPart, NoParam, NoParams}

@@ -2,10 +2,10 @@
 use Rattle.std.proofs.Common.{◌≡◌, ◌==◌, ◌&&◌, Bool, true, false, ℕ, ◌<◌, List, [], ◌∷◌, ◌++◌, nat_eq, length, refl, sym, ap, subst, ◌∙◌, arith}
 use Rattle.std.specs.Cmp.Lexicographic.{pointwise}
 use Rattle.std.proofs.lemmas.Bool.Decides.{nat_tests}
-use Rattle.drd_address.specs.drd_fields.Equality.{Tells, fields_eq}
-use Rattle.drd_address.proofs.drd_fields_lemmas.EqualityLaws.{rest_tells}
-pub use Rattle.drd_address.proofs.drd_fields_lemmas.EqualityLaws.{short_apart, string_apart}
-use Rattle.drd_address.specs.drd_fields.Fields.{short, rest}
+use Rattle.drd_params.specs.drd_fields.Equality.{Tells, fields_eq}
+use Rattle.drd_fields.proofs.EqualityLaws.{rest_tells}
+pub use Rattle.drd_fields.proofs.EqualityLaws.{short_apart, string_apart}
+use Rattle.drd_params.specs.drd_fields.Fields.{short, rest}
 use Rattle.drd_params.specs.Equality.{told_length, value_kind, value_code, params_code}
 use Rattle.drd_param_keys.specs.Keys.{key_number}
 use Rattle.drd_params.specs.Params.{Param}

@@ -4,8 +4,8 @@ use Rattle.std.specs.Prelude.{String, Result, Ok, Err, IfErr}
 use Rattle.std.specs.String.{string_bytes}
 use Rattle.std.specs.declared.alloc.Global.{Global}
 use Rattle.std.proofs.lemmas.List.Elements.{All-nil, All-cons, All-contains}
-use Rattle.drd_address.specs.dnw_codes.declared.error.ProtoError.{ProtoError}
-use Rattle.drd_address.specs.drd_fields.Writing.{IsTooLong}
+use Rattle.drd_params.specs.dnw_codes.declared.error.ProtoError.{ProtoError}
+use Rattle.drd_params.specs.drd_fields.Writing.{IsTooLong}
 use Rattle.drd_param_keys.specs.Keys.{key_number}
 use Rattle.drd_params.specs.Params.{Param, IsParam, Rise, AreParams}
 use Rattle.drd_param_keys.specs.Entries.{IsShortText}

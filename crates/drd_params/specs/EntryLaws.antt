@@ -1,18 +1,18 @@
 -- Laws of entries: each takes octets, and octets that begin with one end it in one place.
-use Rattle.std.proofs.Common.{◌≡◌, Bool, ℕ, ◌<◌, List, [], ◌++◌, length, refl, sym, ap, ◌∙◌}
+use Rattle.std.proofs.Common.{◌≡◌, Bool, ℕ, List, [], ◌++◌, length, refl, sym, ap, ◌∙◌}
 use Rattle.std.specs.Ordering.{ordering_then}
 use Rattle.std.specs.declared.cmp.Ordering.{Ordering}
 use Rattle.std.proofs.lemmas.List.{append-nil}
 use Rattle.std.specs.Net.Addr.{ipv4_bits}
-use Rattle.drd_address.specs.dnw_decoder.Octets.{octets_32}
-use Rattle.drd_address.specs.drd_fields.Equality.{Tells, TellsApart}
-use Rattle.drd_address.specs.drd_fields.Order.{Orders, OrdersFronts, octets_cmp}
-use Rattle.drd_address.proofs.drd_fields_lemmas.OrderLaws.{cmp_fronts}
-use Rattle.drd_address.specs.declared.a.A.{A}
-use Rattle.drd_address.specs.declared.aaaa.AAAA.{AAAA}
-use Rattle.drd_address.specs.Entries.{a_octets, aaaa_octets}
+use Rattle.drd_params.specs.dnw_decoder.Octets.{octets_32}
+use Rattle.drd_params.specs.drd_fields.Equality.{Tells, TellsApart}
+use Rattle.drd_params.specs.drd_fields.Order.{Orders, OrdersFronts, octets_cmp}
+use Rattle.drd_fields.proofs.OrderLaws.{cmp_fronts}
+use Rattle.drd_params.specs.declared.a.A.{A}
+use Rattle.drd_params.specs.declared.aaaa.AAAA.{AAAA}
+use Rattle.drd_params.specs.AddressEntries.{a_octets, aaaa_octets}
 use Rattle.drd_param_keys.specs.EntryLaws.{fronts_same}
-use Rattle.drd_address.specs.EntryLaws.{length_a}
+use Rattle.drd_params.specs.AddressLaws.{length_a}
 
 -- Octets of one length that differ do so whatever is behind them.
 apart : (same : Bool) (xs ys : List ℕ) → length xs ≡ length ys → Tells same xs ys

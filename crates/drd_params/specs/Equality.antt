@@ -1,7 +1,7 @@
 -- When parameters are equal.
 use Rattle.std.specs.Prelude.{ℕ, nat_le, List, [], ◌∷◌, length, if◌then◌else◌}
 use Rattle.std.specs.List.{flat_map}
-use Rattle.drd_address.specs.drd_fields.Fields.{Field, short, rest}
+use Rattle.drd_params.specs.drd_fields.Fields.{Field, short, rest}
 use Rattle.drd_param_keys.specs.Keys.{key_number}
 use Rattle.drd_params.specs.Params.{Param}
 use Rattle.drd_params.specs.Values.{value_octets}

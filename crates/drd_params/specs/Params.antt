@@ -2,9 +2,9 @@
 use Rattle.std.specs.Prelude.{ℕ, ◌≡◌, ◌≤◌, ◌<◌, ◌+◌, List, [], ◌∷◌, ◌++◌, length}
 use Rattle.std.proofs.Common.{◌⊎◌}
 use Rattle.std.specs.List.{flat_map}
-use Rattle.drd_address.specs.dnw_codes.declared.error.DecodeError.{DecodeError}
-use Rattle.drd_address.specs.dnw_codes.declared.error.DecodeError.TheVariants.{InsufficientBytes, SvcParamsOutOfOrder}
-use Rattle.drd_address.specs.dnw_decoder.Octets.{octets_16}
+use Rattle.drd_params.specs.dnw_codes.declared.error.DecodeError.{DecodeError}
+use Rattle.drd_params.specs.dnw_codes.declared.error.DecodeError.TheVariants.{InsufficientBytes, SvcParamsOutOfOrder}
+use Rattle.drd_params.specs.dnw_decoder.Octets.{octets_16}
 use Rattle.drd_param_keys.specs.Keys.{key_number, key_of}
 use Rattle.drd_params.specs.Values.{IsValueOf, value_octets}
 use Rattle.drd_params.specs.Refusals.{NoValue}

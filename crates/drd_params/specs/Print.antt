@@ -2,11 +2,11 @@
 use Rattle.std.specs.Prelude.{ℕ, List, [], ◌∷◌, ◌++◌}
 use Rattle.std.specs.Fmt.{decimal}
 use Rattle.std.specs.String.{string_bytes}
-use Rattle.drd_address.specs.dnw_codes.Ascii.{equals_sign}
+use Rattle.drd_params.specs.dnw_codes.Ascii.{equals_sign}
 use Rattle.base64.specs.Engines.{standard}
 use Rattle.base64.specs.GeneralPurpose.{encode_of}
-use Rattle.drd_address.specs.Print.{a_print, aaaa_print}
-use Rattle.drd_address.specs.drd_words.Print.{escaped_print}
+use Rattle.drd_params.specs.AddressPrint.{a_print, aaaa_print}
+use Rattle.drd_params.specs.drd_words.Print.{escaped_print}
 use Rattle.drd_param_keys.specs.Keys.{key_text}
 use Rattle.drd_params.specs.Params.{Param}
 use Rattle.drd_params.specs.declared.value.SvcParamValue.{SvcParamValue}

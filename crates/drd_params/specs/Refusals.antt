@@ -1,11 +1,11 @@
 -- Why octets are no value of a key, and no parameters.
-use Rattle.std.specs.Prelude.{ℕ, ◌≡◌, ◌<◌, ◌+◌, List, ◌++◌, length}
+use Rattle.std.specs.Prelude.{ℕ, ◌≡◌, ◌<◌, List, length}
 use Rattle.std.proofs.Common.{◌⊎◌}
-use Rattle.drd_address.specs.dnw_codes.declared.error.DecodeError.{DecodeError}
-use Rattle.drd_address.specs.dnw_codes.declared.error.DecodeError.TheVariants.{IncorrectRDataLengthRead}
-use Rattle.drd_param_lists.specs.Lists.{IsMissing}
+use Rattle.drd_params.specs.dnw_codes.declared.error.DecodeError.{DecodeError}
+use Rattle.drd_params.specs.dnw_codes.declared.error.DecodeError.TheVariants.{IncorrectRDataLengthRead}
+use Rattle.drd_param_keys.specs.Lists.{IsMissing}
 use Rattle.drd_params.specs.Values.{IsValueOf, value_octets}
-use Rattle.drd_address.specs.Entries.{a_octets, aaaa_octets}
+use Rattle.drd_params.specs.AddressEntries.{a_octets, aaaa_octets}
 use Rattle.drd_param_keys.specs.Entries.{key_octets, text_octets, IsShortOf, RefusesNext, RefusesText}
 use Rattle.drd_param_keys.specs.declared.key.SvcParamKey.{SvcParamKey}
 use Rattle.drd_param_keys.specs.declared.key.SvcParamKey.TheVariants as key

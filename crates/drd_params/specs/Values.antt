@@ -1,14 +1,14 @@
 -- Values of parameters, and the octets of both (RFC 9460 2.2, 7, 8).
-use Rattle.std.specs.Prelude.{ℕ, ◌<◌, ◌≤◌, List, [], length, All}
+use Rattle.std.specs.Prelude.{ℕ, ◌<◌, List, [], length, All}
 use Rattle.std.specs.List.{flat_map}
-use Rattle.drd_address.specs.dnw_decoder.Octets.{octets_16}
+use Rattle.drd_params.specs.dnw_decoder.Octets.{octets_16}
 use Rattle.drd_param_keys.specs.Keys.{IsKey}
 use Rattle.drd_param_keys.specs.declared.key.SvcParamKey.{SvcParamKey}
 use Rattle.drd_param_keys.specs.declared.key.SvcParamKey.TheVariants as key
 use Rattle.drd_params.specs.declared.value.SvcParamValue.{SvcParamValue}
 use Rattle.drd_params.specs.declared.value.SvcParamValue.TheVariants as value
 use Rattle.drd_param_keys.specs.Entries.{IsShortText, key_octets, text_octets}
-use Rattle.drd_address.specs.Entries.{a_octets, aaaa_octets}
+use Rattle.drd_params.specs.AddressEntries.{a_octets, aaaa_octets}
 
 -- The octets of a value: keys, strings behind their lengths, a port, addresses, or octets as they
 -- are.

@@ -4,11 +4,11 @@ use Rattle.std.proofs.Common.{◌⊎◌}
 use Rattle.std.specs.List.{Contains}
 use Rattle.std.specs.declared.alloc.Global.{Global}
 use Rattle.std.specs.String.{string_bytes}
-use Rattle.drd_address.specs.dnw_codes.declared.error.ProtoError.{ProtoError}
-use Rattle.drd_address.specs.dnw_codes.declared.error.ProtoError.TheVariants.{MaxBufferSizeExceeded}
-use Rattle.drd_address.specs.dnw_encoder.Effects.{IsRefusal}
-use Rattle.drd_address.specs.dnw_encoder.State.{State}
-use Rattle.drd_address.specs.drd_fields.Writing.{IsTooLong}
+use Rattle.drd_params.specs.dnw_codes.declared.error.ProtoError.{ProtoError}
+use Rattle.drd_params.specs.dnw_codes.declared.error.ProtoError.TheVariants.{MaxBufferSizeExceeded}
+use Rattle.drd_params.specs.dnw_encoder.Effects.{IsRefusal}
+use Rattle.drd_params.specs.dnw_encoder.State.{State}
+use Rattle.drd_params.specs.drd_fields.Writing.{IsTooLong}
 use Rattle.drd_params.specs.Params.{Param}
 use Rattle.drd_params.specs.Values.{value_octets}
 use Rattle.drd_params.specs.declared.value.SvcParamValue.{SvcParamValue}

@@ -1,7 +1,10 @@
 //! Entries of values that are compared, ordered and hashed.
 ghost use Rattle.drd_params.specs.Hashing.{one_write, string_write};
 
-use drd_address::{A, AAAA, FieldRef, octets_of};
+use crate::a::A;
+use crate::aaaa::AAAA;
+use crate::entry::octets_of;
+use drd_fields::FieldRef;
 use drd_param_keys::{Entry, SvcParamKey};
 use std::cmp::Ordering;
 use std::hash::Hasher;
@@ -11,8 +14,8 @@ pub trait EntryData: Entry {
     ghost use Rattle.std.specs.Prelude.{◌≡◌, ℕ, List};
     ghost use Rattle.std.specs.Hash.{HashWrites};
     ghost use Rattle.std.specs.List.{fold};
-    ghost use Rattle.drd_address.specs.drd_fields.Equality.{TellsApart};
-    ghost use Rattle.drd_address.specs.drd_fields.Order.{OrdersFronts};
+    ghost use Rattle.drd_params.specs.drd_fields.Equality.{TellsApart};
+    ghost use Rattle.drd_params.specs.drd_fields.Order.{OrdersFronts};
 
     // What of an entry's octets is fed to a hasher.
     ghost input: { List ℕ → HashWrites };

@@ -1,18 +1,17 @@
 //! Values and parameters that are written.
 ghost use Rattle.std.specs.Prelude.{◌≡◌, ◌++◌, ◌⊎◌, length, IfErr, OnOk};
-ghost use Rattle.drd_address.specs.dnw_decoder.Octets.{octets_16};
-ghost use Rattle.drd_address.specs.dnw_encoder.Encoders.{state};
-ghost use Rattle.drd_address.specs.dnw_encoder.Effects.{IsRefusal, WritesOctets, Writes};
-ghost use Rattle.drd_address.specs.drd_fields.Writing.{EndsWithin};
+ghost use Rattle.drd_params.specs.dnw_decoder.Octets.{octets_16};
+ghost use Rattle.drd_params.specs.dnw_encoder.Encoders.{state};
+ghost use Rattle.drd_params.specs.dnw_encoder.Effects.{IsRefusal, WritesOctets, Writes};
+ghost use Rattle.drd_params.specs.drd_fields.Writing.{EndsWithin};
 ghost use Rattle.drd_param_keys.specs.Keys.{key_number};
 ghost use Rattle.drd_params.specs.Params.{AreParams, param_octets, params_octets};
 ghost use Rattle.drd_params.specs.Writing.{HasLongText, IsOversized, RefusesEmitParams, RefusesValueWriting, RefusesWriting};
 ghost use Rattle.drd_params.specs.Values.{value_octets};
 
 use crate::value::SvcParamValue;
-use drd_address::{BinEncodable, BinEncoder, ProtoError};
-use drd_param_keys::SvcParamKey;
-use drd_param_lists::emit_entries;
+use drd_fields::{BinEncodable, BinEncoder, ProtoError};
+use drd_param_keys::{SvcParamKey, emit_entries};
 
 // Writes the octets of a value.
 fn emit_octets(encoder: &mut BinEncoder<'_>, value: &SvcParamValue) -> Result<(), ProtoError>

@@ -2,8 +2,8 @@
 ghost use Rattle.std.specs.Prelude.{◌≡◌, ◌++◌};
 ghost use Rattle.std.specs.Hash as fed;
 ghost use Rattle.std.specs.List.{flat_map, fold};
-ghost use Rattle.drd_address.specs.drd_fields.Equality.{Tells};
-ghost use Rattle.drd_address.specs.drd_fields.Order.{octets_cmp};
+ghost use Rattle.drd_params.specs.drd_fields.Equality.{Tells};
+ghost use Rattle.drd_params.specs.drd_fields.Order.{octets_cmp};
 ghost use Rattle.drd_params.specs.Hashing.{list_input};
 
 use crate::data::EntryData;

@@ -1,13 +1,13 @@
 //! Parameters, one behind the other.
 ghost use Rattle.std.specs.Prelude.{◌≡◌, ◌<◌, ◌≤◌, ◌⊎◌, ◌++◌, ℕ, List, length, IfOk, IfErr, MatchOption};
-ghost use Rattle.drd_address.specs.dnw_codes.declared.error.DecodeError.TheVariants.{InsufficientBytes};
-ghost use Rattle.drd_address.specs.dnw_decoder.Octets.{octets_16};
-ghost use Rattle.drd_address.specs.dnw_decoder.Reading.{IsWantOfMemory};
+ghost use Rattle.drd_params.specs.dnw_codes.declared.error.DecodeError.TheVariants.{InsufficientBytes};
+ghost use Rattle.drd_params.specs.dnw_decoder.Octets.{octets_16};
+ghost use Rattle.drd_params.specs.dnw_decoder.Reading.{IsWantOfMemory};
 ghost use Rattle.drd_param_keys.specs.Keys.{key_number, key_of};
 ghost use Rattle.drd_params.specs.Params.{AreParams, BeginsNoPart, IsParam, NoParam, NoParams, param_octets, params_octets, part_octets};
 
 use crate::value::SvcParamValue;
-use drd_address::DecodeError;
+use drd_fields::DecodeError;
 use drd_param_keys::SvcParamKey;
 use std::alloc::Global;
 

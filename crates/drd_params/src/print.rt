@@ -4,8 +4,7 @@ ghost use Rattle.std.specs.Fmt.{WritesOnOk};
 ghost use Rattle.drd_params.specs.Print.{param_print, value_behind, value_print};
 
 use crate::value::SvcParamValue;
-use drd_address::{fmt_base64, fmt_escaped};
-use drd_param_keys::{SvcParamKey, fmt_list};
+use drd_param_keys::{SvcParamKey, fmt_base64, fmt_escaped, fmt_list};
 use std::fmt;
 
 impl fmt::Display for SvcParamValue {

@@ -1,8 +1,8 @@
 //! Parameters that are compared.
 ghost use Rattle.std.specs.Prelude.{◌≡◌};
 ghost use Rattle.std.specs.Cmp.{partial_equiv_from_equiv};
-ghost use Rattle.drd_address.specs.drd_fields.Equality.{Tells, fields_eq};
-ghost use Rattle.drd_address.proofs.drd_fields_lemmas.EqualityLaws.{data_equiv};
+ghost use Rattle.drd_params.specs.drd_fields.Equality.{Tells, fields_eq};
+ghost use Rattle.drd_fields.proofs.EqualityLaws.{data_equiv};
 ghost use Rattle.drd_params.specs.Equality.{params_code, value_code};
 ghost use Rattle.drd_params.specs.Params.{AreParams, params_octets};
 

@@ -1,13 +1,17 @@
 //! Values of parameters (RFC 9460 7, 8).
 ghost use Rattle.std.specs.Prelude.{◌≡◌, ◌⊎◌, IfOk, IfErr};
-ghost use Rattle.drd_address.specs.dnw_decoder.Reading.{IsWantOfMemory};
+ghost use Rattle.drd_params.specs.dnw_decoder.Reading.{IsWantOfMemory};
 ghost use Rattle.drd_param_keys.specs.declared.key.SvcParamKey.TheVariants as of;
 ghost use Rattle.drd_params.specs.Values.{IsUnknown, IsValueOf, value_octets};
 ghost use Rattle.drd_params.specs.Refusals.{NoValue};
 
-use drd_address::{A, AAAA, DecodeError};
-use drd_param_keys::{SvcParamKey, read_all};
-use drd_param_lists::{Alpn, EchConfigList, IpHint, Mandatory, Unknown, read_alpn, read_mandatory};
+use crate::a::A;
+use crate::aaaa::AAAA;
+use drd_fields::DecodeError;
+use drd_param_keys::{
+    Alpn, EchConfigList, IpHint, Mandatory, SvcParamKey, Unknown, read_all, read_alpn,
+    read_mandatory,
+};
 use std::alloc::Global;
 
 /// The value of a parameter.

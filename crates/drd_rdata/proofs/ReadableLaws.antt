@@ -10,8 +10,8 @@ use Rattle.drd_types.proofs.drd_fields_lemmas.ReadableLaws.{fields_alone, in_own
 use Rattle.std.specs.Net.Addr.{ipv4_bits}
 use Rattle.drd_svcb.proofs.dnw_encoder_lemmas.NameLaws.{length-name_octets}
 use Rattle.drd_svcb.specs.dnw_name.DomainName.{DomainName, name_octets}
-use Rattle.drd_svcb.specs.drd_address.Fields.{a_fields}
-use Rattle.drd_svcb.specs.drd_address.declared.a.A.{A}
+use Rattle.drd_svcb.specs.drd_params.AddressFields.{a_fields}
+use Rattle.drd_svcb.specs.drd_params.declared.a.A.{A}
 use Rattle.drd_types.specs.drd_names.Fields.{ns_fields, soa_fields}
 use Rattle.drd_types.specs.drd_names.declared.ns.NS.{NS}
 use Rattle.drd_types.specs.drd_names.declared.soa.SOA.{SOA}

@@ -12,7 +12,7 @@ use Rattle.drd_types.specs.drd_fields.Fields.{Field, octet, short, long, name, s
 use Rattle.drd_types.specs.drd_fields.Writing.{HasLongString, HaveLongString, SomeTooLong, RefusesFields, fields_octets}
 use Rattle.drd_types.specs.drd_opt.Entries.{Entry, FitsLengths, raw_of, entries_octets, HasLong}
 use Rattle.dnw_codes.specs.declared.error.ProtoError.TheVariants.{Message}
-use Rattle.drd_types.specs.drd_option.Options.{option_octets, IsLong}
+use Rattle.drd_types.specs.drd_opt.Options.{option_octets, IsLong}
 use Rattle.drd_types.proofs.drd_opt_lemmas.FitLaws.{read_fit}
 use Rattle.drd_svcb.specs.Fields.{svcb_fields}
 use Rattle.drd_rdata.specs.Fields.{rdata_fields}

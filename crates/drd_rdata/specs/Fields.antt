@@ -13,7 +13,7 @@ use Rattle.drd_types.specs.drd_names.Fields.{aname_fields, cname_fields, mx_fiel
 use Rattle.drd_types.specs.drd_opt.Entries.{entries_octets}
 use Rattle.drd_types.specs.drd_plain.Fields.{hinfo_fields, hinfo_kinds, naptr_fields, naptr_kinds, null_fields, null_kinds, txt_fields, txt_kinds}
 use Rattle.drd_svcb.specs.Fields.{svcb_fields, svcb_kinds}
-use Rattle.drd_svcb.specs.drd_address.Fields.{a_fields, a_kinds, aaaa_fields, aaaa_kinds}
+use Rattle.drd_svcb.specs.drd_params.AddressFields.{a_fields, a_kinds, aaaa_fields, aaaa_kinds}
 use Rattle.drd_rdata.specs.declared.rdata.RData.{RData}
 use Rattle.drd_rdata.specs.declared.rdata.RData.TheVariants as rdata
 

@@ -21,3 +21,4 @@ pub use Rattle.drd_types.specs.drd_keys
 pub use Rattle.drd_types.specs.drd_names
 pub use Rattle.drd_types.specs.drd_opt
 pub mod drd_svcb
+pub use Rattle.drd_svcb.specs.drd_params

@@ -12,9 +12,9 @@ use Rattle.drd_types.specs.drd_keys.Print.{cert_print, openpgpkey_print, smimea_
 use Rattle.drd_types.specs.drd_keys.Texts.{IsCertText, IsOpenpgpkeyText, IsSmimeaText, IsSshfpText, IsTlsaText, RefusesCertText, RefusesOpenpgpkeyText, RefusesSmimeaText, RefusesSshfpText, RefusesTlsaText}
 use Rattle.drd_types.specs.drd_names.Texts.{IsAnameText, IsCnameText, IsMxText, IsNsText, IsPtrText, IsSoaText, IsSrvText, RefusesMxText, RefusesOneName, RefusesSoaText, RefusesSrvText, mx_print, soa_print, srv_print}
 use Rattle.drd_types.specs.drd_opt.Entries.{entries_print}
-use Rattle.drd_svcb.specs.drd_address.Print.{a_print, aaaa_print}
+use Rattle.drd_svcb.specs.drd_params.AddressPrint.{a_print, aaaa_print}
 use Rattle.drd_types.specs.drd_plain.Print.{hinfo_print, naptr_print, null_print, txt_print}
-use Rattle.drd_svcb.specs.drd_address.Words.{IsAText, IsAaaaText, RefusesAText, RefusesAaaaText}
+use Rattle.drd_svcb.specs.drd_params.AddressWords.{IsAText, IsAaaaText, RefusesAText, RefusesAaaaText}
 use Rattle.drd_types.specs.drd_plain.Words.{IsHinfoText, IsNaptrText, IsTxtText, RefusesHinfoText, RefusesNaptrText, RefusesTxtText}
 use Rattle.drd_svcb.specs.Print.{svcb_print}
 use Rattle.drd_svcb.specs.ParamRefusals.{RefusesSvcbText}

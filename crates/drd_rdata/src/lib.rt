@@ -5,7 +5,7 @@
 pub use dnw_codes::{DNSClass, DecodeError, ProtoError, RecordType};
 pub use drd_svcb::{
     A, AAAA, Alpn, EchConfigList, HTTPS, IpHint, Mandatory, SVCB, SvcParamKey, SvcParamValue,
-    Unknown, emit_params, read_params,
+    Unknown, emit_params, octets_of, read_params,
 };
 pub use drd_types::{
     ANAME, BinDecodable, BinDecoder, BinEncodable, BinEncoder, CAA, CERT, CNAME, CSYNC,

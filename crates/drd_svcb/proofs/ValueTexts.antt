@@ -14,11 +14,11 @@ use Rattle.drd_params.specs.drd_fields.Writing.{string_octets}
 use Rattle.drd_params.specs.drd_words.Data.{IsBase64Text}
 use Rattle.drd_params.specs.drd_words.Words.{EachWord}
 use Rattle.drd_param_keys.specs.EntryLaws.{key_told, string_told}
-use Rattle.drd_params.specs.drd_address.EntryLaws.{a_told, aaaa_told}
+use Rattle.drd_params.specs.AddressLaws.{a_told, aaaa_told}
 use Rattle.drd_param_keys.proofs.KeyTexts.{key-one}
 use Rattle.drd_param_keys.specs.Keys.{key_number, IsKey}
 use Rattle.drd_param_keys.specs.Texts.{IsKeyText, IsProtocolText}
-use Rattle.drd_params.specs.drd_address.Entries.{IsAEntry, IsAaaaEntry, a_octets, aaaa_octets}
+use Rattle.drd_params.specs.AddressEntries.{IsAEntry, IsAaaaEntry, a_octets, aaaa_octets}
 use Rattle.drd_param_keys.specs.Entries.{IsShortText}
 use Rattle.drd_params.specs.Values.{IsValueOf, value_octets}
 use Rattle.drd_param_keys.specs.declared.key.SvcParamKey.{SvcParamKey}

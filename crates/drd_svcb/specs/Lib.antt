@@ -12,5 +12,4 @@ pub mod Writing
 pub mod Print
 pub use Rattle.drd_params.specs.dnw_name
 pub mod drd_params
-pub use Rattle.drd_params.specs.drd_address
 pub use Rattle.drd_params.specs.drd_words

@@ -12,7 +12,7 @@ use Rattle.drd_params.specs.drd_words.Word.{IsNameWord, IsNumberWord}
 use Rattle.drd_param_keys.specs.Keys.{key_number}
 use Rattle.drd_params.specs.Params.{Param, IsParam}
 use Rattle.drd_param_keys.specs.Texts.{IsKeyText, RefusesKeyText, IsProtocolText, RefusesProtocolText}
-use Rattle.drd_params.specs.drd_address.Entries.{IsAEntry, IsAaaaEntry}
+use Rattle.drd_params.specs.AddressEntries.{IsAEntry, IsAaaaEntry}
 use Rattle.drd_params.specs.Values.{value_octets}
 use Rattle.drd_param_keys.specs.declared.key.SvcParamKey.{SvcParamKey}
 use Rattle.drd_param_keys.specs.declared.key.SvcParamKey.TheVariants as key

@@ -13,7 +13,7 @@ use Rattle.drd_param_keys.specs.Keys.{key_number}
 use Rattle.drd_params.specs.Params.{Param, Rise}
 use Rattle.drd_param_keys.specs.Texts.{RefusesKeyText}
 use Rattle.drd_param_keys.specs.TextsLaws.{key_causes, protocol_causes}
-use Rattle.drd_params.specs.drd_address.EntryLaws.{a_causes, aaaa_causes}
+use Rattle.drd_params.specs.AddressLaws.{a_causes, aaaa_causes}
 use Rattle.drd_param_keys.specs.declared.key.SvcParamKey.{SvcParamKey}
 use Rattle.drd_param_keys.specs.declared.key.SvcParamKey.TheVariants as key
 use Rattle.drd_params.specs.declared.value.SvcParamValue.{SvcParamValue}

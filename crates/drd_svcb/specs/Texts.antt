@@ -10,7 +10,7 @@ use Rattle.drd_params.specs.drd_words.Words.{OneThen, EachWord}
 use Rattle.drd_param_keys.specs.ListTexts.{IsListText}
 use Rattle.drd_params.specs.Params.{Param, AreParams}
 use Rattle.drd_param_keys.specs.Texts.{IsKeyText, IsProtocolText}
-use Rattle.drd_params.specs.drd_address.Entries.{IsAEntry, IsAaaaEntry}
+use Rattle.drd_params.specs.AddressEntries.{IsAEntry, IsAaaaEntry}
 use Rattle.drd_param_keys.specs.declared.key.SvcParamKey.{SvcParamKey}
 use Rattle.drd_param_keys.specs.declared.key.SvcParamKey.TheVariants as key
 use Rattle.drd_params.specs.declared.value.SvcParamValue.{SvcParamValue}

@@ -3,7 +3,7 @@
 
 pub use drd_params::{
     A, AAAA, Alpn, EchConfigList, IpHint, Mandatory, Name, SvcParamKey, SvcParamValue, TextData,
-    Unknown, emit_params, read_params, words_of_text,
+    Unknown, emit_params, octets_of, read_params, words_of_text,
 };
 
 mod https;

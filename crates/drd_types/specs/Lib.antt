@@ -7,5 +7,4 @@ pub use Rattle.drd_opt.specs.drd_fields
 pub use Rattle.drd_names_keys.specs.drd_keys
 pub use Rattle.drd_names_keys.specs.drd_names
 pub mod drd_opt
-pub use Rattle.drd_opt.specs.drd_option
 pub use Rattle.drd_caa.specs.drd_plain

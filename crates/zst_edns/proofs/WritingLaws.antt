@@ -13,7 +13,7 @@ use Rattle.drd_types.specs.drd_fields.Writing.{EmitsData, RefusesFields}
 use Rattle.drd_types.proofs.drd_fields_lemmas.WritingLaws.{puts_then, refused_later}
 use Rattle.drd_types.specs.drd_opt.Entries.{Entry, entries_octets, raw_of, raw_octets, HasLong}
 use Rattle.drd_types.specs.drd_opt.Reading.{EntriesAt, HoldsEntries}
-use Rattle.drd_types.specs.drd_option.Options.{option_octets}
+use Rattle.drd_types.specs.drd_opt.Options.{option_octets}
 use Rattle.zst_edns.specs.declared.edns.Edns.{Edns}
 use Rattle.zst_edns.specs.Edns.{edns_ttl}
 use Rattle.zst_edns.specs.Writing.{EdnsReadsBack, EmitsEdns, FitsFields, RefusesEdns, edns_data, opt_head, opt_octets}

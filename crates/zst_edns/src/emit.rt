@@ -1,7 +1,7 @@
 //! OPT records that are written (RFC 6891 6.1.2, 6.1.3).
 ghost use Rattle.std.specs.Prelude.{◌≡◌, ◌+◌, ◌≤◌, ◌^◌, length, MatchOption};
 ghost use Rattle.drd_types.specs.drd_opt.Entries.{entries_octets};
-ghost use Rattle.drd_types.specs.drd_option.Options.{option_octets};
+ghost use Rattle.drd_types.specs.drd_opt.Options.{option_octets};
 ghost use Rattle.zst_edns.specs.Writing.{EmitsEdns, FitsFields, RefusesEdns, opt_head};
 
 use crate::edns::Edns;

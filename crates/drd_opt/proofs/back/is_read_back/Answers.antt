@@ -1,6 +1,6 @@
 use Rattle.std.proofs.Common.{◌≡◌, ℕ, true, List, length, map, sym, subst, ◌∙◌, arith, rules}
 use Rattle.std.proofs.lemmas.List.Sorted.{IsPermutation-refl}
-use Rattle.drd_option.proofs.dnw_decoder_lemmas.Standing.{stands_same}
+use Rattle.drd_fields.proofs.dnw_decoder_lemmas.Standing.{stands_same}
 use Rattle.drd_opt.specs.Entries.{RawOption, raw_of, entries_octets}
 use Rattle.drd_opt.specs.Equality.{same_counts}
 use Rattle.drd_opt.specs.EqualityLaws.{permutation_tells}

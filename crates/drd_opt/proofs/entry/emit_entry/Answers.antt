@@ -1,11 +1,11 @@
 use Rattle.std.proofs.Common.{◌≤◌, ℕ, length, subst, arith}
-use Rattle.drd_option.specs.dnw_decoder.Octets.{octets_16}
-use Rattle.drd_option.specs.dnw_encoder.Encoders.{state}
-use Rattle.drd_option.specs.dnw_encoder.Effects.{WritesOctets}
-use Rattle.drd_option.proofs.dnw_encoder_lemmas.Laws.{writes_then}
-use Rattle.drd_option.proofs.drd_fields_lemmas.WritingLaws.{on_ok, within_then}
-use Rattle.drd_option.specs.Codes.{edns_code_number}
-use Rattle.drd_option.specs.Options.{option_octets}
+use Rattle.drd_fields.specs.dnw_decoder.Octets.{octets_16}
+use Rattle.drd_fields.specs.dnw_encoder.Encoders.{state}
+use Rattle.drd_fields.specs.dnw_encoder.Effects.{WritesOctets}
+use Rattle.drd_fields.proofs.dnw_encoder_lemmas.Laws.{writes_then}
+use Rattle.drd_fields.proofs.WritingLaws.{on_ok, within_then}
+use Rattle.drd_opt.specs.Codes.{edns_code_number}
+use Rattle.drd_opt.specs.Options.{option_octets}
 use Rattle.drd_opt.proofs.WriteLemmas.{entry_puts}
 use Rattle.drd_opt.proofs.entry.emit_entry.Goals as goal
 

@@ -1,5 +1,5 @@
 use Rattle.std.proofs.Common.{◌≡◌, ℕ, List, [], ◌∷◌, ◌++◌, subst, sym, ◌∙◌, rules}
-use Rattle.drd_option.specs.dnw_decoder.Octets.{Stands}
+use Rattle.drd_fields.specs.dnw_decoder.Octets.{Stands}
 use Rattle.drd_opt.specs.Entries.{FitsLengths, raw_option, raw_octets}
 use Rattle.drd_opt.specs.Reading.{HasRead}
 use Rattle.drd_opt.proofs.ReadingLaws.{one_more}

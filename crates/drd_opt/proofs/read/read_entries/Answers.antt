@@ -1,5 +1,5 @@
 use Rattle.std.proofs.Common.{◌≡◌, ◌+◌, ℕ, List, inl, inr, subst, arith}
-use Rattle.drd_option.specs.dnw_decoder.Octets.{Stands}
+use Rattle.drd_fields.specs.dnw_decoder.Octets.{Stands}
 use Rattle.drd_opt.proofs.ReadingLaws.{no_entries}
 use Rattle.drd_opt.proofs.read.read_entries.Goals as goal
 

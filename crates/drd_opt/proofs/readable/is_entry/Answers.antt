@@ -1,6 +1,6 @@
 use Rattle.std.proofs.Common.{length, sym, ◌∙◌, arith}
 use Rattle.std.proofs.lemmas.Bool.{both_ways, leb-false, leb-true}
-use Rattle.drd_option.specs.Options.{option_octets}
+use Rattle.drd_opt.specs.Options.{option_octets}
 use Rattle.drd_opt.proofs.ReadableLaws.{entry_code, entry_few, entry_form, entry_stands}
 use Rattle.drd_opt.proofs.readable.is_entry.Goals as goal
 use Rattle.drd_opt.proofs.readable.is_entry.Goals.{then-has_own_code, else-has_own_code}

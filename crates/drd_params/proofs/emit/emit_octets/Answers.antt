@@ -1,5 +1,5 @@
 use Rattle.std.proofs.Common.{sym, subst}
-use Rattle.drd_address.specs.dnw_encoder.Encoders.{state}
+use Rattle.drd_params.specs.dnw_encoder.Encoders.{state}
 use Rattle.std.specs.Prelude.{IfErr}
 use Rattle.drd_params.specs.Writing.{RefusesValueWriting}
 use Rattle.drd_params.specs.declared.value.SvcParamValue.{SvcParamValue}

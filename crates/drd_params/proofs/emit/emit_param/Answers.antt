@@ -1,7 +1,7 @@
 use Rattle.std.proofs.Common.{◌≤◌, ◌++◌, length, arith}
-use Rattle.drd_address.specs.dnw_decoder.Octets.{octets_16}
-use Rattle.drd_address.specs.dnw_encoder.Encoders.{state}
-use Rattle.drd_address.proofs.dnw_encoder_lemmas.Laws.{writes_then}
+use Rattle.drd_params.specs.dnw_decoder.Octets.{octets_16}
+use Rattle.drd_params.specs.dnw_encoder.Encoders.{state}
+use Rattle.drd_fields.proofs.dnw_encoder_lemmas.Laws.{writes_then}
 use Rattle.drd_param_keys.specs.Keys.{key_number}
 use Rattle.drd_params.specs.Values.{value_octets}
 use Rattle.drd_params.proofs.Emitting.{number-put, param-refused}

@@ -1,13 +1,13 @@
 use Rattle.std.proofs.Common.{◌≤◌, ◌⊎◌, length, ◌∙◌, arith}
 use Rattle.std.specs.Prelude.{Err}
-use Rattle.drd_address.specs.dnw_codes.declared.error.ProtoError.{ProtoError}
-use Rattle.drd_address.specs.dnw_encoder.Effects.{IsRefusal}
-use Rattle.drd_address.specs.dnw_encoder.Encoders.{state}
-use Rattle.drd_address.proofs.dnw_encoder_lemmas.Laws.{writes_then}
-use Rattle.drd_address.proofs.drd_fields_lemmas.WritingLaws.{within_then}
+use Rattle.drd_params.specs.dnw_codes.declared.error.ProtoError.{ProtoError}
+use Rattle.drd_params.specs.dnw_encoder.Effects.{IsRefusal}
+use Rattle.drd_params.specs.dnw_encoder.Encoders.{state}
+use Rattle.drd_fields.proofs.dnw_encoder_lemmas.Laws.{writes_then}
+use Rattle.drd_fields.proofs.WritingLaws.{within_then}
 use Rattle.drd_params.specs.Params.{param_octets, params_octets}
 use Rattle.drd_params.proofs.Emitting.{IsUnwritable}
-use Rattle.drd_param_lists.proofs.Emitting.{put-more, put-refused}
+use Rattle.drd_param_keys.proofs.Emitting.{put-more, put-refused}
 use Rattle.drd_params.proofs.WritingLaws.{only-others}
 use Rattle.drd_params.specs.Writing.{RefusesWriting}
 use Rattle.drd_params.proofs.emit.emit_params.Goals as goal

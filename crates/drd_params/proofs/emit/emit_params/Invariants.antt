@@ -1,7 +1,7 @@
 use Rattle.std.proofs.Common.{◌≡◌}
-use Rattle.drd_address.specs.dnw_encoder.Encoders.{state}
+use Rattle.drd_params.specs.dnw_encoder.Encoders.{state}
 use Rattle.drd_params.specs.Params.{param_octets}
-use Rattle.drd_param_lists.proofs.Emitting.{Put}
+use Rattle.drd_param_keys.proofs.Emitting.{Put}
 use Rattle.drd_params.proofs.emit.emit_params.Given as goal
 
 abbrev pub invariant-params : goal.invariant-params

@@ -1,6 +1,6 @@
 use Rattle.std.proofs.Common.{◌≤◌, length, arith}
-use Rattle.drd_address.specs.dnw_encoder.Encoders.{state}
-use Rattle.drd_address.proofs.dnw_encoder_lemmas.Laws.{writes_then}
+use Rattle.drd_params.specs.dnw_encoder.Encoders.{state}
+use Rattle.drd_fields.proofs.dnw_encoder_lemmas.Laws.{writes_then}
 use Rattle.drd_params.specs.Values.{value_octets}
 use Rattle.drd_params.proofs.Emitting.{number-put}
 use Rattle.drd_params.proofs.emit.emit_value.Goals as goal

@@ -1,5 +1,5 @@
 use Rattle.std.proofs.Common.{◌≡◌, ◌==◌, Bool, true, false, ◌∷◌, length, subst, rules}
-use Rattle.drd_address.specs.drd_fields.Equality.{TellsApart}
+use Rattle.drd_params.specs.drd_fields.Equality.{TellsApart}
 use Rattle.drd_params.proofs.ListLemmas.{lists-end, lists-more, lists-short}
 use Rattle.drd_params.proofs.list_data.are_same.Goals as goal
 

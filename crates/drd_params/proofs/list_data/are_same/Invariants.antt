@@ -1,6 +1,6 @@
 use Rattle.std.proofs.Common.{Bool, length}
 use Rattle.std.specs.List.{flat_map}
-use Rattle.drd_address.specs.drd_fields.Equality.{Tells}
+use Rattle.drd_params.specs.drd_fields.Equality.{Tells}
 use Rattle.drd_params.proofs.list_data.are_same.Given as goal
 
 abbrev pub invariant-entries : goal.invariant-entries

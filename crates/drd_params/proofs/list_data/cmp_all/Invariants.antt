@@ -1,6 +1,6 @@
 use Rattle.std.proofs.Common.{◌≡◌, length}
 use Rattle.std.specs.List.{flat_map}
-use Rattle.drd_address.specs.drd_fields.Order.{octets_cmp}
+use Rattle.drd_params.specs.drd_fields.Order.{octets_cmp}
 use Rattle.drd_params.proofs.list_data.cmp_all.Given as goal
 
 abbrev pub invariant-entries : goal.invariant-entries

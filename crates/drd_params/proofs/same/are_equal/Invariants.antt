@@ -1,5 +1,5 @@
 use Rattle.std.proofs.Common.{◌≡◌, length}
-use Rattle.drd_address.specs.drd_fields.Equality.{fields_eq}
+use Rattle.drd_params.specs.drd_fields.Equality.{fields_eq}
 use Rattle.drd_params.specs.Equality.{params_code}
 use Rattle.drd_params.proofs.same.are_equal.Given as goal
 

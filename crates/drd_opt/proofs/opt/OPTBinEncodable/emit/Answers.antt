@@ -2,13 +2,13 @@ use Rattle.std.proofs.Common.{◌≡◌, ◌≤◌, List, [], ◌∷◌, ◌++�
 use Rattle.std.proofs.lemmas.List.{nil_from_length}
 use Rattle.std.proofs.lemmas.List.Elements.{All-push}
 use Rattle.std.proofs.lemmas.Option.{MatchOption-at_none}
-use Rattle.drd_option.specs.dnw_encoder.Encoders.{state}
-use Rattle.drd_option.specs.dnw_encoder.Effects.{IsRefusal}
-use Rattle.drd_option.proofs.dnw_encoder_lemmas.Laws.{writes_then}
-use Rattle.drd_option.specs.dnw_encoder.declared.modes.RDataEncoding.TheVariants.{Other}
-use Rattle.drd_option.specs.drd_fields.Fields.{rest}
-use Rattle.drd_option.specs.drd_fields.Writing.{EmitsData, RefusesFields}
-use Rattle.drd_option.specs.Options.{option_octets, IsLong}
+use Rattle.drd_fields.specs.dnw_encoder.Encoders.{state}
+use Rattle.drd_fields.specs.dnw_encoder.Effects.{IsRefusal}
+use Rattle.drd_fields.proofs.dnw_encoder_lemmas.Laws.{writes_then}
+use Rattle.drd_fields.specs.dnw_encoder.declared.modes.RDataEncoding.TheVariants.{Other}
+use Rattle.drd_fields.specs.Fields.{rest}
+use Rattle.drd_fields.specs.Writing.{EmitsData, RefusesFields}
+use Rattle.drd_opt.specs.Options.{option_octets, IsLong}
 use Rattle.drd_opt.specs.Entries.{Entry, raw_of, raw_octets, entries_octets, AreCountable, HasLong}
 use Rattle.drd_opt.proofs.WriteLemmas.{entry_behind, entry_refused, puts_data}
 use Rattle.drd_opt.proofs.opt.OPTBinEncodable.emit.Goals as goal

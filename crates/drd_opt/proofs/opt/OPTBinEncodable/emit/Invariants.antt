@@ -1,7 +1,7 @@
 use Rattle.std.proofs.Common.{◌≡◌, List, ◌++◌, length}
-use Rattle.drd_option.specs.dnw_encoder.Encoders.{state}
-use Rattle.drd_option.specs.dnw_encoder.Effects.{Writes, WritesOctets}
-use Rattle.drd_option.specs.drd_fields.Writing.{EndsWithin}
+use Rattle.drd_fields.specs.dnw_encoder.Encoders.{state}
+use Rattle.drd_fields.specs.dnw_encoder.Effects.{Writes, WritesOctets}
+use Rattle.drd_fields.specs.Writing.{EndsWithin}
 use Rattle.drd_opt.specs.Entries.{Entry, entries_octets, AreCountable}
 use Rattle.drd_opt.proofs.opt.OPTBinEncodable.emit.Given as goal
 

@@ -1,5 +1,5 @@
 use Rattle.std.proofs.Common.{◌⊎◌, sym, subst}
-use Rattle.drd_address.specs.dnw_decoder.Reading.{IsWantOfMemory}
+use Rattle.drd_params.specs.dnw_decoder.Reading.{IsWantOfMemory}
 use Rattle.drd_param_keys.specs.declared.key.SvcParamKey.{SvcParamKey}
 use Rattle.drd_params.specs.Refusals.{NoValue}
 use Rattle.drd_params.proofs.NoValues.{no-alpn, no-mandatory}

@@ -1,7 +1,0 @@
-pub mod CodeLaws
-pub mod SubnetLemmas
-pub use Rattle.drd_words.proofs.dnw_name_lemmas
-pub mod drd_words_lemmas
-pub use Rattle.drd_fields.proofs.dnw_decoder_lemmas
-pub use Rattle.drd_fields.proofs.dnw_encoder_lemmas
-pub mod drd_fields_lemmas

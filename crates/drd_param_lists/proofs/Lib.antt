@@ -1,4 +1,0 @@
-pub mod Emitting
-mod Filling
-pub mod NoLists
-mod Putting
