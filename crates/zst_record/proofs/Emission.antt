@@ -22,6 +22,8 @@ use Rattle.drd_rdata.specs.Types.{type_of}
 use Rattle.drd_rdata.specs.Writing.{EmitsRData, RefusesRData, WritesInFull, written_octets}
 use Rattle.drd_rdata.proofs.WrittenLaws.{HoldsSome, data_within, encoded_full, written_holds, written_size, written_refused}
 use Rattle.drd_rdata.specs.declared.rdata.RData.{RData}
+use Rattle.drd_rdata.specs.declared.rdata.RData.TheVariants as rdata
+use Rattle.drd_rdata.specs.drd_params.declared.aaaa.AAAA.{AAAA}
 use Rattle.zst_record.proofs.OwnCodes.{class_read, class_small, no_options, type_read, type_small}
 use Rattle.zst_record.specs.Writing.{HeadAt, EmitsHead, DataAt, EmitsBehindLength, EmitsRecord, RefusesBehindLength, RefusesRecord, head_numbers}
 use Rattle.zst_record.specs.declared.records.Record.{Record}
@@ -189,33 +191,40 @@ unfolding octets_32
 four_octets octets n is =
     subst (λ (o : List ℕ). slice_index_or o 0 0 ∷ slice_index_or o 1 0 ∷ slice_index_or o 2 0 ∷ slice_index_or o 3 0 ∷ [] ≡ to_be_bytes w32 n) (sym is) refl
 
+pub sixteen_octets : (octets : List ℕ) (aaaa : AAAA) → octets ≡ written_octets (rdata.AAAA aaaa) → slice_index_or octets 0 0 ∷ slice_index_or octets 1 0 ∷ slice_index_or octets 2 0 ∷ slice_index_or octets 3 0 ∷ slice_index_or octets 4 0 ∷ slice_index_or octets 5 0 ∷ slice_index_or octets 6 0 ∷ slice_index_or octets 7 0 ∷ slice_index_or octets 8 0 ∷ slice_index_or octets 9 0 ∷ slice_index_or octets 10 0 ∷ slice_index_or octets 11 0 ∷ slice_index_or octets 12 0 ∷ slice_index_or octets 13 0 ∷ slice_index_or octets 14 0 ∷ slice_index_or octets 15 0 ∷ [] ≡ written_octets (rdata.AAAA aaaa)
+sixteen_octets octets aaaa is =
+    subst (λ (o : List ℕ). slice_index_or o 0 0 ∷ slice_index_or o 1 0 ∷ slice_index_or o 2 0 ∷ slice_index_or o 3 0 ∷ slice_index_or o 4 0 ∷ slice_index_or o 5 0 ∷ slice_index_or o 6 0 ∷ slice_index_or o 7 0 ∷ slice_index_or o 8 0 ∷ slice_index_or o 9 0 ∷ slice_index_or o 10 0 ∷ slice_index_or o 11 0 ∷ slice_index_or o 12 0 ∷ slice_index_or o 13 0 ∷ slice_index_or o 14 0 ∷ slice_index_or o 15 0 ∷ [] ≡ written_octets (rdata.AAAA aaaa)) (sym is) refl
+
 pub four_written : (n : ℕ) → length (octets_32 n ++ []) ≡ 4
 unfolding octets_32
 four_written n = refl
 
--- Data whose octets are those of a number of 32 bits, wherever they can be read.
-abbrev pub IsNumber : RData → ℕ → Type 0
-IsNumber v bits =
-    ((m : List ℕ) (p q : ℕ) → IsReadable v → Stands m p (octets_32 bits) q → HoldsAs (type_of v) m p v q) × (length (written_octets v) ≡ 4)
+-- Data whose octets are these, so many, wherever they can be read.
+pub record IsOctets (v : RData) (n : ℕ) (octets : List ℕ) : Type 0 where
+  pub holds : (m : List ℕ) (p q : ℕ) → IsReadable v → Stands m p octets q → HoldsAs (type_of v) m p v q
+  pub written : length (written_octets v) ≡ n
+  pub long : length octets ≡ n
+  pub some : 0 < n
+  pub few : n < 2 ^ 16
 
-number_emitted : (v : RData) (bits : ℕ) (old new : State) → IsNumber v bits → WritesOctets (octets_16 4 ++ octets_32 bits) old new → old.offset + 6 ≤ old.maximum → EmitsBehindLength v old new
-number_emitted v bits old new is octets room =
-    let end : new.offset ≡ old.offset + 2 + 4 = omega (arith, octets.offset, length-octets_32 bits) in
+octets_emitted : (v : RData) (n : ℕ) (own : List ℕ) (old new : State) → IsOctets v n own → WritesOctets (octets_16 n ++ own) old new → old.offset + (2 + n) ≤ old.maximum → EmitsBehindLength v old new
+octets_emitted v n own old new is octets room =
+    let end : new.offset ≡ old.offset + 2 + n = omega (arith, octets.offset, is.long) in
     record {
       stays = λ readable none full small.
-          let there = puts_stands (octets_16 4 ++ octets_32 bits) old new full.sound octets in
+          let there = puts_stands (octets_16 n ++ own) old new full.sound octets in
           record {
             of = λ later agrees.
-                let both = stands_split later old.offset (octets_16 4) (octets_32 bits) new.offset (there.of later agrees) in
+                let both = stands_split later old.offset (octets_16 n) own new.offset (there.of later agrees) in
                 record {
-                  len = 4;
+                  len = n;
                   number = both.0;
-                  small = omega arith;
-                  data_there = inr (omega arith, is.0 later (old.offset + 2) (old.offset + 2 + 4) readable (subst (λ (q : ℕ). Stands later (old.offset + 2) (octets_32 bits) q) end both.1));
+                  small = is.few;
+                  data_there = inr (is.some, is.holds later (old.offset + 2) (old.offset + 2 + n) readable (subst (λ (q : ℕ). Stands later (old.offset + 2) own q) end both.1));
                   filled = end;
                 };
           };
-      size = λ readable. omega (arith, end, is.1);
+      size = λ readable. omega (arith, end, is.written);
       fits = omega (arith, end, room);
     }
 
@@ -223,10 +232,10 @@ number_emitted v bits old new is octets room =
 abbrev between : State → List ℕ → State
 between s front = record s { octets = written_at s.octets s.offset front; offset = s.offset + length front }
 
-pub address_emitted : (r : Record) (bits : ℕ) (a b d : State) → IsNumber r.rdata bits → EmitsName r.name a b → Writes a b → b.offset ≤ length b.octets → WritesOctets (head_numbers r ++ (octets_16 4 ++ octets_32 bits)) b d → b.offset + 14 ≤ b.maximum → r.ttl < 2 ^ 32 → EmitsRecord r a d
-address_emitted r bits a b d is name ab within w room small =
+pub address_emitted : (r : Record) (n : ℕ) (own : List ℕ) (a b d : State) → IsOctets r.rdata n own → EmitsName r.name a b → Writes a b → b.offset ≤ length b.octets → WritesOctets (head_numbers r ++ (octets_16 n ++ own)) b d → b.offset + (10 + n) ≤ b.maximum → r.ttl < 2 ^ 32 → EmitsRecord r a d
+address_emitted r n own a b d is name ab within w room small =
     let head = head_numbers r in
-    let address = octets_16 4 ++ octets_32 bits in
+    let address = octets_16 n ++ own in
     let c = between b head in
     let modes : SameModes b c = record { maximum = refl; encoding = refl; canonical = refl; points = refl } in
     let first : WritesOctets head b c = record { octets = refl; offset = refl; candidates = refl; places = refl; modes = modes } in
@@ -240,14 +249,14 @@ address_emitted r bits a b d is name ab within w room small =
     let bc = puts_writes head b c within first in
     let cd = puts_writes address c d (written_length b.octets b.offset head within).1 second in
     record_emitted r a c d (head_emitted r a b c name ab first bc small) (writes_then a b c ab bc)
-    (number_emitted r.rdata bits c d is second (omega (arith, room, length-octets_32 r.ttl))) cd
+    (octets_emitted r.rdata n own c d is second (omega (arith, room, length-octets_32 r.ttl))) cd
 
-pub address_written : (r : Record) (bits : ℕ) (octets : List ℕ) (a b d : State) (done : Result (Unit {0}) ProtoError) → IsNumber r.rdata bits → EmitsName r.name a b → Writes a b → b.offset ≤ length b.octets → r.ttl < 2 ^ 32 → octets ≡ head_numbers r ++ (octets_16 4 ++ octets_32 bits) → OnOk done (WritesOctets octets b d) → OnOk done (b.offset + length octets ≤ b.maximum) → OnOk done (EmitsRecord r a d)
-address_written r bits octets a b d (Ok done) is name ab within small same written fits =
-    address_emitted r bits a b d is name ab within (subst (λ (o : List ℕ). WritesOctets o b d) same written) (omega (arith, fits, ap length same, length-append (head_numbers r) (octets_16 4 ++ octets_32 bits), length-octets_32 r.ttl, length-octets_32 bits)) small
-address_written r bits octets a b d (Err e) is name ab within small same written fits = written
+pub address_written : (r : Record) (n : ℕ) (own : List ℕ) (octets : List ℕ) (a b d : State) (done : Result (Unit {0}) ProtoError) → IsOctets r.rdata n own → EmitsName r.name a b → Writes a b → b.offset ≤ length b.octets → r.ttl < 2 ^ 32 → octets ≡ head_numbers r ++ (octets_16 n ++ own) → OnOk done (WritesOctets octets b d) → OnOk done (b.offset + length octets ≤ b.maximum) → OnOk done (EmitsRecord r a d)
+address_written r n own octets a b d (Ok done) is name ab within small same written fits =
+    address_emitted r n own a b d is name ab within (subst (λ (o : List ℕ). WritesOctets o b d) same written) (omega (arith, fits, ap length same, length-append (head_numbers r) (octets_16 n ++ own), length-octets_32 r.ttl, is.long)) small
+address_written r n own octets a b d (Err e) is name ab within small same written fits = written
 
-pub address_refused : (r : Record) (bits : ℕ) (octets : List ℕ) (a b : State) (e : ProtoError) → IsNumber r.rdata bits → octets ≡ head_numbers r ++ (octets_16 4 ++ octets_32 bits) → EmitsName r.name a b → Writes a b → IsRefusal b (length octets) e → RefusesRecord r a e
-address_refused r bits octets a b e is same name ab refused = λ alone small.
-    subst (λ (n : ℕ). IsRefusal a n e) (omega (arith, is.1, ap length same, length-append (head_numbers r) (octets_16 4 ++ octets_32 bits), length-octets_32 r.ttl, length-octets_32 bits))
+pub address_refused : (r : Record) (n : ℕ) (own : List ℕ) (octets : List ℕ) (a b : State) (e : ProtoError) → IsOctets r.rdata n own → octets ≡ head_numbers r ++ (octets_16 n ++ own) → EmitsName r.name a b → Writes a b → IsRefusal b (length octets) e → RefusesRecord r a e
+address_refused r n own octets a b e is same name ab refused = λ alone small.
+    subst (λ (n : ℕ). IsRefusal a n e) (omega (arith, is.written, ap length same, length-append (head_numbers r) (octets_16 n ++ own), length-octets_32 r.ttl, is.long))
     (refused_later (length octets) (length (name_octets r.name)) a b e ab.modes (omega (arith, name.size)) refused)

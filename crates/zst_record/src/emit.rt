@@ -6,11 +6,12 @@ ghost use Rattle.drd_rdata.specs.dnw_decoder.Octets.{octets_16, octets_32};
 ghost use Rattle.drd_rdata.specs.dnw_encoder.Effects.{Writes, IsRefusal};
 ghost use Rattle.drd_rdata.specs.dnw_encoder.Encoders.{state};
 ghost use Rattle.drd_rdata.specs.dnw_name.DomainName.{name_octets};
+ghost use Rattle.drd_rdata.specs.Writing.{written_octets};
 ghost use Rattle.zst_record.specs.Lending.{seen};
 ghost use Rattle.zst_record.specs.Writing.{EmitsHead, EmitsBehindLength, EmitsRecord, RefusesBehindLength, RefusesRecord, head_numbers};
 
 use crate::records::{Record, RecordRef};
-use drd_rdata::{A, BinEncodable, BinEncoder, ProtoError, RData};
+use drd_rdata::{A, AAAA, BinEncodable, BinEncoder, ProtoError, RData, octets_of};
 
 impl RecordRef<'_> {
     // The numbers of type, class and time to live, as they stand behind the owner.
@@ -60,6 +61,32 @@ impl RecordRef<'_> {
         self.name.emit(encoder)?;
         encoder.emit_vec(&self.address_octets(a))
     }
+
+    // What stands behind the owner of an address of 128 bits: type, class and time to live, and the address behind its
+    // length.
+    fn wide_octets(&self, aaaa: &AAAA) -> [u8; 26]
+        ensures octets { result ≡ head_numbers (seen self.now) ++ (octets_16 16 ++ written_octets (RData.AAAA aaaa.now)) }
+        ensures small { self.now.ttl < 2 ^ 32 }
+    {
+        let [kind, kind_low, class, class_low, highest, high, low, lowest] = self.head_numbers();
+        let [a, b, c, d, e, f, g, h, i, j, k, l, m, n, o, p] = octets_of(aaaa);
+        [
+            kind, kind_low, class, class_low, highest, high, low, lowest, 0, 16, a, b, c, d, e, f,
+            g, h, i, j, k, l, m, n, o, p,
+        ]
+    }
+
+    // Writes an address of 128 bits, as `emit_address` does one of 32.
+    fn emit_wide(&self, encoder: &mut BinEncoder<'_>, aaaa: &AAAA) -> Result<(), ProtoError>
+        requires { self.now.rdata.now ≡ RData.AAAA aaaa.now }
+        ensures same_reference { encoder.new.buffer.ghost_name ≡ encoder.old.buffer.ghost_name }
+        ensures writes { Writes (state encoder.old) (state encoder.new) }
+        ensures ok { OnOk result (EmitsRecord (seen self.now) (state encoder.old) (state encoder.new)) }
+        ensures cause { IfErr result (RefusesRecord (seen self.now) (state encoder.old)) }
+    {
+        self.name.emit(encoder)?;
+        encoder.emit_vec(&self.wide_octets(aaaa))
+    }
 }
 
 // Writes data behind their length.
@@ -84,8 +111,10 @@ impl BinEncodable for RecordRef<'_> {
 
     /// Writes owner, type, class and time to live, then the data behind their length.
     fn emit(&self, encoder: &mut BinEncoder<'_>) -> Result<(), ProtoError> {
-        if let RData::A(a) = self.rdata {
-            return self.emit_address(encoder, a);
+        match self.rdata {
+            RData::A(a) => return self.emit_address(encoder, a),
+            RData::AAAA(aaaa) => return self.emit_wide(encoder, aaaa),
+            _ => {}
         }
         self.emit_head(encoder)?;
         emit_behind_length(encoder, self.rdata)
