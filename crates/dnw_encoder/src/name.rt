@@ -108,6 +108,7 @@ fn write_name(
 impl BinEncoder<'_> {
     // Writes a name's first so many octets, which are labels, and the end or a pointer behind them. The names that end it
     // and begin there are kept.
+    #[inline(always)]
     fn write_front(&mut self, name: &Name, front: usize, rest: &[u8]) -> Result<(), AllocError>
         requires front { front ≤ length (label_octets name.now.labels) }
         requires fits { (state self.old).offset + (front + length rest.now) < 2 ^ 64 }
@@ -189,6 +190,7 @@ impl BinEncodable for Name {
     ghost refuses = { λ name old e new. (new ≡ old) × IsRefusal old (length (name_octets name)) e };
 
     /// Writes the name, by the encoder's mode. It is refused for its size only where its plain form doesn't fit.
+    #[inline(always)]
     fn emit(&self, encoder: &mut BinEncoder<'_>) -> Result<(), ProtoError>
         ensures same_reference { encoder.new.buffer.ghost_name ≡ encoder.old.buffer.ghost_name }
         ensures writes { Writes (state encoder.old) (state encoder.new) }

@@ -19,6 +19,7 @@ fn next_of<I: Iterator>(iter: &mut I) -> Option<I::Item>
 
 impl BinEncoder<'_> {
     // Writes an item, or takes back what was written of it.
+    #[inline(always)]
     fn emit_item<E: BinEncodable>(&mut self, item: &E, count: usize) -> Result<(), ProtoError>
         ensures same_reference { self.new.buffer.ghost_name ≡ self.old.buffer.ghost_name }
         ensures writes { Writes (state self.old) (state self.new) }

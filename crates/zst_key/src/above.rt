@@ -10,6 +10,7 @@ use std::collections::BTreeMap;
 
 // The last entry of a map that does not stand behind a name in canonical order (RFC 4034 6.1). Where this is the first of
 // all, as a zone's origin is among its names, the map is not searched.
+#[inline(always)]
 fn last_up_to<'m, V>(names: &'m BTreeMap<NameKey, V>, key: &NameKey) -> Option<(&'m NameKey, &'m V)>
     ensures { IsLastUpTo (get name_cmp names.now) key.now (option_map (λ p. (p.0.now, p.1.now)) result) }
 {

@@ -247,6 +247,7 @@ impl<K> InMemoryZoneHandler<K> {
     }
 
     /// What `lookup` answers to a name, which has this key, and a type.
+    #[inline(always)]
     pub fn lookup_at(
         &self,
         alloc: Global,
