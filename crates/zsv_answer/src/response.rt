@@ -12,7 +12,7 @@ use std::iter;
 use zst_request::{AuthLookup, LookupRecords, LookupRecordsIter, RecordRef};
 use zsv_reply::{
     Edns, MessageResponseBuilder, MessageType, Metadata, Queries, RecordType, ResponseCode,
-    ResponseInfo,
+    ResponseInfo, encode_bare,
 };
 use zsv_request::Protocol;
 
@@ -86,7 +86,7 @@ impl Response<'_> {
         !self.is_referral && matches!(&self.beside, LookupRecords::Empty)
     }
 
-    // The reply that holds what stands beside alone, as a denial does.
+    // The reply that holds what stands beside alone, as a denial does. Without that and options it takes no encoder.
     fn encode_beside(
         &self,
         alloc: Global,
@@ -98,6 +98,9 @@ impl Response<'_> {
         ensures { IfOk result (λ sent. Sends (parts_with self.now.metadata false [] [] (records_in self.now.beside))
             (option_copied edns.entry) queries.now protocol sent.0 sent.1.items) }
     {
+        if let (LookupRecords::Empty, None) = (&self.beside, edns) {
+            return encode_bare(alloc, self.metadata, queries, protocol);
+        }
         let beside = self.beside.iter();
         MessageResponseBuilder::new(queries, edns)
             .build(

@@ -1,5 +1,6 @@
 pub mod Asking
 pub mod Bare
+pub mod BareReplies
 pub mod FrontLaws
 pub mod HeaderLaws
 pub mod Lending

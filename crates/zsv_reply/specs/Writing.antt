@@ -1,6 +1,6 @@
 -- A reply as an encoder writes it: as many records of each list as fit, then options of EDNS and a
 -- signature, then the header over them.
-use Rattle.std.specs.Prelude.{◌≡◌, ℕ, ◌+◌, ◌^◌, ◌<◌, ◌≤◌, Bool, true, false, ◌&&◌, ◌||◌, List, length, nat_le, nat_lt, Option, option_to_list, Result, Ok, Err}
+use Rattle.std.specs.Prelude.{◌≡◌, ℕ, ◌+◌, ◌^◌, ◌<◌, ◌≤◌, Bool, true, false, ◌&&◌, ◌||◌, List, [], length, nat_le, nat_lt, Option, None, option_to_list, Result, Ok, Err}
 use Rattle.std.specs.List.{AllByRecursion}
 use Rattle.zsv_request.specs.zsv_message.zst_record.dnw_codes.declared.error.ProtoError.{ProtoError}
 use Rattle.zsv_request.specs.zsv_message.zst_record.dnw_codes.declared.error.ProtoError.TheVariants.{NotAllRecordsWritten}
@@ -23,6 +23,17 @@ use Rattle.zsv_request.specs.zsv_message.zsv_parts.Questions.{Asked}
 use Rattle.zsv_request.specs.zsv_message.zsv_parts.SignatureRecords.{TsigReadsBack, TsigRecordAt}
 use Rattle.zsv_reply.specs.declared.fronts.Kept.{Kept}
 use Rattle.zsv_reply.specs.Replies.{Front, Fronts, FrontsAt, ReplyParts, ReplyRecordAt, bare_failure, first_labels, header_of_fronts, header_of_reply, is_cut, leaves_room, opt_plain, tsig_plain}
+
+-- What a reply holds that has nothing behind its questions.
+abbrev pub bare_parts : Metadata → ReplyParts
+bare_parts m = record {
+  metadata = m;
+  answers = [];
+  authorities = [];
+  additionals = [];
+  edns = None;
+  signature = None;
+}
 
 -- An operation that four bits hold.
 pub record FitsOpCode (m : Metadata) : Type 0 where

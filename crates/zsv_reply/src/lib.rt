@@ -10,6 +10,7 @@ pub use zsv_request::{
     SOA, TsigRecord,
 };
 
+mod bare_reply;
 mod builder;
 mod fronts;
 mod header;
@@ -17,6 +18,7 @@ mod lends;
 mod message_response;
 mod questions;
 
+pub use bare_reply::encode_bare;
 pub use builder::{MessageResponseBuilder, NoRecords};
 pub use lends::LendsRecord;
 pub use message_response::MessageResponse;

@@ -1,0 +1,38 @@
+//! Replies with nothing behind their questions, as most errors are.
+
+ghost use Rattle.std.specs.Prelude.{◌≡◌, IfOk, None};
+ghost use Rattle.zsv_request.specs.Requests.{limit_of};
+ghost use Rattle.zsv_reply.specs.Writing.{FitsOpCode, IsEncoded, bare_parts};
+
+use crate::fronts::Kept;
+use crate::header::{encode_failure, header_over};
+use std::alloc::{AllocError, Global};
+use zsv_request::{Metadata, Protocol, Queries, ResponseInfo};
+
+/// The octets of a reply that holds the questions alone, as they were sent, and its header as it was written. Where the
+/// questions don't fit the transport's limit, it is a header alone, which says that the server failed. It is what
+/// `MessageResponse::encode` gives for no records and no options, without an encoder.
+pub fn encode_bare(
+    alloc: Global,
+    metadata: Metadata,
+    queries: &Queries<'_>,
+    protocol: Protocol,
+) -> Result<(ResponseInfo, Vec<u8>), AllocError>
+    requires { FitsOpCode metadata }
+    ensures { IfOk result (λ sent. IsEncoded sent.0 sent.1.items (bare_parts metadata) queries.now (limit_of protocol None)) }
+{
+    let octets = queries.as_bytes();
+    let size = 12 + octets.len();
+    if usize::from(protocol.limit(None)) < size {
+        return encode_failure(alloc, metadata.id);
+    }
+    let none = Kept {
+        count: 0,
+        is_cut: false,
+    };
+    let header = header_over(metadata, queries.len() as u16, none, none, none);
+    let mut reply = Vec::with_capacity(alloc, size)?;
+    reply.extend_from_slice(&header.octets())?;
+    reply.extend_from_slice(octets)?;
+    Ok((ResponseInfo::from(header), reply))
+}
