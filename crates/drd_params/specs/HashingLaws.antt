@@ -66,8 +66,8 @@ module _ {T : Type 0} (spelled : T → List ℕ)
       ap (λ (n : ℕ). fed.usize n ++ flat_map (λ x. input (spelled x)) xs) same.0
       ∙ ap (λ (w : HashWrites). fed.usize (length ys) ++ w) same.1
 
-pub values-alike : (v w : SvcParamValue) → value_kind v ≡ value_kind w → value_octets v ≡ value_octets w
-    → value_input v ≡ value_input w
+pub values-alike : (v w : SvcParamValue) → value_kind v ≡ value_kind w
+    → value_octets v ≡ value_octets w → value_input v ≡ value_input w
 values-alike (value.Mandatory a) (value.Mandatory b) k e =
     entries-alike (λ k. octets_16 (key_number k)) key_laws one_write a.0.items b.0.items e
 values-alike (value.Alpn a) (value.Alpn b) k e =
