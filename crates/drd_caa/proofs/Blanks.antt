@@ -5,7 +5,7 @@ use Rattle.std.specs.Prelude.{cond}
 use Rattle.std.proofs.lemmas.Bool.{and_parts, and_from, not-true}
 use Rattle.std.proofs.lemmas.List.{reverse-append, reverse-reverse}
 use Rattle.std.proofs.lemmas.List.Folds.{list_all-append}
-use Rattle.drd_plain.specs.dnw_codes.Ascii.{is_blank}
+use Rattle.drd_words.specs.dnw_codes.Ascii.{is_blank}
 use Rattle.drd_caa.specs.Issue.{behind_blanks, trim}
 
 pub blanks-more : (c : ℕ) (cs : List ℕ) → is_blank c ≡ true → behind_blanks (c ∷ cs) ≡ behind_blanks cs

@@ -7,15 +7,15 @@ use Rattle.std.proofs.lemmas.Bool.Decides.{nat_tests}
 use Rattle.std.proofs.lemmas.List.{append-nil}
 use Rattle.std.proofs.lemmas.List.Elements.{All-head, All-tail}
 use Rattle.std.proofs.lemmas.List.Folds.{list_all-append}
-use Rattle.drd_plain.specs.dnw_codes.declared.error.ProtoError.{ProtoError}
-use Rattle.drd_plain.specs.dnw_codes.ProtoError.{IsMemory}
-use Rattle.drd_plain.specs.dnw_label.LabelPrint.{is_plain, octal_print, octet_print, label_print}
-use Rattle.drd_plain.specs.dnw_name.DomainName.{DomainName}
-use Rattle.drd_plain.specs.dnw_name.NamePrint.{name_print, labels_print}
-use Rattle.drd_plain.specs.dnw_name.NameText.{NameText}
-use Rattle.drd_plain.proofs.dnw_name_lemmas.TextLemmas.{name-same}
-use Rattle.drd_plain.specs.drd_words.Words.{EachWord}
-use Rattle.drd_plain.specs.dnw_codes.Ascii.{is_blank}
+use Rattle.drd_words.specs.dnw_codes.declared.error.ProtoError.{ProtoError}
+use Rattle.drd_words.specs.dnw_codes.ProtoError.{IsMemory}
+use Rattle.drd_words.specs.dnw_label.LabelPrint.{is_plain, octal_print, octet_print, label_print}
+use Rattle.drd_words.specs.dnw_name.DomainName.{DomainName}
+use Rattle.drd_words.specs.dnw_name.NamePrint.{name_print, labels_print}
+use Rattle.drd_words.specs.dnw_name.NameText.{NameText}
+use Rattle.drd_words.proofs.dnw_name_lemmas.TextLemmas.{name-same}
+use Rattle.drd_words.specs.Words.{EachWord}
+use Rattle.drd_words.specs.dnw_codes.Ascii.{is_blank}
 use Rattle.drd_caa.specs.Issue.{Parameter, trim, is_key, is_value, IsParameter, AreParameters, IsIssuer, AreIssueParts, IsIssueValue, parameter_print, issue_value, CanIssue, AreFit}
 use Rattle.drd_caa.proofs.Blanks.{all_trimmed, trimmed-same, trimmed-space}
 use Rattle.drd_caa.proofs.Cuts.{lacks, parts_of_one, parts_of_more}

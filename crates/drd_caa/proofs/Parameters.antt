@@ -11,12 +11,12 @@ use Rattle.std.specs.Prelude.{All, ◌<◌}
 use Rattle.std.proofs.lemmas.Str.{IsUtf8-from_ascii}
 use Rattle.std.proofs.lemmas.Str.Ascii.{IsAscii-from_all}
 use Rattle.std.proofs.lemmas.List.Elements.{All-nil, All-cons}
-use Rattle.drd_plain.specs.drd_words.Words.{EachWord}
+use Rattle.drd_words.specs.Words.{EachWord}
 use Rattle.std.specs.Prelude.{MatchOption, Option, None, Some, Result, Ok, Err, IfOk, IfErr}
 use Rattle.std.specs.Borrow.{Bor}
 use Rattle.std.proofs.lemmas.List.Splits.{join_with_byte-slice_split}
 use Rattle.std.specs.List.{join_with_byte}
-use Rattle.drd_plain.specs.dnw_codes.Ascii.{is_blank}
+use Rattle.drd_words.specs.dnw_codes.Ascii.{is_blank}
 use Rattle.drd_caa.specs.Issue.{Parameter, parameter, trim, is_key, is_value, IsParameter, AreParameters}
 use Rattle.drd_caa.proofs.Blanks.{all_trimmed}
 use Rattle.drd_caa.proofs.Cuts.{lacks, semicolon, cut_once, no_cut, parts_of_one, parts_of_more}

@@ -1,7 +1,7 @@
 -- The fields of CAA data (RFC 8659 4.1).
 use Rattle.std.specs.Prelude.{ℕ, ◌≡◌, ◌<◌, ◌+◌, ◌%◌, ◌&&◌, Bool, true, nat_le, List, [], ◌∷◌, length, cond}
-use Rattle.drd_plain.specs.drd_fields.Fields.{Field, octet, string, rest, Kind, an_octet, a_string, the_rest}
-use Rattle.drd_plain.specs.Fields.{are_alphanumeric}
+use Rattle.drd_fields.specs.Fields.{Field, octet, string, rest, Kind, an_octet, a_string, the_rest}
+use Rattle.drd_words.specs.Word.{are_alphanumeric}
 use Rattle.drd_caa.specs.declared.caa.CAA.{CAA}
 
 -- RFC 8659 4.1: the critical flag is the top bit of the flags, the others are reserved.

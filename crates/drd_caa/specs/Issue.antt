@@ -4,11 +4,11 @@ use Rattle.std.specs.Char.{is_ascii_alphanumeric}
 use Rattle.std.specs.Cmp.Lexicographic.{pointwise}
 use Rattle.std.specs.Ordering.{on, eq_of_both}
 use Rattle.std.specs.List.{list_all, flat_map, slice_split}
-use Rattle.drd_plain.specs.dnw_codes.Ascii.{equals_sign, hyphen, semicolon, space, is_blank}
-use Rattle.drd_plain.specs.dnw_name.DomainName.{DomainName}
-use Rattle.drd_plain.specs.dnw_name.NamePrint.{name_print}
-use Rattle.drd_plain.specs.dnw_name.NameText.{NameText}
-use Rattle.drd_plain.specs.drd_words.Words.{EachWord}
+use Rattle.drd_words.specs.dnw_codes.Ascii.{equals_sign, hyphen, semicolon, space, is_blank}
+use Rattle.drd_words.specs.dnw_name.DomainName.{DomainName}
+use Rattle.drd_words.specs.dnw_name.NamePrint.{name_print}
+use Rattle.drd_words.specs.dnw_name.NameText.{NameText}
+use Rattle.drd_words.specs.Words.{EachWord}
 
 -- A parameter: a key and a value.
 pub record Parameter : Type 0 where

@@ -7,4 +7,3 @@ pub mod Tags
 pub mod Values
 pub mod Words
 pub mod WordsLaws
-pub mod drd_plain

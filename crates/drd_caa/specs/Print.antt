@@ -1,8 +1,7 @@
 -- Printed CAA data (RFC 8659 4.1.1).
 use Rattle.std.specs.Prelude.{ℕ, List, [], ◌∷◌}
 use Rattle.std.specs.Fmt.{decimal}
-use Rattle.drd_plain.specs.drd_words.Print.{escaped_print, quotation}
-use Rattle.drd_plain.specs.Print.{words_from}
+use Rattle.drd_words.specs.Print.{escaped_print, quotation, words_from}
 use Rattle.drd_caa.specs.declared.caa.CAA.{CAA}
 use Rattle.drd_caa.specs.Fields.{caa_flags}
 

@@ -1,10 +1,10 @@
 -- The words that CAA data are read from (RFC 8659 4.1.1).
 use Rattle.std.specs.Prelude.{ℕ, ◌≡◌, ◌<◌, true, List}
 use lib.Chars.{codes}
-use Rattle.drd_plain.specs.dnw_codes.declared.error.ParseError.{ParseError}
-use Rattle.drd_plain.specs.drd_words.Refusals.{RefusesMore, RefusesNumber, RefusesOneThen, RefusesUnless}
-use Rattle.drd_plain.specs.drd_words.Word.{IsNumberWord}
-use Rattle.drd_plain.specs.drd_words.Words.{NoWords, OneThen}
+use Rattle.drd_words.specs.dnw_codes.declared.error.ParseError.{ParseError}
+use Rattle.drd_words.specs.Refusals.{RefusesMore, RefusesNumber, RefusesOneThen, RefusesUnless}
+use Rattle.drd_words.specs.Word.{IsNumberWord}
+use Rattle.drd_words.specs.Words.{NoWords, OneThen}
 use Rattle.drd_caa.specs.declared.caa.CAA.{CAA}
 use Rattle.drd_caa.specs.Fields.{caa_flags, is_caa_tag}
 

@@ -1,8 +1,8 @@
 -- The causes that words of CAA data are refused by.
 use Rattle.std.specs.Prelude.{ℕ, ◌≡◌, List}
 use lib.Chars.{codes}
-use Rattle.drd_plain.specs.drd_words.Refusals.{AreCauses, IsOneCause}
-use Rattle.drd_plain.specs.drd_words.RefusalsLaws.{no_causes, tested_causes, tested_one}
+use Rattle.drd_words.specs.Refusals.{AreCauses, IsOneCause}
+use Rattle.drd_words.specs.RefusalsLaws.{no_causes, tested_causes, tested_one}
 use Rattle.drd_caa.specs.Fields.{is_caa_tag}
 use Rattle.drd_caa.specs.Words.{IsTagWord, RefusesTag}
 

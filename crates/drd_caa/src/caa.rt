@@ -1,24 +1,24 @@
 //! CAA (RFC 8659 4).
 ghost use Rattle.std.specs.Prelude.{◌≡◌, ◌∷◌, [], Some, ◌<◌};
 ghost use Rattle.std.specs.Cmp.{partial_equiv_from_equiv};
-ghost use Rattle.drd_plain.specs.dnw_encoder.declared.modes.RDataEncoding.TheVariants.{Other};
-ghost use Rattle.drd_plain.specs.drd_fields.Fields.{octet, string, rest};
-ghost use Rattle.drd_plain.specs.drd_fields.Equality.{AreFull, Tells, fields_eq};
-ghost use Rattle.drd_plain.specs.drd_fields.Order.{fields_input};
-ghost use Rattle.drd_plain.proofs.drd_fields_lemmas.EqualityLaws.{data_equiv};
-ghost use Rattle.drd_plain.proofs.drd_fields_lemmas.OrderLaws.{fields-alike};
-ghost use Rattle.drd_plain.specs.drd_fields.Writing.{EmitsData, RefusesFields, canonical_octets};
+ghost use Rattle.drd_fields.specs.dnw_encoder.declared.modes.RDataEncoding.TheVariants.{Other};
+ghost use Rattle.drd_fields.specs.Fields.{octet, string, rest};
+ghost use Rattle.drd_fields.specs.Equality.{AreFull, Tells, fields_eq};
+ghost use Rattle.drd_fields.specs.Order.{fields_input};
+ghost use Rattle.drd_fields.proofs.EqualityLaws.{data_equiv};
+ghost use Rattle.drd_fields.proofs.OrderLaws.{fields-alike};
+ghost use Rattle.drd_fields.specs.Writing.{EmitsData, RefusesFields, canonical_octets};
 ghost use Rattle.drd_caa.specs.Fields.{IsCaa, caa_fields, caa_flags};
 ghost use Rattle.drd_caa.specs.Print.{caa_print};
 ghost use Rattle.drd_caa.specs.Reading.{CaaMisfits};
 ghost use Rattle.drd_caa.specs.Words.{IsCaaText, RefusesCaaText};
 
 use crate::words::{Tag, Value, is_tag};
-use drd_plain::{
+use drd_fields::{
     BinEncodable, BinEncoder, CharacterString, DecodeError, FieldData, FieldRef, Fields,
-    ProtoError, RDataEncoding, Rest, RestField, StringField, TextData, emit_three, fmt_escaped,
-    fmt_quoted, hash_list, is_same_data,
+    ProtoError, RDataEncoding, Rest, RestField, StringField, emit_three, hash_list, is_same_data,
 };
+use drd_words::{TextData, fmt_escaped, fmt_quoted};
 use std::fmt;
 use std::hash::{Hash, Hasher};
 

@@ -4,14 +4,14 @@ ghost use Rattle.std.specs.Char.{is_ascii_alphanumeric};
 ghost use Rattle.std.specs.List.{list_all, slice_split};
 ghost use Rattle.std.specs.String.{string_bytes};
 ghost use Rattle.std.specs.Str.{IsUtf8};
-ghost use Rattle.drd_plain.specs.dnw_codes.ProtoError.{IsMemory};
-ghost use Rattle.drd_plain.specs.dnw_name.DomainName.{DomainName};
-ghost use Rattle.drd_plain.specs.drd_words.Words.{EachWord};
-ghost use Rattle.drd_plain.specs.dnw_codes.Ascii.{hyphen, is_blank, semicolon};
+ghost use Rattle.drd_words.specs.dnw_codes.ProtoError.{IsMemory};
+ghost use Rattle.drd_words.specs.dnw_name.DomainName.{DomainName};
+ghost use Rattle.drd_words.specs.Words.{EachWord};
+ghost use Rattle.drd_words.specs.dnw_codes.Ascii.{hyphen, is_blank, semicolon};
 ghost use Rattle.drd_caa.specs.Issue.{Parameter, parameter, behind_blanks, trim, is_key, is_value, IsParameter, AreParameters, IsIssuer, IsIssueValue, issue_value, CanIssue, AreFit};
 
 use crate::key_value::KeyValue;
-use drd_plain::{Name, ProtoError};
+use drd_words::{Name, ProtoError};
 use std::alloc::{AllocError, Global};
 use std::str;
 

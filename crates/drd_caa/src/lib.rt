@@ -1,8 +1,6 @@
 //! Record data that say which certificates may be issued for a domain (RFC 8659).
 #![tactic(auto)]
 
-pub use drd_plain::{HINFO, NAPTR, NULL, TXT, verify_flags};
-
 mod caa;
 mod issuer;
 mod key_value;

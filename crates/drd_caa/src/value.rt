@@ -5,8 +5,8 @@ ghost use lib.Chars.{codes};
 ghost use Rattle.std.specs.Option.{option_copied};
 ghost use Rattle.std.specs.Str.{IsUtf8};
 ghost use Rattle.std.specs.String.{string_bytes};
-ghost use Rattle.drd_plain.specs.dnw_codes.ProtoError.{IsMemory};
-ghost use Rattle.drd_plain.specs.dnw_name.DomainName.{DomainName};
+ghost use Rattle.drd_words.specs.dnw_codes.ProtoError.{IsMemory};
+ghost use Rattle.drd_words.specs.dnw_name.DomainName.{DomainName};
 ghost use Rattle.drd_caa.specs.Issue.{Parameter, IsIssueValue, issue_value, parameter_print, CanIssue, AreFit};
 ghost use Rattle.drd_caa.specs.Tags.{IsIssueTag, IsIodefTag};
 ghost use Rattle.drd_caa.specs.Values.{IsProperty, HasValue};
@@ -14,7 +14,7 @@ ghost use Rattle.drd_caa.specs.Values.{IsProperty, HasValue};
 use crate::caa::CAA;
 use crate::issuer::{read_issuer, text_of};
 use crate::key_value::KeyValue;
-use drd_plain::{Name, ProtoError};
+use drd_words::{Name, ProtoError};
 use std::alloc::{AllocError, Global};
 
 impl CAA {

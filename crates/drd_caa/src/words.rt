@@ -3,9 +3,10 @@ ghost use Rattle.std.specs.Prelude.{◌≡◌};
 ghost use Rattle.drd_caa.specs.Fields.{is_caa_tag};
 ghost use Rattle.drd_caa.specs.Words.{IsTagWord, IsValueWord, RefusesTag};
 ghost use Rattle.drd_caa.specs.WordsLaws.{tag_causes};
-ghost use Rattle.drd_plain.specs.drd_words.RefusalsLaws.{no_causes};
+ghost use Rattle.drd_words.specs.RefusalsLaws.{no_causes};
+ghost use Rattle.drd_words.specs.Word.{are_alphanumeric};
 
-use drd_plain::{Name, ParseError, Word, verify_flags};
+use drd_words::{Name, ParseError, Word};
 use std::alloc::Global;
 use std::marker::Model;
 
@@ -53,11 +54,18 @@ impl Value {
     }
 }
 
+// Whether octets are ASCII letters and digits.
+fn are_alphanumeric(octets: &[u8]) -> bool
+    ensures { result ≡ are_alphanumeric octets.now }
+{
+    octets.iter().all(|octet| octet.is_ascii_alphanumeric())
+}
+
 /// Whether a tag is 1 to 15 letters and digits (RFC 8659 4.1).
 pub fn is_tag(tag: &[u8]) -> bool
     ensures { result ≡ is_caa_tag tag.now }
 {
-    !tag.is_empty() && tag.len() <= 15 && verify_flags(tag)
+    !tag.is_empty() && tag.len() <= 15 && are_alphanumeric(tag)
 }
 
 impl Word for Tag {

@@ -1,7 +1,5 @@
 -- The fields of record data that are strings, flags or octets alone.
-use Rattle.std.specs.Prelude.{ℕ, Bool, List, [], ◌∷◌, map}
-use Rattle.std.specs.Char.{is_ascii_alphanumeric}
-use Rattle.std.specs.List.{list_all}
+use Rattle.std.specs.Prelude.{ℕ, List, [], ◌∷◌, map}
 use Rattle.drd_fields.specs.Fields.{Field, short, name, string, strings, rest, Kind, a_short, a_name, a_string, all_strings, the_rest}
 use Rattle.drd_plain.specs.declared.hinfo.HINFO.{HINFO}
 use Rattle.drd_plain.specs.declared.naptr.NAPTR.{NAPTR}
@@ -32,10 +30,6 @@ null_fields null = rest null.anything.items ∷ []
 
 abbrev pub null_kinds : List Kind
 null_kinds = the_rest ∷ []
-
--- ASCII letters and digits alone.
-abbrev pub are_alphanumeric : List ℕ → Bool
-are_alphanumeric octets = list_all is_ascii_alphanumeric octets
 
 -- RFC 3403 4.1: order, preference, flags, services, regexp and replacement.
 abbrev pub naptr_fields : NAPTR → List Field

@@ -6,16 +6,12 @@ use Rattle.base64.specs.Engines.{standard}
 use Rattle.base64.specs.GeneralPurpose.{encode_of}
 use Rattle.drd_words.specs.dnw_codes.Ascii.{space}
 use Rattle.drd_words.specs.dnw_name.NamePrint.{name_print}
-use Rattle.drd_words.specs.Print.{escaped_print, quotation}
+use Rattle.drd_words.specs.Print.{escaped_print, quotation, words_from}
 use Rattle.drd_plain.specs.declared.hinfo.HINFO.{HINFO}
 use Rattle.drd_plain.specs.declared.naptr.NAPTR.{NAPTR}
 use Rattle.drd_plain.specs.declared.null.NULL.{NULL}
 use Rattle.drd_plain.specs.declared.txt.TXT.{TXT}
 use Rattle.drd_plain.specs.Fields.{txt_strings}
-
--- Words, each but the first behind a space.
-abbrev pub words_from : List ℕ → List (List ℕ) → List ℕ
-words_from first words = first ++ flat_map (λ word. space ∷ word) words
 
 -- The processor and the operating system.
 abbrev pub hinfo_print : HINFO → List ℕ

@@ -4,12 +4,12 @@ use lib.Chars.{codes}
 use Rattle.drd_words.specs.dnw_codes.declared.error.ParseError.{ParseError}
 use Rattle.drd_words.specs.dnw_name.DomainName.{DomainName}
 use Rattle.drd_words.specs.Refusals.{RefusesEach, RefusesMore, RefusesNameWord, RefusesNumber, RefusesOneThen, RefusesString, RefusesUnless}
-use Rattle.drd_words.specs.Word.{IsNumberWord, IsNameWord, IsStringWord}
+use Rattle.drd_words.specs.Word.{IsNumberWord, IsNameWord, IsStringWord, are_alphanumeric}
 use Rattle.drd_words.specs.Words.{NoWords, OneThen, EachWord}
 use Rattle.drd_plain.specs.declared.hinfo.HINFO.{HINFO}
 use Rattle.drd_plain.specs.declared.naptr.NAPTR.{NAPTR}
 use Rattle.drd_plain.specs.declared.txt.TXT.{TXT}
-use Rattle.drd_plain.specs.Fields.{txt_strings, are_alphanumeric}
+use Rattle.drd_plain.specs.Fields.{txt_strings}
 
 -- RFC 1035 3.3.2: the processor and the operating system.
 abbrev pub IsHinfoText : List (List ℕ) → HINFO → Type 0

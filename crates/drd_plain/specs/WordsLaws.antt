@@ -4,7 +4,7 @@ use Rattle.std.proofs.Common.{sym, ◌∙◌, ap}
 use lib.Chars.{codes}
 use Rattle.drd_words.specs.Refusals.{AreCauses, IsOneCause}
 use Rattle.drd_words.specs.RefusalsLaws.{tested_causes, tested_one, string_causes, string_one}
-use Rattle.drd_plain.specs.Fields.{are_alphanumeric}
+use Rattle.drd_words.specs.Word.{are_alphanumeric}
 use Rattle.drd_plain.specs.Words.{IsFlagsWord, RefusesFlags}
 
 pub flags_causes : (word : List ℕ) → AreCauses (λ flags. IsFlagsWord flags word) (RefusesFlags word)

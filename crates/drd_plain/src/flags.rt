@@ -1,6 +1,6 @@
 //! Flags of letters and digits.
 ghost use Rattle.std.specs.Prelude.{◌≡◌};
-ghost use Rattle.drd_plain.specs.Fields.{are_alphanumeric};
+ghost use Rattle.drd_words.specs.Word.{are_alphanumeric};
 ghost use Rattle.drd_plain.specs.Words.{IsFlagsWord, RefusesFlags};
 ghost use Rattle.drd_plain.specs.WordsLaws.{flags_causes};
 

@@ -6,7 +6,7 @@ pub use drd_fields::{
     RestField, StringField, emit_three, hash_list, is_same_data,
 };
 pub use drd_words::{
-    DecodeError, Name, ParseError, ProtoError, TextData, Word, fmt_escaped, fmt_quoted,
+    DNSClass, DecodeError, ParseError, ProtoError, RecordType, Restrict, TextData,
 };
 
 mod flags;

@@ -13,9 +13,10 @@ ghost use Rattle.drd_fields.specs.Order.{fields_input};
 ghost use Rattle.drd_fields.proofs.EqualityLaws.{data_equiv};
 ghost use Rattle.drd_fields.proofs.OrderLaws.{fields-alike};
 ghost use Rattle.drd_fields.specs.Writing.{EmitsData, RefusesFields, canonical_octets};
-ghost use Rattle.drd_plain.specs.Fields.{naptr_fields, naptr_kinds, are_alphanumeric};
+ghost use Rattle.drd_plain.specs.Fields.{naptr_fields, naptr_kinds};
 ghost use Rattle.drd_plain.specs.Print.{naptr_print, naptr_strings};
 ghost use Rattle.drd_words.specs.Print.{quotation};
+ghost use Rattle.drd_words.specs.Word.{are_alphanumeric};
 ghost use Rattle.drd_plain.specs.Reading.{NaptrMisfits};
 ghost use Rattle.drd_plain.specs.Words.{IsNaptrText, RefusesNaptrText};
 

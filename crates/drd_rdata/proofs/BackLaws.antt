@@ -3,10 +3,10 @@ use Rattle.std.proofs.Common.{◌≡◌, ℕ, ◌+◌, ◌++◌, inl, inr, Bool,
 use Rattle.std.proofs.lemmas.List.Elements.{All-nil}
 use Rattle.std.specs.List.{All}
 use Rattle.std.specs.Prelude.{Result, Ok, Err, IfOk}
-use Rattle.dnw_codes.specs.RecordType.{record_type_number}
-use Rattle.dnw_codes.specs.declared.error.DecodeError.{DecodeError}
-use Rattle.dnw_codes.specs.declared.record_type.RecordType.{RecordType}
-use Rattle.dnw_codes.specs.declared.record_type.RecordType.TheVariants as kind
+use Rattle.drd_types.specs.dnw_codes.RecordType.{record_type_number}
+use Rattle.drd_types.specs.dnw_codes.declared.error.DecodeError.{DecodeError}
+use Rattle.drd_types.specs.dnw_codes.declared.record_type.RecordType.{RecordType}
+use Rattle.drd_types.specs.dnw_codes.declared.record_type.RecordType.TheVariants as kind
 use Rattle.drd_types.specs.dnw_decoder.Octets.{octets_16, octets_32, Stands}
 use Rattle.drd_types.proofs.dnw_decoder_lemmas.Standing.{stands_same, length-octets_32}
 use Rattle.drd_types.specs.dnw_encoder.Effects.{Sound, StaysTrue}
@@ -14,16 +14,16 @@ use Rattle.drd_types.specs.dnw_encoder.State.{State, rdata_encoding}
 use Rattle.drd_types.specs.dnw_encoder.declared.modes.NameEncoding.{NameEncoding}
 use Rattle.drd_types.specs.dnw_encoder.declared.modes.NameEncoding.TheVariants.{Uncompressed}
 use Rattle.drd_types.specs.dnw_encoder.declared.modes.RDataEncoding.TheVariants.{Other}
-use Rattle.drd_types.specs.dnw_wire.BitMapLaws.{maps_rise, read_once}
-use Rattle.drd_types.specs.dnw_wire.MapOrder.{tight_maps}
-use Rattle.drd_types.specs.dnw_wire.MapOrderLaws.{tight_written}
+use Rattle.drd_names_keys.specs.dnw_wire.BitMapLaws.{maps_rise, read_once}
+use Rattle.drd_names_keys.specs.dnw_wire.MapOrder.{tight_maps}
+use Rattle.drd_names_keys.specs.dnw_wire.MapOrderLaws.{tight_written}
 use Rattle.drd_types.specs.drd_fields.Fields.{rest, FieldsAt}
 use Rattle.drd_types.proofs.drd_fields_lemmas.BackLaws.{fields_back, fields_full}
 use Rattle.drd_types.specs.drd_fields.Equality.{Tells}
 use Rattle.drd_types.specs.drd_fields.Writing.{canonical_octets, encoded_fields, fields_octets}
 use Rattle.drd_svcb.specs.Fields.{svcb_fields}
-use Rattle.drd_types.specs.drd_csync.Data.{csync_fields, csync_flags, CsyncAt}
-use Rattle.drd_types.specs.drd_csync.declared.csync.CSYNC.{CSYNC}
+use Rattle.drd_names_keys.specs.drd_csync.Data.{csync_fields, csync_flags, CsyncAt}
+use Rattle.drd_names_keys.specs.drd_csync.declared.csync.CSYNC.{CSYNC}
 use Rattle.drd_types.proofs.drd_opt_lemmas.BackLaws.{read_back}
 use Rattle.drd_types.proofs.drd_opt_lemmas.FitLaws.{read_fit}
 use Rattle.drd_types.specs.drd_opt.Entries.{Entry, FitsLengths, RawOption, raw_octets, raw_of, entries_octets, options_octets}

@@ -1,7 +1,7 @@
 -- A type that is none of those with a form of their own has none.
 use Rattle.std.proofs.Common.{◌≡◌, refl}
-use Rattle.dnw_codes.specs.declared.record_type.RecordType.{RecordType}
-use Rattle.dnw_codes.specs.declared.record_type.RecordType.TheVariants as kind
+use Rattle.drd_types.specs.dnw_codes.declared.record_type.RecordType.{RecordType}
+use Rattle.drd_types.specs.dnw_codes.declared.record_type.RecordType.TheVariants as kind
 use Rattle.drd_rdata.specs.Reading.{IsOther}
 
 pub record NotOwn (t : RecordType) : Type 0 where

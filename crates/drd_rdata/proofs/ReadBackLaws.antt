@@ -2,8 +2,8 @@
 -- them, and all else as it is.
 use Rattle.std.proofs.Common.{◌≡◌, ℕ, ◌+◌, List, [], ◌∷◌, refl, sym, subst, ◌∙◌}
 use Rattle.std.specs.Prelude.{Result, Ok, Err, IfOk}
-use Rattle.dnw_codes.specs.declared.error.DecodeError.{DecodeError}
-use Rattle.dnw_codes.specs.declared.record_type.RecordType.{RecordType}
+use Rattle.drd_types.specs.dnw_codes.declared.error.DecodeError.{DecodeError}
+use Rattle.drd_types.specs.dnw_codes.declared.record_type.RecordType.{RecordType}
 use Rattle.drd_types.specs.dnw_decoder.Octets.{Stands}
 use Rattle.drd_types.specs.dnw_encoder.Effects.{Sound, StaysTrue}
 use Rattle.drd_types.proofs.dnw_encoder_lemmas.Laws.{holds_map}

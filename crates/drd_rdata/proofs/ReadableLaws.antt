@@ -12,15 +12,15 @@ use Rattle.drd_svcb.proofs.dnw_encoder_lemmas.NameLaws.{length-name_octets}
 use Rattle.drd_svcb.specs.dnw_name.DomainName.{DomainName, name_octets}
 use Rattle.drd_svcb.specs.drd_params.AddressFields.{a_fields}
 use Rattle.drd_svcb.specs.drd_params.declared.a.A.{A}
-use Rattle.drd_types.specs.drd_names.Fields.{ns_fields, soa_fields}
-use Rattle.drd_types.specs.drd_names.declared.ns.NS.{NS}
-use Rattle.drd_types.specs.drd_names.declared.soa.SOA.{SOA}
-use Rattle.drd_types.specs.dnw_wire.BitMapLaws.{maps_rise, tight_reads}
-use Rattle.drd_types.specs.dnw_wire.BitMaps.{Rises}
-use Rattle.drd_types.specs.dnw_wire.MapOrder.{tight_maps}
-use Rattle.drd_types.specs.dnw_wire.MapOrderLaws.{tight_written}
-use Rattle.drd_types.specs.drd_csync.Data.{csync_fields}
-use Rattle.drd_types.specs.drd_csync.declared.csync.CSYNC.{CSYNC}
+use Rattle.drd_names_keys.specs.drd_names.Fields.{ns_fields, soa_fields}
+use Rattle.drd_names_keys.specs.drd_names.declared.ns.NS.{NS}
+use Rattle.drd_names_keys.specs.drd_names.declared.soa.SOA.{SOA}
+use Rattle.drd_names_keys.specs.dnw_wire.BitMapLaws.{maps_rise, tight_reads}
+use Rattle.drd_names_keys.specs.dnw_wire.BitMaps.{Rises}
+use Rattle.drd_names_keys.specs.dnw_wire.MapOrder.{tight_maps}
+use Rattle.drd_names_keys.specs.dnw_wire.MapOrderLaws.{tight_written}
+use Rattle.drd_names_keys.specs.drd_csync.Data.{csync_fields}
+use Rattle.drd_names_keys.specs.drd_csync.declared.csync.CSYNC.{CSYNC}
 use Rattle.drd_types.specs.drd_opt.declared.opt.OPT.{OPT}
 use Rattle.drd_svcb.specs.Fields.{svcb_fields}
 use Rattle.drd_svcb.specs.declared.https.HTTPS.{HTTPS}

@@ -3,15 +3,15 @@ use Rattle.std.proofs.Common.{ℕ, ◌<◌, ◌+◌, inl, inr, List, [], ◌∷�
 use Rattle.std.proofs.lemmas.List.Elements.{All-head, All-tail, All-nil}
 use Rattle.std.specs.List.{All}
 use Rattle.std.specs.Prelude.{Result, Ok, Err, IfOk}
-use Rattle.dnw_codes.specs.declared.error.DecodeError.{DecodeError}
-use Rattle.dnw_codes.specs.declared.error.ProtoError.{ProtoError}
-use Rattle.dnw_codes.specs.declared.record_type.RecordType.{RecordType}
-use Rattle.dnw_codes.specs.declared.record_type.RecordType.TheVariants as kind
+use Rattle.drd_types.specs.dnw_codes.declared.error.DecodeError.{DecodeError}
+use Rattle.drd_types.specs.dnw_codes.declared.error.ProtoError.{ProtoError}
+use Rattle.drd_types.specs.dnw_codes.declared.record_type.RecordType.{RecordType}
+use Rattle.drd_types.specs.dnw_codes.declared.record_type.RecordType.TheVariants as kind
 use Rattle.drd_types.specs.dnw_encoder.State.{State}
 use Rattle.drd_types.specs.drd_fields.Fields.{Field, octet, short, long, name, string, strings, rest, FieldAt, FieldsAt, StringsAt}
 use Rattle.drd_types.specs.drd_fields.Writing.{HasLongString, HaveLongString, SomeTooLong, RefusesFields, fields_octets}
 use Rattle.drd_types.specs.drd_opt.Entries.{Entry, FitsLengths, raw_of, entries_octets, HasLong}
-use Rattle.dnw_codes.specs.declared.error.ProtoError.TheVariants.{Message}
+use Rattle.drd_types.specs.dnw_codes.declared.error.ProtoError.TheVariants.{Message}
 use Rattle.drd_types.specs.drd_opt.Options.{option_octets, IsLong}
 use Rattle.drd_types.proofs.drd_opt_lemmas.FitLaws.{read_fit}
 use Rattle.drd_svcb.specs.Fields.{svcb_fields}

@@ -3,9 +3,9 @@
 use Rattle.std.proofs.Common.{◌≡◌, ℕ, ◌+◌, ◌<◌, ◌≤◌, inl, inr, Bool, true, false, List, [], ◌∷◌, ◌++◌, length, map, cond, refl, sym, ap, subst, ◌∙◌, arith}
 use Rattle.std.proofs.lemmas.List.{length-append}
 use Rattle.std.specs.Str.{str_to_ascii_lowercase}
-use Rattle.dnw_codes.specs.declared.error.ProtoError.{ProtoError}
-use Rattle.dnw_codes.specs.declared.record_type.RecordType.{RecordType}
-use Rattle.dnw_codes.specs.declared.record_type.RecordType.TheVariants as kind
+use Rattle.drd_types.specs.dnw_codes.declared.error.ProtoError.{ProtoError}
+use Rattle.drd_types.specs.dnw_codes.declared.record_type.RecordType.{RecordType}
+use Rattle.drd_types.specs.dnw_codes.declared.record_type.RecordType.TheVariants as kind
 use Rattle.drd_svcb.specs.dnw_name.DomainName.{DomainName, domain_name}
 use Rattle.drd_types.specs.dnw_decoder.Octets.{octets_16, octets_32}
 use Rattle.drd_types.proofs.dnw_decoder_lemmas.SpellingLaws.{spelled_within}
@@ -17,12 +17,12 @@ use Rattle.drd_types.specs.dnw_encoder.State.{State, is_lower, rdata_encoding}
 use Rattle.drd_types.specs.dnw_encoder.declared.modes.NameEncoding.{NameEncoding}
 use Rattle.drd_types.specs.dnw_encoder.declared.modes.RDataEncoding.{RDataEncoding}
 use Rattle.drd_types.specs.dnw_encoder.declared.modes.RDataEncoding.TheVariants.{StandardRecord, Canonical, Other}
-use Rattle.drd_types.specs.dnw_wire.BitMapLaws.{maps_rise, written_once}
-use Rattle.drd_types.specs.dnw_wire.BitMaps.{AreTightMaps}
-use Rattle.drd_types.specs.dnw_wire.MapOrder.{tight_maps}
-use Rattle.drd_types.specs.dnw_wire.MapOrderLaws.{tight_written}
-use Rattle.drd_types.specs.drd_csync.Data.{csync_fields, csync_flags, CsyncAt}
-use Rattle.drd_types.specs.drd_csync.declared.csync.CSYNC.{CSYNC}
+use Rattle.drd_names_keys.specs.dnw_wire.BitMapLaws.{maps_rise, written_once}
+use Rattle.drd_names_keys.specs.dnw_wire.BitMaps.{AreTightMaps}
+use Rattle.drd_names_keys.specs.dnw_wire.MapOrder.{tight_maps}
+use Rattle.drd_names_keys.specs.dnw_wire.MapOrderLaws.{tight_written}
+use Rattle.drd_names_keys.specs.drd_csync.Data.{csync_fields, csync_flags, CsyncAt}
+use Rattle.drd_names_keys.specs.drd_csync.declared.csync.CSYNC.{CSYNC}
 use Rattle.drd_types.proofs.drd_fields_lemmas.BackLaws.{fields_full}
 use Rattle.drd_types.specs.drd_fields.Equality.{AreFull}
 use Rattle.drd_types.specs.drd_fields.FieldLaws.{strings_forward, fields_forward}

@@ -1,15 +1,15 @@
 -- Record data of every type as fields (RFC 1035 3.3), and how their names are written.
 use Rattle.std.specs.Prelude.{List, [], ◌∷◌}
-use Rattle.dnw_codes.specs.declared.record_type.RecordType.{RecordType}
-use Rattle.dnw_codes.specs.declared.record_type.RecordType.TheVariants as kind
+use Rattle.drd_types.specs.dnw_codes.declared.record_type.RecordType.{RecordType}
+use Rattle.drd_types.specs.dnw_codes.declared.record_type.RecordType.TheVariants as kind
 use Rattle.drd_types.specs.dnw_encoder.declared.modes.RDataEncoding.{RDataEncoding}
 use Rattle.drd_types.specs.dnw_encoder.declared.modes.RDataEncoding.TheVariants.{StandardRecord, Canonical, Other}
-use Rattle.drd_types.specs.dnw_wire.MapOrder.{tight_maps}
+use Rattle.drd_names_keys.specs.dnw_wire.MapOrder.{tight_maps}
 use Rattle.drd_types.specs.drd_caa.Fields.{caa_fields, caa_kinds}
-use Rattle.drd_types.specs.drd_csync.Data.{csync_fields}
+use Rattle.drd_names_keys.specs.drd_csync.Data.{csync_fields}
 use Rattle.drd_types.specs.drd_fields.Fields.{Field, rest, Kind, a_long, a_short, the_rest}
-use Rattle.drd_types.specs.drd_keys.Fields.{cert_fields, cert_kinds, openpgpkey_fields, openpgpkey_kinds, smimea_fields, smimea_kinds, sshfp_fields, sshfp_kinds, tlsa_fields, tlsa_kinds}
-use Rattle.drd_types.specs.drd_names.Fields.{aname_fields, cname_fields, mx_fields, mx_kinds, ns_fields, one_name, ptr_fields, soa_fields, soa_kinds, srv_fields, srv_kinds}
+use Rattle.drd_names_keys.specs.drd_keys.Fields.{cert_fields, cert_kinds, openpgpkey_fields, openpgpkey_kinds, smimea_fields, smimea_kinds, sshfp_fields, sshfp_kinds, tlsa_fields, tlsa_kinds}
+use Rattle.drd_names_keys.specs.drd_names.Fields.{aname_fields, cname_fields, mx_fields, mx_kinds, ns_fields, one_name, ptr_fields, soa_fields, soa_kinds, srv_fields, srv_kinds}
 use Rattle.drd_types.specs.drd_opt.Entries.{entries_octets}
 use Rattle.drd_types.specs.drd_plain.Fields.{hinfo_fields, hinfo_kinds, naptr_fields, naptr_kinds, null_fields, null_kinds, txt_fields, txt_kinds}
 use Rattle.drd_svcb.specs.Fields.{svcb_fields, svcb_kinds}

@@ -7,16 +7,16 @@ use Rattle.std.specs.Hash.{HashWrites}
 use Rattle.std.specs.Option.{option_cmp}
 use Rattle.std.specs.Ordering.{on, then_cmp, nat_cmp, eq_by_cmp}
 use Rattle.std.specs.declared.cmp.Ordering.{Ordering}
-use Rattle.dnw_codes.specs.RecordType.{record_type_number}
+use Rattle.drd_types.specs.dnw_codes.RecordType.{record_type_number}
 use Rattle.drd_types.specs.drd_fields.Fields.{Field}
 use Rattle.drd_types.specs.drd_fields.Equality.{AreFull}
 use Rattle.drd_types.specs.drd_fields.Writing.{canonical_octets, fields_octets}
 use Rattle.drd_types.specs.drd_fields.Order.{fields_cmp, fields_input}
 use Rattle.drd_svcb.specs.Fields.{svcb_code, svcb_fields}
-use Rattle.drd_types.specs.drd_csync.declared.csync.CSYNC.{CSYNC}
-use Rattle.drd_types.specs.drd_csync.Data.{csync_fields}
-use Rattle.drd_types.specs.drd_csync.Equality.{AreWrittenMaps}
-use Rattle.drd_types.specs.drd_csync.Order.{csync_cmp, csync_input}
+use Rattle.drd_names_keys.specs.drd_csync.declared.csync.CSYNC.{CSYNC}
+use Rattle.drd_names_keys.specs.drd_csync.Data.{csync_fields}
+use Rattle.drd_names_keys.specs.drd_csync.Equality.{AreWrittenMaps}
+use Rattle.drd_names_keys.specs.drd_csync.Order.{csync_cmp, csync_input}
 use Rattle.drd_types.specs.drd_opt.declared.opt.OPT.{OPT}
 use Rattle.drd_types.specs.drd_opt.Entries.{FitsLengths, raw_of}
 use Rattle.drd_types.specs.drd_opt.Equality.{entries_input}

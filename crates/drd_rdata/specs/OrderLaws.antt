@@ -11,8 +11,8 @@ use Rattle.std.specs.Cmp.{IsEquivalence, ranked, nat_cmp_is}
 use Rattle.std.proofs.lemmas.Cmp.{eq_by_cmp_equiv}
 use Rattle.std.specs.Hash as fed
 use Rattle.std.specs.Hash.{HashWrites}
-use Rattle.dnw_codes.specs.declared.record_type.RecordType.{RecordType}
-use Rattle.dnw_codes.specs.RecordType.{record_type_of}
+use Rattle.drd_types.specs.dnw_codes.declared.record_type.RecordType.{RecordType}
+use Rattle.drd_types.specs.dnw_codes.RecordType.{record_type_of}
 use Rattle.drd_types.specs.drd_fields.Fields.{AreOrdered, Field, Kind, kinds_of}
 use Rattle.drd_types.specs.drd_fields.Order.{Orders, fields_cmp, fields_input}
 use Rattle.drd_types.specs.drd_fields.Equality.{AreFull, Tells}
@@ -26,12 +26,12 @@ use Rattle.drd_types.proofs.drd_fields_lemmas.OrderLaws.{data_total as fields_da
 use Rattle.drd_svcb.specs.Fields.{svcb_code}
 use Rattle.drd_svcb.specs.Hashing.{svcb_input}
 use Rattle.drd_svcb.specs.HashingLaws.{svcb-alike}
-use Rattle.drd_types.specs.drd_csync.Order.{csync_cmp, csync_input}
-use Rattle.drd_types.specs.drd_csync.OrderLaws.{csync_total, csync_ties, csync_fed}
+use Rattle.drd_names_keys.specs.drd_csync.Order.{csync_cmp, csync_input}
+use Rattle.drd_names_keys.specs.drd_csync.OrderLaws.{csync_total, csync_ties, csync_fed}
 use Rattle.drd_types.specs.drd_opt.OrderLaws.{entries_total, entries_tie}
 use Rattle.drd_types.specs.drd_opt.EqualityLaws.{entries_fed}
 use Rattle.drd_types.specs.drd_opt.Equality.{entries_input}
-use Rattle.drd_types.specs.drd_csync.declared.csync.CSYNC.{CSYNC}
+use Rattle.drd_names_keys.specs.drd_csync.declared.csync.CSYNC.{CSYNC}
 use Rattle.drd_svcb.specs.declared.https.HTTPS.{HTTPS}
 use Rattle.drd_types.specs.drd_opt.declared.opt.OPT.{OPT}
 use Rattle.drd_svcb.specs.declared.svcb.SVCB.{SVCB}

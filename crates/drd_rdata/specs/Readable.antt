@@ -1,7 +1,7 @@
 -- Which record data can be read: what the data of each type must hold.
 use Rattle.std.specs.List.{All}
 use Rattle.drd_types.specs.drd_fields.Readable.{AreReadable}
-use Rattle.drd_types.specs.dnw_wire.BitMaps.{Rises}
+use Rattle.drd_names_keys.specs.dnw_wire.BitMaps.{Rises}
 use Rattle.drd_svcb.specs.Readable.{IsService}
 use Rattle.drd_rdata.specs.Fields.{rdata_fields}
 use Rattle.drd_rdata.specs.Reading.{IsValid}

@@ -1,23 +1,23 @@
 -- What the octets of record data stand for, by the type of the record (RFC 1035 3.2.1).
 use Rattle.std.specs.Prelude.{ℕ, ◌≡◌, ◌+◌, ◌-◌, ◌<◌, true, List, []}
 use Rattle.std.proofs.Common.{◌⊎◌}
-use Rattle.dnw_codes.specs.declared.error.DecodeError.{DecodeError}
-use Rattle.dnw_codes.specs.declared.error.DecodeError.TheVariants.{IncorrectRDataLengthRead, UnknownRecordTypeValue}
-use Rattle.dnw_codes.specs.RecordType.{record_type_number}
-use Rattle.dnw_codes.specs.declared.record_type.RecordType.{RecordType}
-use Rattle.dnw_codes.specs.declared.record_type.RecordType.TheVariants as kind
+use Rattle.drd_types.specs.dnw_codes.declared.error.DecodeError.{DecodeError}
+use Rattle.drd_types.specs.dnw_codes.declared.error.DecodeError.TheVariants.{IncorrectRDataLengthRead, UnknownRecordTypeValue}
+use Rattle.drd_types.specs.dnw_codes.RecordType.{record_type_number}
+use Rattle.drd_types.specs.dnw_codes.declared.record_type.RecordType.{RecordType}
+use Rattle.drd_types.specs.dnw_codes.declared.record_type.RecordType.TheVariants as kind
 use Rattle.drd_types.specs.dnw_decoder.Reading.{IsWantOfMemory}
 use Rattle.drd_types.specs.drd_fields.Fields.{Field, FieldsAt}
 use Rattle.drd_types.specs.drd_fields.Reading.{RefusesValue, no_misfits}
-use Rattle.drd_types.specs.drd_plain.Fields.{are_alphanumeric}
+use Rattle.drd_svcb.specs.drd_words.Word.{are_alphanumeric}
 use Rattle.drd_types.specs.drd_plain.Reading.{NaptrMisfits}
-use Rattle.drd_types.specs.drd_keys.Cert.{IsNamedCert}
-use Rattle.drd_types.specs.drd_keys.Sshfp.{IsNamedSshfp}
-use Rattle.drd_types.specs.drd_keys.Tlsa.{IsNamedTlsa}
+use Rattle.drd_names_keys.specs.drd_keys.Cert.{IsNamedCert}
+use Rattle.drd_names_keys.specs.drd_keys.Sshfp.{IsNamedSshfp}
+use Rattle.drd_names_keys.specs.drd_keys.Tlsa.{IsNamedTlsa}
 use Rattle.drd_types.specs.drd_caa.Fields.{IsCaa}
 use Rattle.drd_types.specs.drd_caa.Reading.{CaaMisfits}
-use Rattle.drd_types.specs.drd_csync.Data.{CsyncAt}
-use Rattle.drd_types.specs.drd_csync.Reading.{RefusesCsync}
+use Rattle.drd_names_keys.specs.drd_csync.Data.{CsyncAt}
+use Rattle.drd_names_keys.specs.drd_csync.Reading.{RefusesCsync}
 use Rattle.drd_types.specs.drd_opt.Reading.{EntriesAt, RefusesEntries}
 use Rattle.drd_types.specs.drd_opt.declared.opt.OPT.{OPT}
 use Rattle.drd_svcb.specs.drd_params.Params.{AreParams}

@@ -1,6 +1,6 @@
 -- What is read where record data were written.
 use Rattle.std.specs.Prelude.{ℕ, ◌≡◌, List}
-use Rattle.dnw_codes.specs.declared.record_type.RecordType.{RecordType}
+use Rattle.drd_types.specs.dnw_codes.declared.record_type.RecordType.{RecordType}
 use Rattle.drd_types.specs.dnw_encoder.Effects.{Sound, StaysTrue}
 use Rattle.drd_types.specs.dnw_encoder.Names.{encoded_name}
 use Rattle.drd_types.specs.dnw_encoder.State.{State}

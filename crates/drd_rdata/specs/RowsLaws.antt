@@ -1,9 +1,9 @@
 -- The data of each type by themselves, and what is so of all types alike.
 use Rattle.std.specs.Prelude.{Result, Ok, Err, IfOk, IfErr}
 use Rattle.std.proofs.Common.{◌≡◌, ℕ, ◌⊎◌, inl, inr, ◌&&◌, Bool, true, false, not, List, [], ◌∷◌, refl, sym, ap, subst, ◌∙◌}
-use Rattle.dnw_codes.specs.declared.error.DecodeError.{DecodeError}
-use Rattle.dnw_codes.specs.declared.record_type.RecordType.{RecordType}
-use Rattle.dnw_codes.specs.declared.record_type.RecordType.TheVariants as kind
+use Rattle.drd_types.specs.dnw_codes.declared.error.DecodeError.{DecodeError}
+use Rattle.drd_types.specs.dnw_codes.declared.record_type.RecordType.{RecordType}
+use Rattle.drd_types.specs.dnw_codes.declared.record_type.RecordType.TheVariants as kind
 use Rattle.drd_types.specs.dnw_decoder.Reading.{IsWantOfMemory}
 use Rattle.drd_types.specs.drd_fields.Fields.{Kind, AreOrdered, FieldsAt, is_open, kinds_of}
 use Rattle.drd_types.specs.drd_fields.Reading.{RefusesValue, no_misfits}

@@ -1,16 +1,16 @@
 -- Record data of every type in words (RFC 1035 5.1).
 use Rattle.std.specs.Prelude.{ℕ, Bool, true, false, List, [], codes, Option}
 use Rattle.drd_svcb.specs.dnw_name.DomainName.{DomainName}
-use Rattle.dnw_codes.specs.declared.error.ParseError.{ParseError}
-use Rattle.dnw_codes.specs.declared.record_type.RecordType.{RecordType}
-use Rattle.dnw_codes.specs.declared.record_type.RecordType.TheVariants as kind
+use Rattle.drd_types.specs.dnw_codes.declared.error.ParseError.{ParseError}
+use Rattle.drd_types.specs.dnw_codes.declared.record_type.RecordType.{RecordType}
+use Rattle.drd_types.specs.dnw_codes.declared.record_type.RecordType.TheVariants as kind
 use Rattle.drd_svcb.specs.dnw_name.NamePrint.{name_print}
 use Rattle.drd_types.specs.drd_caa.Print.{caa_print}
 use Rattle.drd_types.specs.drd_caa.Words.{IsCaaText, RefusesCaaText}
-use Rattle.drd_types.specs.drd_csync.Texts.{IsCsyncText, RefusesCsyncText, csync_print}
-use Rattle.drd_types.specs.drd_keys.Print.{cert_print, openpgpkey_print, smimea_print, sshfp_print, tlsa_print}
-use Rattle.drd_types.specs.drd_keys.Texts.{IsCertText, IsOpenpgpkeyText, IsSmimeaText, IsSshfpText, IsTlsaText, RefusesCertText, RefusesOpenpgpkeyText, RefusesSmimeaText, RefusesSshfpText, RefusesTlsaText}
-use Rattle.drd_types.specs.drd_names.Texts.{IsAnameText, IsCnameText, IsMxText, IsNsText, IsPtrText, IsSoaText, IsSrvText, RefusesMxText, RefusesOneName, RefusesSoaText, RefusesSrvText, mx_print, soa_print, srv_print}
+use Rattle.drd_names_keys.specs.drd_csync.Texts.{IsCsyncText, RefusesCsyncText, csync_print}
+use Rattle.drd_names_keys.specs.drd_keys.Print.{cert_print, openpgpkey_print, smimea_print, sshfp_print, tlsa_print}
+use Rattle.drd_names_keys.specs.drd_keys.Texts.{IsCertText, IsOpenpgpkeyText, IsSmimeaText, IsSshfpText, IsTlsaText, RefusesCertText, RefusesOpenpgpkeyText, RefusesSmimeaText, RefusesSshfpText, RefusesTlsaText}
+use Rattle.drd_names_keys.specs.drd_names.Texts.{IsAnameText, IsCnameText, IsMxText, IsNsText, IsPtrText, IsSoaText, IsSrvText, RefusesMxText, RefusesOneName, RefusesSoaText, RefusesSrvText, mx_print, soa_print, srv_print}
 use Rattle.drd_types.specs.drd_opt.Entries.{entries_print}
 use Rattle.drd_svcb.specs.drd_params.AddressPrint.{a_print, aaaa_print}
 use Rattle.drd_types.specs.drd_plain.Print.{hinfo_print, naptr_print, null_print, txt_print}

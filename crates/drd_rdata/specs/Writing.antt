@@ -1,15 +1,15 @@
 -- Record data of every type as an encoder writes them.
 use Rattle.std.specs.Prelude.{ℕ, ◌≡◌, false, List}
 use Rattle.std.proofs.Common.{◌⊎◌}
-use Rattle.dnw_codes.specs.declared.error.ProtoError.{ProtoError}
+use Rattle.drd_types.specs.dnw_codes.declared.error.ProtoError.{ProtoError}
 use Rattle.drd_types.specs.dnw_encoder.State.{State, is_lower}
 use Rattle.drd_types.specs.dnw_encoder.declared.modes.RDataEncoding.TheVariants.{Other}
 use Rattle.drd_types.specs.drd_fields.Fields.{FieldsAt}
 use Rattle.drd_types.specs.drd_fields.Writing.{EmitsData, RefusesFields, encoded_fields, fields_octets}
 use Rattle.drd_types.specs.dnw_encoder.declared.modes.NameEncoding.{NameEncoding}
 use Rattle.drd_rdata.specs.Fields.{encoding_of, rdata_fields}
-use Rattle.drd_types.specs.drd_csync.Data.{CsyncAt}
-use Rattle.drd_types.specs.drd_csync.Writing.{EmitsCsync, RefusesEmitCsync}
+use Rattle.drd_names_keys.specs.drd_csync.Data.{CsyncAt}
+use Rattle.drd_names_keys.specs.drd_csync.Writing.{EmitsCsync, RefusesEmitCsync}
 use Rattle.drd_types.specs.drd_opt.Entries.{AreCountable, HasLong}
 use Rattle.drd_svcb.specs.Writing.{RefusesEmitSvcb as RefusesService}
 use Rattle.drd_types.specs.dnw_encoder.Effects.{IsRefusal, Sound}

@@ -1,19 +1,19 @@
 //! Each type of record data as one case of all.
 ghost use Rattle.std.proofs.Common.{refl};
-ghost use Rattle.dnw_codes.specs.declared.record_type.RecordType.TheVariants as of;
+ghost use Rattle.drd_types.specs.dnw_codes.declared.record_type.RecordType.TheVariants as of;
 ghost use Rattle.drd_rdata.specs.declared.rdata.RData.TheVariants as rdata;
 
 use crate::rdata::RData;
-use drd_svcb::{A, AAAA, HTTPS, SVCB};
-use drd_types::{
-    ANAME, CAA, CERT, CNAME, CSYNC, HINFO, MX, NAPTR, NS, NULL, OPENPGPKEY, OPT, PTR, SMIMEA, SOA,
-    SRV, SSHFP, TLSA, TXT,
+use drd_names_keys::{
+    ANAME, CERT, CNAME, CSYNC, MX, NS, OPENPGPKEY, PTR, SMIMEA, SOA, SRV, SSHFP, TLSA,
 };
+use drd_svcb::{A, AAAA, HTTPS, SVCB};
+use drd_types::{CAA, HINFO, NAPTR, NULL, OPT, TXT};
 
 /// A type whose data are one case of `RData`.
 pub(crate) trait Case: Sized {
     ghost use Rattle.std.specs.Prelude.{◌≡◌};
-    ghost use Rattle.dnw_codes.specs.declared.record_type.RecordType.{RecordType};
+    ghost use Rattle.drd_types.specs.dnw_codes.declared.record_type.RecordType.{RecordType};
     ghost use Rattle.drd_rdata.specs.Types.{type_of};
     ghost use Rattle.drd_rdata.specs.declared.rdata.RData.{RData as Rdata};
 

@@ -2,8 +2,7 @@
 ghost use Rattle.drd_rdata.specs.Writing.{EmitsRData, RefusesRData};
 
 use crate::rdata::RData;
-use dnw_codes::ProtoError;
-use drd_types::{BinEncodable, BinEncoder};
+use drd_types::{BinEncodable, BinEncoder, ProtoError};
 
 impl BinEncodable for RData {
     ghost emits = { EmitsRData };

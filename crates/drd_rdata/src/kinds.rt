@@ -4,8 +4,8 @@ ghost use Rattle.drd_rdata.specs.declared.rdata.RData.TheVariants as variant;
 ghost use Rattle.drd_rdata.specs.Reading.{IsOther};
 ghost use Rattle.drd_rdata.specs.Readable.{CanBeRead};
 
-use dnw_codes::RecordType;
-use drd_types::CSYNC;
+use drd_names_keys::CSYNC;
+use drd_types::RecordType;
 
 /// Whether data of this type have no form of their own here, and records may be of it: they are kept as octets (RFC 3597
 /// 3).

@@ -2,17 +2,19 @@
 //! type of their record.
 #![tactic(auto)]
 
-pub use dnw_codes::{DNSClass, DecodeError, ProtoError, RecordType};
+pub use drd_names_keys::{
+    ANAME, BinDecoder, CERT, CNAME, CSYNC, MX, NS, OPENPGPKEY, PTR, SMIMEA, SOA, SRV, SSHFP, TLSA,
+    cert, sshfp, tlsa,
+};
 pub use drd_svcb::{
     A, AAAA, Alpn, EchConfigList, HTTPS, IpHint, Mandatory, SVCB, SvcParamKey, SvcParamValue,
     Unknown, emit_params, octets_of, read_params,
 };
 pub use drd_types::{
-    ANAME, BinDecodable, BinDecoder, BinEncodable, BinEncoder, CAA, CERT, CNAME, CSYNC,
-    ClientSubnet, EdnsCode, EdnsOption, EncodedSize, FieldData, FieldRef, Fields, HEX, HINFO,
-    IpNet, KeyValue, Label, LowerName, MX, NAPTR, NS, NSIDPayload, NULL, Name, NameEncoding,
-    OPENPGPKEY, OPT, PTR, RecordDataDecodable, RrKey, SMIMEA, SOA, SRV, SSHFP, TLSA, TXT, TextData,
-    cert, is_tag, read_iodef, read_issuer, sshfp, tlsa, verify_flags,
+    BinDecodable, BinEncodable, BinEncoder, CAA, ClientSubnet, DNSClass, DecodeError, EdnsCode,
+    EdnsOption, EncodedSize, FieldData, FieldRef, Fields, HEX, HINFO, IpNet, KeyValue, Label,
+    LowerName, NAPTR, NSIDPayload, NULL, Name, NameEncoding, OPT, ProtoError, RecordDataDecodable,
+    RecordType, RrKey, TXT, TextData, is_tag, read_iodef, read_issuer, verify_flags,
 };
 
 mod case;

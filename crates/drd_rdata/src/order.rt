@@ -10,8 +10,9 @@ ghost use Rattle.drd_rdata.specs.Order.{type_number, data_form, compared_fields,
 ghost use Rattle.drd_rdata.specs.OrderLaws.{rdata_total, rdata_equiv, rdata_ties, rdata_fed};
 
 use crate::rdata::RData;
+use drd_names_keys::CSYNC;
 use drd_svcb::{HTTPS, SVCB};
-use drd_types::{CSYNC, FieldData, Fields, OPT, cmp_list, hash_list};
+use drd_types::{FieldData, Fields, OPT, cmp_list, hash_list};
 use std::cmp::Ordering;
 use std::hash::{Hash, Hasher};
 
@@ -85,8 +86,7 @@ impl RData {
         ensures canonical { (xs ys : List ℕ) → type_number self.now ≡ type_number other.now → data_form self.now ≡ data_form other.now
             → HasCanonical self.now xs → HasCanonical other.now ys → Orders result xs ys }
     {
-        let number = u16::from(self.record_type());
-        match number.cmp(&u16::from(other.record_type())) {
+        match self.record_type().cmp(&other.record_type()) {
             Ordering::Equal => match self.form().cmp(&other.form()) {
                 Ordering::Equal => self.cmp_data(other),
                 unequal => unequal,
@@ -213,7 +213,7 @@ impl Hash for RData {
     ghost respects_eq = { rdata_fed };
 
     fn hash<H: Hasher>(&self, state: &mut H) {
-        u16::from(self.record_type()).hash(state);
+        self.record_type().hash(state);
         self.form().hash(state);
         self.hash_data(state);
     }

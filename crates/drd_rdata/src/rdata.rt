@@ -2,12 +2,11 @@
 ghost use Rattle.std.specs.Prelude.{◌≡◌};
 ghost use Rattle.drd_rdata.specs.Types.{type_of, address_of};
 
-use dnw_codes::RecordType;
-use drd_svcb::{A, AAAA, HTTPS, SVCB};
-use drd_types::{
-    ANAME, CAA, CERT, CNAME, CSYNC, HINFO, MX, NAPTR, NS, NULL, OPENPGPKEY, OPT, PTR, SMIMEA, SOA,
-    SRV, SSHFP, TLSA, TXT,
+use drd_names_keys::{
+    ANAME, CERT, CNAME, CSYNC, MX, NS, OPENPGPKEY, PTR, SMIMEA, SOA, SRV, SSHFP, TLSA,
 };
+use drd_svcb::{A, AAAA, HTTPS, SVCB};
+use drd_types::{CAA, HINFO, NAPTR, NULL, OPT, RecordType, TXT};
 use std::net::{IpAddr, Ipv4Addr, Ipv6Addr};
 
 /// The data of a record, by its type.

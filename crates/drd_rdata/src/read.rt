@@ -1,9 +1,8 @@
 //! Record data in messages.
 ghost use Rattle.std.specs.Prelude.{◌≡◌, ◌+◌, ◌<◌, ◌≤◌, ◌⊎◌, ◌↔◌, ℕ, length as size, IfOk, IfErr, IsTrue, OnOk};
-ghost use Rattle.dnw_codes.specs.RecordType.{record_type_number};
-ghost use Rattle.dnw_codes.specs.declared.error.DecodeError.TheVariants.{UnknownRecordTypeValue};
-ghost use Rattle.dnw_codes.specs.declared.error.DecodeError.{DecodeError as Error};
-ghost use Rattle.dnw_codes.specs.declared.error.ProtoError.{ProtoError as WritingError};
+ghost use Rattle.drd_types.specs.dnw_codes.declared.error.DecodeError.TheVariants.{UnknownRecordTypeValue};
+ghost use Rattle.drd_types.specs.dnw_codes.declared.error.DecodeError.{DecodeError as Error};
+ghost use Rattle.drd_types.specs.dnw_codes.declared.error.ProtoError.{ProtoError as WritingError};
 ghost use Rattle.drd_types.specs.dnw_decoder.Reading.{IsWantOfMemory};
 ghost use Rattle.drd_types.specs.dnw_encoder.State.{State};
 ghost use Rattle.drd_rdata.specs.declared.rdata.RData.{RData as Rdata};
@@ -15,11 +14,12 @@ ghost use Rattle.drd_rdata.specs.Writing.{RefusesRData, WantsRoom};
 
 use crate::case::Case;
 use crate::rdata::RData;
-use dnw_codes::{DecodeError, RecordType, Restrict};
+use drd_names_keys::{
+    ANAME, BinDecoder, CERT, CNAME, CSYNC, MX, NS, OPENPGPKEY, PTR, SMIMEA, SOA, SRV, SSHFP, TLSA,
+};
 use drd_svcb::{A, AAAA, HTTPS, SVCB};
 use drd_types::{
-    ANAME, BinDecoder, CAA, CERT, CNAME, CSYNC, HINFO, MX, NAPTR, NS, NULL, OPENPGPKEY, OPT, PTR,
-    RecordDataDecodable, SMIMEA, SOA, SRV, SSHFP, TLSA, TXT,
+    CAA, DecodeError, HINFO, NAPTR, NULL, OPT, RecordDataDecodable, RecordType, Restrict, TXT,
 };
 use std::alloc::Global;
 
@@ -114,9 +114,10 @@ impl RData {
             RecordType::SVCB => read_as::<SVCB>(alloc, decoder, length),
             RecordType::TLSA => read_as::<TLSA>(alloc, decoder, length),
             RecordType::TXT => read_as::<TXT>(alloc, decoder, length),
-            RecordType::ZERO | RecordType::ANY | RecordType::AXFR | RecordType::IXFR => {
-                read_none(decoder, record_type, length)
-            }
+            RecordType::ZERO => read_none(decoder, 0, length),
+            RecordType::IXFR => read_none(decoder, 251, length),
+            RecordType::AXFR => read_none(decoder, 252, length),
+            RecordType::ANY => read_none(decoder, 255, length),
             other => read_unknown(alloc, decoder, other, length),
         }
     }
@@ -175,18 +176,18 @@ fn is_memory(cause: &DecodeError) -> bool
     matches!(cause, DecodeError::Memory)
 }
 
-// The refusal of a type that has no data.
+// The refusal of the type of this number, which has no data.
 fn read_none(
     decoder: &BinDecoder<'_>,
-    record_type: RecordType,
+    number: u16,
     length: Restrict<u16>,
 ) -> Result<RData, DecodeError>
-    ensures refused { IfErr result (λ e. Shows decoder.now.index length (UnknownRecordTypeValue (record_type_number record_type)) decoder.now.index e) }
+    ensures refused { IfErr result (λ e. Shows decoder.now.index length (UnknownRecordTypeValue number) decoder.now.index e) }
     ensures none { IfOk result (λ value. ⊥) }
     ensures within { decoder.now.index ≤ size decoder.now.octets }
 {
     let start = decoder.index();
-    let cause = DecodeError::UnknownRecordTypeValue(u16::from(record_type));
+    let cause = DecodeError::UnknownRecordTypeValue(number);
     Err(shown(start, usize::from(length.unverified()), start, cause))
 }
 

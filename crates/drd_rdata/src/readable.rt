@@ -6,11 +6,9 @@ ghost use Rattle.drd_rdata.specs.Readable.{CanBeRead};
 
 use crate::kinds::{can_read_csync, is_other};
 use crate::rdata::RData;
+use drd_names_keys::{is_named_cert, is_named_sshfp, is_named_tlsa};
 use drd_svcb::{are_params, can_read_service};
-use drd_types::{
-    CAA, FieldData, are_readable, can_read_opt, is_named_cert, is_named_sshfp, is_named_tlsa,
-    is_tag, verify_flags,
-};
+use drd_types::{CAA, FieldData, are_readable, can_read_opt, is_tag, verify_flags};
 
 /// Whether record data can be read: in some message they stand as data of their type, and take octets (RFC 1035 3.2.1).
 /// They do where all names end at the root, strings have at most 255 octets, and there is at least one in TXT; where flags

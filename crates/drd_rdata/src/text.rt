@@ -2,7 +2,7 @@
 ghost use Rattle.std.specs.Prelude.{◌≡◌, ◌⊎◌, ℕ, List, None, Err, true, false, IfOk, IfErr, MatchResult, map};
 ghost use Rattle.std.specs.Iterator.{Drains, IsFinite};
 ghost use Rattle.std.specs.Option.{option_copied};
-ghost use Rattle.dnw_codes.specs.declared.error.ParseError.TheVariants.{UnsupportedRecordType};
+ghost use Rattle.drd_types.specs.dnw_codes.declared.error.ParseError.TheVariants.{UnsupportedRecordType};
 ghost use Rattle.drd_svcb.specs.drd_words.Text.{IsSplitInto, TextRefused};
 ghost use Rattle.drd_svcb.specs.drd_words.Word.{IsOutOfMemory};
 ghost use Rattle.drd_rdata.specs.declared.rdata.RData.{RData as Rdata};
@@ -11,12 +11,11 @@ ghost use Rattle.drd_rdata.specs.Texts.{IsTextOf, RefusesTextOf, has_text};
 
 use crate::rdata::RData;
 use crate::text_type::TextType;
-use dnw_codes::{ParseError, RecordType};
-use drd_svcb::{A, AAAA, HTTPS, Name, SVCB, words_of_text};
-use drd_types::{
-    ANAME, CAA, CERT, CNAME, CSYNC, HINFO, MX, NAPTR, NS, OPENPGPKEY, PTR, SMIMEA, SOA, SRV, SSHFP,
-    TLSA, TXT,
+use drd_names_keys::{
+    ANAME, CERT, CNAME, CSYNC, MX, NS, OPENPGPKEY, PTR, SMIMEA, SOA, SRV, SSHFP, TLSA,
 };
+use drd_svcb::{A, AAAA, HTTPS, Name, SVCB, words_of_text};
+use drd_types::{CAA, HINFO, NAPTR, ParseError, RecordType, TXT};
 use std::alloc::Global;
 use std::convert::AsStr;
 

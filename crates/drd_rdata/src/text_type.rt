@@ -2,16 +2,16 @@
 ghost use Rattle.std.proofs.Common.{refl};
 
 use crate::case::Case;
-use drd_svcb::{A, AAAA, HTTPS, SVCB, TextData};
-use drd_types::{
-    ANAME, CAA, CERT, CNAME, CSYNC, HINFO, MX, NAPTR, NS, OPENPGPKEY, PTR, SMIMEA, SOA, SRV, SSHFP,
-    TLSA, TXT,
+use drd_names_keys::{
+    ANAME, CERT, CNAME, CSYNC, MX, NS, OPENPGPKEY, PTR, SMIMEA, SOA, SRV, SSHFP, TLSA,
 };
+use drd_svcb::{A, AAAA, HTTPS, SVCB, TextData};
+use drd_types::{CAA, HINFO, NAPTR, TXT};
 
 /// A type whose data words write.
 pub(crate) trait TextType: TextData + Case {
     ghost use Rattle.std.specs.Prelude.{◌≡◌, ℕ, List, Option, true};
-    ghost use Rattle.dnw_codes.specs.declared.error.ParseError.{ParseError};
+    ghost use Rattle.drd_types.specs.dnw_codes.declared.error.ParseError.{ParseError};
     ghost use Rattle.drd_svcb.specs.dnw_name.DomainName.{DomainName};
     ghost use Rattle.drd_rdata.specs.declared.rdata.RData.{RData as Rdata};
     ghost use Rattle.drd_rdata.specs.Texts.{IsTextOf, RefusesTextOf, has_text};

@@ -1,10 +1,7 @@
-pub use Rattle.drd_names_keys.specs.dnw_decoder
-pub use Rattle.drd_names_keys.specs.dnw_encoder
-pub use Rattle.drd_names_keys.specs.dnw_wire
+pub use Rattle.drd_plain.specs.dnw_codes
+pub use Rattle.drd_plain.specs.dnw_decoder
+pub use Rattle.drd_plain.specs.dnw_encoder
 pub mod drd_caa
-pub use Rattle.drd_names_keys.specs.drd_csync
 pub use Rattle.drd_opt.specs.drd_fields
-pub use Rattle.drd_names_keys.specs.drd_keys
-pub use Rattle.drd_names_keys.specs.drd_names
 pub mod drd_opt
-pub use Rattle.drd_caa.specs.drd_plain
+pub mod drd_plain

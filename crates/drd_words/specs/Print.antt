@@ -1,7 +1,7 @@
 -- Printed character strings (RFC 1035 5.1, with octal digits in escapes), and octets in hex.
 use Rattle.std.specs.Prelude.{ℕ, ◌/◌, ◌%◌, ◌==◌, ◌&&◌, ◌||◌, nat_le, List, [], ◌∷◌, ◌++◌, if◌then◌else◌, slice_index}
 use Rattle.std.specs.List.{flat_map}
-use Rattle.dnw_lexer.specs.dnw_codes.Ascii.{backslash, double_quote}
+use Rattle.dnw_lexer.specs.dnw_codes.Ascii.{backslash, double_quote, space}
 use Rattle.dnw_name.specs.dnw_label.LabelPrint.{octal_print}
 use Rattle.hex.specs.Hex.{lower_digits}
 
@@ -18,6 +18,10 @@ escaped_print octets = flat_map escaped_octet octets
 -- A string between quotes.
 abbrev pub quotation : List ℕ → List ℕ
 quotation octets = double_quote ∷ (escaped_print octets ++ double_quote ∷ [])
+
+-- Words, each but the first behind a space.
+abbrev pub words_from : List ℕ → List (List ℕ) → List ℕ
+words_from first words = first ++ flat_map (λ word. space ∷ word) words
 
 -- The two hex digits of an octet, the high four bits first (RFC 4648 8).
 abbrev pub hex_pair : ℕ → List ℕ

@@ -1,5 +1,7 @@
 -- What one word of record data stands for (RFC 1035 5.1). A word is its octets.
-use Rattle.std.specs.Prelude.{ℕ, ◌≡◌, ◌<◌, ◌≤◌, ◌^◌, ℤ, pos, List, length, Option}
+use Rattle.std.specs.Prelude.{ℕ, ◌≡◌, ◌<◌, ◌≤◌, ◌^◌, ℤ, pos, Bool, List, length, Option}
+use Rattle.std.specs.Char.{is_ascii_alphanumeric}
+use Rattle.std.specs.List.{list_all}
 use Rattle.std.specs.Str.Parse.{digits_value}
 use Rattle.dnw_lexer.specs.dnw_codes.declared.error.ParseError.{ParseError}
 use Rattle.dnw_lexer.specs.dnw_codes.declared.error.ParseError.TheVariants.{Memory}
@@ -35,3 +37,7 @@ IsNameWord origin name word =
 -- A character string (RFC 1035 3.3): the word's octets, at most 255.
 abbrev pub IsStringWord : List ℕ → List ℕ → Type 0
 IsStringWord octets word = (octets ≡ word) × (length word ≤ 255)
+
+-- ASCII letters and digits alone.
+abbrev pub are_alphanumeric : List ℕ → Bool
+are_alphanumeric octets = list_all is_ascii_alphanumeric octets

@@ -6,7 +6,9 @@
 //! such parts.
 #![tactic(auto)]
 
-pub use dnw_lexer::{DecodeError, ParseError, ProtoError, Restrict, number_behind};
+pub use dnw_lexer::{
+    DNSClass, DecodeError, ParseError, ProtoError, RecordType, Restrict, number_behind,
+};
 pub use dnw_name::{IpNet, Label, LowerName, Name, PrefixLenError, RrKey};
 
 mod data;

@@ -1,6 +1,6 @@
 use Rattle.std.proofs.Common.{◌==◌, sym, ◌∙◌, ap, length, subst, List, ℕ}
 use Rattle.std.proofs.lemmas.Bool.{both_ways, eqb-true}
-use Rattle.drd_plain.specs.dnw_codes.ProtoError.{IsMemory}
+use Rattle.drd_words.specs.dnw_codes.ProtoError.{IsMemory}
 use Rattle.drd_caa.specs.Issue.{Parameter, AreParameters}
 use Rattle.drd_caa.proofs.Parameters.{parts_of, ok_parameters, refused_parameters, blanks_alone, no_octets}
 use Rattle.drd_caa.proofs.issuer.parameters_of.Goals as goal

@@ -1,5 +1,6 @@
 use Rattle.std.proofs.Common.{◌≡◌, true}
-use Rattle.drd_plain.specs.Fields.{naptr_fields, are_alphanumeric}
+use Rattle.drd_plain.specs.Fields.{naptr_fields}
+use Rattle.drd_words.specs.Word.{are_alphanumeric}
 use Rattle.drd_fields.proofs.NoneLaws.{none_valid}
 use Rattle.drd_plain.proofs.naptr.NAPTRBinDecodable.read.Goals as goal
 

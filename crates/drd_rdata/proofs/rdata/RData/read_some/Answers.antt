@@ -1,5 +1,5 @@
 use Rattle.std.proofs.Common.{◌+◌}
-use Rattle.dnw_codes.specs.declared.record_type.RecordType.TheVariants as kind
+use Rattle.drd_types.specs.dnw_codes.declared.record_type.RecordType.TheVariants as kind
 use Rattle.drd_rdata.proofs.Others.{NotOwn, is_other}
 use Rattle.drd_rdata.specs.RowsLaws.{ok_row, none_row}
 use Rattle.drd_rdata.proofs.rdata.RData.read_some.Goals as goal

@@ -1,7 +1,7 @@
 use Rattle.std.proofs.Common.{◌≡◌, ap, map, ◌∙◌}
 use Rattle.std.specs.Prelude.{None}
 use Rattle.std.specs.String.{string_bytes}
-use Rattle.dnw_codes.specs.declared.error.ParseError.TheVariants.{UnsupportedRecordType}
+use Rattle.drd_types.specs.dnw_codes.declared.error.ParseError.TheVariants.{UnsupportedRecordType}
 use Rattle.drd_svcb.specs.drd_words.Text.{IsSplitInto, TextRefused}
 use Rattle.drd_svcb.specs.drd_words.Word.{IsOutOfMemory}
 use Rattle.drd_rdata.specs.Texts.{IsTextOf, RefusesTextOf}
