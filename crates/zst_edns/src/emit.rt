@@ -1,8 +1,8 @@
 //! OPT records that are written (RFC 6891 6.1.2, 6.1.3).
-ghost use Rattle.std.specs.Prelude.{◌≡◌, ◌+◌, ◌≤◌, ◌^◌, length, MatchOption};
+ghost use Rattle.std.specs.Prelude.{◌≡◌, ◌+◌, ◌≤◌, ◌^◌, length, IfSome, MatchOption};
 ghost use Rattle.drd_types.specs.drd_opt.Entries.{entries_octets};
 ghost use Rattle.drd_types.specs.drd_opt.Options.{option_octets};
-ghost use Rattle.zst_edns.specs.Writing.{EmitsEdns, FitsFields, RefusesEdns, opt_head};
+ghost use Rattle.zst_edns.specs.Writing.{EmitsEdns, FitsFields, RefusesEdns, opt_head, opt_octets};
 
 use crate::edns::Edns;
 use dnw_codes::ProtoError;
@@ -60,6 +60,19 @@ impl Edns {
             len,
             len_low,
         ]
+    }
+}
+
+impl Edns {
+    /// The octets of the record, where it has no options.
+    pub fn octets_alone(&self) -> Option<[u8; 11]>
+        ensures { IfSome result (λ octets. (octets ≡ opt_octets self.now) × FitsFields self.now) }
+    {
+        if self.options().as_ref().is_empty() {
+            Some(self.head(0))
+        } else {
+            None
+        }
     }
 }
 

@@ -38,7 +38,7 @@ impl RecordRef<'_> {
     }
 
     // What stands behind the owner of an address: type, class and time to live, and the address behind its length.
-    fn address_octets(&self, a: &A) -> [u8; 14]
+    pub(crate) fn address_octets(&self, a: &A) -> [u8; 14]
         ensures octets { result ≡ head_numbers (seen self.now) ++ (octets_16 4 ++ octets_32 (ipv4_bits a.now.0)) }
         ensures small { self.now.ttl < 2 ^ 32 }
     {
@@ -64,7 +64,7 @@ impl RecordRef<'_> {
 
     // What stands behind the owner of an address of 128 bits: type, class and time to live, and the address behind its
     // length.
-    fn wide_octets(&self, aaaa: &AAAA) -> [u8; 26]
+    pub(crate) fn wide_octets(&self, aaaa: &AAAA) -> [u8; 26]
         ensures octets { result ≡ head_numbers (seen self.now) ++ (octets_16 16 ++ written_octets (RData.AAAA aaaa.now)) }
         ensures small { self.now.ttl < 2 ^ 32 }
     {

@@ -11,6 +11,7 @@ pub use drd_rdata::{
 };
 
 mod emit;
+mod pointing;
 mod read;
 mod record_set;
 mod records;
