@@ -24,6 +24,7 @@ mod consult;
 mod forwarded;
 mod records;
 mod response;
+mod written;
 
 pub use chain::chain_response;
 pub use response::{Response, error_response};

@@ -7,12 +7,14 @@ ghost use Rattle.zsv_answer.specs.Shown.{shown_if};
 ghost use Rattle.zsv_answer.specs.zsv_reply.Writing.{FitsOpCode};
 
 use crate::records::ShownRecords;
+use crate::written::write_answers;
+use smallvec::SmallVec;
 use std::alloc::{AllocError, Global};
 use std::iter;
 use zst_request::{AuthLookup, LookupRecords, LookupRecordsIter, RecordRef};
 use zsv_reply::{
     Edns, MessageResponseBuilder, MessageType, Metadata, Queries, RecordType, ResponseCode,
-    ResponseInfo, encode_bare,
+    ResponseInfo, encode_bare, encode_written,
 };
 use zsv_request::Protocol;
 
@@ -113,8 +115,8 @@ impl Response<'_> {
             .encode(alloc, protocol)
     }
 
-    // The reply that holds these records alone, as most answers do: those of them that are shown.
-    fn encode_answer(
+    // The reply that holds these records alone: those of them that are shown.
+    fn encode_list(
         &self,
         answers: &LookupRecords<'_>,
         alloc: Global,
@@ -136,6 +138,40 @@ impl Response<'_> {
                 iter::empty::<RecordRef<'_>>(),
             )
             .encode(alloc, protocol)
+    }
+
+    // The reply that holds these records alone, as most answers do: those of them that are shown. Addresses of the name that
+    // is asked for take no encoder, where all of them fit.
+    fn encode_answer(
+        &self,
+        answers: &LookupRecords<'_>,
+        alloc: Global,
+        edns: Option<&Edns>,
+        queries: &Queries<'_>,
+        protocol: Protocol,
+    ) -> Result<(ResponseInfo, Vec<u8>), AllocError>
+        requires { FitsOpCode self.now.metadata }
+        ensures { IfOk result (λ sent. Sends (parts_with self.now.metadata false (shown_if self.now.asked (records_in answers.now)) [] [])
+            (option_copied edns.entry) queries.now protocol sent.0 sent.1.items) }
+    {
+        let mut octets = SmallVec::new(alloc);
+        let records = ShownRecords::new(answers.iter(), self.asked);
+        if let Some(count) = write_answers(records, queries.as_bytes(), &mut octets)? {
+            let written = octets.as_slice();
+            let found = encode_written(
+                alloc,
+                self.metadata,
+                queries,
+                count,
+                written,
+                edns,
+                protocol,
+            )?;
+            if let Some(sent) = found {
+                return Ok(sent);
+            }
+        }
+        self.encode_list(answers, alloc, edns, queries, protocol)
     }
 
     // The reply, whatever it holds.

@@ -2,3 +2,4 @@ mod AddsLemmas
 mod NamesLemmas
 mod ReadLemmas
 mod TextLemmas
+mod WildcardLemmas

@@ -1,6 +1,7 @@
 //! Names that are blocked.
-ghost use Rattle.std.specs.Prelude.{◌≡◌, [], length, IfOk, OnOk, OnErr, IfSome, IfNone, IsTrue, ◌↔◌};
-ghost use Rattle.dnw_name.specs.DomainName.{DomainName};
+ghost use Rattle.std.specs.Prelude.{◌≡◌, [], false, length, IfOk, IfSome, IfNone, IsOk, IsTrue, OnErr, OnOk, ◌↔◌};
+ghost use Rattle.std.specs.List.{list_any};
+ghost use Rattle.dnw_name.specs.DomainName.{DomainName, is_wildcard, lowercase_name};
 ghost use Rattle.dnw_name.specs.NameText.{NameText};
 ghost use Rattle.dnw_name.specs.dnw_codes.ProtoError.{IsMemory};
 ghost use Rattle.zsv_blocked.specs.BlockedNames.{AddsIf, AddsListed, AddsText, has_wildcard, is_listed, with_listed};
@@ -18,15 +19,32 @@ use zst_key::NameKey;
 #[derive(Drop)]
 pub struct BlockedNames {
     names: BTreeSet<NameKey>,
+    // Whether a wildcard is among them: where none is, none is searched for.
+    has_wildcards: bool,
 }
 
 impl Model for BlockedNames {
-    ghost use Rattle.std.specs.Prelude.{List};
-    ghost use Rattle.dnw_name.specs.DomainName.{DomainName};
+    ghost use Rattle.std.specs.Prelude.{◌≡◌, List};
+    ghost use Rattle.std.specs.List.{list_any};
+    ghost use Rattle.dnw_name.specs.DomainName.{DomainName, is_wildcard};
 
     ghost Value = { List DomainName };
 
     ghost view = { λ set. set.names.keys };
+
+    ghost invariant = { λ set. set.has_wildcards ≡ list_any is_wildcard set.names.keys };
+}
+
+impl Clone for BlockedNames {
+    ghost is_clone = { λ names copy. copy ≡ names };
+
+    fn clone(&self) -> Result<BlockedNames, AllocError> {
+        let names = self.names.clone()?;
+        Ok(BlockedNames {
+            names,
+            has_wildcards: self.has_wildcards,
+        })
+    }
 }
 
 impl BlockedNames {
@@ -36,6 +54,7 @@ impl BlockedNames {
     {
         BlockedNames {
             names: BTreeSet::new(alloc),
+            has_wildcards: false,
         }
     }
 
@@ -46,19 +65,32 @@ impl BlockedNames {
         self.names.len()
     }
 
-    /// Whether a name is among them.
-    pub fn is_listed(&self, alloc: Global, name: &Name) -> Result<bool, AllocError>
-        ensures { IfOk result (λ found. found ≡ is_listed self.now name.now) }
+    /// Whether a name is among them, which has this key. It takes no memory.
+    pub fn is_listed(&self, key: &NameKey) -> bool
+        ensures { (name : DomainName) → key.now ≡ lowercase_name name → result ≡ is_listed self.now name }
     {
-        let key = NameKey::of(alloc, name)?;
-        Ok(self.names.contains(&key))
+        self.names.contains(key)
     }
 
-    /// Whether a wildcard over at least so many of a name's labels is among them.
-    pub fn has_wildcard(&self, alloc: Global, name: &Name, depth: u8) -> Result<bool, AllocError>
+    /// Whether a wildcard over at least so many of a name's labels is among them; the name has this key. Where no wildcard
+    /// is among them, nothing is searched for, and no memory is taken.
+    pub fn has_wildcard(&self, name: &Name, key: &NameKey, depth: u8) -> Result<bool, AllocError>
+        requires { key.now ≡ lowercase_name name.now }
+        ensures found { IfOk result (λ found. found ≡ has_wildcard self.now depth name.now) }
+        ensures none { list_any is_wildcard self.now ≡ false → IsOk result }
+    {
+        if !self.has_wildcards {
+            return Ok(false);
+        }
+        self.finds_wildcard(name, key, depth)
+    }
+
+    // Whether one of the wildcards over at least so many of a name's labels is found; the name has this key.
+    fn finds_wildcard(&self, name: &Name, key: &NameKey, depth: u8) -> Result<bool, AllocError>
+        requires { key.now ≡ lowercase_name name.now }
         ensures { IfOk result (λ found. found ≡ has_wildcard self.now depth name.now) }
     {
-        let mut above = NameKey::of(alloc, name)?;
+        let mut above = key.clone()?;
         let mut count = name.iter().len();
         'levels: while count > usize::from(depth) {
             above.to_parent();
@@ -85,51 +117,52 @@ impl BlockedNames {
         ensures ok { OnOk result (AddsListed self.old text.now self.new) }
         ensures err { OnErr result (self.new ≡ self.old) }
     {
-        let mut names = self.names.clone()?;
-        add_lines(alloc, &mut names, text)?;
-        self.names = names;
+        let mut names = self.clone()?;
+        names.add_lines(alloc, text)?;
+        *self = names;
         Ok(())
     }
-}
 
-// Adds the names on the lines of a text.
-fn add_lines(alloc: Global, names: &mut BTreeSet<NameKey>, text: &str) -> Result<(), AllocError>
-    ensures { OnOk result (AddsListed names.old.keys text.now names.new.keys) }
-{
-    for line in text.lines() {
-        add_line(alloc, names, line)?;
+    // Adds the names on the lines of a text.
+    fn add_lines(&mut self, alloc: Global, text: &str) -> Result<(), AllocError>
+        ensures { OnOk result (AddsListed self.old text.now self.new) }
+    {
+        for line in text.lines() {
+            self.add_line(alloc, line)?;
+        }
+        Ok(())
     }
-    Ok(())
-}
 
-// Adds the name on a line, if it has one.
-fn add_line(alloc: Global, names: &mut BTreeSet<NameKey>, line: &str) -> Result<(), AllocError>
-    ensures { OnOk result (AddsIf names.old.keys (name_text_of_line line.now) names.new.keys) }
-{
-    match name_text_of_line(line) {
-        Some(text) => add_text(alloc, names, text),
-        None => Ok(()),
+    // Adds the name on a line, if it has one.
+    fn add_line(&mut self, alloc: Global, line: &str) -> Result<(), AllocError>
+        ensures { OnOk result (AddsIf self.old (name_text_of_line line.now) self.new) }
+    {
+        match name_text_of_line(line) {
+            Some(text) => self.add_text(alloc, text),
+            None => Ok(()),
+        }
     }
-}
 
-// Adds the name of a text, if it is one's.
-fn add_text(alloc: Global, names: &mut BTreeSet<NameKey>, text: &str) -> Result<(), AllocError>
-    ensures { OnOk result (AddsText names.old.keys text.now names.new.keys) }
-{
-    match name_of(alloc, text)? {
-        Some(name) => add_name(alloc, names, name),
-        None => Ok(()),
+    // Adds the name of a text, if it is one's.
+    fn add_text(&mut self, alloc: Global, text: &str) -> Result<(), AllocError>
+        ensures { OnOk result (AddsText self.old text.now self.new) }
+    {
+        match name_of(alloc, text)? {
+            Some(name) => self.add_name(alloc, name),
+            None => Ok(()),
+        }
     }
-}
 
-// Adds a name, fully qualified.
-fn add_name(alloc: Global, names: &mut BTreeSet<NameKey>, mut name: Name) -> Result<(), AllocError>
-    ensures { OnOk result (names.new.keys ≡ with_listed names.old.keys name) }
-{
-    name.set_fqdn(true);
-    let key = NameKey::of(alloc, &name)?;
-    names.insert(key)?;
-    Ok(())
+    // Adds a name, fully qualified.
+    fn add_name(&mut self, alloc: Global, mut name: Name) -> Result<(), AllocError>
+        ensures { OnOk result (self.new ≡ with_listed self.old name) }
+    {
+        name.set_fqdn(true);
+        let key = NameKey::of(alloc, &name)?;
+        self.names.insert(key)?;
+        self.has_wildcards |= name.is_wildcard();
+        Ok(())
+    }
 }
 
 // The name of a text, if it is one's.

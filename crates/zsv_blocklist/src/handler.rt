@@ -4,6 +4,7 @@ ghost use Rattle.std.specs.Prelude.{◌≡◌, [], true, false, length, IfOk, If
 ghost use Rattle.zsv_blocked.specs.Reading.{AddsRead, IsListFault};
 ghost use Rattle.zsv_blocked.specs.declared.read.BlocklistError.TheVariants.{MessageTooLong};
 ghost use Rattle.zst_request.specs.Blocking.{is_blocked};
+ghost use Rattle.zst_request.specs.dnw_name.DomainName.{lowercase_name};
 ghost use Rattle.zsv_blocklist.specs.Blocklists.{blocklist_of, is_too_long, message_of};
 
 use crate::config::BlocklistConfig;
@@ -11,7 +12,7 @@ use std::alloc::{AllocError, Global};
 use std::io::Read;
 use std::marker::Model;
 use std::mem;
-use zst_request::Name;
+use zst_request::{Name, NameKey};
 use zsv_blocked::{BlockedNames, BlocklistError, ReadFaults, add_list};
 
 /// A list of blocked names, and what is answered in their place.
@@ -68,14 +69,23 @@ impl BlocklistZoneHandler {
     pub fn is_blocked(&self, alloc: Global, name: &Name) -> Result<bool, AllocError>
         ensures { IfOk result (λ blocked. blocked ≡ is_blocked self.now name.now) }
     {
-        if self.names.is_listed(alloc, name)? {
+        let key = NameKey::of(alloc, name)?;
+        self.is_blocked_at(name, &key)
+    }
+
+    // Whether a name is blocked, which has this key.
+    pub(crate) fn is_blocked_at(&self, name: &Name, key: &NameKey) -> Result<bool, AllocError>
+        requires { key.now ≡ lowercase_name name.now }
+        ensures { IfOk result (λ blocked. blocked ≡ is_blocked self.now name.now) }
+    {
+        if self.names.is_listed(key) {
             return Ok(true);
         }
         if !self.config.wildcard_match {
             return Ok(false);
         }
         self.names
-            .has_wildcard(alloc, name, self.config.min_wildcard_depth)
+            .has_wildcard(name, key, self.config.min_wildcard_depth)
     }
 
     /// Adds the names of a list, of which a reader gives all octets: the name on each line, alone or behind the address

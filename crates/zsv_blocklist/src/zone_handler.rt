@@ -3,6 +3,7 @@
 ghost use Rattle.std.specs.Prelude.{◌≡◌, IfOk};
 ghost use Rattle.zst_request.specs.Blocking.{blocked_answer};
 ghost use Rattle.zst_request.specs.Handling.{Blocks, enforced_answer, is_enforced};
+ghost use Rattle.zst_request.specs.dnw_name.DomainName.{lowercase_name};
 ghost use Rattle.zsv_blocklist.specs.Answers.{ShowsIf};
 
 use crate::handler::BlocklistZoneHandler;
@@ -10,8 +11,8 @@ use std::alloc::{AllocError, Global};
 use std::mem;
 use zst_request::{
     AuthLookup, AxfrPolicy, BlocklistConsultAction, LookupControlFlow, LookupOptions,
-    LookupRecords, Name, NxProofKind, RecordType, TSigResponseContext, ZoneHandler, ZoneRequest,
-    ZoneType,
+    LookupRecords, Name, NameKey, NxProofKind, RecordType, TSigResponseContext, ZoneHandler,
+    ZoneRequest, ZoneType,
 };
 
 impl ZoneHandler for BlocklistZoneHandler {
@@ -35,7 +36,7 @@ impl ZoneHandler for BlocklistZoneHandler {
         None
     }
 
-    /// What `lookup` answers.
+    /// What `search_at` answers.
     fn search<'z>(
         &'z self,
         alloc: Global,
@@ -48,7 +49,25 @@ impl ZoneHandler for BlocklistZoneHandler {
         ),
         AllocError,
     > {
-        let flow = self.flow(alloc, request.name, request.query_type)?;
+        let key = NameKey::of(alloc, request.name)?;
+        self.search_at(alloc, &key, request, options)
+    }
+
+    /// What `lookup` answers. It makes no key of the name.
+    fn search_at<'z>(
+        &'z self,
+        alloc: Global,
+        key: &NameKey,
+        request: &ZoneRequest<'_>,
+        options: LookupOptions,
+    ) -> Result<
+        (
+            LookupControlFlow<AuthLookup<'z>>,
+            Option<TSigResponseContext>,
+        ),
+        AllocError,
+    > {
+        let flow = self.flow(alloc, request.name, key, request.query_type)?;
         Ok((flow, None))
     }
 
@@ -60,7 +79,8 @@ impl ZoneHandler for BlocklistZoneHandler {
         record_type: RecordType,
         options: LookupOptions,
     ) -> Result<LookupControlFlow<AuthLookup<'z>>, AllocError> {
-        self.flow(alloc, name, record_type)
+        let key = NameKey::of(alloc, name)?;
+        self.flow(alloc, name, &key, record_type)
     }
 
     /// The last result, but where the list is enforced and blocks the name: then what `lookup` answers.
@@ -93,16 +113,18 @@ impl ZoneHandler for BlocklistZoneHandler {
 }
 
 impl BlocklistZoneHandler {
-    // The answer to a blocked name, or on to the next handler.
+    // The answer to a blocked name, which has this key, or on to the next handler.
     fn flow(
         &self,
         alloc: Global,
         name: &Name,
+        key: &NameKey,
         record_type: RecordType,
     ) -> Result<LookupControlFlow<AuthLookup<'_>>, AllocError>
+        requires { key.now ≡ lowercase_name name.now }
         ensures { IfOk result (λ flow. Blocks (blocked_answer self.now name.now record_type) flow) }
     {
-        match self.answer(alloc, name, record_type)? {
+        match self.answer(alloc, name, key, record_type)? {
             Some(found) => Ok(LookupControlFlow::Break(Ok(found))),
             None => Ok(LookupControlFlow::Skip),
         }
@@ -120,19 +142,22 @@ impl BlocklistZoneHandler {
         if !is_enforced(self.config.consult_action) {
             return Ok(None);
         }
-        self.answer(alloc, name, record_type)
+        let key = NameKey::of(alloc, name)?;
+        self.answer(alloc, name, &key, record_type)
     }
 
-    // The answer to a blocked name.
+    // The answer to a blocked name, which has this key.
     fn answer(
         &self,
         alloc: Global,
         name: &Name,
+        key: &NameKey,
         record_type: RecordType,
     ) -> Result<Option<AuthLookup<'_>>, AllocError>
+        requires { key.now ≡ lowercase_name name.now }
         ensures { IfOk result (λ found. ShowsIf (blocked_answer self.now name.now record_type) found) }
     {
-        if !self.is_blocked(alloc, name)? {
+        if !self.is_blocked_at(name, key)? {
             return Ok(None);
         }
         let records = self.records(alloc, name, record_type)?;

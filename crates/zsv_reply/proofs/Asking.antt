@@ -1,11 +1,11 @@
 -- The questions of a reply, whose first name is kept for later ones to point to.
-use Rattle.std.proofs.Common.{◌≡◌, ℕ, ◌+◌, ◌^◌, ◌<◌, ◌≤◌, ◌∙◌, ◌&&◌, inl, inr, Bool, true, false, nat_le, nat_lt, List, [], ◌∷◌, length, take, get_or, refl, sym, ap, subst, arith}
+use Rattle.std.proofs.Common.{◌≡◌, ℕ, ◌+◌, ◌^◌, ◌<◌, ◌≤◌, ◌∙◌, ◌&&◌, inl, inr, Bool, true, false, nat_le, nat_lt, List, [], ◌∷◌, length, take, refl, sym, ap, subst, arith}
 use Rattle.std.proofs.lemmas.Bool.Decides.{nat_tests}
-use Rattle.std.specs.Prelude.{Option, Some, None, Result, Ok, Err, OnOk, OnErr, slice_get}
+use Rattle.std.specs.Prelude.{Some, None, Result, Ok, Err, OnOk, OnErr, slice_get}
 use Rattle.zsv_request.specs.zsv_message.zst_record.dnw_codes.declared.error.ProtoError.{ProtoError}
 use Rattle.zsv_request.specs.zsv_message.zst_record.dnw_decoder.Octets.{Stands}
 use Rattle.zsv_request.specs.zsv_message.zst_record.dnw_name.DomainName.{DomainName}
-use Rattle.zsv_request.specs.zsv_message.zst_record.dnw_encoder.Effects.{Agrees, Fixed, Opens, Sound, StaysTrue, StoresName, Writes, WritesOctets}
+use Rattle.zsv_request.specs.zsv_message.zst_record.dnw_encoder.Effects.{Opens, Sound, StaysTrue, StoresName, Writes, WritesOctets}
 use Rattle.zsv_request.specs.zsv_message.zst_record.dnw_encoder.Members.{In}
 use Rattle.zsv_request.specs.zsv_message.zst_record.dnw_encoder.State.{State}
 use Rattle.zsv_request.specs.zsv_message.zst_record.dnw_encoder.declared.open_places.OpenPlace.{OpenPlace}
@@ -13,7 +13,7 @@ use Rattle.zsv_request.specs.zsv_message.zst_record.drd_rdata.Writing.{WritesInF
 use Rattle.zsv_request.specs.zsv_message.zsv_parts.Questions.{Asked}
 use Rattle.zsv_request.specs.zsv_message.zsv_parts.declared.header.Header.{Header}
 use Rattle.zsv_request.specs.zsv_message.zsv_parts.declared.question.Query.{Query}
-use Rattle.zsv_request.proofs.zsv_message_lemmas.zst_record_lemmas.dnw_encoder_lemmas.Laws.{modes_then, puts_stands, puts_writes}
+use Rattle.zsv_request.proofs.zsv_message_lemmas.zst_record_lemmas.dnw_encoder_lemmas.Laws.{modes_then, puts_stands}
 use Rattle.zsv_request.proofs.zsv_message_lemmas.zst_record_lemmas.dnw_encoder_lemmas.PointerLaws.{stays_alike}
 use Rattle.zsv_reply.specs.Replies.{ReplyParts, first_labels, leaves_room}
 use Rattle.zsv_reply.specs.Writing.{EmitsQuestions, IsEmitted, IsEncoded, LeadsRecords, lets_point}

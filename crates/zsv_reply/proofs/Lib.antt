@@ -8,3 +8,4 @@ pub mod OptRecords
 pub mod ReadBack
 pub mod Sections
 pub mod Written
+pub mod WrittenReplies

@@ -14,7 +14,7 @@ use Rattle.zsv_request.specs.zsv_message.zst_record.dnw_decoder.Spelling.{NameAt
 use Rattle.zsv_request.specs.zsv_message.zst_record.dnw_name.DomainName.{DomainName, domain_name, name_octets}
 use Rattle.zsv_request.proofs.zsv_message_lemmas.zst_record_lemmas.dnw_decoder_lemmas.SpellingLaws.{name_once, spelled_within}
 use Rattle.zsv_request.proofs.zsv_message_lemmas.zst_record_lemmas.dnw_decoder_lemmas.Standing.{length-octets_32, stands_split, stands_within}
-use Rattle.zsv_request.specs.zsv_message.zst_record.dnw_encoder.Effects.{Agrees, Has, IsRefusal, Keeps, RolledBack, Sound, StaysTrue, Writes}
+use Rattle.zsv_request.specs.zsv_message.zst_record.dnw_encoder.Effects.{Agrees, Has, IsRefusal, Keeps, RolledBack, Sound, Writes}
 use Rattle.zsv_request.proofs.zsv_message_lemmas.zst_record_lemmas.dnw_encoder_lemmas.Laws.{agrees_same, holds_map, holds_now, puts_stands, same_from_keeps}
 use Rattle.zsv_request.specs.zsv_message.zst_record.dnw_encoder.State.{State}
 use Rattle.zsv_request.specs.zsv_message.zst_record.drd_rdata.Reading.{RDataAt}

@@ -8,8 +8,8 @@ use Rattle.zsv_request.specs.zsv_message.zst_record.dnw_codes.ProtoError.{IsMemo
 use Rattle.zsv_request.specs.zsv_message.zst_record.dnw_codes.declared.error.ProtoError.{ProtoError}
 use Rattle.zsv_request.specs.zsv_message.zst_record.dnw_codes.declared.error.ProtoError.TheVariants.{MaxBufferSizeExceeded}
 use Rattle.zsv_request.specs.zsv_message.zst_record.dnw_decoder.Octets.{Stands}
-use Rattle.zsv_request.specs.zsv_message.zst_record.dnw_encoder.Effects.{StaysTrue, Writes, WritesOctets, Fills, IsRefusal, Sound, place_of}
-use Rattle.zsv_request.proofs.zsv_message_lemmas.zst_record_lemmas.dnw_encoder_lemmas.Laws.{holds_more, holds_now, holds_same, holds_written, puts_stands, writes_same, writes_then}
+use Rattle.zsv_request.specs.zsv_message.zst_record.dnw_encoder.Effects.{StaysTrue, Writes, Fills, IsRefusal, Sound, place_of}
+use Rattle.zsv_request.proofs.zsv_message_lemmas.zst_record_lemmas.dnw_encoder_lemmas.Laws.{holds_more, holds_now, holds_same, holds_written, writes_same, writes_then}
 use Rattle.zsv_request.specs.zsv_message.zst_record.dnw_encoder.Members.{In}
 use Rattle.zsv_request.specs.zsv_message.zst_record.dnw_encoder.State.{State, at_offset}
 use Rattle.zsv_request.specs.zsv_message.zst_record.Records.{ReadsBackAlone, plain}

@@ -35,6 +35,17 @@ bare_parts m = record {
   signature = None;
 }
 
+-- What a reply holds that has answers behind its questions, and options.
+abbrev pub answer_parts : Metadata → List Record → Option Edns → ReplyParts
+answer_parts m answers edns = record {
+  metadata = m;
+  answers = answers;
+  authorities = [];
+  additionals = [];
+  edns = edns;
+  signature = None;
+}
+
 -- An operation that four bits hold.
 pub record FitsOpCode (m : Metadata) : Type 0 where
   pub op_code : op_code_of (op_code_number m.op_code) ≡ m.op_code

@@ -17,8 +17,10 @@ mod header;
 mod lends;
 mod message_response;
 mod questions;
+mod written_reply;
 
 pub use bare_reply::encode_bare;
 pub use builder::{MessageResponseBuilder, NoRecords};
 pub use lends::LendsRecord;
 pub use message_response::MessageResponse;
+pub use written_reply::encode_written;

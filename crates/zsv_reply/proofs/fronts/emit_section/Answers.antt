@@ -1,4 +1,4 @@
-use Rattle.std.proofs.Common.{ℕ, Bool, false, ◌+◌, ◌^◌, ◌≤◌, arith}
+use Rattle.std.proofs.Common.{false, ◌+◌, ◌^◌, ◌≤◌, arith}
 use Rattle.zsv_request.specs.zsv_message.zst_record.Records.{plain}
 use Rattle.zsv_request.specs.zsv_message.zst_record.dnw_encoder.Encoders.{state}
 use Rattle.zsv_reply.specs.Replies.{ReplyRecordAt}

@@ -1,5 +1,5 @@
-use Rattle.std.proofs.Common.{◌≡◌, ◌∙◌, List, ap, subst, arith}
-use Rattle.std.specs.Prelude.{slice_get, Some, None, Option}
+use Rattle.std.proofs.Common.{◌∙◌, List, ap, subst, arith}
+use Rattle.std.specs.Prelude.{slice_get}
 use Rattle.std.proofs.lemmas.Result.{on_ok_weaker}
 use Rattle.zsv_request.specs.zsv_message.zst_record.dnw_encoder.Effects.{StoresName, WritesOctets}
 use Rattle.zsv_request.specs.zsv_message.zst_record.dnw_encoder.Encoders.{state}

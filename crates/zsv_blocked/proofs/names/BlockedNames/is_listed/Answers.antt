@@ -4,8 +4,8 @@ use Rattle.zsv_blocked.proofs.NamesLemmas.{contains-listed, listed-lower}
 use Rattle.zsv_blocked.proofs.names.BlockedNames.is_listed.Goals as goal
 
 pub returns : goal.returns
-returns c =
-    c.contains.ensures ∙ contains-listed c.in_ok-key.key c.self.inside.names.keys
-    ∙ ap (λ key. is_listed c.self.inside.names.keys key) c.in_ok-key.ensures.key
-    ∙ listed-lower c.args.name.now c.self.inside.names.keys
-    ∙ ap (λ names. is_listed names c.args.name.now) c.self.view_is
+returns c name is =
+    c.contains.ensures ∙ contains-listed c.args.key.now c.self.inside.names.keys
+    ∙ ap (λ key. is_listed c.self.inside.names.keys key) is
+    ∙ listed-lower name c.self.inside.names.keys
+    ∙ ap (λ names. is_listed names name) c.self.view_is

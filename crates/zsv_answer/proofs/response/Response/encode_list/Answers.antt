@@ -10,7 +10,7 @@ use Rattle.zsv_reply.specs.zsv_message.zsv_parts.Questions.{Asked}
 use Rattle.zsv_request.specs.Requests.{limit_of}
 use Rattle.zsv_answer.specs.Responses.{parts_with, with_edns}
 use Rattle.zsv_answer.specs.Shown.{shown_if}
-use Rattle.zsv_answer.proofs.response.Response.encode_answer.Goals as goal
+use Rattle.zsv_answer.proofs.response.Response.encode_list.Goals as goal
 
 pub returns : goal.returns
 returns c =

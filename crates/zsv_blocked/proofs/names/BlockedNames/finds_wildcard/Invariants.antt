@@ -2,7 +2,7 @@ use Rattle.std.proofs.Common.{ℕ, ◌≡◌, ◌≤◌, ◌<◌, ◌-◌, lengt
 use Rattle.dnw_name.specs.DomainName.{lowercase_name}
 use Rattle.zst_key.specs.Ancestors.{up}
 use Rattle.zsv_blocked.specs.BlockedNames.{is_listed, wildcard_over}
-use Rattle.zsv_blocked.proofs.names.BlockedNames.has_wildcard.Given as goal
+use Rattle.zsv_blocked.proofs.names.BlockedNames.finds_wildcard.Given as goal
 
 abbrev pub invariant-levels : goal.invariant-levels
 invariant-levels l = record {
