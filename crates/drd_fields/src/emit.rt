@@ -131,8 +131,8 @@ impl<A: DataField, B: DataFields> DataFields for (A, B) {
     }
 }
 
-// The octets of five numbers, one behind the other.
-fn octets_of_five(a: u32, b: u32, c: u32, d: u32, e: u32) -> [u8; 20]
+/// The octets of five numbers, one behind the other.
+pub fn octets_of_five(a: u32, b: u32, c: u32, d: u32, e: u32) -> [u8; 20]
     ensures { result ≡ fields_octets (long a ∷ long b ∷ long c ∷ long d ∷ long e ∷ []) }
 {
     let [a0, a1, a2, a3] = a.to_be_bytes();

@@ -34,6 +34,7 @@ pub use data::{FieldData, is_same_data, read_value};
 pub use decodable::RecordDataDecodable;
 pub use emit::{
     DataField, DataFields, RestField, StringField, StringFields, emit_data, emit_three,
+    octets_of_five,
 };
 pub use few::Fields;
 pub use field_ref::FieldRef;

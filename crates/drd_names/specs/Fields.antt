@@ -44,13 +44,16 @@ srv_fields srv = short srv.priority ∷ short srv.weight ∷ short srv.port ∷ 
 abbrev pub srv_kinds : List Kind
 srv_kinds = a_short ∷ a_short ∷ a_short ∷ a_name ∷ []
 
--- RFC 1035 3.3.13: the primary server, the mailbox, the serial number and four intervals. Three of
--- the intervals are held as signed numbers, whose 32 bits stand here.
+-- RFC 1035 3.3.13: the serial number and four intervals. Three of the intervals are held as signed
+-- numbers, whose 32 bits stand here.
+abbrev pub soa_numbers : SOA → List Field
+soa_numbers soa =
+    long soa.serial ∷ long (cast_unsigned w32 soa.refresh) ∷ long (cast_unsigned w32 soa.retry)
+    ∷ long (cast_unsigned w32 soa.expire) ∷ long soa.minimum ∷ []
+
+-- Before them the primary server and the mailbox.
 abbrev pub soa_fields : SOA → List Field
-soa_fields soa =
-    name soa.mname ∷ name soa.rname ∷ long soa.serial ∷ long (cast_unsigned w32 soa.refresh)
-    ∷ long (cast_unsigned w32 soa.retry) ∷ long (cast_unsigned w32 soa.expire) ∷ long soa.minimum
-    ∷ []
+soa_fields soa = name soa.mname ∷ name soa.rname ∷ soa_numbers soa
 
 abbrev pub soa_kinds : List Kind
 soa_kinds = a_name ∷ a_name ∷ a_long ∷ a_long ∷ a_long ∷ a_long ∷ a_long ∷ []

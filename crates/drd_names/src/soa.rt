@@ -9,14 +9,14 @@ ghost use Rattle.drd_fields.specs.Equality.{AreFull, Tells, fields_eq};
 ghost use Rattle.drd_fields.proofs.EqualityLaws.{data_equiv};
 ghost use Rattle.drd_fields.specs.Order.{fields_input};
 ghost use Rattle.drd_fields.proofs.OrderLaws.{fields-alike};
-ghost use Rattle.drd_fields.specs.Writing.{EmitsData, RefusesFields, canonical_octets};
-ghost use Rattle.drd_names.specs.Fields.{soa_fields, soa_kinds};
+ghost use Rattle.drd_fields.specs.Writing.{EmitsData, RefusesFields, canonical_octets, fields_octets};
+ghost use Rattle.drd_names.specs.Fields.{soa_fields, soa_kinds, soa_numbers};
 ghost use Rattle.drd_names.specs.Serials.{next_serial};
 ghost use Rattle.drd_names.specs.Texts.{soa_print, numbers_print, IsSoaText, RefusesSoaText};
 
 use drd_fields::{
     BinDecodable, BinDecoder, BinEncodable, BinEncoder, FieldData, FieldRef, Fields, RDataEncoding,
-    emit_three, hash_list, is_same_data, read_value,
+    emit_three, hash_list, is_same_data, octets_of_five, read_value,
 };
 use drd_words::{DecodeError, Name, ProtoError, TextData, TimeInterval, TimeToLive};
 use std::alloc::Global;
@@ -87,6 +87,19 @@ impl SOA {
             expire,
             minimum,
         }
+    }
+
+    /// The octets of the serial number, the three intervals and the time to live, as they stand behind the names.
+    pub fn number_octets(&self) -> [u8; 20]
+        ensures { result ≡ fields_octets (soa_numbers self.now) }
+    {
+        octets_of_five(
+            self.serial,
+            self.refresh.cast_unsigned(),
+            self.retry.cast_unsigned(),
+            self.expire.cast_unsigned(),
+            self.minimum,
+        )
     }
 
     /// The zone's version goes up by one, from 2^32 - 1 to 0 (RFC 1982 3.1).
