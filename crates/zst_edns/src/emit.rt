@@ -1,5 +1,5 @@
 //! OPT records that are written (RFC 6891 6.1.2, 6.1.3).
-ghost use Rattle.std.specs.Prelude.{◌≡◌, ◌+◌, ◌≤◌, ◌^◌, length, IfSome, MatchOption};
+ghost use Rattle.std.specs.Prelude.{◌≡◌, ◌+◌, ◌<◌, ◌≤◌, ◌^◌, length, MatchOption};
 ghost use Rattle.drd_types.specs.drd_opt.Entries.{entries_octets};
 ghost use Rattle.drd_types.specs.drd_opt.Options.{option_octets};
 ghost use Rattle.zst_edns.specs.Writing.{EmitsEdns, FitsFields, RefusesEdns, opt_head, opt_octets};
@@ -64,9 +64,10 @@ impl Edns {
 }
 
 impl Edns {
-    /// The octets of the record, where it has no options.
+    /// The octets of the record, exactly where it has no options.
     pub fn octets_alone(&self) -> Option<[u8; 11]>
-        ensures { IfSome result (λ octets. (octets ≡ opt_octets self.now) × FitsFields self.now) }
+        ensures { MatchOption result (0 < length self.now.options.options.items)
+            (λ octets. (octets ≡ opt_octets self.now) × FitsFields self.now × (length self.now.options.options.items ≡ 0)) }
     {
         if self.options().as_ref().is_empty() {
             Some(self.head(0))

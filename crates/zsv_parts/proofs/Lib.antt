@@ -5,3 +5,4 @@ pub mod QuestionsOver
 pub mod SignatureWriting
 pub mod TsigLaws
 pub mod TsigWriting
+pub mod WholeNames

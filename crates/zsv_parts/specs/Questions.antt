@@ -1,11 +1,11 @@
 -- Questions: RFC 1035, section 4.1.2.
-use Rattle.std.specs.Prelude.{◌≡◌, ℕ, ◌<◌, ◌⊎◌, Bool, List, [], ◌∷◌, length, nat_eq}
+use Rattle.std.specs.Prelude.{◌≡◌, ℕ, ◌<◌, ◌^◌, ◌++◌, ◌⊎◌, Bool, List, [], ◌∷◌, length, nat_eq}
 use Rattle.std.specs.Cmp.Lexicographic.{pointwise}
 use Rattle.std.specs.Ordering.{eq_of_both, on}
 use Rattle.dnw_codes.specs.DNSClass.{same_class}
 use Rattle.dnw_codes.specs.RecordType.{same_record_type}
 use Rattle.dnw_codes.specs.declared.error.DecodeError.{DecodeError}
-use Rattle.dnw_encoder.specs.dnw_name.DomainName.{DomainName, name_eq}
+use Rattle.dnw_encoder.specs.dnw_name.DomainName.{DomainName, name_eq, name_octets}
 use Rattle.dnw_encoder.specs.dnw_decoder.Codes.{RecordTypeAt, ClassAt}
 use Rattle.dnw_encoder.specs.dnw_decoder.Octets.{Stands}
 use Rattle.dnw_encoder.specs.dnw_decoder.Reading.{IsCut}
@@ -48,6 +48,22 @@ asked_eq =
 pub record AskedAt (message : List ℕ) (place count : ℕ) (asked : Asked) (end : ℕ) : Type 0 where
   pub questions : QuestionsAt message place count asked.questions end
   pub octets : Stands message place asked.octets end
+
+-- They were read, at a place of some message; 16 bits count them.
+pub record IsSection (asked : Asked) : Type 0 where
+  pub few : length asked.questions < 2 ^ 16
+  pub message : List ℕ
+  pub place : ℕ
+  pub end : ℕ
+  pub there : AskedAt message place (length asked.questions) asked end
+
+-- There is one question, whose octets begin with its name in full, spelled as it is.
+pub record HasWholeName (asked : Asked) (name : DomainName) : Type 0 where
+  pub question : Query
+  pub only : asked.questions ≡ question ∷ []
+  pub is : question.name ≡ name
+  pub rest : List ℕ
+  pub whole : asked.octets ≡ name_octets name ++ rest
 
 -- A name is spelled at a place, and the type and the class behind it are cut.
 pub record LacksCodes (message : List ℕ) (place : ℕ) (e : DecodeError) : Type 0 where

@@ -1,11 +1,12 @@
 //! Questions (RFC 1035 section 4.1.2).
 
-ghost use Rattle.std.specs.Prelude.{◌≡◌, ◌==◌, ◌<◌, ◌≤◌, ◌^◌, ◌⊎◌, ℕ, List, length, IfOk, IfErr};
+ghost use Rattle.std.specs.Prelude.{◌≡◌, ◌==◌, ◌<◌, ◌≤◌, ◌^◌, ◌⊎◌, ℕ, List, length, IfOk, IfErr, MatchOption};
+ghost use Rattle.dnw_encoder.specs.dnw_name.DomainName.{DomainName};
 ghost use Rattle.std.specs.Cmp.{partial_equiv_from_equiv};
 ghost use Rattle.dnw_encoder.specs.dnw_decoder.Reading.{IsWantOfMemory};
 ghost use Rattle.zsv_parts.specs.declared.question.Query.{Query as Question};
 ghost use Rattle.zsv_parts.specs.QuestionLaws.{asked_equiv, question_equiv};
-ghost use Rattle.zsv_parts.specs.Questions.{Asked, AskedAt, QuestionAt, QuestionsAt, RefusesQuestion, RefusesQuestions, asked_eq, question_eq};
+ghost use Rattle.zsv_parts.specs.Questions.{Asked, AskedAt, HasWholeName, QuestionAt, QuestionsAt, RefusesQuestion, RefusesQuestions, asked_eq, question_eq};
 
 use dnw_codes::{DNSClass, DecodeError, RecordType};
 use dnw_encoder::{BinDecodable, BinDecoder, Name};
@@ -124,14 +125,13 @@ pub struct Queries<'m> {
 }
 
 impl<'m> Model for Queries<'m> {
-    ghost use Rattle.std.specs.Prelude.{◌<◌, ◌^◌, length};
-    ghost use Rattle.zsv_parts.specs.Questions.{Asked};
+    ghost use Rattle.zsv_parts.specs.Questions.{Asked, IsSection};
 
     ghost Value = { Asked };
 
     ghost view = { λ asked. record { questions = asked.queries.items; octets = asked.original.now } };
 
-    ghost invariant = { λ asked. length asked.queries.items < 2 ^ 16 };
+    ghost invariant = { λ asked. IsSection (record { questions = asked.queries.items; octets = asked.original.now }) };
 }
 
 impl<'m> Queries<'m> {
@@ -175,6 +175,20 @@ impl<'m> Queries<'m> {
         ensures { result.now ≡ self.now.questions }
     {
         self.queries.as_slice()
+    }
+
+    /// The name of the question, if there is one question, and its name stands in full.
+    pub fn whole_name(&self) -> Option<&Name>
+        ensures { MatchOption result ((name : DomainName) → HasWholeName self.now name → ⊥) (λ name. HasWholeName self.now name.now) }
+    {
+        let query = self.queries.first()?;
+        // (behind the name and its end stand type and class)
+        let is_whole = self.original.len() == query.name.as_octets().len() + 5;
+        if self.queries.len() == 1 && is_whole {
+            Some(&query.name)
+        } else {
+            None
+        }
     }
 
     /// The octets of the question section, as they were sent.
