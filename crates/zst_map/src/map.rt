@@ -93,9 +93,9 @@ impl ZoneMap {
         }
     }
 
-    // What stands at the name of a key, by one search of the map: the first key that is not before this one tells. `cmp`
-    // is cheaper here than `==`.
-    fn searched_place(&self, key: &NameKey) -> Place<'_>
+    /// What stands at the name of a key, by one search of the map: the first key that is not before this one tells. `cmp`
+    /// is cheaper here than `==`.
+    pub(crate) fn searched_place(&self, key: &NameKey) -> Place<'_>
         ensures { IsPlace self.now key.now result }
     {
         match self.nodes.range(key..).next() {

@@ -284,7 +284,7 @@ impl ZoneSets {
         ensures { IfOk result (IsSearch self.now key.now record_type) }
     {
         if !self.index.has_cuts {
-            return self.find_uncut(key, self.sets.place_at(key), record_type);
+            return self.find_uncut(key, self.sets.searched_place(key), record_type);
         }
         let cut = match self.start_above(key) {
             Some(start) => return self.find_near(key, start, record_type),
@@ -293,7 +293,7 @@ impl ZoneSets {
         };
         match cut {
             Some(set) => Ok(Search::Found(Match::own(set))),
-            None => self.find_uncut(key, self.sets.place_at(key), record_type),
+            None => self.find_uncut(key, self.sets.searched_place(key), record_type),
         }
     }
 
@@ -315,8 +315,14 @@ impl ZoneSets {
         }
     }
 
-    // What `find` answers, where the name's own sets are to tell whether a cut begins there.
-    fn find_start(&self, key: &NameKey, record_type: RecordType) -> Result<Search<'_>, AllocError>
+    /// What `find` answers, by the name's own sets first: for the start of a zone, whose key is the first of all, the map is
+    /// not searched.
+    #[inline(always)]
+    pub fn find_start(
+        &self,
+        key: &NameKey,
+        record_type: RecordType,
+    ) -> Result<Search<'_>, AllocError>
         ensures { IfOk result (IsSearch self.now key.now record_type) }
     {
         let place = self.sets.place_at(key);
@@ -336,7 +342,7 @@ impl ZoneSets {
         requires { above.now ≡ parent key.now }
         ensures { IfOk result (IsSearch self.now key.now record_type) }
     {
-        let place = self.sets.place_at(key);
+        let place = self.sets.searched_place(key);
         match self.delegation_near(key, above, place.sets, record_type)? {
             Some(set) => Ok(Search::Found(Match::own(set))),
             None => self.find_uncut(key, place, record_type),
@@ -370,6 +376,7 @@ impl ZoneSets {
     }
 
     // What `delegation` answers, by the name's own sets first.
+    #[inline(always)]
     fn delegation_at<'z>(
         &'z self,
         key: &NameKey,

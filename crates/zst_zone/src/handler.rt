@@ -237,7 +237,7 @@ impl<K> InMemoryZoneHandler<K> {
         ensures { IfOk result (λ flow. LookupAnswers self.now self.now.origin RecordType.SOA options flow) }
     {
         let (name, key) = (&self.origin, &self.origin_key);
-        match self.sets.find(key, RecordType::SOA)? {
+        match self.sets.find_start(key, RecordType::SOA)? {
             Search::Found(first) if first.set.record_type() == RecordType::SOA => {
                 let found = answer_alone(&self.sets, alloc, name, RecordType::SOA, options, first)?;
                 Ok(LookupControlFlow::Continue(Ok(found)))
