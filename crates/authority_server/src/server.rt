@@ -19,7 +19,7 @@ use thiserror::Error;
 use zsv_access::AccessControl;
 use zsv_catalog::{
     Chains, DecodeError, MessageRequest, Name, Protocol, ResponseCode, ResponseInfo, ZoneHandler,
-    error_response, reply_by,
+    encode_error, reply_by,
 };
 
 /// A message as it came.
@@ -136,9 +136,10 @@ impl<S, H: ZoneHandler> Authority<S, H> {
         ensures { IfOk result (λ sent. IsEncoded sent.0 sent.1.items (error_parts request.now.metadata response_code)
             request.now.asked (limit_of protocol None)) }
     {
-        error_response(request.metadata(), response_code).encode(
+        encode_error(
             self.alloc,
-            None,
+            request.metadata(),
+            response_code,
             request.queries(),
             protocol,
         )

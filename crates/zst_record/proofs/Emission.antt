@@ -2,6 +2,8 @@
 use Rattle.std.proofs.Common.{◌≡◌, ℕ, ◌+◌, ◌^◌, ◌<◌, ◌≤◌, inr, List, [], ◌∷◌, ◌++◌, length, length-append, slice_index_or, refl, sym, ap, subst, ◌∙◌, arith}
 use Rattle.std.specs.Prelude.{Result, Ok, Err, OnOk, OnErr}
 use Rattle.std.specs.Int.{to_be_bytes, w32}
+use Rattle.std.specs.Net.Addr.{ipv4_bits}
+use Rattle.drd_fields.proofs.ReadableLaws.{own_fields}
 use Rattle.drd_rdata.specs.dnw_codes.DNSClass.{class_number}
 use Rattle.drd_rdata.specs.dnw_codes.RecordType.{record_type_number}
 use Rattle.drd_rdata.specs.dnw_codes.declared.error.ProtoError.{ProtoError}
@@ -23,6 +25,8 @@ use Rattle.drd_rdata.specs.Writing.{EmitsRData, RefusesRData, WritesInFull, writ
 use Rattle.drd_rdata.proofs.WrittenLaws.{HoldsSome, data_within, encoded_full, written_holds, written_size, written_refused}
 use Rattle.drd_rdata.specs.declared.rdata.RData.{RData}
 use Rattle.drd_rdata.specs.declared.rdata.RData.TheVariants as rdata
+use Rattle.drd_rdata.specs.drd_params.AddressFields.{aaaa_fields}
+use Rattle.drd_rdata.specs.drd_params.declared.a.A.{A}
 use Rattle.drd_rdata.specs.drd_params.declared.aaaa.AAAA.{AAAA}
 use Rattle.zst_record.proofs.OwnCodes.{class_read, class_small, no_options, type_read, type_small}
 use Rattle.zst_record.specs.Writing.{HeadAt, EmitsHead, DataAt, EmitsBehindLength, EmitsRecord, RefusesBehindLength, RefusesRecord, head_numbers}
@@ -206,6 +210,25 @@ pub record IsOctets (v : RData) (n : ℕ) (octets : List ℕ) : Type 0 where
   pub long : length octets ≡ n
   pub some : 0 < n
   pub few : n < 2 ^ 16
+
+-- Those of an address of 32 bits, and of one of 128.
+pub are_address : (v : RData) (a : A) → v ≡ rdata.A a → IsOctets v 4 (octets_32 (ipv4_bits a.0))
+are_address v a is = subst (λ (v : RData). IsOctets v 4 (octets_32 (ipv4_bits a.0))) (sym is) (record {
+  holds = λ m p q readable stands. (refl, ((q, stands, refl), readable.there.1));
+  written = four_written (ipv4_bits a.0);
+  long = length-octets_32 (ipv4_bits a.0);
+  some = omega arith;
+  few = omega arith;
+})
+
+pub are_wide : (v : RData) (aaaa : AAAA) → v ≡ rdata.AAAA aaaa → IsOctets v 16 (written_octets (rdata.AAAA aaaa))
+are_wide v aaaa is = subst (λ (v : RData). IsOctets v 16 (written_octets (rdata.AAAA aaaa))) (sym is) (record {
+  holds = λ m p q readable stands. (refl, (own_fields m p (aaaa_fields aaaa) q (tt, (tt, (tt, (tt, (tt, (tt, (tt, (tt, tt)))))))) stands, readable.there.1));
+  written = refl;
+  long = refl;
+  some = omega arith;
+  few = omega arith;
+})
 
 octets_emitted : (v : RData) (n : ℕ) (own : List ℕ) (old new : State) → IsOctets v n own → WritesOctets (octets_16 n ++ own) old new → old.offset + (2 + n) ≤ old.maximum → EmitsBehindLength v old new
 octets_emitted v n own old new is octets room =

@@ -2,7 +2,6 @@ pub mod PutRecords
 pub mod ReadingLaws
 pub mod OwnCodes
 pub mod Emission
-pub mod PointedOwners
 pub use Rattle.drd_rdata.proofs.dnw_name_lemmas
 pub use Rattle.drd_rdata.proofs.drd_words_lemmas
 pub use Rattle.drd_rdata.proofs.dnw_decoder_lemmas

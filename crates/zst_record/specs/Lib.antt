@@ -4,7 +4,6 @@ pub mod RecordSets
 pub mod RecordLaws
 pub mod Reading
 pub mod Writing
-pub mod Pointing
 pub use Rattle.drd_rdata.specs.dnw_codes
 pub use Rattle.drd_rdata.specs.dnw_decoder
 pub use Rattle.drd_fields.specs.dnw_encoder

@@ -14,8 +14,8 @@ use crate::records::{Record, RecordRef};
 use drd_rdata::{A, AAAA, BinEncodable, BinEncoder, ProtoError, RData, octets_of};
 
 impl RecordRef<'_> {
-    // The numbers of type, class and time to live, as they stand behind the owner.
-    fn head_numbers(&self) -> [u8; 8]
+    /// The numbers of type, class and time to live, as they stand behind the owner.
+    pub fn head_numbers(&self) -> [u8; 8]
         ensures octets { result ≡ head_numbers (seen self.now) }
         ensures small { self.now.ttl < 2 ^ 32 }
     {
@@ -37,8 +37,8 @@ impl RecordRef<'_> {
         encoder.emit_vec(&self.head_numbers())
     }
 
-    // What stands behind the owner of an address: type, class and time to live, and the address behind its length.
-    pub(crate) fn address_octets(&self, a: &A) -> [u8; 14]
+    /// What stands behind the owner of an address: type, class and time to live, and the address behind its length.
+    pub fn address_octets(&self, a: &A) -> [u8; 14]
         ensures octets { result ≡ head_numbers (seen self.now) ++ (octets_16 4 ++ octets_32 (ipv4_bits a.now.0)) }
         ensures small { self.now.ttl < 2 ^ 32 }
     {
@@ -62,9 +62,9 @@ impl RecordRef<'_> {
         encoder.emit_vec(&self.address_octets(a))
     }
 
-    // What stands behind the owner of an address of 128 bits: type, class and time to live, and the address behind its
-    // length.
-    pub(crate) fn wide_octets(&self, aaaa: &AAAA) -> [u8; 26]
+    /// What stands behind the owner of an address of 128 bits: type, class and time to live, and the address behind its
+    /// length.
+    pub fn wide_octets(&self, aaaa: &AAAA) -> [u8; 26]
         ensures octets { result ≡ head_numbers (seen self.now) ++ (octets_16 16 ++ written_octets (RData.AAAA aaaa.now)) }
         ensures small { self.now.ttl < 2 ^ 32 }
     {

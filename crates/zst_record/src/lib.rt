@@ -5,13 +5,12 @@
 #![tactic(auto)]
 
 pub use drd_rdata::{
-    A, ANAME, BinDecodable, BinDecoder, BinEncodable, BinEncoder, CNAME, DNSClass, DecodeError,
-    EncodedSize, Label, LowerName, MX, NS, Name, NameEncoding, ProtoError, RData, RecordType,
-    RrKey, SOA, SRV,
+    A, AAAA, ANAME, BinDecodable, BinDecoder, BinEncodable, BinEncoder, CNAME, DNSClass,
+    DecodeError, EncodedSize, Label, LowerName, MX, NS, Name, NameEncoding, ProtoError, RData,
+    RecordType, RrKey, SOA, SRV,
 };
 
 mod emit;
-mod pointing;
 mod read;
 mod record_set;
 mod records;

@@ -1,6 +1,6 @@
 -- What a response holds where nothing was found, and where an answer is all that it holds.
 use Rattle.std.proofs.Common.{◌≡◌, ◌∙◌, Bool, true, false, List, [], Some, None, Option, refl, sym, ap, true≢false}
-use Rattle.std.specs.Prelude.{if◌then◌else◌}
+use Rattle.std.specs.Prelude.{if◌then◌else◌, is_none}
 use Rattle.zsv_reply.specs.zst_record.declared.records.Record.{Record}
 use Rattle.zst_request.specs.dnw_codes.declared.record_type.RecordType.{RecordType}
 use Rattle.zst_request.specs.zst_handler.Answers.{additionals_in, answers_in, records_in}
@@ -51,6 +51,11 @@ answer_alone r answers additionals none_go found alone =
     ∙ ap (λ (more : List Record). parts_with r.metadata r.is_referral shown more (records_in r.beside)) (either_way r.is_forwarded [])
     ∙ ap (λ (referral : Bool). parts_with r.metadata referral shown [] (records_in r.beside)) none.0
     ∙ ap (λ (beside : List Record). parts_with r.metadata false shown [] beside) none.1)
+
+-- There is nothing where nothing is told to be.
+pub none_there : (o : Option LookupRecords) → is_none o ≡ true → o ≡ None
+none_there None told = refl
+none_there (Some more) told = absurd (true≢false (sym told))
 
 -- A response whose lists were given back holds no records.
 pub none_left : (r : Response) → r.found ≡ auths.Empty → r.beside ≡ lookups.Empty → parts_of r ≡ parts_with r.metadata false [] [] []

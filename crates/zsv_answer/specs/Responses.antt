@@ -15,6 +15,7 @@ use Rattle.zst_request.specs.zst_handler.Answers.{additionals_in, answers_in, is
 use Rattle.zst_request.specs.zst_handler.declared.lookup_records.LookupRecords.{LookupRecords}
 use Rattle.zst_request.specs.zst_handler.declared.lookup_records.LookupRecords.TheVariants as lookups
 use Rattle.zsv_answer.specs.Shown.{shown_if}
+use Rattle.zsv_answer.specs.declared.response.OneList.{OneList}
 use Rattle.zsv_answer.specs.declared.response.Response.{Response}
 
 -- The header of a reply repeats the identifier, the operation, RD and CD.
@@ -71,6 +72,14 @@ abbrev pub parts_of : Response → ReplyParts
 parts_of r =
     parts_with r.metadata r.is_referral (shown_if r.asked (answers_in r.found))
     (if r.is_forwarded then [] else additionals_in r.found) (records_in r.beside)
+
+-- What a response holds whose records stand in one list: those of them that are shown, as answers or
+-- as authority.
+abbrev pub list_parts : Metadata → OneList → ReplyParts
+list_parts m list =
+    let shown = shown_if list.asked (records_in list.records.now) in
+    parts_with m false (if list.are_answers then shown else []) []
+    (if list.are_answers then [] else shown)
 
 -- The handlers lend all records of a response as they have them.
 abbrev pub lends_records : Response → Bool

@@ -27,4 +27,4 @@ mod response;
 mod written;
 
 pub use chain::chain_response;
-pub use response::{Response, error_response};
+pub use response::{Response, encode_error, error_response};

@@ -1,20 +1,24 @@
 //! What a reply holds in full, and its octets.
 
-ghost use Rattle.std.specs.Prelude.{◌≡◌, [], false, IfOk, None, Some, if◌then◌else◌, option_copied};
+ghost use Rattle.std.specs.Prelude.{◌≡◌, List, [], false, length, IfOk, None, Some, if◌then◌else◌, option_copied, IfSome};
 ghost use Rattle.zst_request.specs.zst_handler.Answers.{additionals_in, answers_in, records_in};
-ghost use Rattle.zsv_answer.specs.Responses.{Sends, error_parts, has_no_authority, lends_records, parts_of, parts_with, reply_metadata};
+ghost use Rattle.zsv_answer.specs.Responses.{Sends, error_parts, has_no_authority, lends_records, list_parts, parts_of, parts_with, reply_metadata};
 ghost use Rattle.zsv_answer.specs.Shown.{shown_if};
-ghost use Rattle.zsv_answer.specs.zsv_reply.Writing.{FitsOpCode};
+ghost use Rattle.zsv_answer.specs.zsv_reply.Writing.{AreWritten, FitsOpCode, IsEncoded};
+ghost use Rattle.zsv_answer.specs.zsv_reply.zst_pointing.Pointing.{ArePointing};
+ghost use Rattle.zsv_answer.specs.zsv_reply.zst_record.declared.records.Record.{Record as Entry};
+ghost use Rattle.zsv_answer.specs.zsv_reply.zst_record.dnw_name.DomainName.{DomainName};
+ghost use Rattle.zsv_request.specs.Requests.{limit_of};
 
 use crate::records::ShownRecords;
-use crate::written::write_answers;
+use crate::written::write_records;
 use smallvec::SmallVec;
 use std::alloc::{AllocError, Global};
 use std::iter;
 use zst_request::{AuthLookup, LookupRecords, LookupRecordsIter, RecordRef};
 use zsv_reply::{
     Edns, MessageResponseBuilder, MessageType, Metadata, Queries, RecordType, ResponseCode,
-    ResponseInfo, encode_bare, encode_written,
+    ResponseInfo, WrittenRecords, encode_bare, encode_written,
 };
 use zsv_request::Protocol;
 
@@ -32,6 +36,38 @@ pub struct Response<'z> {
     pub(crate) asked: Option<RecordType>,
     // What stands as authority beside it, or where nothing was found.
     pub(crate) beside: LookupRecords<'z>,
+}
+
+// The records of a reply that stand in one list alone.
+#[derive(Clone, Copy)]
+struct OneList<'r> {
+    records: &'r LookupRecords<'r>,
+    // The type that is asked for, where the records of signed zones are left out.
+    asked: Option<RecordType>,
+    // Whether they answer, or stand as authority.
+    are_answers: bool,
+}
+
+impl OneList<'_> {
+    // So many records of the list, as they were written.
+    #[inline(always)]
+    fn written<'w>(&self, count: u16, octets: &'w [u8]) -> WrittenRecords<'w>
+        ensures { (asked : DomainName) (written : List Entry) → length written ≡ count → ArePointing asked written octets.now
+            → AreWritten asked result (if self.now.are_answers then written else []) (if self.now.are_answers then [] else written) }
+    {
+        if self.are_answers {
+            return WrittenRecords {
+                answers: count,
+                authorities: 0,
+                octets,
+            };
+        }
+        WrittenRecords {
+            answers: 0,
+            authorities: count,
+            octets,
+        }
+    }
 }
 
 impl Response<'_> {
@@ -88,93 +124,58 @@ impl Response<'_> {
         !self.is_referral && matches!(&self.beside, LookupRecords::Empty)
     }
 
-    // The reply that holds what stands beside alone, as a denial does. Without that and options it takes no encoder.
-    fn encode_beside(
-        &self,
-        alloc: Global,
-        edns: Option<&Edns>,
-        queries: &Queries<'_>,
-        protocol: Protocol,
-    ) -> Result<(ResponseInfo, Vec<u8>), AllocError>
-        requires { FitsOpCode self.now.metadata }
-        ensures { IfOk result (λ sent. Sends (parts_with self.now.metadata false [] [] (records_in self.now.beside))
-            (option_copied edns.entry) queries.now protocol sent.0 sent.1.items) }
+    // The list that holds all its records: what was found, where nothing goes with that, or else what stands beside.
+    #[inline(always)]
+    fn only_list(&self) -> Option<OneList<'_>>
+        ensures { IfSome result (λ list. list_parts self.now.metadata list ≡ parts_of self.now) }
     {
-        if let (LookupRecords::Empty, None) = (&self.beside, edns) {
-            return encode_bare(alloc, self.metadata, queries, protocol);
+        match &self.found {
+            AuthLookup::Empty => Some(OneList {
+                records: &self.beside,
+                asked: None,
+                are_answers: false,
+            }),
+            AuthLookup::Records {
+                answers,
+                additionals,
+            } if additionals.is_none() && self.has_no_authority() => Some(OneList {
+                records: answers,
+                asked: self.asked,
+                are_answers: true,
+            }),
+            _ => None,
         }
-        let beside = self.beside.iter();
-        MessageResponseBuilder::new(queries, edns)
-            .build(
-                self.metadata,
-                iter::empty::<RecordRef<'_>>(),
-                iter::empty::<RecordRef<'_>>(),
-                beside,
-                iter::empty::<RecordRef<'_>>(),
-            )
-            .encode(alloc, protocol)
     }
 
-    // The reply that holds these records alone: those of them that are shown.
-    fn encode_list(
+    // The reply that holds one list alone, without an encoder: if its records can point to the name that is asked for, as
+    // those of most answers and denials can, and fit.
+    #[inline(always)]
+    fn encode_pointing(
         &self,
-        answers: &LookupRecords<'_>,
+        list: OneList<'_>,
         alloc: Global,
         edns: Option<&Edns>,
         queries: &Queries<'_>,
         protocol: Protocol,
-    ) -> Result<(ResponseInfo, Vec<u8>), AllocError>
+    ) -> Result<Option<(ResponseInfo, Vec<u8>)>, AllocError>
         requires { FitsOpCode self.now.metadata }
-        ensures { IfOk result (λ sent. Sends (parts_with self.now.metadata false (shown_if self.now.asked (records_in answers.now)) [] [])
-            (option_copied edns.entry) queries.now protocol sent.0 sent.1.items) }
+        ensures { IfOk result (λ found. IfSome found (λ sent. Sends (list_parts self.now.metadata list.entry)
+            (option_copied edns.entry) queries.now protocol sent.0 sent.1.items)) }
     {
-        let shown = ShownRecords::new(answers.iter(), self.asked);
-        MessageResponseBuilder::new(queries, edns)
-            .build(
-                self.metadata,
-                shown,
-                iter::empty::<RecordRef<'_>>(),
-                iter::empty::<RecordRef<'_>>(),
-                iter::empty::<RecordRef<'_>>(),
-            )
-            .encode(alloc, protocol)
-    }
-
-    // The reply that holds these records alone, as most answers do: those of them that are shown. Addresses of the name that
-    // is asked for take no encoder, where all of them fit.
-    fn encode_answer(
-        &self,
-        answers: &LookupRecords<'_>,
-        alloc: Global,
-        edns: Option<&Edns>,
-        queries: &Queries<'_>,
-        protocol: Protocol,
-    ) -> Result<(ResponseInfo, Vec<u8>), AllocError>
-        requires { FitsOpCode self.now.metadata }
-        ensures { IfOk result (λ sent. Sends (parts_with self.now.metadata false (shown_if self.now.asked (records_in answers.now)) [] [])
-            (option_copied edns.entry) queries.now protocol sent.0 sent.1.items) }
-    {
+        let Some(asked) = queries.whole_name() else {
+            return Ok(None);
+        };
         let mut octets = SmallVec::new(alloc);
-        let records = ShownRecords::new(answers.iter(), self.asked);
-        if let Some(count) = write_answers(records, queries.as_bytes(), &mut octets)? {
-            let written = octets.as_slice();
-            let found = encode_written(
-                alloc,
-                self.metadata,
-                queries,
-                count,
-                written,
-                edns,
-                protocol,
-            )?;
-            if let Some(sent) = found {
-                return Ok(sent);
-            }
-        }
-        self.encode_list(answers, alloc, edns, queries, protocol)
+        let shown = ShownRecords::new(list.records.iter(), list.asked);
+        let Some(count) = write_records(asked, shown, &mut octets)? else {
+            return Ok(None);
+        };
+        let written = list.written(count, octets.as_slice());
+        encode_written(alloc, self.metadata, queries, written, edns, protocol)
     }
 
     // The reply, whatever it holds.
+    #[inline(never)]
     fn encode_all(
         &self,
         alloc: Global,
@@ -208,16 +209,12 @@ impl Response<'_> {
         requires { FitsOpCode self.now.metadata }
         ensures { IfOk result (λ sent. Sends (parts_of self.now) (option_copied edns.entry) queries.now protocol sent.0 sent.1.items) }
     {
-        match &self.found {
-            AuthLookup::Empty => self.encode_beside(alloc, edns, queries, protocol),
-            AuthLookup::Records {
-                answers,
-                additionals: None,
-            } if self.has_no_authority() => {
-                self.encode_answer(answers, alloc, edns, queries, protocol)
+        if let Some(list) = self.only_list() {
+            if let Some(sent) = self.encode_pointing(list, alloc, edns, queries, protocol)? {
+                return Ok(sent);
             }
-            _ => self.encode_all(alloc, edns, queries, protocol),
         }
+        self.encode_all(alloc, edns, queries, protocol)
     }
 }
 
@@ -255,6 +252,21 @@ pub(crate) fn bare_response(metadata: Metadata) -> Response<'static>
         asked: None,
         beside: LookupRecords::Empty,
     }
+}
+
+/// The octets of a reply without records and options, and its header as it was written.
+pub fn encode_error(
+    alloc: Global,
+    request: Metadata,
+    response_code: ResponseCode,
+    queries: &Queries<'_>,
+    protocol: Protocol,
+) -> Result<(ResponseInfo, Vec<u8>), AllocError>
+    requires { FitsOpCode request }
+    ensures { IfOk result (λ sent. IsEncoded sent.0 sent.1.items (error_parts request response_code) queries.now (limit_of protocol None)) }
+{
+    let header = reply_header(request, false, response_code);
+    encode_bare(alloc, header, queries, protocol)
 }
 
 /// A reply without records.

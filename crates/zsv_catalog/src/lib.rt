@@ -12,7 +12,7 @@ pub use zsv_answer::{
     MessageRequest, MessageResponse, MessageResponseBuilder, MessageType, Metadata, NS, Name,
     OpCode, Protocol, Queries, Query, RData, Record, RecordRef, RecordSet, RecordType, Request,
     RequestInfo, ResponseCode, ResponseInfo, SOA, TSigResponseContext, Tsig, TsigRecord,
-    TsigVerdict, UpdateRequest, ZoneHandler, ZoneRequest, ZoneType, error_response,
+    TsigVerdict, UpdateRequest, ZoneHandler, ZoneRequest, ZoneType, encode_error, error_response,
 };
 
 mod catalog;

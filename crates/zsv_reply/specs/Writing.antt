@@ -1,6 +1,6 @@
 -- A reply as an encoder writes it: as many records of each list as fit, then options of EDNS and a
 -- signature, then the header over them.
-use Rattle.std.specs.Prelude.{◌≡◌, ℕ, ◌+◌, ◌^◌, ◌<◌, ◌≤◌, Bool, true, false, ◌&&◌, ◌||◌, List, [], length, nat_le, nat_lt, Option, None, option_to_list, Result, Ok, Err}
+use Rattle.std.specs.Prelude.{◌≡◌, ℕ, ◌+◌, ◌^◌, ◌<◌, ◌≤◌, ◌++◌, ◌⊎◌, Bool, true, false, ◌&&◌, ◌||◌, List, [], length, nat_le, nat_lt, Option, Some, None, option_to_list, Result, Ok, Err}
 use Rattle.std.specs.List.{AllByRecursion}
 use Rattle.zsv_request.specs.zsv_message.zst_record.dnw_codes.declared.error.ProtoError.{ProtoError}
 use Rattle.zsv_request.specs.zsv_message.zst_record.dnw_codes.declared.error.ProtoError.TheVariants.{NotAllRecordsWritten}
@@ -13,7 +13,7 @@ use Rattle.zsv_request.specs.zsv_message.zst_record.drd_rdata.Writing.{WritesInF
 use Rattle.zsv_request.specs.zsv_message.zst_record.declared.records.Record.{Record}
 use Rattle.zsv_request.specs.zsv_message.zst_record.Records.{ReadsBackAlone, plain}
 use Rattle.zsv_request.specs.zsv_message.Messages.{OptAt}
-use Rattle.zsv_request.specs.zsv_message.zst_edns.Writing.{EdnsReadsBack}
+use Rattle.zsv_request.specs.zsv_message.zst_edns.Writing.{EdnsReadsBack, opt_octets}
 use Rattle.zsv_request.specs.zsv_message.zst_edns.declared.edns.Edns.{Edns}
 use Rattle.zsv_request.specs.zsv_message.zsv_parts.declared.header.Metadata.{Metadata}
 use Rattle.zsv_request.specs.zsv_message.zsv_parts.declared.header.Header.{Header}
@@ -21,7 +21,9 @@ use Rattle.zsv_request.specs.zsv_message.zsv_parts.declared.tsig.TsigRecord.{Tsi
 use Rattle.zsv_request.specs.zsv_message.zsv_parts.Headers.{header_of, op_code_number, op_code_of, reserved_bit}
 use Rattle.zsv_request.specs.zsv_message.zsv_parts.Questions.{Asked}
 use Rattle.zsv_request.specs.zsv_message.zsv_parts.SignatureRecords.{TsigReadsBack, TsigRecordAt}
+use Rattle.zst_pointing.specs.Pointing.{ArePointing}
 use Rattle.zsv_reply.specs.declared.fronts.Kept.{Kept}
+use Rattle.zsv_reply.specs.declared.written_reply.WrittenRecords.{WrittenRecords}
 use Rattle.zsv_reply.specs.Replies.{Front, Fronts, FrontsAt, ReplyParts, ReplyRecordAt, bare_failure, first_labels, header_of_fronts, header_of_reply, is_cut, leaves_room, opt_plain, tsig_plain}
 
 -- What a reply holds that has nothing behind its questions.
@@ -35,16 +37,31 @@ bare_parts m = record {
   signature = None;
 }
 
--- What a reply holds that has answers behind its questions, and options.
-abbrev pub answer_parts : Metadata → List Record → Option Edns → ReplyParts
-answer_parts m answers edns = record {
+-- What a reply holds that has answers and records of authority behind its questions, and options.
+abbrev pub written_parts : Metadata → List Record → List Record → Option Edns → ReplyParts
+written_parts m answers authorities edns = record {
   metadata = m;
   answers = answers;
-  authorities = [];
+  authorities = authorities;
   additionals = [];
   edns = edns;
   signature = None;
 }
+
+-- Octets that were written before are these records, behind a question section that begins with a
+-- name: so many answers, and so many records of authority behind them.
+pub record AreWritten (asked : DomainName) (written : WrittenRecords)
+    (answers authorities : List Record) : Type 0 where
+  pub answered : length answers ≡ written.answers
+  pub authorized : length authorities ≡ written.authorities
+  pub pointing : ArePointing asked (answers ++ authorities) written.octets.now
+
+-- With them a reply passes its limit, or there are options that are to be written.
+abbrev pub NeedsEncoder : Option Edns → Asked → List ℕ → ℕ → Type 0
+NeedsEncoder None asked octets limit = limit < 12 + length asked.octets + length octets
+NeedsEncoder (Some edns) asked octets limit =
+    (0 < length edns.options.options.items)
+    ⊎ (limit < 12 + length asked.octets + length octets + length (opt_octets edns))
 
 -- An operation that four bits hold.
 pub record FitsOpCode (m : Metadata) : Type 0 where

@@ -12,6 +12,7 @@ use zsv_request::{Metadata, Protocol, Queries, ResponseInfo};
 /// The octets of a reply that holds the questions alone, as they were sent, and its header as it was written. Where the
 /// questions don't fit the transport's limit, it is a header alone, which says that the server failed. It is what
 /// `MessageResponse::encode` gives for no records and no options, without an encoder.
+#[inline(never)]
 pub fn encode_bare(
     alloc: Global,
     metadata: Metadata,

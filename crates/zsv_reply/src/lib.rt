@@ -4,6 +4,7 @@
 //! `MessageResponse::encode` writes a reply that stands in `IsReply` to what it is to hold.
 #![tactic(auto)]
 
+pub use zst_pointing::push_pointing;
 pub use zsv_request::{
     A, DNSClass, DecodeError, Edns, Label, MessageRequest, MessageType, Metadata, NS, Name, OpCode,
     Protocol, Queries, Query, RData, Record, RecordSet, RecordType, ResponseCode, ResponseInfo,
@@ -23,4 +24,4 @@ pub use bare_reply::encode_bare;
 pub use builder::{MessageResponseBuilder, NoRecords};
 pub use lends::LendsRecord;
 pub use message_response::MessageResponse;
-pub use written_reply::encode_written;
+pub use written_reply::{WrittenRecords, encode_written};

@@ -1,5 +1,4 @@
 pub use Rattle.zst_record.specs.Lending
-pub use Rattle.zst_record.specs.Pointing
 pub use Rattle.zst_record.specs.RecordSets
 pub use Rattle.zst_record.specs.Records
 pub use Rattle.zst_record.specs.Writing

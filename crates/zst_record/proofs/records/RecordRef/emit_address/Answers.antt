@@ -1,13 +1,11 @@
-use Rattle.std.proofs.Common.{refl, subst, sym, arith}
+use Rattle.std.proofs.Common.{arith}
 use Rattle.std.specs.Net.Addr.{ipv4_bits}
 use Rattle.drd_rdata.specs.dnw_decoder.Octets.{octets_32}
-use Rattle.drd_rdata.proofs.dnw_decoder_lemmas.Standing.{length-octets_32}
 use Rattle.drd_rdata.specs.dnw_encoder.Encoders.{state}
-use Rattle.drd_rdata.specs.declared.rdata.RData.{RData}
 use Rattle.drd_rdata.proofs.dnw_encoder_lemmas.Laws.{writes_then}
 use Rattle.drd_rdata.proofs.drd_fields_lemmas.WritingLaws.{if_err}
 use Rattle.zst_record.specs.Lending.{seen}
-use Rattle.zst_record.proofs.Emission.{IsOctets, address_refused, address_written, four_written}
+use Rattle.zst_record.proofs.Emission.{address_refused, address_written, are_address}
 use Rattle.zst_record.proofs.records.RecordRef.emit_address.Goals as goal
 
 pub returns-clause-writes : goal.returns-clause-writes
@@ -16,30 +14,14 @@ returns-clause-writes c =
 
 pub returns-clause-ok : goal.returns-clause-ok
 returns-clause-ok c =
-    let bits = ipv4_bits c.args.a.now.0 in
-    let own : IsOctets (seen c.args.self.now).rdata 4 (octets_32 bits) = subst (λ (v : RData). IsOctets v 4 (octets_32 bits)) (sym c.requires)
-    record {
-      holds = λ m p q readable stands. (refl, ((q, stands, refl), readable.there.1));
-      written = four_written bits;
-      long = length-octets_32 bits;
-      some = omega arith;
-      few = omega arith;
-    } in
-    address_written (seen c.args.self.now) 4 (octets_32 bits) c.address_octets.result (state c.args.encoder.now) (state c.emit.new.encoder) (state c.emit_vec.new.self) c.emit_vec.result
-    own
+    let r = seen c.args.self.now in
+    address_written r 4 (octets_32 (ipv4_bits c.args.a.now.0)) c.address_octets.result (state c.args.encoder.now) (state c.emit.new.encoder) (state c.emit_vec.new.self) c.emit_vec.result
+    (are_address r.rdata c.args.a.now c.requires)
     c.in_ok-emit.ensures.ok c.emit.ensures.writes (omega arith) c.address_octets.ensures.small c.address_octets.ensures.octets c.emit_vec.ensures.ok c.emit_vec.ensures.fits
 
 pub returns-clause-cause : goal.returns-clause-cause
 returns-clause-cause c =
-    let bits = ipv4_bits c.args.a.now.0 in
-    let own : IsOctets (seen c.args.self.now).rdata 4 (octets_32 bits) = subst (λ (v : RData). IsOctets v 4 (octets_32 bits)) (sym c.requires)
-    record {
-      holds = λ m p q readable stands. (refl, ((q, stands, refl), readable.there.1));
-      written = four_written bits;
-      long = length-octets_32 bits;
-      some = omega arith;
-      few = omega arith;
-    } in
+    let r = seen c.args.self.now in
     if_err c.emit_vec.result
-    (λ e refused. address_refused (seen c.args.self.now) 4 (octets_32 bits) c.address_octets.result (state c.args.encoder.now) (state c.emit.new.encoder) e own c.address_octets.ensures.octets c.in_ok-emit.ensures.ok c.emit.ensures.writes refused)
+    (λ e refused. address_refused r 4 (octets_32 (ipv4_bits c.args.a.now.0)) c.address_octets.result (state c.args.encoder.now) (state c.emit.new.encoder) e (are_address r.rdata c.args.a.now c.requires) c.address_octets.ensures.octets c.in_ok-emit.ensures.ok c.emit.ensures.writes refused)
     c.emit_vec.ensures.cause

@@ -1,0 +1,2 @@
+pub use Rattle.zst_pointing.specs.Names
+pub use Rattle.zst_pointing.specs.Pointing
