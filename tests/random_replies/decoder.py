@@ -131,8 +131,7 @@ def decode(octets):
 
 def left_out_of(name):
     """How many of the longest suffixes of a question's name are no candidates: of a long name the shorter are."""
-    labels = len(name.labels) - (name.labels[:1] == (b"*",))  # (a wildcard's label isn't counted)
-    return labels - (CANDIDATES - 1) if len(octets_of(name.labels)) - 1 > 2 * CANDIDATES else 0
+    return len(name.labels) - (CANDIDATES - 1) if len(octets_of(name.labels)) - 1 > 2 * CANDIDATES else 0
 
 
 def keep(kept, name, count, left_out=0):
@@ -147,20 +146,8 @@ def keep(kept, name, count, left_out=0):
         place += 1 + len(name.labels[at])
 
 
-def short_ends(name):
-    """The suffixes of a question's name whose labels take at most 126 octets, by their octets, and where they stand."""
-    ends, place = {}, name.place
-    for at in range(len(name.labels)):
-        octets = octets_of(name.labels[at:])
-        if len(octets) - 1 <= 2 * (CANDIDATES - 1):
-            ends.setdefault(octets, place)
-        place += 1 + len(name.labels[at])
-    return ends
-
-
-def check_name(kept, name, ends):
-    """A name points to its longest suffix that is kept, or stands in full; what takes no encoder may point to any short end of the
-    question's name, of which one is no candidate where that name begins with an asterisk and has more than 64 labels."""
+def check_name(kept, name):
+    """A name points to its longest suffix that is kept, or stands in full."""
     for at in range(len(name.labels)):
         place = kept.get(octets_of(name.labels[at:]))
         if place is not None:
@@ -168,7 +155,7 @@ def check_name(kept, name, ends):
                 raise Wrong(f"the name at {name.place} has {name.count} labels and leads to {name.target}: {at} and {place} are "
                             "its longest suffix")
             return keep(kept, name, at)
-    if name.target is not None and name.target != ends.get(octets_of(name.labels[name.count:])):
+    if name.target is not None:
         raise Wrong(f"the name at {name.place} leads to {name.target}, where no name is kept")
     keep(kept, name, len(name.labels))
 
@@ -176,9 +163,8 @@ def check_name(kept, name, ends):
 def check_pointers(message):
     """That each name points where the rules say, and no record is longer than in full. How many names point, how many
     candidates there were, and how many names came behind the last place that is kept."""
-    kept, ends, pointing, beyond, first = {}, {}, 0, 0, None
+    kept, pointing, beyond, first = {}, 0, 0, None
     if message.asked:
-        ends = short_ends(message.asked[0])
         keep(kept, message.asked[0], len(message.asked[0].labels), left_out_of(message.asked[0]))
     for record in (it for section in message.sections for it in section):
         if record.end - record.place > len(record.in_full):
@@ -188,7 +174,7 @@ def check_pointers(message):
             if record.owner.end - record.owner.place != 2:
                 raise Wrong(f"the record at {record.place} spells the first one's owner again")
         for name in [record.owner, *record.names]:
-            check_name(kept, name, ends)
+            check_name(kept, name)
             pointing += name.target is not None
             beyond += name.place >= LAST_PLACE
         first = first or record.owner

@@ -14,7 +14,7 @@ import sys
 VECTORS = os.path.join(os.path.dirname(os.path.realpath(__file__)), "vectors")
 
 # The types whose data have names that point: how many octets stand before the names, and how many names.
-A, NS, CNAME, SOA, PTR, MX, AAAA, OPT, TSIG = 1, 2, 5, 6, 12, 15, 28, 41, 250
+NS, CNAME, SOA, PTR, MX, OPT, TSIG = 2, 5, 6, 12, 15, 41, 250
 POINTING = {NS: (0, 1), CNAME: (0, 1), PTR: (0, 1), SOA: (0, 2), MX: (2, 1)}
 MOST, PLACES, TC = 64, 0x3FFF, 0x0200
 
@@ -100,8 +100,7 @@ def suffixes(name):
 def kept_of_question(name):
     """Where those begin that are kept for a question's name: the longest first, but beside a long name the shorter."""
     starts = list(suffixes(name))
-    count = len(starts) - (name[:2] == b"\1*")  # (a wildcard's label isn't counted)
-    left_out = count - (MOST - 1) if len(name) - 1 > 2 * MOST else 0
+    left_out = len(starts) - (MOST - 1) if len(name) - 1 > 2 * MOST else 0
     return starts[:1] + starts[max(left_out, 1):]
 
 
@@ -177,15 +176,6 @@ def kind_of(record):
     return int.from_bytes(record[at : at + 2], "big")
 
 
-def takes_no_encoder(name, sections):
-    """Whether a reply to a question for a name holds one list of addresses or of a zone's start, under names that end it."""
-    starts = {name[start:] for start in suffixes(name)}
-    answers, authorities, additionals = ([it for it in records if kind_of(it) != OPT] for records in sections)
-    records = answers or authorities
-    kinds = {(kind_of(it), name_at(it, 0)[0] in starts) for it in records}
-    return not (answers and authorities) and not additionals and kinds <= {(A, True), (AAAA, True), (SOA, True)}
-
-
 def laid_out(ident, flags, questions, asked, sections, maximum=65535):
     """A message of these parts, the questions being so many octets, within a maximum."""
     encoder = Encoder(maximum)
@@ -195,11 +185,6 @@ def laid_out(ident, flags, questions, asked, sections, maximum=65535):
         if is_full:
             name = bytes(encoder.octets[12:end])
             encoder.keep(name, kept_of_question(name), 12, end)
-            # What takes no encoder points to any short end; of a wildcard's name of more than 64 labels one isn't kept.
-            if questions == 1 and takes_no_encoder(name, sections):
-                kept = {octets for octets, _, _ in encoder.kept}
-                short = [start for start in suffixes(name) if len(name) - 1 - start <= 2 * (MOST - 1)]
-                encoder.kept += [(name[start:], 12 + start, end) for start in short if name[start:] not in kept]
     counts = []
     for records in sections:
         # Options stand behind the additional records, whether or not these are all there, and signatures last.

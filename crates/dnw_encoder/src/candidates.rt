@@ -259,7 +259,9 @@ fn start_of_last(name: &Name, count: usize) -> usize
     ensures { SplitsAt name.now.labels result }
 {
     let labels = name.as_octets();
-    let mut more = usize::from(name.num_labels()).saturating_sub(count);
+    // (`num_labels` counts no asterisk in front)
+    let all = usize::from(name.num_labels()) + usize::from(name.is_wildcard());
+    let mut more = all.saturating_sub(count);
     let mut rest = labels;
     'labels: while let Some((length, behind)) = rest.split_first() {
         if more == 0 {

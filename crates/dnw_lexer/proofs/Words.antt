@@ -1,13 +1,13 @@
 -- What was read of a word, and what is left of its text.
-use Rattle.std.proofs.Common.{◌≡◌, ◌≢◌, ◌∙◌, ℕ, ◌++◌, Bool, true, false, List, [], ◌∷◌, refl, sym, ap, subst, ◌⊎◌, inl, inr, arith}
+use Rattle.std.proofs.Common.{◌≡◌, ◌≢◌, ◌∙◌, ℕ, ◌++◌, Bool, true, false, List, [], ◌∷◌, refl, sym, ap, subst, ◌⊎◌, inl, inr, arith, ◌-◌, length, length-append, take, drop}
 use Rattle.std.proofs.lemmas.Bool.Decides.{nat_tests}
-use Rattle.std.specs.Prelude.{Ok, Err, Option, Some, None, MatchOption, MatchBool, ◌==◌}
+use Rattle.std.specs.Prelude.{Ok, Err, MatchBool, IsUtf8, chars, ◌==◌}
 use Rattle.std.specs.Str.{encode_utf8_all}
-use Rattle.std.proofs.lemmas.List.{append_assoc, append-nil}
-use Rattle.std.proofs.lemmas.Str.{encodes-append}
+use Rattle.std.proofs.lemmas.List.{append_assoc, append-nil, take_at, drop_at}
+use Rattle.std.proofs.lemmas.Str.{encodes-append, encodes-chars}
 use Rattle.dnw_codes.specs.declared.error.LexerError.{LexerError}
 use Rattle.dnw_codes.specs.declared.error.LexerError.TheVariants.{EOF, UnrecognizedChar}
-use Rattle.dnw_lexer.specs.Lexer.{WordResult, prepend, plain_character, ends_word, escape, PlainText, plain, escaped, bracket, cut, StringText, plain as string-plain, escaped as string-escaped, no_escape}
+use Rattle.dnw_lexer.specs.Lexer.{WordResult, prepend, ends_word, escape, PlainText, ends, plain, escaped, bracket, cut, StringText, plain as string-plain, escaped as string-escaped, no_escape}
 
 before-nothing : (r : WordResult) → prepend [] r ≡ r
 before-nothing (Ok found) = refl
@@ -43,12 +43,46 @@ module _ (P : List ℕ → WordResult → Type 0) (text : List ℕ) where
   failed octets rest e h p = h.sound (Err e) p
 
 -- A character of a plain word, and the one that stays with it.
-pub plain-step : (inside : Bool) (c : ℕ) (rest behind later : List ℕ) (next : Option ℕ) → rest ≡ c ∷ behind → ends_word inside (c ∷ behind) ≡ false → (c ≢ 41) × MatchOption next ((c ≢ 92) × (later ≡ behind)) (λ d. (c ≡ 92) × (behind ≡ d ∷ later)) → (r : WordResult) → PlainText inside later r → PlainText inside rest (prepend (plain_character c next) r)
-plain-step inside c rest behind later None e no_end h r p =
-    subst (λ (t : List ℕ). PlainText inside t (prepend (c ∷ []) r)) (sym e)
-    (plain c behind r no_end h.0 (h.1).0 (subst (λ (t : List ℕ). PlainText inside t r) (h.1).1 p))
-plain-step inside c rest behind later (Some d) e no_end h r p =
-    subst (λ (t : List ℕ). PlainText inside t (prepend (c ∷ d ∷ []) r)) (sym (e ∙ ap (λ t. c ∷ t) (h.1).1)) (escaped c d later r (h.1).0 p)
+pub plain-step : (inside : Bool) (c : ℕ) (rest behind later : List ℕ) → rest ≡ c ∷ behind → ends_word inside (c ∷ behind) ≡ false → (c ≢ 41) × (((c ≢ 92) × (later ≡ behind)) ⊎ ((c ≡ 92) × ((d : ℕ) × (behind ≡ d ∷ later)))) → (unit : List ℕ) × ((r : WordResult) → PlainText inside later r → PlainText inside rest (prepend unit r))
+plain-step inside c rest behind later e no_end (no_bracket, inl h) =
+    (c ∷ [], λ r p. subst (λ (t : List ℕ). PlainText inside t (prepend (c ∷ []) r)) (sym e)
+    (plain c behind r no_end no_bracket h.0 (subst (λ (t : List ℕ). PlainText inside t r) h.1 p)))
+plain-step inside c rest behind later e no_end (no_bracket, inr h) =
+    let d = (h.1).0 in
+    (c ∷ d ∷ [], λ r p. subst (λ (t : List ℕ). PlainText inside t (prepend (c ∷ d ∷ []) r)) (sym (e ∙ ap (λ t. c ∷ t) (h.1).1)) (escaped c d later r h.0 p))
+
+-- What begins a text, and the text behind it, are the text.
+abbrev IsAll : List ℕ → WordResult → Type 0
+IsAll text (Ok found) = text ≡ found.0 ++ found.1
+IsAll text (Err e) = Unit {0}
+
+behind-front : (front text : List ℕ) (r : WordResult) → IsAll text r → IsAll (front ++ text) (prepend front r)
+behind-front front text (Ok found) h = ap (λ t. front ++ t) h ∙ sym (append_assoc front found.0 found.1)
+behind-front front text (Err e) h = tt
+
+plain-all : (inside : Bool) (text : List ℕ) (r : WordResult) → PlainText inside text r → IsAll text r
+plain-all inside text r (ends _ e) = refl
+plain-all inside text r (plain c rest r' e n m p) = behind-front (c ∷ []) rest r' (plain-all inside rest r' p)
+plain-all inside text r (escaped c d rest r' e p) = behind-front (c ∷ d ∷ []) rest r' (plain-all inside rest r' p)
+plain-all inside text r (bracket c rest e n) = tt
+plain-all inside text r (cut c e) = tt
+
+-- The octets of a plain word and of what stands behind it are those of the text.
+pub plain-octets : (inside : Bool) (text rest w : List ℕ) → IsUtf8 text → IsUtf8 rest → PlainText inside (chars text) (Ok (w, chars rest)) → text ≡ encode_utf8_all w ++ rest
+plain-octets inside text rest w all behind p =
+    sym (encodes-chars text all) ∙ ap encode_utf8_all (plain-all inside (chars text) (Ok (w, chars rest)) p) ∙ encodes-append w (chars rest)
+    ∙ ap (λ o. encode_utf8_all w ++ o) (encodes-chars rest behind)
+
+-- Where the octets behind a front begin.
+pub behind-octets : (text front rest : List ℕ) → text ≡ front ++ rest → drop (length text - length rest) text ≡ rest
+behind-octets text front rest e =
+    let place : length text - length rest ≡ length front = omega (arith, ap length e, length-append front rest) in
+    ap (λ n. drop n text) place ∙ ap (drop (length front)) e ∙ drop_at front rest (length front) refl
+
+pub front-octets : (text front rest : List ℕ) → text ≡ front ++ rest → take (length text - length rest) text ≡ front
+front-octets text front rest e =
+    let place : length text - length rest ≡ length front = omega (arith, ap length e, length-append front rest) in
+    ap (λ n. take n text) place ∙ ap (take (length front)) e ∙ take_at front rest (length front) refl
 
 -- A character that has no place in a plain word.
 pub plain-refused : (inside : Bool) (c : ℕ) (rest behind : List ℕ) (e : LexerError) → rest ≡ c ∷ behind → ends_word inside (c ∷ behind) ≡ false → ((c ≡ 41) × (e ≡ UnrecognizedChar c)) ⊎ ((c ≡ 92) × (behind ≡ []) × (e ≡ EOF)) → PlainText inside rest (Err e)

@@ -3,7 +3,7 @@
 -- character. Outside quotes a backslash stays in the word with the character behind it, since what
 -- it means depends on the word (a name, a string). A parenthesis begins a word, which is the list
 -- of the words up to the closing one.
-use Rattle.std.specs.Prelude.{ℕ, ◌≡◌, ◌≢◌, ◌+◌, ◌-◌, ◌==◌, ◌&&◌, ◌||◌, ◌++◌, nat_lt, nat_eq, not, Bool, true, false, List, [], ◌∷◌, Option, Some, None, Result, Ok, Err, if◌then◌else◌, MatchBool}
+use Rattle.std.specs.Prelude.{ℕ, ◌≡◌, ◌≢◌, ◌==◌, ◌&&◌, ◌||◌, ◌++◌, nat_lt, nat_eq, not, Bool, true, false, List, [], ◌∷◌, Option, Some, None, Result, Ok, Err, if◌then◌else◌, MatchBool}
 use Rattle.std.specs.List.{starts_with}
 use lib.Chars.{codes}
 use Rattle.std.specs.Str.{bytes_eq, encode_utf8_all}
@@ -51,11 +51,6 @@ abbrev pub ends_word : Bool → List ℕ → Bool
 ends_word inside [] = true
 ends_word inside (c ∷ cs) =
     is_blank c || c == semicolon || at_line_end (c ∷ cs) || (inside && c == close_parenthesis)
-
--- A character of a plain word, with the one behind it where it is a backslash.
-abbrev pub plain_character : ℕ → Option ℕ → List ℕ
-plain_character c None = c ∷ []
-plain_character c (Some d) = c ∷ d ∷ []
 
 -- A plain word, in a list or outside. `\` stays in it with the character behind it, whatever that
 -- is.

@@ -4,14 +4,15 @@ ghost use Rattle.std.specs.Str.{encode_utf8_all};
 ghost use Rattle.std.specs.String.{string_bytes};
 ghost use Rattle.dnw_codes.specs.declared.error.LexerError.TheVariants.{Memory, EOF, UnrecognizedChar};
 ghost use Rattle.dnw_codes.specs.Ascii.{backslash, close_parenthesis, is_octal};
-ghost use Rattle.dnw_lexer.specs.Lexer.{PlainText, StringText, ends_word, plain_character, escape, octal_at};
+ghost use Rattle.dnw_lexer.specs.Lexer.{PlainText, StringText, ends_word, escape, octal_at};
 
 use crate::character::{new_word, push, split_char};
 use crate::gap::{at_line_end, is_blank};
 use dnw_codes::LexerError;
 use std::alloc::Global;
 
-/// The plain word that a text begins with, in a list or outside, and what stands behind it.
+/// The plain word that a text begins with, in a list or outside, and what stands behind it. It is a front of the text, as it
+/// stands there.
 pub fn plain_word<'a>(
     alloc: Global,
     inside: bool,
@@ -22,20 +23,28 @@ pub fn plain_word<'a>(
     ensures text { IfOk result (λ found. IsUtf8 found.1.now) }
     ensures err { IfErr result (λ e. (e ≡ Memory) ⊎ PlainText inside (chars text.now) (Err e)) }
 {
-    let mut word = new_word(alloc)?;
+    let rest = behind_plain_word(inside, text)?;
+    let (front, _) = text.split_at(text.len() - rest.len());
+    match String::from_str(alloc, front) {
+        Ok(word) => Ok((word, rest)),
+        Err(_) => Err(LexerError::Memory),
+    }
+}
+
+// What stands behind the plain word that a text begins with.
+fn behind_plain_word<'a>(inside: bool, text: &'a str) -> Result<&'a str, LexerError>
+    ensures ok { IfOk result (λ rest. (w : List ℕ) × PlainText inside (chars text.now) (Ok (w, chars rest.now))) }
+    ensures text { IfOk result (λ rest. IsUtf8 rest.now) }
+    ensures err { IfErr result (λ e. PlainText inside (chars text.now) (Err e)) }
+{
     let mut rest = text;
     'characters: while let Some((c, behind)) = split_char(rest) {
         if ends_word(inside, c, behind) {
-            return Ok((word, rest));
+            return Ok(rest);
         }
-        let (next, later) = match plain_unit(c, behind) {
-            Ok(found) => found,
-            Err(refused) => return Err(refused),
-        };
-        push_unit(&mut word, c, next)?;
-        rest = later;
+        rest = behind_unit(c, behind)?;
     }
-    Ok((word, rest))
+    Ok(rest)
 }
 
 // Whether a word ends before a character.
@@ -45,41 +54,22 @@ fn ends_word(inside: bool, c: char, behind: &str) -> bool
     is_blank(c) || c == ';' || at_line_end(c, behind) || (inside && c == ')')
 }
 
-// The character that stays in a plain word with this one, if any, and what stands behind.
-fn plain_unit<'a>(c: char, behind: &'a str) -> Result<(Option<char>, &'a str), LexerError>
-    ensures ok { IfOk result (λ found. (c ≢ close_parenthesis) × MatchOption found.0 ((c ≢ backslash) × (chars found.1.now ≡ chars behind.now))
-        (λ d. (c ≡ backslash) × (chars behind.now ≡ d ∷ chars found.1.now))) }
-    ensures text { IfOk result (λ found. IsUtf8 found.1.now) }
+// What stands behind a character of a plain word, and behind the one that stays with a backslash.
+fn behind_unit<'a>(c: char, behind: &'a str) -> Result<&'a str, LexerError>
+    ensures ok { IfOk result (λ later. (c ≢ close_parenthesis) × (((c ≢ backslash) × (chars later.now ≡ chars behind.now))
+        ⊎ ((c ≡ backslash) × ((d : ℕ) × (chars behind.now ≡ d ∷ chars later.now))))) }
+    ensures text { IfOk result (λ later. IsUtf8 later.now) }
     ensures err { IfErr result (λ e. ((c ≡ close_parenthesis) × (e ≡ UnrecognizedChar c))
         ⊎ ((c ≡ backslash) × (chars behind.now ≡ []) × (e ≡ EOF))) }
 {
     match c {
         ')' => Err(LexerError::UnrecognizedChar(c)),
         '\\' => match split_char(behind) {
-            Some((next, later)) => Ok((Some(next), later)),
+            Some((_, later)) => Ok(later),
             None => Err(LexerError::EOF),
         },
-        _ => Ok((None, behind)),
+        _ => Ok(behind),
     }
-}
-
-// Puts a character at a word's end, and the one that stays with it.
-fn push_unit(word: &mut String, c: char, next: Option<char>) -> Result<(), LexerError>
-    ensures pushed { OnOk result (string_bytes word.new ≡ string_bytes word.old ++ encode_utf8_all (plain_character c next)) }
-    ensures refused { IfErr result (λ e. e ≡ Memory) }
-{
-    match next {
-        Some(next) => push_pair(word, c, next),
-        None => push(word, c),
-    }
-}
-
-fn push_pair(word: &mut String, c: char, next: char) -> Result<(), LexerError>
-    ensures pushed { OnOk result (string_bytes word.new ≡ string_bytes word.old ++ encode_utf8_all (c ∷ next ∷ [])) }
-    ensures refused { IfErr result (λ e. e ≡ Memory) }
-{
-    push(word, c)?;
-    push(word, next)
 }
 
 /// The string in quotes that a text begins with, from behind the opening quote on, and what stands behind the
