@@ -1,5 +1,5 @@
--- Names that end as the name of a message's first question does, which stands behind the header, from
--- octet 12 on: RFC 1035, section 4.1.4.
+-- Names that end as the name of a message's first question does, which stands behind the header,
+-- from octet 12 on: RFC 1035, section 4.1.4.
 use Rattle.std.specs.Prelude.{◌≡◌, ◌+◌, ◌-◌, ◌<◌, ◌≤◌, ◌++◌, ◌⊎◌, ℕ, zero, suc, List, [], ◌∷◌, Option, Some, None, length, take}
 use Rattle.zst_record.specs.dnw_decoder.Octets.{octets_16}
 use Rattle.zst_record.specs.dnw_decoder.Spelling.{pointer_octets}

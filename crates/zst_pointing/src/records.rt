@@ -144,7 +144,8 @@ pub fn push_pointing(
     record: &RecordRef<'_>,
     octets: &mut SmallVec<u8, 64>,
 ) -> Result<bool, AllocError>
-    ensures put { IfOk result (λ put. put ≡ true → Points asked.now (seen record.now) × PutsPointing asked.now (seen record.now) octets.old.items octets.new.items) }
+    ensures put { IfOk result (λ put. put ≡ true
+        → Points asked.now (seen record.now) × PutsPointing asked.now (seen record.now) octets.old.items octets.new.items) }
     ensures left { IfOk result (λ put. put ≡ false → (Points asked.now (seen record.now) → ⊥) × (octets.new ≡ octets.old)) }
     ensures err { OnErr result (octets.new ≡ octets.old) }
 {

@@ -73,8 +73,8 @@ parts_of r =
     parts_with r.metadata r.is_referral (shown_if r.asked (answers_in r.found))
     (if r.is_forwarded then [] else additionals_in r.found) (records_in r.beside)
 
--- What a response holds whose records stand in one list: those of them that are shown, as answers or
--- as authority.
+-- What a response holds whose records stand in one list: those of them that are shown, as answers
+-- or as authority.
 abbrev pub list_parts : Metadata → OneList → ReplyParts
 list_parts m list =
     let shown = shown_if list.asked (records_in list.records.now) in

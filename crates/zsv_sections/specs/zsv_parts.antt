@@ -1,4 +1,5 @@
 pub use Rattle.zsv_parts.specs.Headers
+pub use Rattle.zsv_parts.specs.QuestionLaws
 pub use Rattle.zsv_parts.specs.Questions
 pub use Rattle.zsv_parts.specs.SignatureRecords
 pub use Rattle.zsv_parts.specs.Signatures
