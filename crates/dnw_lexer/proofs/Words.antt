@@ -44,9 +44,11 @@ module _ (P : List ℕ → WordResult → Type 0) (text : List ℕ) where
 
 -- A character of a plain word, and the one that stays with it.
 pub plain-step : (inside : Bool) (c : ℕ) (rest behind later : List ℕ) → rest ≡ c ∷ behind → ends_word inside (c ∷ behind) ≡ false → (c ≢ 41) × (((c ≢ 92) × (later ≡ behind)) ⊎ ((c ≡ 92) × ((d : ℕ) × (behind ≡ d ∷ later)))) → (unit : List ℕ) × ((r : WordResult) → PlainText inside later r → PlainText inside rest (prepend unit r))
-plain-step inside c rest behind later e no_end (no_bracket, inl h) =
-    (c ∷ [], λ r p. subst (λ (t : List ℕ). PlainText inside t (prepend (c ∷ []) r)) (sym e)
-    (plain c behind r no_end no_bracket h.0 (subst (λ (t : List ℕ). PlainText inside t r) h.1 p)))
+plain-step inside c rest behind later e no_end (no_bracket, inl h) = (
+  c ∷ [],
+  λ r p. subst (λ (t : List ℕ). PlainText inside t (prepend (c ∷ []) r)) (sym e)
+      (plain c behind r no_end no_bracket h.0 (subst (λ (t : List ℕ). PlainText inside t r) h.1 p)),
+)
 plain-step inside c rest behind later e no_end (no_bracket, inr h) =
     let d = (h.1).0 in
     (c ∷ d ∷ [], λ r p. subst (λ (t : List ℕ). PlainText inside t (prepend (c ∷ d ∷ []) r)) (sym (e ∙ ap (λ t. c ∷ t) (h.1).1)) (escaped c d later r h.0 p))

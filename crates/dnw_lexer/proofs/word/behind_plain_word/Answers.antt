@@ -33,11 +33,12 @@ returns-in_err-rest-clause-err c =
 pub characters-preserved : goal.characters-preserved
 characters-preserved c =
     let goes : ends_word c.args.inside (c.in-Some.c ∷ chars c.in-Some.behind.now) ≡ false = sym c.ends_word.ensures ∙ c.if-ends_word.false in
-    let step = plain-step c.args.inside c.in-Some.c (chars c.characters.rest.now) (chars c.in-Some.behind.now) (chars c.in_ok-rest.rest.now) c.in-Some.ensures.split goes c.in_ok-rest.ensures.ok in
-    (
+    let step = plain-step c.args.inside c.in-Some.c (chars c.characters.rest.now) (chars c.in-Some.behind.now) (chars c.in_ok-rest.rest.now) c.in-Some.ensures.split goes c.in_ok-rest.ensures.ok in (
       c.in_ok-rest.ensures.text,
-      ((c.characters.invariant.1).0 ++ encode_utf8_all step.0,
-      more (PlainText c.args.inside) (chars c.args.text.now) (c.characters.invariant.1).0 (chars c.characters.rest.now)
-          step.0 ((c.characters.invariant.1).0 ++ encode_utf8_all step.0) (chars c.in_ok-rest.rest.now)
-          (c.characters.invariant.1).1 refl step.1),
+      (
+        (c.characters.invariant.1).0 ++ encode_utf8_all step.0,
+        more (PlainText c.args.inside) (chars c.args.text.now) (c.characters.invariant.1).0 (chars c.characters.rest.now)
+            step.0 ((c.characters.invariant.1).0 ++ encode_utf8_all step.0) (chars c.in_ok-rest.rest.now)
+            (c.characters.invariant.1).1 refl step.1,
+      ),
     )
