@@ -5,3 +5,4 @@ pub mod KeyLemmas
 pub mod KeyOrder
 pub mod NamesAbove
 pub mod ParentEnds
+pub mod SharedEnds

@@ -75,13 +75,13 @@ above-shorter name other e =
     let long = pointwise-long other.labels (drop k name.labels) e in
     omega (arith, long, length-drop k name.labels)
 
-beq-same : (f g : Bool) → beq f g ≡ true → f ≡ g
+pub beq-same : (f g : Bool) → beq f g ≡ true → f ≡ g
 beq-same true true e = refl
 beq-same false false e = refl
 beq-same true false e = absurd (true≢false (sym e))
 beq-same false true e = absurd (true≢false (sym e))
 
-up-lower : (name : DomainName) (n : ℕ) → lowercase_name name ≡ name → lowercase_name (up name n) ≡ up name n
+pub up-lower : (name : DomainName) (n : ℕ) → lowercase_name name ≡ name → lowercase_name (up name n) ≡ up name n
 up-lower name n low = ap (domain_name name.fqdn) (sym (drop-map str_to_ascii_lowercase n name.labels) ∙ ap (λ (m : DomainName). drop n m.labels) low)
 
 -- A name in lower case that another one lies below is one of those above it.

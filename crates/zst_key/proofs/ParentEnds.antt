@@ -13,17 +13,11 @@ use Rattle.zst_key.proofs.KeyOrder.{key-cons, length-label_key}
 abbrev pub NoEndsFrom : List ℕ → ℕ → Type 0
 NoEndsFrom octets end = (i : ℕ) → end ≤ i → i + 1 < length octets → nat_eq (get_or octets i 0) 0 ≡ false
 
-pub no_ends_more : (octets : List ℕ) (end : ℕ) → NoEndsFrom octets end → nat_eq (get_or octets (end - 1) 0) 0 ≡ false → NoEndsFrom octets (end - 1)
-no_ends_more octets end more here i from inside = elim (cases_lt i end) [
-  | inl before ↦ let at : i ≡ end - 1 = omega (arith, before, from) in ap (λ (n : ℕ). nat_eq (get_or octets n 0) 0) at ∙ here
-  | inr behind ↦ more i behind inside
-]
-
 last_of : (octets : List ℕ) (x : ℕ) (n : ℕ) → n ≡ length octets → get_or (octets ++ x ∷ []) n 0 ≡ x
 last_of octets x n e = get_or_push octets x 0 n (sym e)
 
 -- The last octet of the key of a name with labels ends a label.
-key-ends : (fqdn : Bool) (labels : List (List ℕ)) (n : ℕ) → n + 1 ≡ length (name_key (domain_name fqdn labels)) → 0 < n → get_or (name_key (domain_name fqdn labels)) n 0 ≡ 0
+pub key-ends : (fqdn : Bool) (labels : List (List ℕ)) (n : ℕ) → n + 1 ≡ length (name_key (domain_name fqdn labels)) → 0 < n → get_or (name_key (domain_name fqdn labels)) n 0 ≡ 0
 key-ends fqdn [] n e some = absurd (omega (arith, e, some))
 key-ends fqdn (l ∷ ls) n e some =
     let base = name_key (domain_name fqdn ls) in
@@ -34,7 +28,7 @@ key-ends fqdn (l ∷ ls) n e some =
     ∙ get_or-append-add base (label_key l) (length l) 0
     ∙ last_of (map rank l) 0 (length l) (sym (length-map l rank))
 
-label-inside : (label : List ℕ) (j : ℕ) → j < length label → nat_eq (get_or (label_key label) j 0) 0 ≡ false
+pub label-inside : (label : List ℕ) (j : ℕ) → j < length label → nat_eq (get_or (label_key label) j 0) 0 ≡ false
 label-inside label j inside =
     ap (λ (o : ℕ). nat_eq o 0) (get_or_append_left (map rank label) (0 ∷ []) 0 j (omega (arith, inside, length-map label rank)) ∙ get_or-map rank label j 0 0 inside)
     ∙ rank_is_no_end (get_or label j 0)

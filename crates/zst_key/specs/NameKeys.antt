@@ -1,5 +1,5 @@
 -- The key of a name: octets whose plain order is the canonical order of names (RFC 4034 6.1).
-use Rattle.std.specs.Prelude.{ℕ, ◌≡◌, ◌+◌, ◌-◌, ◌++◌, nat_eq, nat_lt, if◌then◌else◌, false, List, [], ◌∷◌, map, reverse}
+use Rattle.std.specs.Prelude.{ℕ, ◌≡◌, ◌≢◌, ◌+◌, ◌-◌, ◌<◌, ◌≤◌, ◌++◌, nat_eq, nat_lt, if◌then◌else◌, false, true, List, [], ◌∷◌, get_or, length, map, reverse, take}
 use Rattle.std.specs.Char.{to_ascii_lowercase}
 use Rattle.std.specs.List.{flat_map}
 use Rattle.dnw_name.specs.DomainName.{DomainName, domain_name}
@@ -43,3 +43,18 @@ name_of_key (flag ∷ ranks) = domain_name (nat_eq flag 1) (labels_of ranks [] [
 -- These octets are the key of their name.
 abbrev pub IsKey : List ℕ → Type 0
 IsKey octets = name_key (name_of_key octets) ≡ octets
+
+-- So many octets at the fronts of both are the same, and no more.
+pub record ShareFront (xs ys : List ℕ) (same : ℕ) : Type 0 where
+  pub alike : take same xs ≡ take same ys
+  pub first : same ≤ length xs
+  pub second : same ≤ length ys
+  pub most : same < length xs → same < length ys → get_or xs same 0 ≢ get_or ys same 0
+
+-- Behind this place, the last one up to another one, a label or the flag ends: at 0 only where the
+-- other is 0.
+pub record IsLastEnd (octets : List ℕ) (from end : ℕ) : Type 0 where
+  pub within : end ≤ from
+  pub some : 0 < from → 0 < end
+  pub none : (i : ℕ) → end ≤ i → i < from → nat_eq (get_or octets i 0) 0 ≡ false
+  pub stops : 1 < end → nat_eq (get_or octets (end - 1) 0) 0 ≡ true

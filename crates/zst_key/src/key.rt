@@ -9,7 +9,7 @@ ghost use Rattle.dnw_name.specs.DomainName.{name_eq, name_cmp, name_len, is_at_o
 ghost use Rattle.dnw_name.specs.NameOrderLaws.{name_eq-by_cmp};
 ghost use Rattle.zst_key.specs.Ancestors.{other_flag, parent, star, GoesToShared};
 
-use crate::octets::{INLINE, octets_of, order, parent_end};
+use crate::octets::{INLINE, octets_of, order, parent_end, shared_end};
 use dnw_name::Name;
 use smallvec::SmallVec;
 use std::alloc::{AllocError, Global};
@@ -77,9 +77,8 @@ impl NameKey {
         if self.is_fqdn() != other.is_fqdn() {
             return false;
         }
-        'levels: while !other.is_below(self) {
-            self.to_parent();
-        }
+        let end = shared_end(self.octets.as_slice(), other.octets.as_slice());
+        self.octets.truncate(end);
         true
     }
 

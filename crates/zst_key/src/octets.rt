@@ -1,12 +1,13 @@
 //! Octets whose plain order is the canonical order of names.
-ghost use Rattle.std.specs.Prelude.{◌≡◌, ◌+◌, ◌++◌, ◌<◌, ◌≤◌, length, take, drop, IfOk, IsOk};
+ghost use Rattle.std.specs.Prelude.{◌≡◌, ◌+◌, ◌++◌, ◌<◌, ◌≤◌, length, take, drop, true, IfOk, IsOk};
 ghost use Rattle.std.specs.Cmp.Lexicographic.{slice_cmp};
+ghost use Rattle.std.specs.Bool.{beq};
 ghost use Rattle.std.specs.Int.{from_be_bytes, w64};
 ghost use Rattle.std.specs.Ordering.{nat_cmp};
 ghost use Rattle.smallvec.specs.SmallVec.{HasRoomFor, small_vec_len};
 ghost use Rattle.dnw_name.specs.DomainName.{DomainName, name_len};
-ghost use Rattle.zst_key.specs.Ancestors.{parent};
-ghost use Rattle.zst_key.specs.NameKeys.{rank, label_key, name_key};
+ghost use Rattle.zst_key.specs.Ancestors.{GoesToShared, parent};
+ghost use Rattle.zst_key.specs.NameKeys.{IsLastEnd, ShareFront, rank, label_key, name_key};
 
 use dnw_name::Name;
 use smallvec::SmallVec;
@@ -65,20 +66,25 @@ fn push_label(octets: &mut SmallVec<u8, INLINE>, label: &[u8])
     octets.push_reserved(0);
 }
 
+// Behind which octet, from a place down, a label or the flag ends.
+fn last_end(octets: &[u8], from: usize) -> usize
+    requires { from ≤ length octets.now }
+    ensures { IsLastEnd octets.now from result }
+{
+    let mut end = from;
+    'octets: while 1 < end && octets[end - 1] != 0 {
+        end -= 1;
+    }
+    end
+}
+
 // Where the octets of the name above end in those of a key; of a name without labels, where its own do.
 pub(crate) fn parent_end(octets: &[u8]) -> usize
     requires { 0 < length octets.now }
     ensures within { result ≤ length octets.now }
     ensures parent { (name : DomainName) → octets.now ≡ name_key name → take result octets.now ≡ name_key (parent name) }
 {
-    let mut end = octets.len();
-    if 1 < end {
-        end -= 1;
-    }
-    'octets: while 1 < end && octets[end - 1] != 0 {
-        end -= 1;
-    }
-    end
+    last_end(octets, (octets.len() - 1).max(1))
 }
 
 // The place of an octet among the octets without capitals, from 1 on.
@@ -86,6 +92,27 @@ fn rank(octet: u8) -> u8
     ensures { result ≡ rank octet }
 {
     RANKS[usize::from(octet)]
+}
+
+// How many octets at their fronts are the same.
+fn same_front(octets: &[u8], others: &[u8]) -> usize
+    ensures { ShareFront octets.now others.now result }
+{
+    let both = octets.len().min(others.len());
+    let mut same = 0;
+    'octets: while same < both && octets[same] == others[same] {
+        same += 1;
+    }
+    same
+}
+
+// Where the octets end of the nearest name, from that of a key up, that another key's name equals or lies below, where both
+// end at the root or neither does.
+pub(crate) fn shared_end(octets: &[u8], others: &[u8]) -> usize
+    ensures { (old other : DomainName) → octets.now ≡ name_key old → others.now ≡ name_key other → beq old.fqdn other.fqdn ≡ true
+        → (new : DomainName) × (take result octets.now ≡ name_key new) × GoesToShared old other new }
+{
+    last_end(octets, same_front(octets, others))
 }
 
 // Eight octets from a place on, as one number of which the first counts most.
