@@ -1,6 +1,9 @@
+pub mod Equality
+pub mod EqualityLaws
 pub mod Gathering
 pub mod Holding
 pub mod Messages
+pub mod Writing
 pub use Rattle.zsv_sections.specs.zst_record
 pub use Rattle.zsv_sections.specs.zsv_parts
 pub mod zst_edns

@@ -1,7 +1,8 @@
 //! Messages, whole: header, questions, and the records of three sections, options and signatures among them
 //! (RFC 1035 section 4.1, RFC 6891 section 6.1, RFC 8945 section 4.2).
 //!
-//! `MessageRequest::read` reads exactly what `IsMessage` says, and refuses all else by its cause (`RefusesMessage`).
+//! `MessageRequest::read` reads exactly what `IsMessage` says, and refuses all else by its cause (`RefusesMessage`). Its
+//! `emit` writes a message whole (`EmitsMessage`), or refuses it by its cause (`RefusesEmission`).
 #![tactic(auto)]
 
 pub use zst_edns::{Edns, LookupError};
@@ -13,6 +14,8 @@ pub use zsv_sections::{
 };
 
 mod additionals;
+mod emit;
+mod equality;
 mod records;
 mod request;
 
