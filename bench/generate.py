@@ -2,6 +2,7 @@
 """Zone files and framed question streams for the measurements of this folder.
 
     generate.py zone NAMES                 a zone file with NAMES hosts under example.com.
+    generate.py sorted NAMES               the same, in canonical order
     generate.py cuts NAMES                 one with as many cuts too, and a wildcard
     generate.py sets NAMES                 one with hosts of 28 addresses too, and a cut of name servers that share nearly all
     generate.py questions KIND NAMES COUNT a stream of COUNT questions for the zone of that kind
@@ -9,7 +10,7 @@
 
 KIND is one of hit, opt, miss, mixed, deep, short, empty; or, for the zone with cuts, of cuts.hit, cuts.miss,
 cuts.delegation, cuts.referral, cuts.wildcard, cuts.deep, cuts.empty; or, for the zone with sets, of
-sets.answers28, sets.adversarial, sets.empty. Everything is written to standard output, but for `all`. The same arguments give the same octets: each file has a
+sets.answers28, sets.adversarial, sets.empty; or sorted.empty. Everything is written to standard output, but for `all`. The same arguments give the same octets: each file has a
 generator of random numbers of its own, seeded by its arguments.
 """
 
@@ -28,7 +29,9 @@ WILD = f"w.{ORIGIN}"
 # Those of the zone that has large sets beside its hosts.
 SETS = "sets."
 SET_KINDS = tuple(SETS + kind for kind in ("empty", "answers28", "adversarial"))
-ALL_KINDS = KINDS + CUT_KINDS + SET_KINDS
+# Of the zone whose hosts stand in canonical order only the loading is counted.
+SORTED = "sorted."
+ALL_KINDS = KINDS + CUT_KINDS + SET_KINDS + (SORTED + "empty",)
 
 TYPE_A, TYPE_NS, TYPE_CNAME, TYPE_SOA, TYPE_AAAA, TYPE_OPT = 1, 2, 5, 6, 28, 41
 CLASS_IN = 1
@@ -61,6 +64,12 @@ def zone(names):
         address = f"10.{number >> 16}.{number >> 8 & 255}.{number & 255}"
         lines.append(f"{host(number)} 3600 IN A {address}")
     return lines
+
+
+def sorted_zone(names):
+    """The lines of the same zone, its hosts in canonical order."""
+    lines = zone(names)
+    return lines[:2] + sorted(lines[2:])
 
 
 def cut(number):
@@ -102,7 +111,7 @@ def sets_zone(names):
 
 def zone_prefix(kind):
     """What the kinds of questions for the same zone begin with."""
-    return next((prefix for prefix in (CUTS, SETS) if kind.startswith(prefix)), "")
+    return next((prefix for prefix in (CUTS, SETS, SORTED) if kind.startswith(prefix)), "")
 
 
 def empty_of(kind):
@@ -232,8 +241,8 @@ def write_all(folder, count, sizes=SIZES):
     """Writes each zone and each stream into a folder, of these sizes."""
     os.makedirs(folder, exist_ok=True)
     for names in sizes:
-        for kind, lines_of in (("empty", zone), (CUTS + "empty", cuts_zone), (SETS + "empty", sets_zone)):
-            with open(os.path.join(folder, zone_of(names, kind)), "wb") as out:
+        for prefix, lines_of in (("", zone), (CUTS, cuts_zone), (SETS, sets_zone), (SORTED, sorted_zone)):
+            with open(os.path.join(folder, zone_of(names, prefix + "empty")), "wb") as out:
                 out.write(zone_text(names, lines_of))
         for kind in ALL_KINDS:
             with open(os.path.join(folder, f"{names}.{kind}"), "wb") as out:
@@ -244,6 +253,8 @@ def main(words):
     try:
         if len(words) == 2 and words[0] == "zone":
             sys.stdout.buffer.write(zone_text(int(words[1])))
+        elif len(words) == 2 and words[0] == "sorted":
+            sys.stdout.buffer.write(zone_text(int(words[1]), sorted_zone))
         elif len(words) == 2 and words[0] == "cuts":
             sys.stdout.buffer.write(zone_text(int(words[1]), cuts_zone))
         elif len(words) == 2 and words[0] == "sets":
