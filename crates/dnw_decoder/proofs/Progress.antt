@@ -129,7 +129,7 @@ walking_label message start built len segment bound place run resume next w befo
       counted = omega (arith, size, w.counted);
     }
 
-run_ahead : (message : List ℕ) (bound place : ℕ) (labels : List (List ℕ)) (end : ℕ) → Run message bound place labels end → place ≤ end
+pub run_ahead : (message : List ℕ) (bound place : ℕ) (labels : List (List ℕ)) (end : ℕ) → Run message bound place labels end → place ≤ end
 run_ahead message bound place _ _ begins = omega arith
 run_ahead message bound place _ end (goes_on {labels = labels} {middle = middle} {next = next} before inside is there) =
     omega (arith, run_ahead message bound place labels middle before, there.behind)

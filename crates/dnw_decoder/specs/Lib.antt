@@ -5,5 +5,6 @@ pub mod Octets
 pub mod Reading
 pub mod Refusals
 pub mod Spelling
+pub mod Tails
 pub use Rattle.dnw_name.specs.dnw_label
 pub mod dnw_name

@@ -6,7 +6,7 @@ ghost use Rattle.dnw_decoder.specs.Chains.{PointsBack, Chain, AreEnds, AreChains
 use std::alloc::{AllocError, Global};
 
 // A pointer names a place below this one.
-const POINTED: usize = 16384;
+pub(crate) const POINTED: usize = 16384;
 
 // Where a pointer to an earlier place stands, that place.
 #[inline]

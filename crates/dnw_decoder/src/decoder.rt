@@ -10,6 +10,7 @@ ghost use Rattle.dnw_decoder.specs.Spelling.{NameAt, Spells, pointers};
 ghost use Rattle.dnw_decoder.specs.Reading.{reading, TakesOctets, LacksOctets, IsWantOfMemory};
 
 use crate::name::read_name;
+use crate::tails::Pointers;
 use dnw_name::{DecodeError, Name, Restrict};
 use std::alloc::Global;
 use std::marker::Model;
@@ -21,21 +22,22 @@ use std::marker::Model;
 pub struct BinDecoder<'a> {
     octets: &'a [u8],
     index: usize,
-    // Where chains of pointers end, once one was followed.
-    chains: Option<Vec<u16>>,
+    pointers: Pointers,
 }
 
 impl<'a> Model for BinDecoder<'a> {
     ghost use Rattle.std.specs.Prelude.{◌≤◌, length};
     ghost use Rattle.dnw_decoder.specs.Chains.{AreChains};
     ghost use Rattle.dnw_decoder.specs.Reading.{Reading, reading};
+    ghost use Rattle.dnw_decoder.specs.Tails.{AreKept};
 
     ghost Value = { Reading };
 
     ghost view = { λ decoder. reading decoder.octets.now decoder.index };
 
     ghost invariant = { λ decoder. (decoder.index ≤ length decoder.octets.now)
-        × AreChains decoder.octets.now decoder.chains };
+        × AreChains decoder.octets.now decoder.pointers.chains
+        × AreKept decoder.octets.now decoder.pointers.tails };
 }
 
 impl<'a> BinDecoder<'a> {
@@ -46,7 +48,7 @@ impl<'a> BinDecoder<'a> {
         BinDecoder {
             octets: buffer,
             index: 0,
-            chains: None,
+            pointers: Pointers::new(),
         }
     }
 
@@ -58,7 +60,7 @@ impl<'a> BinDecoder<'a> {
         BinDecoder {
             octets: self.octets,
             index: usize::from(index_at),
-            chains: None,
+            pointers: Pointers::new(),
         }
     }
 
@@ -101,7 +103,7 @@ impl<'a> BinDecoder<'a> {
         ensures none { IfErr result (λ e. IsWantOfMemory e
             ⊎ ((name : DomainName) (end : ℕ) → NameAt self.old.octets self.old.index name end → ⊥)) }
     {
-        let (name, end) = read_name(alloc, self.octets, &mut self.chains, self.index)?;
+        let (name, end) = read_name(alloc, self.octets, &mut self.pointers, self.index)?;
         self.index = end;
         Ok(name)
     }

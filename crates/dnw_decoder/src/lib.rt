@@ -13,6 +13,7 @@ mod chains;
 mod decodable;
 mod decoder;
 mod name;
+mod tails;
 
 pub use decodable::BinDecodable;
 pub use decoder::BinDecoder;

@@ -10,20 +10,23 @@ ghost use Rattle.dnw_decoder.specs.Octets.{Stands};
 ghost use Rattle.dnw_decoder.specs.Reading.{IsWantOfMemory};
 ghost use Rattle.dnw_decoder.specs.Refusals.{IsCause, Refuses};
 ghost use Rattle.dnw_decoder.specs.Spelling.{NameAt};
+ghost use Rattle.dnw_decoder.specs.Tails.{AreKept};
 
 use crate::chains::follow;
+use crate::tails::{Pointers, push_kept};
 use dnw_name::{DecodeError, Name};
 use std::alloc::Global;
 
 // One element of a name: its end, a label, or a pointer to where the rest is.
-enum Element<'a> {
+#[derive(Drop)]
+pub(crate) enum Element<'a> {
     End,
     Label(&'a [u8]),
     Pointer(usize),
 }
 
 // The element at a place of a segment whose elements begin before the bound.
-fn element_at<'a>(
+pub(crate) fn element_at<'a>(
     octets: &'a [u8],
     segment: usize,
     bound: usize,
@@ -121,7 +124,7 @@ fn push_run(name: &mut Name, spelled: &[u8]) -> Result<(), DecodeError>
 
 // Where the labels end that stand from a place on, one behind the other: as far as they begin before the bound, are
 // whole, and take no more octets than there is room.
-fn run_end(octets: &[u8], bound: usize, place: usize, room: usize) -> usize
+pub(crate) fn run_end(octets: &[u8], bound: usize, place: usize, room: usize) -> usize
     requires within { bound ≤ length octets.now }
     requires inside { place ≤ length octets.now }
     requires room { room ≤ 255 }
@@ -151,19 +154,22 @@ fn run_end(octets: &[u8], bound: usize, place: usize, room: usize) -> usize
     }
 }
 
-/// The name that is spelled from a start on, and the index behind it.
-pub(crate) fn read_name(
+// The name that is spelled from a start on, the index behind it, and whether it was led to by pointers that nothing was
+// kept of.
+fn spelled_name(
     alloc: Global,
     octets: &[u8],
-    chains: &mut Option<Vec<u16>>,
+    pointers: &mut Pointers,
     start: usize,
-) -> Result<(Name, usize), DecodeError>
+) -> Result<(Name, usize, bool), DecodeError>
     requires start { start ≤ length octets.now }
-    requires chains { AreChains octets.now chains.old }
+    requires chains { AreChains octets.now pointers.old.chains }
+    requires tails { AreKept octets.now pointers.old.tails }
     ensures ok { IfOk result (λ found. NameAt octets.now start found.0 found.1) }
     ensures within { IfOk result (λ found. (start ≤ found.1) × (found.1 ≤ length octets.now)) }
     ensures refused { IfErr result (Refuses octets.now start) }
-    ensures chains { AreChains octets.now chains.new }
+    ensures chains { AreChains octets.now pointers.new.chains }
+    ensures tails { pointers.new.tails ≡ pointers.old.tails }
 {
     let mut name = Name::root(alloc);
     let mut segment = start;
@@ -173,13 +179,14 @@ pub(crate) fn read_name(
     // Labels that stand one behind the other are copied at once, where their run ends.
     let mut run = start;
     let mut len = 1;
+    let mut is_new = false;
     'elements: loop {
         let end = run_end(octets, bound, place, Name::MAX_LENGTH - len);
         let size = len + (end - place);
         match element_at(octets, segment, bound, end)? {
             Element::End => {
                 push_run(&mut name, &octets[run..end])?;
-                return Ok((name, resume.unwrap_or(end + 1)));
+                return Ok((name, resume.unwrap_or(end + 1), is_new));
             }
             Element::Label(label) => {
                 len = size + 1 + label.len();
@@ -190,14 +197,42 @@ pub(crate) fn read_name(
             }
             Element::Pointer(target) => {
                 push_run(&mut name, &octets[run..end])?;
-                resume = Some(resume.unwrap_or(end + 2));
-                let led = follow(alloc, octets, chains, segment, target);
+                let behind = resume.unwrap_or(end + 2);
+                resume = Some(behind);
+                let led = follow(alloc, octets, &mut pointers.chains, segment, target);
                 bound = led.0;
                 segment = led.1;
+                if push_kept(&mut name, &pointers.tails, segment, bound)? {
+                    return Ok((name, behind, is_new));
+                }
+                is_new = true;
                 place = segment;
                 run = segment;
                 len = size;
             }
         }
     }
+}
+
+/// The name that is spelled from a start on, and the index behind it.
+pub(crate) fn read_name(
+    alloc: Global,
+    octets: &[u8],
+    pointers: &mut Pointers,
+    start: usize,
+) -> Result<(Name, usize), DecodeError>
+    requires start { start ≤ length octets.now }
+    requires chains { AreChains octets.now pointers.old.chains }
+    requires tails { AreKept octets.now pointers.old.tails }
+    ensures ok { IfOk result (λ found. NameAt octets.now start found.0 found.1) }
+    ensures within { IfOk result (λ found. (start ≤ found.1) × (found.1 ≤ length octets.now)) }
+    ensures refused { IfErr result (Refuses octets.now start) }
+    ensures chains { AreChains octets.now pointers.new.chains }
+    ensures tails { AreKept octets.now pointers.new.tails }
+{
+    let (name, end, is_new) = spelled_name(alloc, octets, pointers, start)?;
+    if is_new {
+        pointers.keep(alloc, octets, start, &name);
+    }
+    Ok((name, end))
 }

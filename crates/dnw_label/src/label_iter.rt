@@ -35,9 +35,10 @@ impl<'a> LabelIter<'a> {
         LabelIter { octets, lengths }
     }
 
-    // The octets of the labels that are left, each behind its length.
-    pub(crate) fn octets(&self) -> &'a [u8]
-        ensures { result.now ≡ label_octets self.now }
+    /// The octets of the labels that are left, each behind the one of its length (RFC 1035 3.1).
+    pub fn octets(&self) -> &'a [u8]
+        ensures octets { result.now ≡ label_octets self.now }
+        ensures each { All IsLabel self.now }
     {
         self.octets
     }

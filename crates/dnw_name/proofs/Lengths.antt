@@ -90,14 +90,15 @@ IsDomainName-append f g front labels left right fits =
 pub IsDomainName-flag : (f g : Bool) (labels : List (List ℕ)) → IsDomainName (domain_name f labels) → IsDomainName (domain_name g labels)
 IsDomainName-flag f g labels name = record { each = name.each; short = name.short }
 
+-- Labels behind those of a name, where they have room.
+pub IsDomainName-joined : (f : Bool) (old labels : List (List ℕ)) → All IsLabel labels → labels_len old + labels_len labels + 1 ≤ 255 → IsDomainName (domain_name f old) → IsDomainName (domain_name f (old ++ labels))
+IsDomainName-joined f old labels each short name =
+    record { each = All-append IsLabel old labels name.each each; short = omega (arith, sum_by-append (λ l. length l + 1) old labels, short) }
+
 -- Labels that octets spell, behind those of a name.
 pub IsDomainName-spelt : {E : Type 0} (r : Result (Unit {0}) E) (f : Bool) (old new : List (List ℕ)) (spelled : List ℕ) → (labels : List (List ℕ)) × All IsLabel labels × (spelled ≡ label_octets labels) → labels_len old + length spelled + 1 ≤ 255 → OnOk r ((labels : List (List ℕ)) → All IsLabel labels → spelled ≡ label_octets labels → new ≡ old ++ labels) → OnErr r (new ≡ old) → IsDomainName (domain_name f old) → IsDomainName (domain_name f new)
 IsDomainName-spelt (Ok x) f old new spelled (labels, each, whole) short ok err name =
     let long : length spelled ≡ labels_len labels = ap length whole ∙ length-label_octets labels in
-    subst (λ ls. IsDomainName (domain_name f ls)) (sym (ok labels each whole))
-    (record {
-      each = All-append IsLabel old labels name.each each;
-      short = omega (arith, sum_by-append (λ l. length l + 1) old labels, long, short);
-    })
+    subst (λ ls. IsDomainName (domain_name f ls)) (sym (ok labels each whole)) (IsDomainName-joined f old labels each (omega (arith, long, short)) name)
 IsDomainName-spelt (Err e) f old new spelled labels short ok err name =
     subst (λ ls. IsDomainName (domain_name f ls)) (sym err) name

@@ -1,5 +1,5 @@
 -- Domain names (RFC 1035 3.1) and their canonical order (RFC 4034 6.1).
-use Rattle.std.specs.Prelude.{ℕ, ◌≡◌, ◌+◌, ◌≤◌, Bool, true, false, List, [], ◌∷◌, ◌++◌, All, length, reverse, map, drop, sum_by, cond, ◌==◌, ◌-◌, slice_get}
+use Rattle.std.specs.Prelude.{ℕ, ◌+◌, ◌≤◌, Bool, true, false, List, [], ◌∷◌, ◌++◌, All, length, reverse, map, drop, sum_by, cond, ◌==◌, ◌-◌, slice_get}
 use lib.Chars.{codes}
 use Rattle.std.specs.Option.{option_map_or}
 use Rattle.std.specs.Bool.{beq}

@@ -258,6 +258,29 @@ impl Name {
         }
     }
 
+    /// Puts labels at the end. They are refused by `DomainNameTooLong` where the name would take more than 255 octets;
+    /// a name that refuses labels stays as it was.
+    pub fn push_labels(&mut self, labels: &LabelIter<'_>) -> Result<(), DecodeError>
+        ensures ok { OnOk result (self.new ≡ domain_name self.old.fqdn (self.old.labels ++ labels.now)) }
+        ensures name { IsDomainName self.new }
+        ensures err { OnErr result (self.new ≡ self.old) }
+        ensures refused { IsDomainName (domain_name self.old.fqdn (self.old.labels ++ labels.now))
+            → IfErr result (λ e. e ≡ Memory) }
+        ensures too_long { 255 < labels_len self.old.labels + labels_len labels.now + 1
+            → IsErrOf result (DomainNameTooLong (labels_len self.old.labels + labels_len labels.now + 1)) }
+        ensures cause { IfErr result (λ e. (e ≡ Memory) ⊎ ((e ≡ DomainNameTooLong (labels_len self.old.labels + labels_len labels.now + 1))
+            × (255 < labels_len self.old.labels + labels_len labels.now + 1))) }
+    {
+        let longer = self.labels.as_octets().len() + labels.octets().len() + 1;
+        if longer > Name::MAX_LENGTH {
+            return Err(DecodeError::DomainNameTooLong(longer));
+        }
+        match self.labels.append(labels) {
+            Ok(()) => Ok(()),
+            Err(_) => Err(DecodeError::Memory),
+        }
+    }
+
     /// The name with a label more at its front, refused as by `append_label`.
     pub fn prepend_label<L: IntoLabel>(&self, label: L) -> Result<Name, ProtoError>
         ensures ok { IfOk result (λ name. (name ≡ domain_name self.now.fqdn (L.octets label ∷ self.now.labels)) × IsDomainName name) }
@@ -304,20 +327,14 @@ impl Name {
             → IsErrOf result (too_long (labels_len self.labels + labels_len other.now.labels + 1)) }
         ensures cause { IfErr result (λ e. IsMemory e ⊎ (255 < labels_len self.labels + labels_len other.now.labels + 1)) }
     {
-        let octets = self.labels.as_octets().len() + other.labels.as_octets().len() + 1;
-        if octets > Name::MAX_LENGTH {
-            return Err(ProtoError::Decode(DecodeError::DomainNameTooLong(octets)));
-        }
-        let Name {
-            is_fqdn: _,
-            mut labels,
-        } = self;
-        match labels.append(&other.iter()) {
-            Ok(()) => Ok(Name {
-                is_fqdn: other.is_fqdn,
-                labels,
-            }),
-            Err(refused) => Err(ProtoError::Memory(refused)),
+        let mut name = self;
+        match name.push_labels(&other.iter()) {
+            Ok(()) => {
+                name.is_fqdn = other.is_fqdn;
+                Ok(name)
+            }
+            Err(DecodeError::Memory) => Err(ProtoError::Memory(AllocError)),
+            Err(refused) => Err(ProtoError::Decode(refused)),
         }
     }
 

@@ -8,9 +8,9 @@ whole-type c = HoldLabels c.extend_from_slice-2.new.self.items c.extend_from_sli
 
 whole : (c : goal.After-extend_from_slice-2) → whole-type c
 whole c =
-    let room : length c.make_room.new.octets.items + length c.octets-2.result.now ≤ c.make_room.new.octets.capacity = omega (arith, c.in_ok-make_room.ensures.ok, ap length c.octets.ensures, ap length c.octets-2.ensures) in
+    let room : length c.make_room.new.octets.items + length c.octets-2.result.now ≤ c.make_room.new.octets.capacity = omega (arith, c.in_ok-make_room.ensures.ok, ap length c.octets.ensures.octets, ap length c.octets-2.ensures.octets) in
     let after = on-ok c.extend_from_slice-2.result (c.extend_from_slice-2.ensures.succeeds room) c.extend_from_slice-2.ensures.ok in
-    let octets = after ∙ ap (λ os. os ++ c.octets-2.result.now) c.in_ok-make_room.ensures.items ∙ ap (λ os. c.self.inside.octets.items ++ os) c.octets-2.ensures in
+    let octets = after ∙ ap (λ os. os ++ c.octets-2.result.now) c.in_ok-make_room.ensures.items ∙ ap (λ os. c.self.inside.octets.items ++ os) c.octets-2.ensures.octets in
     let all = both c.self.inside.octets.items c.self.inside.lengths.items (label_octets c.args.others.now) c.lengths.result.now
     (labels_of c.self.inside.lengths.items c.self.inside.octets.items) c.args.others.now c.self.invariant c.lengths.ensures in
     record { each = all.each; spelled = octets ∙ all.spelled; measured = c.in_ok-extend_from_slice.ensures.ok ∙ all.measured }

@@ -1,0 +1,58 @@
+-- What is kept of the names that pointers led to.
+use Rattle.std.specs.Prelude.{◌≡◌, ℕ, ◌-◌, ◌<◌, ◌≤◌, Bool, true, false, List, [], ◌∷◌, ◌++◌, drop, length, get_or, MatchOption, Option, None, Some}
+use Rattle.dnw_name.specs.DomainName.{DomainName, domain_name, IsDomainName}
+use Rattle.dnw_decoder.specs.Elements.{Run}
+use Rattle.dnw_decoder.specs.Octets.{Stands}
+use Rattle.dnw_decoder.specs.Spelling.{NameAt, pointer_octets}
+use Rattle.dnw_decoder.specs.declared.tails.Segment.{Segment}
+use Rattle.dnw_decoder.specs.declared.tails.Tail.{Tail}
+use Rattle.dnw_decoder.specs.declared.tails.Tails.{Tails}
+
+-- Labels stand one behind the other from a place on, and behind them the end of a name or a pointer.
+pub record IsSegment (message : List ℕ) (place : ℕ) (segment : Segment) : Type 0 where
+  pub run : (labels : List (List ℕ)) × Run message (length message) place labels segment.run
+  pub last : MatchOption segment.target (Stands message segment.run (0 ∷ []) segment.end)
+      (λ target. (target < place) × (target < 16384)
+      × Stands message segment.run (pointer_octets target) segment.end)
+
+-- The last labels of a list, so many.
+abbrev pub last : ℕ → List (List ℕ) → List (List ℕ)
+last n labels = drop (length labels - n) labels
+
+abbrev pub kept_name : List DomainName → ℕ → DomainName
+kept_name names number = get_or names number (domain_name true [])
+
+-- The labels that a tail stands for.
+abbrev pub tail_labels : List DomainName → Tail → List (List ℕ)
+tail_labels names tail = last tail.labels (kept_name names tail.number).labels
+
+-- A tail's labels are spelled at a place, and their octets end where it says.
+pub record IsTail (message : List ℕ) (names : List DomainName) (place : ℕ) (tail : Tail) : Type 0 where
+  pub known : tail.number < length names
+  pub few : tail.labels ≤ length (kept_name names tail.number).labels
+  pub named : NameAt message place (domain_name true (tail_labels names tail)) tail.end
+
+-- What is kept of a place is spelled there.
+abbrev pub AreTails : List ℕ → Tails → Type 0
+AreTails message tails =
+    (place : ℕ) (tail : Tail) → get_or tails.places.items place None ≡ Some tail
+    → IsTail message tails.names.items place tail
+
+-- The same where nothing may be kept yet.
+abbrev pub AreKept : List ℕ → Option Tails → Type 0
+AreKept message None = Unit {0}
+AreKept message (Some tails) = AreTails message tails
+
+-- These labels are kept of a place, and their octets end at a bound or before it.
+abbrev pub IsKept : Option Tails → ℕ → ℕ → List (List ℕ) → Type 0
+IsKept None place bound labels = ⊥
+IsKept (Some tails) place bound labels =
+    (tail : Tail) × (get_or tails.places.items place None ≡ Some tail) × (tail.end ≤ bound)
+    × (labels ≡ tail_labels tails.names.items tail)
+
+-- The labels that are kept of a place are put at a name's end, or the name stays.
+abbrev pub PushesKept : DomainName → Option Tails → ℕ → ℕ → DomainName → Bool → Type 0
+PushesKept old tails place bound new true =
+    (labels : List (List ℕ)) × IsKept tails place bound labels
+    × (new ≡ domain_name old.fqdn (old.labels ++ labels)) × IsDomainName new
+PushesKept old tails place bound new false = new ≡ old
