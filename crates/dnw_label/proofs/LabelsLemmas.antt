@@ -286,6 +286,7 @@ spelt-start before spelled rest lengths labels each whole e f =
 
 -- The label that is next.
 pub record NextSpelt (before spelled lengths : List ℕ) (n : ℕ) (behind : List ℕ) : Type 0 where
+  pub some : 1 ≤ n
   pub fits : n ≤ length behind
   pub small : n < 256
   pub more : (longer : List ℕ) → longer ≡ lengths ++ n ∷ [] → SpeltSoFar before spelled (drop n behind) longer
@@ -300,6 +301,7 @@ spelt-next before spelled rest lengths n behind e h = by h.later h.each h.whole 
         let tail : behind ≡ x ++ label_octets xs = ap (drop 1) left in
         let is = All-at h.done x xs each in
         record {
+          some = omega (arith, long, is.some);
           fits = omega (arith, long, ap length tail, length-append x (label_octets xs));
           small = omega (arith, long, is.few);
           more = λ longer f. record {

@@ -1,5 +1,5 @@
 //! Labels that are kept in one list of octets.
-ghost use Rattle.std.specs.Prelude.{◌≡◌, ◌+◌, ◌<◌, ◌^◌, ◌++◌, ◌∷◌, [], ◌==◌, length, map, IfOk, OnOk, OnErr, All, ℕ, List};
+ghost use Rattle.std.specs.Prelude.{◌≡◌, ◌+◌, ◌/◌, ◌<◌, ◌^◌, ◌++◌, ◌∷◌, [], ◌==◌, length, map, IfOk, OnOk, OnErr, All, ℕ, List};
 ghost use Rattle.std.specs.List.{sum_by};
 ghost use Rattle.std.specs.Str.{str_to_ascii_lowercase};
 ghost use Rattle.smallvec.specs.SmallVec.{HasRoomFor};
@@ -34,7 +34,7 @@ impl Model for Labels {
 // How many octets more are asked for where there is no room, so that a long name asks twice at most.
 const MORE_OCTETS: usize = 40;
 
-// Where labels take more octets than these, room is made for as many as they can be.
+// Where labels take more octets than these, room is made for as many lengths as they can have.
 const LONG: usize = 64;
 
 impl Labels {
@@ -115,7 +115,6 @@ impl Labels {
         ensures err { OnErr result (self.new ≡ self.old) }
     {
         make_room(&mut self.octets, spelled.len())?;
-        make_label_room(&mut self.lengths, spelled.len())?;
         push_lengths(&mut self.lengths, spelled)?;
         self.octets.extend_from_slice(spelled)
     }
@@ -151,16 +150,6 @@ fn make_room(octets: &mut SmallVec<u8, 24>, more: usize) -> Result<(), AllocErro
     Ok(())
 }
 
-// Makes room for as many labels as so many octets may spell, where they are many.
-fn make_label_room(lengths: &mut SmallVec<u8, 16>, octets: usize) -> Result<(), AllocError>
-    ensures { lengths.new.items ≡ lengths.old.items }
-{
-    if octets > LONG {
-        lengths.reserve(octets / 2)?;
-    }
-    Ok(())
-}
-
 // Puts the lengths of labels at the end of others, which octets spell. Where memory is refused they stay as they were.
 fn push_lengths(lengths: &mut SmallVec<u8, 16>, spelled: &[u8]) -> Result<(), AllocError>
     requires { (labels : List (List ℕ)) × All IsLabel labels × (spelled.now ≡ label_octets labels) }
@@ -168,6 +157,11 @@ fn push_lengths(lengths: &mut SmallVec<u8, 16>, spelled: &[u8]) -> Result<(), Al
         × (lengths.new.items ≡ lengths.old.items ++ map length labels)) }
     ensures err { OnErr result (lengths.new.items ≡ lengths.old.items) }
 {
+    if spelled.len() > LONG {
+        lengths.reserve(spelled.len() / 2)?;
+        push_many_lengths(lengths, spelled);
+        return Ok(());
+    }
     let before = lengths.len();
     let mut rest = spelled;
     'labels: while let Some((length, behind)) = rest.split_first() {
@@ -179,4 +173,19 @@ fn push_lengths(lengths: &mut SmallVec<u8, 16>, spelled: &[u8]) -> Result<(), Al
         rest = later;
     }
     Ok(())
+}
+
+// The same where there is room for a length of every two octets: a label takes as many at least.
+fn push_many_lengths(lengths: &mut SmallVec<u8, 16>, spelled: &[u8])
+    requires labels { (labels : List (List ℕ)) × All IsLabel labels × (spelled.now ≡ label_octets labels) }
+    requires room { HasRoomFor lengths.old (length spelled.now / 2) }
+    ensures { (labels : List (List ℕ)) × All IsLabel labels × (spelled.now ≡ label_octets labels)
+        × (lengths.new.items ≡ lengths.old.items ++ map length labels) }
+{
+    let mut rest = spelled;
+    'labels: while let Some((length, behind)) = rest.split_first() {
+        lengths.push_reserved(*length);
+        let (_, later) = behind.split_at(usize::from(*length));
+        rest = later;
+    }
 }
