@@ -1,7 +1,7 @@
 //! Names that pointers lead to (RFC 1035 4.1.4). A message can hold thousands of pointers to long names. Once pointers
 //! have led to many labels, the names that are read are kept for the message, and which of their last labels are spelled
 //! where: so none of these labels is gone through again.
-ghost use Rattle.std.specs.Prelude.{◌≡◌, ◌+◌, ◌-◌, ◌<◌, ◌≤◌, ℕ, List, length, Some, IfOk, IfErr, IfSome};
+ghost use Rattle.std.specs.Prelude.{◌≡◌, ◌≤◌, ℕ, length, Some, IfOk, IfErr, IfSome};
 ghost use Rattle.dnw_name.specs.dnw_codes.declared.error.DecodeError.TheVariants.{Memory};
 ghost use Rattle.dnw_decoder.specs.Chains.{AreChains};
 ghost use Rattle.dnw_decoder.specs.Spelling.{NameAt};
