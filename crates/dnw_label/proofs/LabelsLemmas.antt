@@ -15,7 +15,7 @@ use Rattle.std.proofs.lemmas.List.{length-append, length-map, map-append, length
 use Rattle.std.proofs.lemmas.List.Sums.{sum_by-cons}
 use Rattle.std.proofs.lemmas.List.Elements.{All-nil, All-push, All-cons, All-head, All-tail, All-append}
 use Rattle.dnw_label.specs.Label.{IsLabel, label_eq}
-use Rattle.dnw_label.specs.Labels.{label_octets, labels_of, HoldLabels}
+use Rattle.dnw_label.specs.Labels.{label_octets, labels_of, HoldLabels, SpeltSoFar}
 
 labels_of-held : (labels : List (List ℕ)) → labels_of (map length labels) (label_octets labels) ≡ labels
 labels_of-held [] = refl
@@ -264,15 +264,6 @@ lowered-place octets lengths written lower labels h e f =
     (sym (refilled octets lower (ap length new ∙ length-map octets to_ascii_lowercase) ∙ new))
     (lowered octets lengths labels h)
 
--- The labels that were gone through, of those that octets spell.
-pub record SpeltSoFar (before spelled rest lengths : List ℕ) : Type 0 where
-  pub done : List (List ℕ)
-  pub later : List (List ℕ)
-  pub each : All IsLabel (done ++ later)
-  pub whole : spelled ≡ label_octets (done ++ later)
-  pub left : rest ≡ label_octets later
-  pub counted : lengths ≡ before ++ map length done
-
 -- A label behind others: its length, then its octets.
 pub pushed : (octets lengths front more after : List ℕ) (labels : List (List ℕ)) (label : List ℕ) → HoldLabels octets lengths labels → IsLabel label → front ≡ octets ++ length label ∷ [] → after ≡ front ++ label → more ≡ lengths ++ length label ∷ [] → HoldLabels after more (labels ++ label ∷ [])
 pushed octets lengths front more after labels label h is e f g =
@@ -286,7 +277,6 @@ spelt-start before spelled rest lengths labels each whole e f =
 
 -- The label that is next.
 pub record NextSpelt (before spelled lengths : List ℕ) (n : ℕ) (behind : List ℕ) : Type 0 where
-  pub some : 1 ≤ n
   pub fits : n ≤ length behind
   pub small : n < 256
   pub more : (longer : List ℕ) → longer ≡ lengths ++ n ∷ [] → SpeltSoFar before spelled (drop n behind) longer
@@ -301,7 +291,6 @@ spelt-next before spelled rest lengths n behind e h = by h.later h.each h.whole 
         let tail : behind ≡ x ++ label_octets xs = ap (drop 1) left in
         let is = All-at h.done x xs each in
         record {
-          some = omega (arith, long, is.some);
           fits = omega (arith, long, ap length tail, length-append x (label_octets xs));
           small = omega (arith, long, is.few);
           more = λ longer f. record {
@@ -345,3 +334,27 @@ same-spelt spelled xs ys e f = label_octets-same xs ys (sym e ∙ f)
 -- What was put behind others, taken away.
 pub taken-away : (before lengths : List ℕ) (spelled rest : List ℕ) → SpeltSoFar before spelled rest lengths → (n : ℕ) → n ≡ length before → take n lengths ≡ before
 taken-away before lengths spelled rest h n e = ap (λ k. take k lengths) e ∙ ap (take (length before)) h.counted ∙ take-append_seam before (map length h.done)
+
+-- Labels that were gone through behind others.
+pub spelt-more : (before spelled rest lengths behind more longer : List ℕ) → SpeltSoFar before spelled rest lengths → SpeltSoFar [] rest behind more → longer ≡ lengths ++ more → SpeltSoFar before spelled behind longer
+spelt-more before spelled rest lengths behind more longer h g e =
+    let same : h.later ≡ g.done ++ g.later = label_octets-same h.later (g.done ++ g.later) (sym h.left ∙ g.whole) in
+    let all : h.done ++ h.later ≡ (h.done ++ g.done) ++ g.later = ap (λ ls. h.done ++ ls) same ∙ sym (append_assoc h.done g.done g.later) in
+    record {
+      done = h.done ++ g.done;
+      later = g.later;
+      each = subst (All IsLabel) all h.each;
+      whole = h.whole ∙ ap label_octets all;
+      left = g.left;
+      counted =
+          e ∙ ap (λ ls. ls ++ more) h.counted ∙ append_assoc before (map length h.done) more
+          ∙ ap (λ ls. before ++ (map length h.done ++ ls)) g.counted ∙ ap (λ ls. before ++ ls) (sym (map-append length h.done g.done));
+    }
+
+-- What is left is spelled by labels too.
+pub spelt-later : (before spelled rest lengths : List ℕ) → SpeltSoFar before spelled rest lengths → (labels : List (List ℕ)) × All IsLabel labels × (rest ≡ label_octets labels)
+spelt-later before spelled rest lengths h = (h.later, behind h.done h.later h.each, h.left)
+  where
+    behind : (xs ys : List (List ℕ)) → All IsLabel (xs ++ ys) → All IsLabel ys
+    behind [] ys all = all
+    behind (x ∷ xs) ys all = behind xs ys (All-tail IsLabel x (xs ++ ys) all)

@@ -1,5 +1,5 @@
 -- Labels one behind another, in octets (RFC 1035 3.1).
-use Rattle.std.specs.Prelude.{ℕ, ◌≡◌, List, [], ◌∷◌, All, length, map, take, drop}
+use Rattle.std.specs.Prelude.{ℕ, ◌≡◌, List, [], ◌∷◌, ◌++◌, All, length, map, take, drop}
 use Rattle.std.specs.List.{flat_map}
 use Rattle.dnw_label.specs.Label.{IsLabel}
 
@@ -17,3 +17,13 @@ pub record HoldLabels (octets lengths : List ℕ) (labels : List (List ℕ)) : T
   pub each : All IsLabel labels
   pub spelled : octets ≡ label_octets labels
   pub measured : lengths ≡ map length labels
+
+-- Of the labels that octets spell some were gone through, whose lengths stand behind others; the
+-- rest spells those that are left.
+pub record SpeltSoFar (before spelled rest lengths : List ℕ) : Type 0 where
+  pub done : List (List ℕ)
+  pub later : List (List ℕ)
+  pub each : All IsLabel (done ++ later)
+  pub whole : spelled ≡ label_octets (done ++ later)
+  pub left : rest ≡ label_octets later
+  pub counted : lengths ≡ before ++ map length done

@@ -1,10 +1,10 @@
 //! Labels that are kept in one list of octets.
-ghost use Rattle.std.specs.Prelude.{◌≡◌, ◌+◌, ◌/◌, ◌<◌, ◌^◌, ◌++◌, ◌∷◌, [], ◌==◌, length, map, IfOk, OnOk, OnErr, All, ℕ, List};
+ghost use Rattle.std.specs.Prelude.{◌≡◌, ◌+◌, ◌<◌, ◌≤◌, ◌^◌, ◌++◌, ◌∷◌, [], ◌==◌, length, map, take, IfOk, OnOk, OnErr, All, ℕ, List};
 ghost use Rattle.std.specs.List.{sum_by};
 ghost use Rattle.std.specs.Str.{str_to_ascii_lowercase};
 ghost use Rattle.smallvec.specs.SmallVec.{HasRoomFor};
 ghost use Rattle.dnw_label.specs.Label.{IsLabel};
-ghost use Rattle.dnw_label.specs.Labels.{label_octets};
+ghost use Rattle.dnw_label.specs.Labels.{SpeltSoFar, label_octets};
 
 use crate::label_iter::LabelIter;
 use smallvec::SmallVec;
@@ -34,8 +34,11 @@ impl Model for Labels {
 // How many octets more are asked for where there is no room, so that a long name asks twice at most.
 const MORE_OCTETS: usize = 40;
 
-// Where labels take more octets than these, room is made for as many lengths as they can have.
+// Where labels take more octets than these, their lengths are gathered first.
 const LONG: usize = 64;
+
+// How many lengths are gathered at once: those of any name.
+const GATHERED: usize = 128;
 
 impl Labels {
     /// No labels.
@@ -158,9 +161,7 @@ fn push_lengths(lengths: &mut SmallVec<u8, 16>, spelled: &[u8]) -> Result<(), Al
     ensures err { OnErr result (lengths.new.items ≡ lengths.old.items) }
 {
     if spelled.len() > LONG {
-        lengths.reserve(spelled.len() / 2)?;
-        push_many_lengths(lengths, spelled);
-        return Ok(());
+        return push_many_lengths(lengths, spelled);
     }
     let before = lengths.len();
     let mut rest = spelled;
@@ -175,17 +176,45 @@ fn push_lengths(lengths: &mut SmallVec<u8, 16>, spelled: &[u8]) -> Result<(), Al
     Ok(())
 }
 
-// The same where there is room for a length of every two octets: a label takes as many at least.
-fn push_many_lengths(lengths: &mut SmallVec<u8, 16>, spelled: &[u8])
-    requires labels { (labels : List (List ℕ)) × All IsLabel labels × (spelled.now ≡ label_octets labels) }
-    requires room { HasRoomFor lengths.old (length spelled.now / 2) }
-    ensures { (labels : List (List ℕ)) × All IsLabel labels × (spelled.now ≡ label_octets labels)
-        × (lengths.new.items ≡ lengths.old.items ++ map length labels) }
+// Does what `push_lengths` does; each of many labels costs less.
+fn push_many_lengths(lengths: &mut SmallVec<u8, 16>, spelled: &[u8]) -> Result<(), AllocError>
+    requires { (labels : List (List ℕ)) × All IsLabel labels × (spelled.now ≡ label_octets labels) }
+    ensures ok { OnOk result ((labels : List (List ℕ)) × All IsLabel labels × (spelled.now ≡ label_octets labels)
+        × (lengths.new.items ≡ lengths.old.items ++ map length labels)) }
+    ensures err { OnErr result (lengths.new.items ≡ lengths.old.items) }
 {
+    let before = lengths.len();
+    let mut rest = spelled;
+    'labels: while !rest.is_empty() {
+        let mut gathered = [0; GATHERED];
+        let (count, behind) = gather_lengths(rest, &mut gathered);
+        if lengths.extend_from_slice(&gathered[..count]).is_err() {
+            lengths.truncate(before);
+            return Err(AllocError);
+        }
+        rest = behind;
+    }
+    Ok(())
+}
+
+// Writes the lengths of labels, which octets spell, to the front of an array, as many as find room there: their count,
+// and what is spelled behind them.
+fn gather_lengths<'s>(spelled: &'s [u8], gathered: &mut [u8; GATHERED]) -> (usize, &'s [u8])
+    requires { (labels : List (List ℕ)) × All IsLabel labels × (spelled.now ≡ label_octets labels) }
+    ensures within { result.0 ≤ length gathered.new }
+    ensures lengths { SpeltSoFar [] spelled.now result.1.now (take result.0 gathered.new) }
+    ensures some { 0 < length spelled.now → length result.1.now < length spelled.now }
+{
+    let mut count = 0;
     let mut rest = spelled;
     'labels: while let Some((length, behind)) = rest.split_first() {
-        lengths.push_reserved(*length);
+        if count == GATHERED {
+            return (count, rest);
+        }
+        gathered[count] = *length;
+        count += 1;
         let (_, later) = behind.split_at(usize::from(*length));
         rest = later;
     }
+    (count, rest)
 }

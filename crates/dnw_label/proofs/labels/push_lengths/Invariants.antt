@@ -1,5 +1,5 @@
 use Rattle.std.proofs.Common.{length}
-use Rattle.dnw_label.proofs.LabelsLemmas.{SpeltSoFar}
+use Rattle.dnw_label.specs.Labels.{SpeltSoFar}
 use Rattle.dnw_label.proofs.labels.push_lengths.Given as goal
 
 abbrev pub invariant-labels : goal.invariant-labels
