@@ -1,5 +1,5 @@
 -- What is kept of names, and reading along it.
-use Rattle.std.proofs.Common.{◌≡◌, ℕ, ◌+◌, ◌-◌, ◌<◌, ◌≤◌, Bool, true, false, ◌==◌, inl, inr, List, [], ◌∷◌, ◌++◌, length, drop, get_or, set, Option, Some, None, unwrap_or, refl, sym, ap, subst, ◌∙◌, arith, Decides}
+use Rattle.std.proofs.Common.{◌≡◌, ℕ, ◌+◌, ◌-◌, ◌<◌, ◌≤◌, Bool, true, false, ◌==◌, inl, inr, List, [], ◌∷◌, ◌++◌, length, drop, get_or, set, Option, Some, None, unwrap_or, Box, Global, refl, sym, ap, subst, ◌∙◌, arith, Decides}
 use Rattle.std.specs.Prelude.{MatchOption, IfOk, Result, Ok, Err}
 use Rattle.std.specs.Result.{result_ok}
 use Rattle.std.proofs.lemmas.Bool.Decides.{Decides-eqb, not_from_Decides}
@@ -157,7 +157,7 @@ led_named message place target bound later_bound later_target labels end named s
     ]
 
 -- What is kept of a place is spelled there, and its octets end before the bound.
-pub kept_named : (message : List ℕ) (tails : Option Tails) (place bound : ℕ) (labels : List (List ℕ)) → AreKept message tails → IsKept tails place bound labels → (end : ℕ) × (end ≤ bound) × NameAt message place (domain_name true labels) end
+pub kept_named : (message : List ℕ) (tails : Option (Box Tails Global)) (place bound : ℕ) (labels : List (List ℕ)) → AreKept message tails → IsKept tails place bound labels → (end : ℕ) × (end ≤ bound) × NameAt message place (domain_name true labels) end
 kept_named message None place bound labels are kept = absurd kept
 kept_named message (Some tails) place bound labels are kept =
     let is = are place kept.0 kept.1 in
@@ -198,7 +198,7 @@ all_named message place name end n named long =
     }
 
 -- Tails that were made are kept, or none are.
-pub kept_ok : {E : Type 0} (message : List ℕ) (made : Result Tails E) → IfOk made (AreTails message) → AreKept message (result_ok made)
+pub kept_ok : {E : Type 0} (message : List ℕ) (made : Result (Box Tails Global) E) → IfOk made (λ tails. AreTails message tails.value) → AreKept message (result_ok made)
 kept_ok message (Ok tails) are = are
 kept_ok message (Err e) are = tt
 

@@ -1,5 +1,6 @@
 -- What is kept of the names that pointers led to.
 use Rattle.std.specs.Prelude.{◌≡◌, ℕ, ◌-◌, ◌<◌, ◌≤◌, Bool, true, false, List, [], ◌∷◌, ◌++◌, drop, length, get_or, MatchOption, Option, None, Some}
+use Rattle.std.proofs.Common.{Box, Global}
 use Rattle.dnw_name.specs.DomainName.{DomainName, domain_name, IsDomainName}
 use Rattle.dnw_decoder.specs.Elements.{Run}
 use Rattle.dnw_decoder.specs.Octets.{Stands}
@@ -39,19 +40,24 @@ AreTails message tails =
     → IsTail message tails.names.items place tail
 
 -- The same where nothing may be kept yet.
-abbrev pub AreKept : List ℕ → Option Tails → Type 0
+abbrev pub AreKept : List ℕ → Option (Box Tails Global) → Type 0
 AreKept message None = Unit {0}
-AreKept message (Some tails) = AreTails message tails
+AreKept message (Some tails) = AreTails message tails.value
 
 -- These labels are kept of a place, and their octets end at a bound or before it.
-abbrev pub IsKept : Option Tails → ℕ → ℕ → List (List ℕ) → Type 0
-IsKept None place bound labels = ⊥
-IsKept (Some tails) place bound labels =
+abbrev pub AreKeptIn : Tails → ℕ → ℕ → List (List ℕ) → Type 0
+AreKeptIn tails place bound labels =
     (tail : Tail) × (get_or tails.places.items place None ≡ Some tail) × (tail.end ≤ bound)
     × (labels ≡ tail_labels tails.names.items tail)
 
+-- The same where nothing may be kept yet.
+abbrev pub IsKept : Option (Box Tails Global) → ℕ → ℕ → List (List ℕ) → Type 0
+IsKept None place bound labels = ⊥
+IsKept (Some tails) place bound labels =
+    AreKeptIn tails.value place bound labels
+
 -- The labels that are kept of a place are put at a name's end, or the name stays.
-abbrev pub PushesKept : DomainName → Option Tails → ℕ → ℕ → DomainName → Bool → Type 0
+abbrev pub PushesKept : DomainName → Option (Box Tails Global) → ℕ → ℕ → DomainName → Bool → Type 0
 PushesKept old tails place bound new true =
     (labels : List (List ℕ)) × IsKept tails place bound labels
     × (new ≡ domain_name old.fqdn (old.labels ++ labels)) × IsDomainName new

@@ -230,6 +230,13 @@ pub(crate) fn read_name(
     ensures chains { AreChains octets.now pointers.new.chains }
     ensures tails { AreKept octets.now pointers.new.tails }
 {
+    // Most names are spelled without a pointer.
+    let run = run_end(octets, octets.len(), start, Name::MAX_LENGTH - 1);
+    if let Ok(Element::End) = element_at(octets, start, octets.len(), run) {
+        let mut name = Name::root(alloc);
+        push_run(&mut name, &octets[start..run])?;
+        return Ok((name, run + 1));
+    }
     let (name, end, is_new) = spelled_name(alloc, octets, pointers, start)?;
     if is_new {
         pointers.keep(alloc, octets, start, &name);

@@ -1,11 +1,11 @@
 //! Names that pointers lead to (RFC 1035 4.1.4). A message can hold thousands of pointers to long names. Once pointers
 //! have led to many labels, the names that are read are kept for the message, and which of their last labels are spelled
 //! where: so none of these labels is gone through again.
-ghost use Rattle.std.specs.Prelude.{◌≡◌, ◌≤◌, ℕ, length, Some, IfOk, IfErr, IfSome};
+ghost use Rattle.std.specs.Prelude.{◌≡◌, ◌≤◌, ℕ, length, IfOk, IfErr, IfSome};
 ghost use Rattle.dnw_name.specs.dnw_codes.declared.error.DecodeError.TheVariants.{Memory};
 ghost use Rattle.dnw_decoder.specs.Chains.{AreChains};
 ghost use Rattle.dnw_decoder.specs.Spelling.{NameAt};
-ghost use Rattle.dnw_decoder.specs.Tails.{IsSegment, IsTail, AreTails, AreKept, IsKept, PushesKept};
+ghost use Rattle.dnw_decoder.specs.Tails.{IsSegment, IsTail, AreTails, AreKept, AreKeptIn, PushesKept};
 
 use crate::chains::{POINTED, follow};
 use crate::name::{Element, element_at, run_end};
@@ -40,20 +40,18 @@ pub(crate) struct Tails {
 
 impl Tails {
     // None yet, with room for each place that a pointer can name.
-    fn new(alloc: Global, octets: &[u8]) -> Result<Tails, AllocError>
-        ensures { IfOk result (AreTails octets.now) }
+    fn new(alloc: Global, octets: &[u8]) -> Result<Box<Tails>, AllocError>
+        ensures { IfOk result (λ tails. AreTails octets.now tails.value) }
     {
         let mut places = Vec::new(alloc);
         places.resize(octets.len().min(POINTED), None)?;
-        Ok(Tails {
-            names: Vec::new(alloc),
-            places,
-        })
+        let names = Vec::new(alloc);
+        Ok(Box::new(alloc, Tails { names, places })?)
     }
 
     // The labels that are kept of a place, where their octets end at a bound or before it.
     fn find(&self, place: usize, bound: usize) -> Option<LabelIter<'_>>
-        ensures { IfSome result (λ labels. IsKept (Some self.now) place bound labels) }
+        ensures { IfSome result (AreKeptIn self.now place bound) }
     {
         let tail = (*self.places.get(place)?)?;
         if bound < tail.end {
@@ -168,7 +166,7 @@ pub(crate) struct Pointers {
     // How many labels were spelled by pointers.
     labels: usize,
     // The names that were, once these labels are many.
-    pub(crate) tails: Option<Tails>,
+    pub(crate) tails: Option<Box<Tails>>,
 }
 
 impl Pointers {
@@ -205,7 +203,7 @@ impl Pointers {
 }
 
 // Begins to keep names, where memory is there for it.
-fn begin(alloc: Global, octets: &[u8], tails: &mut Option<Tails>)
+fn begin(alloc: Global, octets: &[u8], tails: &mut Option<Box<Tails>>)
     requires { AreKept octets.now tails.old }
     ensures { AreKept octets.now tails.new }
 {
@@ -217,7 +215,7 @@ fn begin(alloc: Global, octets: &[u8], tails: &mut Option<Tails>)
 /// Puts the labels that are kept of a place at the end of a name. Whether there are any and the name has room for them.
 pub(crate) fn push_kept(
     name: &mut Name,
-    tails: &Option<Tails>,
+    tails: &Option<Box<Tails>>,
     place: usize,
     bound: usize,
 ) -> Result<bool, DecodeError>
