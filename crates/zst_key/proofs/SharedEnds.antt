@@ -1,5 +1,5 @@
 -- Where the octets end of the nearest name above that of a key at or below which another key's lies.
-use Rattle.std.proofs.Common.{◌≡◌, ℕ, ◌+◌, ◌-◌, ◌<◌, ◌≤◌, ◌++◌, Bool, true, false, List, [], ◌∷◌, length, take, get_or, nat_eq, refl, ap, sym, ◌∙◌, arith, length-append, inl, inr}
+use Rattle.std.proofs.Common.{◌≡◌, ℕ, ◌+◌, ◌-◌, ◌<◌, ◌≤◌, ◌++◌, Bool, true, false, List, [], ◌∷◌, length, take, get_or, nat_eq, refl, ap, sym, subst, ◌∙◌, arith, length-append, inl, inr}
 use Rattle.std.specs.Prelude.{◌&&◌, not}
 use Rattle.std.specs.Bool.{beq}
 use Rattle.std.specs.List.{starts_with}
@@ -7,13 +7,13 @@ use Rattle.std.proofs.lemmas.Bool.{true≢false, cases_lt}
 use Rattle.std.proofs.lemmas.List.{get_or-append-add, get_or-take, length-take, take-take, take_all}
 use Rattle.std.proofs.lemmas.Slice.Eq.{bytes_eq-Decides}
 use Rattle.std.proofs.Math.Seq.{take-append_seam}
-use Rattle.dnw_name.specs.DomainName.{DomainName, domain_name, is_at_or_below}
+use Rattle.dnw_name.specs.DomainName.{DomainName, domain_name, is_at_or_below, lowercase_name}
 use Rattle.zst_key.specs.Ancestors.{GoesToShared}
-use Rattle.zst_key.specs.NameKeys.{IsLastEnd, ShareFront, label_key, name_key}
+use Rattle.zst_key.specs.NameKeys.{IsKey, IsLastEnd, ShareFront, label_key, name_key, name_of_key}
 use Rattle.zst_key.proofs.Climbing.{Climbs, at-start, one-more, on-below, shared}
-use Rattle.zst_key.proofs.KeyLemmas.{key-below}
+use Rattle.zst_key.proofs.KeyLemmas.{is-key, key-below, name-of-octets}
 use Rattle.zst_key.proofs.KeyOrder.{key-cons, length-label_key}
-use Rattle.zst_key.proofs.NamesAbove.{beq-same}
+use Rattle.zst_key.proofs.NamesAbove.{beq-same, up-lower}
 use Rattle.zst_key.proofs.ParentEnds.{key-ends, label-inside}
 
 -- None of the octets from a place up to another one ends a label.
@@ -139,3 +139,15 @@ share-flag octets others same old other key others_key flags share = elim (cases
       absurd (share.most (omega (arith, zero, ap length key)) (omega (arith, zero, ap length others_key))
       (ap (λ (n : ℕ). get_or octets n 0) zero ∙ first ∙ ap (λ (n : ℕ). get_or others n 0) (sym zero)))
 ]
+
+-- The front of a key that ends where that of the shared name does is the shared name's key.
+pub shared-key : (octets others front : List ℕ) (end : ℕ) (name other : DomainName) (f g : Bool) → octets ≡ name_key name → others ≡ name_key other → lowercase_name name ≡ name
+    → f ≡ name.fqdn → g ≡ other.fqdn → not (beq f g) ≡ false
+    → ((a b : DomainName) → octets ≡ name_key a → others ≡ name_key b → beq a.fqdn b.fqdn ≡ true → (new : DomainName) × (take end octets ≡ name_key new) × GoesToShared a b new)
+    → front ≡ take end octets → IsKey front × GoesToShared name other (name_of_key front)
+shared-key octets others front end name other f g own theirs lower own_flag other_flag alike shares e =
+    let flags : beq name.fqdn other.fqdn ≡ true = (λ i. beq (sym own_flag i) (sym other_flag i)) ∙ not-off (beq f g) alike in
+    let found = shares name other own theirs flags in
+    let key : front ≡ name_key found.0 = e ∙ found.1 in
+    let low = ap lowercase_name found.2.above ∙ up-lower name found.2.levels lower ∙ sym found.2.above in
+    (is-key front found.0 key, subst (GoesToShared name other) (sym (name-of-octets front found.0 key low)) found.2)

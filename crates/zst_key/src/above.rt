@@ -20,8 +20,8 @@ fn last_up_to<'m, V>(names: &'m BTreeMap<NameKey, V>, key: &NameKey) -> Option<(
     }
 }
 
-/// The entry of a map for a name, or else for the nearest name above it. It takes memory only for names of more than 39
-/// octets, and only where the entry before the name in canonical order is of none of these.
+/// The entry of a map for a name, or else for the nearest name above it. It takes memory only where the entry before the
+/// name in canonical order is of none of these, and the nearest name above both has more than 39 octets.
 ///
 /// The entry before a name is that of the nearest name above it, or it shares with the name whatever names above are in
 /// the map: so each turn of the loop is one search, and goes up at least one label.
@@ -37,10 +37,9 @@ pub fn nearest<'m, V>(
     if key.is_below(owner) {
         return Ok(Some((owner, value)));
     }
-    let mut above = key.clone()?;
-    if !above.to_shared(owner) {
+    let Some(mut above) = key.shared_with(owner)? else {
         return Ok(None);
-    }
+    };
     'levels: while let Some((owner, value)) = last_up_to(names, &above) {
         if above.is_below(owner) {
             return Ok(Some((owner, value)));

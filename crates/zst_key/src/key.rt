@@ -1,5 +1,5 @@
 //! Keys of names.
-ghost use Rattle.std.specs.Prelude.{◌≡◌, ◌↔◌, ◌<◌, ◌&&◌, [], true, false, IfOk, IsOk, IsTrue, OnOk, OnErr};
+ghost use Rattle.std.specs.Prelude.{◌≡◌, ◌↔◌, ◌<◌, ◌&&◌, [], true, false, IfOk, IfSome, IsOk, IsTrue, is_some, OnOk, OnErr};
 ghost use Rattle.std.specs.Bool.{beq};
 ghost use Rattle.std.specs.Cmp.{partial_order_from_own_ties};
 ghost use Rattle.std.specs.Cmp.Rules.{comparing};
@@ -80,6 +80,21 @@ impl NameKey {
         let end = shared_end(self.octets.as_slice(), other.octets.as_slice());
         self.octets.truncate(end);
         true
+    }
+
+    /// The nearest name, from this one up, that the other one equals or lies below too; none where one of both ends at the
+    /// root and one doesn't. Where it has at most 39 octets it takes no memory.
+    pub(crate) fn shared_with(&self, other: &NameKey) -> Result<Option<NameKey>, AllocError>
+        ensures flags { IfOk result (λ found. is_some found ≡ beq self.now.fqdn other.now.fqdn) }
+        ensures shared { IfOk result (λ found. IfSome found (λ new. GoesToShared self.now other.now new)) }
+    {
+        if self.is_fqdn() != other.is_fqdn() {
+            return Ok(None);
+        }
+        let octets = self.octets.as_slice();
+        let end = shared_end(octets, other.octets.as_slice());
+        let octets = SmallVec::from_slice(*self.octets.allocator(), &octets[..end])?;
+        Ok(Some(NameKey { octets }))
     }
 
     /// Goes to the wildcard below the name (RFC 4592 2.1.1).

@@ -53,15 +53,19 @@ pub(crate) fn octets_of(alloc: Global, name: &Name) -> Result<SmallVec<u8, INLIN
     Ok(octets)
 }
 
-// Appends a label's octets by their ranks, then 0, for which there is room.
+// Appends a label's octets by their ranks, then 0, for which there is room. A label of one octet starts no loop, since a
+// name may have many of them.
 fn push_label(octets: &mut SmallVec<u8, INLINE>, label: &[u8])
     requires { HasRoomFor octets.old (length label.now + 1) }
     ensures items { octets.new.items ≡ octets.old.items ++ label_key label.now }
     ensures len { small_vec_len octets.new ≡ small_vec_len octets.old + (length label.now + 1) }
     ensures capacity { octets.new.capacity ≡ octets.old.capacity }
 {
-    'octets: for i in 0..label.len() {
-        octets.push_reserved(rank(label[i]));
+    if let Some((first, rest)) = label.split_first() {
+        octets.push_reserved(rank(*first));
+        'octets: for i in 0..rest.len() {
+            octets.push_reserved(rank(rest[i]));
+        }
     }
     octets.push_reserved(0);
 }
@@ -109,7 +113,8 @@ fn same_front(octets: &[u8], others: &[u8]) -> usize
 // Where the octets end of the nearest name, from that of a key up, that another key's name equals or lies below, where both
 // end at the root or neither does.
 pub(crate) fn shared_end(octets: &[u8], others: &[u8]) -> usize
-    ensures { (old other : DomainName) → octets.now ≡ name_key old → others.now ≡ name_key other → beq old.fqdn other.fqdn ≡ true
+    ensures within { result ≤ length octets.now }
+    ensures shared { (old other : DomainName) → octets.now ≡ name_key old → others.now ≡ name_key other → beq old.fqdn other.fqdn ≡ true
         → (new : DomainName) × (take result octets.now ≡ name_key new) × GoesToShared old other new }
 {
     last_end(octets, same_front(octets, others))
