@@ -1,5 +1,6 @@
 mod AddsLemmas
 mod NamesLemmas
+mod OrderLemmas
 mod ReadLemmas
 mod TextLemmas
 mod WildcardLemmas

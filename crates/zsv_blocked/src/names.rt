@@ -18,7 +18,8 @@ use zst_key::NameKey;
 /// Names that are blocked, each once, up to case.
 #[derive(Drop)]
 pub struct BlockedNames {
-    names: BTreeSet<NameKey>,
+    // In canonical order (RFC 4034 6.1), so that they are halved to find one.
+    names: Vec<NameKey>,
     // Whether a wildcard is among them: where none is, none is searched for.
     has_wildcards: bool,
 }
@@ -26,13 +27,14 @@ pub struct BlockedNames {
 impl Model for BlockedNames {
     ghost use Rattle.std.specs.Prelude.{◌≡◌, List};
     ghost use Rattle.std.specs.List.{list_any};
-    ghost use Rattle.dnw_name.specs.DomainName.{DomainName, is_wildcard};
+    ghost use Rattle.std.specs.List.Sorted.{IsStrictlySortedBy};
+    ghost use Rattle.dnw_name.specs.DomainName.{DomainName, is_wildcard, name_cmp};
 
     ghost Value = { List DomainName };
 
-    ghost view = { λ set. set.names.keys };
+    ghost view = { λ set. set.names.items };
 
-    ghost invariant = { λ set. set.has_wildcards ≡ list_any is_wildcard set.names.keys };
+    ghost invariant = { λ set. (set.has_wildcards ≡ list_any is_wildcard set.names.items) × IsStrictlySortedBy name_cmp set.names.items };
 }
 
 impl Clone for BlockedNames {
@@ -53,7 +55,7 @@ impl BlockedNames {
         ensures { result ≡ [] }
     {
         BlockedNames {
-            names: BTreeSet::new(alloc),
+            names: Vec::new(alloc),
             has_wildcards: false,
         }
     }
@@ -69,7 +71,14 @@ impl BlockedNames {
     pub fn is_listed(&self, key: &NameKey) -> bool
         ensures { (name : DomainName) → key.now ≡ lowercase_name name → result ≡ is_listed self.now name }
     {
-        self.names.contains(key)
+        self.holds(key)
+    }
+
+    // Whether the name of a key is among them.
+    fn holds(&self, key: &NameKey) -> bool
+        ensures { result ≡ is_listed self.now key.now }
+    {
+        self.names.binary_search(key).is_ok()
     }
 
     /// Whether a wildcard over at least so many of a name's labels is among them; the name has this key. Where no wildcard
@@ -108,7 +117,7 @@ impl BlockedNames {
     {
         let mut star = name.clone()?;
         star.to_star()?;
-        Ok(self.names.contains(&star))
+        Ok(self.holds(&star))
     }
 
     /// Adds the names that the text of a list has on its lines, each fully qualified. A line whose text is no name adds
@@ -117,10 +126,60 @@ impl BlockedNames {
         ensures ok { OnOk result (AddsListed self.old text.now self.new) }
         ensures err { OnErr result (self.new ≡ self.old) }
     {
-        let mut names = self.clone()?;
+        let mut names = self.to_set(alloc)?;
         names.add_lines(alloc, text)?;
-        *self = names;
+        *self = names.into_names(alloc)?;
         Ok(())
+    }
+
+    // The same names, to which others can be added.
+    fn to_set(&self, alloc: Global) -> Result<NameSet, AllocError>
+        ensures { IfOk result (λ names. names ≡ self.now) }
+    {
+        let mut names = BTreeSet::new(alloc);
+        'names: for i in 0..self.names.len() {
+            names.insert(self.names[i].clone()?)?;
+        }
+        Ok(NameSet {
+            names,
+            has_wildcards: self.has_wildcards,
+        })
+    }
+}
+
+/// Blocked names to which others are added.
+#[derive(Drop)]
+struct NameSet {
+    names: BTreeSet<NameKey>,
+    has_wildcards: bool,
+}
+
+impl Model for NameSet {
+    ghost use Rattle.std.specs.Prelude.{◌≡◌, List};
+    ghost use Rattle.std.specs.List.{list_any};
+    ghost use Rattle.dnw_name.specs.DomainName.{DomainName, is_wildcard};
+
+    ghost Value = { List DomainName };
+
+    ghost view = { λ set. set.names.keys };
+
+    ghost invariant = { λ set. set.has_wildcards ≡ list_any is_wildcard set.names.keys };
+}
+
+impl NameSet {
+    // The same names, of which none is added any more.
+    fn into_names(self, alloc: Global) -> Result<BlockedNames, AllocError>
+        ensures { IfOk result (λ names. names ≡ self) }
+    {
+        let NameSet {
+            names,
+            has_wildcards,
+        } = self;
+        let names = names.into_iter().collect(alloc)?;
+        Ok(BlockedNames {
+            names,
+            has_wildcards,
+        })
     }
 
     // Adds the names on the lines of a text.

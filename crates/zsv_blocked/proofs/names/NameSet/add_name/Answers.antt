@@ -4,7 +4,7 @@ use Rattle.std.specs.BTreeSet.{insert_key}
 use Rattle.std.specs.List.{list_any}
 use Rattle.dnw_name.specs.DomainName.{is_wildcard, lowercase_name, name_cmp}
 use Rattle.zsv_blocked.proofs.WildcardLemmas.{listed-more}
-use Rattle.zsv_blocked.proofs.names.BlockedNames.add_name.Goals as goal
+use Rattle.zsv_blocked.proofs.names.NameSet.add_name.Goals as goal
 
 pub invariant_of-self : goal.invariant_of-self
 invariant_of-self c = c.self.invariant ∙ ap (list_any is_wildcard) (sym c.in_err-insert.ensures.err)
