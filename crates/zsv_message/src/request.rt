@@ -76,6 +76,7 @@ impl<'m> MessageRequest<'m> {
     /// The message that octets hold: a header, and as many questions and records as it counts, each where it may stand.
     /// Octets behind the last record are ignored. Where the octets are refused, the error is that of the first question or
     /// record that can't be read, or may not stand where it does. A message without a whole header takes no memory.
+    #[inline(never)]
     pub fn read(alloc: Global, octets: &'m [u8]) -> Result<MessageRequest<'m>, DecodeError>
         ensures { ReadsMessage octets.now result }
     {
