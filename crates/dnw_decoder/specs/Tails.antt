@@ -9,7 +9,7 @@ use Rattle.dnw_decoder.specs.declared.tails.Segment.{Segment}
 use Rattle.dnw_decoder.specs.declared.tails.Tail.{Tail}
 use Rattle.dnw_decoder.specs.declared.tails.Tails.{Tails}
 
--- Labels stand one behind the other from a place on, and behind them the end of a name or a pointer.
+-- Labels stand one behind the other from a place on, and behind them a name's end or a pointer.
 pub record IsSegment (message : List ℕ) (place : ℕ) (segment : Segment) : Type 0 where
   pub run : (labels : List (List ℕ)) × Run message (length message) place labels segment.run
   pub last : MatchOption segment.target (Stands message segment.run (0 ∷ []) segment.end)
@@ -28,7 +28,8 @@ abbrev pub tail_labels : List DomainName → Tail → List (List ℕ)
 tail_labels names tail = last tail.labels (kept_name names tail.number).labels
 
 -- A tail's labels are spelled at a place, and their octets end where it says.
-pub record IsTail (message : List ℕ) (names : List DomainName) (place : ℕ) (tail : Tail) : Type 0 where
+pub record IsTail (message : List ℕ) (names : List DomainName) (place : ℕ) (tail : Tail)
+    : Type 0 where
   pub known : tail.number < length names
   pub few : tail.labels ≤ length (kept_name names tail.number).labels
   pub named : NameAt message place (domain_name true (tail_labels names tail)) tail.end
