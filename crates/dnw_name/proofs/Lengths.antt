@@ -79,14 +79,6 @@ IsDomainName-cons f label labels name h fits =
       short = omega (arith, labels_len-cons label labels, fits);
     }
 
--- One name behind another.
-pub IsDomainName-append : (f g : Bool) (front labels : List (List ℕ)) → IsDomainName (domain_name f front) → IsDomainName (domain_name g labels) → labels_len front + labels_len labels + 1 ≤ 255 → IsDomainName (domain_name g (front ++ labels))
-IsDomainName-append f g front labels left right fits =
-    record {
-      each = All-append IsLabel front labels left.each right.each;
-      short = omega (arith, sum_by-append (λ l. length l + 1) front labels, fits);
-    }
-
 pub IsDomainName-flag : (f g : Bool) (labels : List (List ℕ)) → IsDomainName (domain_name f labels) → IsDomainName (domain_name g labels)
 IsDomainName-flag f g labels name = record { each = name.each; short = name.short }
 
