@@ -1,4 +1,4 @@
--- What is kept of the names that pointers led to.
+-- What is kept of the names that pointers led to (RFC 1035 4.1.4).
 use Rattle.std.specs.Prelude.{◌≡◌, ℕ, ◌-◌, ◌<◌, ◌≤◌, Bool, true, false, List, [], ◌∷◌, ◌++◌, drop, length, get_or, MatchOption, Option, None, Some}
 use Rattle.std.proofs.Common.{Box, Global}
 use Rattle.dnw_name.specs.DomainName.{DomainName, domain_name, IsDomainName}
@@ -20,6 +20,7 @@ pub record IsSegment (message : List ℕ) (place : ℕ) (segment : Segment) : Ty
 abbrev pub last : ℕ → List (List ℕ) → List (List ℕ)
 last n labels = drop (length labels - n) labels
 
+-- The name of a number among those that are kept.
 abbrev pub kept_name : List DomainName → ℕ → DomainName
 kept_name names number = get_or names number (domain_name true [])
 
@@ -34,13 +35,13 @@ pub record IsTail (message : List ℕ) (names : List DomainName) (place : ℕ) (
   pub few : tail.labels ≤ length (kept_name names tail.number).labels
   pub named : NameAt message place (domain_name true (tail_labels names tail)) tail.end
 
--- What is kept of a place is spelled there.
+-- All that is kept is spelled where it is kept.
 abbrev pub AreTails : List ℕ → Tails → Type 0
 AreTails message tails =
     (place : ℕ) (tail : Tail) → get_or tails.places.items place None ≡ Some tail
     → IsTail message tails.names.items place tail
 
--- The same where nothing may be kept yet.
+-- The same of what may not be kept yet.
 abbrev pub AreKept : List ℕ → Option (Box Tails Global) → Type 0
 AreKept message None = Unit {0}
 AreKept message (Some tails) = AreTails message tails.value
@@ -51,7 +52,7 @@ AreKeptIn tails place bound labels =
     (tail : Tail) × (get_or tails.places.items place None ≡ Some tail) × (tail.end ≤ bound)
     × (labels ≡ tail_labels tails.names.items tail)
 
--- The same where nothing may be kept yet.
+-- The same of what may not be kept yet: then no place has labels.
 abbrev pub IsKept : Option (Box Tails Global) → ℕ → ℕ → List (List ℕ) → Type 0
 IsKept None place bound labels = ⊥
 IsKept (Some tails) place bound labels =
