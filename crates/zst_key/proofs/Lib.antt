@@ -1,3 +1,4 @@
+mod Stepping
 mod WordOrder
 pub mod Climbing
 pub mod KeyFronts

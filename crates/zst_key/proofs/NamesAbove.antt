@@ -20,10 +20,10 @@ use Rattle.zst_key.specs.Ancestors.{up, or_else, nearest_from, nearest_in, GoesT
 use Rattle.zst_key.proofs.Climbing.{up-up}
 use Rattle.zst_key.proofs.KeyLemmas.{eq-below, one-lower}
 
-name_total : IsTotalOrder name_cmp
+pub name_total : IsTotalOrder name_cmp
 name_total = Prim.search (comparing, rules) depth 12
 
-le-not_gt : (o : Ordering) → is_le o ≡ true → is_gt o ≡ false
+pub le-not_gt : (o : Ordering) → is_le o ≡ true → is_gt o ≡ false
 le-not_gt Less e = refl
 le-not_gt Equal e = refl
 le-not_gt Greater e = absurd (true≢false (sym e))
@@ -38,7 +38,7 @@ reversed Less e = absurd (true≢false e)
 reversed Equal e = refl
 reversed Greater e = refl
 
-not_behind : (a b : DomainName) → is_lt (name_cmp a b) ≡ false → is_le (name_cmp b a) ≡ true
+pub not_behind : (a b : DomainName) → is_lt (name_cmp a b) ≡ false → is_le (name_cmp b a) ≡ true
 not_behind a b e = ap is_le (name_total.antisymm b a) ∙ reversed (name_cmp a b) e
 
 -- ---- names above a name
@@ -142,6 +142,10 @@ module _ {X : Type 0} (at : DomainName → Option X) where
       ap (λ (o : Option X). or_else (option_map (λ y. (domain_name fqdn (l ∷ ls), y)) o) (nearest_from at fqdn ls)) (passed 0 (omega arith))
       ∙ nearest-at fqdn ls levels x there (λ n less. passed (suc n) (omega (arith, less)))
 
+  -- What a name has is the nearest.
+  pub nearest-here : (name : DomainName) (x : X) → at name ≡ Some x → nearest_in at name ≡ Some (name, x)
+  nearest-here name x there = nearest-at name.fqdn name.labels 0 x there (λ n less. absurd (omega (arith, less)))
+
   pub nearest-none : (fqdn : Bool) (labels : List (List ℕ)) → ((n : ℕ) → at (domain_name fqdn (drop n labels)) ≡ None) → nearest_from at fqdn labels ≡ None
   nearest-none fqdn [] none = ap (option_map (λ y. (domain_name fqdn [], y))) (none 0)
   nearest-none fqdn (l ∷ ls) none =
@@ -157,14 +161,23 @@ module _ {X : Type 0} (at : DomainName → Option X) where
   pub passed-none : (name : DomainName) → HasPassed name name
   passed-none name = record { levels = 0; is = refl; passed = λ n less. absurd (omega (arith, less)) }
 
-  -- An entry above a name stands at or before the last one up to it.
-  before_last : (above p : DomainName) (x : X) → IsLastUpTo at above (Some (p, x)) → (n : ℕ) → IsSome (at (up above n)) → is_le (name_cmp (up above n) p) ≡ true
-  before_last above p x last n some =
-      not_behind p (up above n) (last.2 (up above n) (le-not_gt (name_cmp (up above n) above) (ancestor-first above (up above n) (below-up above n) refl)) some)
+  -- Entries above a name stand at or before this one, and it doesn't stand behind the name.
+  pub record IsLastAbove (above p : DomainName) (x : X) : Type 0 where
+    pub up_to : is_gt (name_cmp p above) ≡ false
+    pub there : at p ≡ Some x
+    pub last : (n : ℕ) → IsSome (at (up above n)) → is_le (name_cmp (up above n) p) ≡ true
 
-  together : (above p : DomainName) (x : X) → IsLastUpTo at above (Some (p, x)) → (n : ℕ) → IsSome (at (up above n)) → is_at_or_below p (up above n) ≡ true
+  pub last-above : (above p : DomainName) (x : X) → IsLastUpTo at above (Some (p, x)) → IsLastAbove above p x
+  last-above above p x last =
+      record {
+        up_to = last.0;
+        there = last.1;
+        last = λ n some. not_behind p (up above n) (last.2 (up above n) (le-not_gt (name_cmp (up above n) above) (ancestor-first above (up above n) (below-up above n) refl)) some);
+      }
+
+  together : (above p : DomainName) (x : X) → IsLastAbove above p x → (n : ℕ) → IsSome (at (up above n)) → is_at_or_below p (up above n) ≡ true
   together above p x last n some =
-      descendants-together above (up above n) (below-up above n) refl p (before_last above p x last n some) (not_gt-le (name_cmp p above) last.0)
+      descendants-together above (up above n) (below-up above n) refl p (last.last n some) (not_gt-le (name_cmp p above) last.up_to)
 
   none-by : (o : Option X) → (IsSome o → ⊥) → o ≡ None
   none-by None never = refl
@@ -178,7 +191,7 @@ module _ {X : Type 0} (at : DomainName → Option X) where
       ap (λ (m : DomainName). up m (n - levels)) is ∙ up-up name levels (n - levels) ∙ ap (up name) (omega (arith, past))
 
   -- The last entry is one above the name: it is the nearest.
-  pub found-last : (name above p : DomainName) (x : X) → HasPassed name above → IsLastUpTo at above (Some (p, x)) → lowercase_name above ≡ above → lowercase_name p ≡ p
+  pub found-last : (name above p : DomainName) (x : X) → HasPassed name above → IsLastAbove above p x → lowercase_name above ≡ above → lowercase_name p ≡ p
       → (beq above.fqdn p.fqdn && is_at_or_below above p) ≡ true → nearest_in at name ≡ Some (p, x)
   found-last name above p x has last low also below =
       let k = length above.labels - length p.labels in
@@ -186,7 +199,7 @@ module _ {X : Type 0} (at : DomainName → Option X) where
       let shorter = above-shorter above p (and_parts (beq above.fqdn p.fqdn) (is_at_or_below above p) below).1 in
       let place : p ≡ up name (has.levels + k) = owner ∙ ap (λ (m : DomainName). up m k) has.is ∙ up-up name has.levels k in
       ap (λ (o : Option (DomainName × X)). o)
-      (nearest-at name.fqdn name.labels (has.levels + k) x (ap at (sym place) ∙ last.1)
+      (nearest-at name.fqdn name.labels (has.levels + k) x (ap at (sym place) ∙ last.there)
       (λ n less. elim (cases_lt n has.levels) [
         | inl early ↦ has.passed n early
         | inr late ↦ let j = n - has.levels in
@@ -197,7 +210,7 @@ module _ {X : Type 0} (at : DomainName → Option X) where
       ∙ ap (λ (m : DomainName). Some (m, x)) (sym place)
 
   -- The last entry is none above the name: so none is up to what both share.
-  pub passed-more : (name above p now : DomainName) (x : X) → HasPassed name above → IsLastUpTo at above (Some (p, x)) → GoesToShared above p now → HasPassed name now
+  pub passed-more : (name above p now : DomainName) (x : X) → HasPassed name above → IsLastAbove above p x → GoesToShared above p now → HasPassed name now
   passed-more name above p now x has last goes =
       record {
         levels = has.levels + goes.levels;
@@ -210,7 +223,19 @@ module _ {X : Type 0} (at : DomainName → Option X) where
         ];
       }
 
-  none-behind : (name above : DomainName) → HasPassed name above → ((j : ℕ) → IsSome (at (up above j)) → ⊥) → nearest_in at name ≡ None
+  from-level : (fqdn : Bool) (labels : List (List ℕ)) (levels : ℕ) → ((n : ℕ) → n < levels → at (domain_name fqdn (drop n labels)) ≡ None)
+      → nearest_from at fqdn labels ≡ nearest_from at fqdn (drop levels labels)
+  from-level fqdn labels zero passed = refl
+  from-level fqdn [] (suc levels) passed = refl
+  from-level fqdn (l ∷ ls) (suc levels) passed =
+      ap (λ (o : Option X). or_else (option_map (λ y. (domain_name fqdn (l ∷ ls), y)) o) (nearest_from at fqdn ls)) (passed 0 (omega arith))
+      ∙ from-level fqdn ls levels (λ n less. passed (suc n) (omega (arith, less)))
+
+  -- What is nearest is so from there on.
+  pub nearest-passed : (name above : DomainName) → HasPassed name above → nearest_in at above ≡ nearest_in at name
+  nearest-passed name above has = ap (nearest_in at) has.is ∙ sym (from-level name.fqdn name.labels has.levels has.passed)
+
+  pub none-behind : (name above : DomainName) → HasPassed name above → ((j : ℕ) → IsSome (at (up above j)) → ⊥) → nearest_in at name ≡ None
   none-behind name above has never =
       nearest-none name.fqdn name.labels
       (λ n. elim (cases_lt n has.levels) [
@@ -234,10 +259,10 @@ module _ {X : Type 0} (at : DomainName → Option X) where
       by false true d l h = true≢false (sym h)
 
   -- The last entry up to the name has another flag: so do all of them.
-  pub found-apart : (name above p : DomainName) (x : X) → HasPassed name above → IsLastUpTo at above (Some (p, x)) → beq above.fqdn p.fqdn ≡ false → nearest_in at name ≡ None
+  pub found-apart : (name above p : DomainName) (x : X) → HasPassed name above → IsLastAbove above p x → beq above.fqdn p.fqdn ≡ false → nearest_in at name ≡ None
   found-apart name above p x has last differ =
       none-behind name above has
-      (λ j some. flags_between above p above.fqdn refl differ j (before_last above p x last j some) (not_gt-le (name_cmp p above) last.0))
+      (λ j some. flags_between above p above.fqdn refl differ j (last.last j some) (not_gt-le (name_cmp p above) last.up_to))
 
 -- ---- an entry at the name itself
 up_to-equal : (o p : Ordering) → o ≡ p → is_gt (ordering_reverse p) ≡ false → is_lt o ≡ false
@@ -250,7 +275,7 @@ not_gt-equal Less e = absurd (true≢false (sym e))
 not_gt-equal Equal e = refl
 not_gt-equal Greater e = absurd (true≢false (sym e))
 
-is-equal : (o : Ordering) → is_eq o ≡ true → o ≡ Equal
+pub is-equal : (o : Ordering) → is_eq o ≡ true → o ≡ Equal
 is-equal Less e = absurd (true≢false (sym e))
 is-equal Equal e = refl
 is-equal Greater e = absurd (true≢false (sym e))

@@ -1,5 +1,5 @@
 //! Octets whose plain order is the canonical order of names.
-ghost use Rattle.std.specs.Prelude.{◌≡◌, ◌+◌, ◌++◌, ◌<◌, ◌≤◌, length, take, drop, true, IfOk, IsOk};
+ghost use Rattle.std.specs.Prelude.{ℕ, ◌≡◌, ◌+◌, ◌++◌, ◌<◌, ◌≤◌, get_or, length, min, take, drop, true, IfOk, IsOk};
 ghost use Rattle.std.specs.Cmp.Lexicographic.{slice_cmp};
 ghost use Rattle.std.specs.Bool.{beq};
 ghost use Rattle.std.specs.Int.{from_be_bytes, w64};
@@ -138,7 +138,7 @@ fn word(octets: &[u8], at: usize) -> u64
     ])
 }
 
-// The order of octets, eight at a time; the last eight that both have may overlap those before.
+// The order of octets, eight at a time. Most keys have up to 24: these are compared without a loop.
 #[inline]
 pub(crate) fn order(first: &[u8], second: &[u8]) -> Ordering
     ensures { result ≡ slice_cmp nat_cmp first.now second.now }
@@ -147,8 +147,31 @@ pub(crate) fn order(first: &[u8], second: &[u8]) -> Ordering
     if both < 8 {
         return first.cmp(second);
     }
-    let last = both - 8;
-    let mut at = 0;
+    let (x, y) = (word(first, 0), word(second, 0));
+    if x != y {
+        return x.cmp(&y);
+    }
+    if both <= 16 {
+        return order_from(first, second, 8);
+    }
+    let (x, y) = (word(first, 8), word(second, 8));
+    if x != y {
+        return x.cmp(&y);
+    }
+    order_from(first, second, 16)
+}
+
+// The order of octets that are the same up to a place; the last eight that both have may overlap those before.
+#[inline(always)]
+fn order_from(first: &[u8], second: &[u8], from: usize) -> Ordering
+    requires first { 8 ≤ length first.now }
+    requires second { 8 ≤ length second.now }
+    requires both { from ≤ min (length first.now) (length second.now) }
+    requires alike { (i : ℕ) → i < from → get_or first.now i 0 ≡ get_or second.now i 0 }
+    ensures { result ≡ slice_cmp nat_cmp first.now second.now }
+{
+    let last = first.len().min(second.len()) - 8;
+    let mut at = from;
     'words: while at < last {
         let (x, y) = (word(first, at), word(second, at));
         if x != y {

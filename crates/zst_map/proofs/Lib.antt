@@ -3,6 +3,7 @@ pub mod Keys
 pub mod NamedSets
 pub mod Names
 pub mod NearestOf
+pub mod Owners
 pub mod Removals
 pub mod Searched
 pub mod Stars

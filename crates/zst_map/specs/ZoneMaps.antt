@@ -1,5 +1,5 @@
 -- How a zone's sets stand in its map: under each owner's key, the owner's sets by rising type.
-use Rattle.std.specs.Prelude.{◌≡◌, ℕ, ◌+◌, ◌<◌, ◌&&◌, Bool, List, [], ◌∷◌, length, if◌then◌else◌, nat_lt, ◌==◌, Result, Ok, Err}
+use Rattle.std.specs.Prelude.{◌≡◌, ℕ, ◌+◌, ◌<◌, ◌&&◌, Bool, List, [], ◌∷◌, length, if◌then◌else◌, nat_lt, ◌==◌, Option, Some, None, Result, Ok, Err}
 use Rattle.std.specs.Bool.{beq}
 use Rattle.std.specs.List.{AllByRecursion, flat_map, list_any}
 use Rattle.std.specs.List.Sorted.{IsStrictlySortedBy}
@@ -26,6 +26,14 @@ exists_alike sets name =
 pub record IsPlace (sets : List RRset) (name : DomainName) (place : Place) : Type 0 where
   pub sets_are : place.sets.now ≡ sets_of_name sets name
   pub exists_is : place.exists ≡ exists_alike sets name
+
+-- The sets of a name, if it owns some.
+abbrev pub some_sets : List RRset → Option (List RRset)
+some_sets [] = None
+some_sets (set ∷ sets) = Some (set ∷ sets)
+
+abbrev pub owned : List RRset → DomainName → Option (List RRset)
+owned sets name = some_sets (sets_of_name sets name)
 
 -- Each type is above those before it.
 abbrev pub TypesRise : List RRset → Type 0

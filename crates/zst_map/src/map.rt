@@ -1,6 +1,6 @@
 //! The sets of a zone, in the canonical order of their owners.
 
-ghost use Rattle.std.specs.Prelude.{◌≡◌, true, [], None, Some, IfOk, OnOk, OnErr};
+ghost use Rattle.std.specs.Prelude.{◌≡◌, true, [], None, Some, IfOk, OnOk, OnErr, option_map};
 ghost use Rattle.std.specs.List.{AllByRecursion};
 ghost use Rattle.zst_handler.specs.dnw_name.DomainName.{name_eq, lowercase_name};
 ghost use Rattle.zst_handler.specs.dnw_codes.RecordType.{record_type_number};
@@ -8,7 +8,8 @@ ghost use Rattle.zst_handler.specs.Lookups.{sets_of_name};
 ghost use Rattle.zst_handler.specs.Updates.{Replaces};
 ghost use Rattle.zst_handler.specs.Zones.{AreInOrder, rrset_at};
 ghost use Rattle.zst_map.specs.Changes.{alters, is_only, made, owner_of, set_of_type, type_in, with_change, without_type};
-ghost use Rattle.zst_map.specs.ZoneMaps.{IsPlace, TypesRise, place_from};
+ghost use Rattle.zst_key.specs.Ancestors.{nearest_in};
+ghost use Rattle.zst_map.specs.ZoneMaps.{IsPlace, TypesRise, owned, place_from};
 
 use crate::change::Change;
 use std::alloc::{AllocError, Global};
@@ -18,7 +19,7 @@ use std::collections::btree_map::Entry;
 use std::marker::Model;
 use std::mem;
 use zst_handler::{RecordSet, RecordType};
-use zst_key::NameKey;
+use zst_key::{NameKey, nearest};
 
 /// What stands at the name of a key.
 #[derive(Clone, Copy)]
@@ -108,6 +109,19 @@ impl ZoneMap {
                 sets: &[],
                 exists: false,
             },
+        }
+    }
+
+    /// The nearest owner, from the name of a key up, and its sets.
+    pub(crate) fn nearest(
+        &self,
+        key: &NameKey,
+    ) -> Result<Option<(&NameKey, &[RecordSet])>, AllocError>
+        ensures { IfOk result (λ found. option_map (λ p. (p.0.now, p.1.now)) found ≡ nearest_in (owned self.now) key.now) }
+    {
+        match nearest(&self.nodes, key)? {
+            Some((owner, sets)) => Ok(Some((owner, sets.as_slice()))),
+            None => Ok(None),
         }
     }
 

@@ -8,7 +8,7 @@ ghost use Rattle.zst_handler.specs.dnw_codes.declared.record_type.RecordType.The
 ghost use Rattle.zst_handler.specs.drd_rdata.Types.{type_of};
 ghost use Rattle.zst_handler.specs.dnw_name.DomainName.{DomainName, lowercase_name, name_cmp};
 ghost use Rattle.zst_handler.specs.Answers.{set_in};
-ghost use Rattle.zst_handler.specs.Found.{above, delegation, found};
+ghost use Rattle.zst_handler.specs.Found.{above, cut_at, cut_found, delegation, found, here};
 ghost use Rattle.zst_handler.specs.Lookups.{sets_of_name};
 ghost use Rattle.zst_handler.specs.Updates.{Replaces, upsert_changes, upserted};
 ghost use Rattle.zst_handler.specs.Zones.{Adds, AreInOrder, exists_in, rrset_at};
@@ -27,7 +27,7 @@ use std::collections::BTreeMap;
 use std::marker::Model;
 use std::mem;
 use zst_handler::{AnswerSet, Name, Record, RecordSet, RecordType};
-use zst_key::{NameKey, nearest};
+use zst_key::{NameKey, nearest, nearest_above};
 
 /// The set that answers a name and a type.
 #[derive(Clone, Copy)]
@@ -286,14 +286,43 @@ impl ZoneSets {
         if !self.index.has_cuts {
             return self.find_uncut(key, self.sets.searched_place(key), record_type);
         }
-        let cut = match self.start_above(key) {
-            Some(start) => return self.find_near(key, start, record_type),
-            None if self.is_start(key) => return self.find_start(key, record_type),
-            None => self.delegation(key, record_type)?,
+        match self.start_above(key) {
+            Some(start) => self.find_near(key, start, record_type),
+            None if self.is_start(key) => self.find_start(key, record_type),
+            None => self.find_deep(key, record_type),
+        }
+    }
+
+    // What `find` answers, by the nearest owner from the name up.
+    fn find_deep(&self, key: &NameKey, record_type: RecordType) -> Result<Search<'_>, AllocError>
+        ensures { IfOk result (IsSearch self.now key.now record_type) }
+    {
+        let Some((owner, sets)) = self.sets.nearest(key)? else {
+            return self.find_start(key, record_type);
         };
-        match cut {
+        if owner.is_below(key) {
+            return self.find_at(key, Place { sets, exists: true }, record_type);
+        }
+        match self.cut_from(owner, sets)? {
             Some(set) => Ok(Search::Found(Match::own(set))),
-            None => self.find_uncut(key, self.sets.searched_place(key), record_type),
+            None => self.find_unowned(key, record_type, None),
+        }
+    }
+
+    // What `find` answers to the name of a key, at which this stands.
+    #[inline(always)]
+    fn find_at<'z>(
+        &'z self,
+        key: &NameKey,
+        place: Place<'z>,
+        record_type: RecordType,
+    ) -> Result<Search<'z>, AllocError>
+        requires own { IsPlace self.now key.now place }
+        ensures { IfOk result (IsSearch self.now key.now record_type) }
+    {
+        match self.delegation_at(key, place.sets, record_type)? {
+            Some(set) => Ok(Search::Found(Match::own(set))),
+            None => self.find_uncut(key, place, record_type),
         }
     }
 
@@ -325,11 +354,7 @@ impl ZoneSets {
     ) -> Result<Search<'_>, AllocError>
         ensures { IfOk result (IsSearch self.now key.now record_type) }
     {
-        let place = self.sets.place_at(key);
-        match self.delegation_at(key, place.sets, record_type)? {
-            Some(set) => Ok(Search::Found(Match::own(set))),
-            None => self.find_uncut(key, place, record_type),
-        }
+        self.find_at(key, self.sets.place_at(key), record_type)
     }
 
     // What `find` answers, from the name above on, at which no index need be searched.
@@ -364,13 +389,34 @@ impl ZoneSets {
         if let Some(set) = here(place.sets, record_type) {
             return Ok(Search::Found(Match::own(set)));
         }
-        match self.wildcard(key, record_type)? {
-            Some(set) => Ok(Search::Found(Match {
+        self.find_unowned(key, record_type, Some(place.exists))
+    }
+
+    // What `find` answers to the name of a key whose own sets answer nothing, where no cut is at or above the name. It may
+    // be known whether an owner equals the name or lies below it, where both end at the root or neither does.
+    fn find_unowned(
+        &self,
+        key: &NameKey,
+        record_type: RecordType,
+        is_alike: Option<bool>,
+    ) -> Result<Search<'_>, AllocError>
+        requires uncut { delegation self.now key.now record_type ≡ None }
+        requires own { here self.now record_type key.now ≡ None }
+        requires known { IfSome is_alike (λ alike. alike ≡ exists_alike self.now key.now) }
+        ensures { IfOk result (IsSearch self.now key.now record_type) }
+    {
+        if let Some(set) = self.wildcard(key, record_type)? {
+            return Ok(Search::Found(Match {
                 set,
                 is_wildcard: true,
-            })),
+            }));
+        }
+        match is_alike {
+            Some(is_alike) => Ok(Search::Absent {
+                exists: self.exists_given(key, is_alike)?,
+            }),
             None => Ok(Search::Absent {
-                exists: self.exists_given(key, place.exists)?,
+                exists: self.exists(key)?,
             }),
         }
     }
@@ -447,6 +493,21 @@ impl ZoneSets {
         Ok(self.above(key, Sought::Wildcard(record_type))?.flatten())
     }
 
+    // The name servers of the cut that an owner, whose sets these are, is or lies below.
+    fn cut_from<'z>(
+        &'z self,
+        owner: &NameKey,
+        sets: &'z [RecordSet],
+    ) -> Result<Option<&'z RecordSet>, AllocError>
+        requires { sets.now ≡ sets_of_name self.now owner.now }
+        ensures { IfOk result (λ servers. option_copied servers ≡ cut_found (nearest_in (cut_at self.now) owner.now)) }
+    {
+        match cut_of(sets) {
+            Some(cut) => Ok(cut),
+            None => Ok(self.above(owner, Sought::Cut)?.flatten()),
+        }
+    }
+
     // What is sought, at the name of a key or else at the nearest name above it.
     fn nearest(
         &self,
@@ -465,8 +526,25 @@ impl ZoneSets {
         self.above(owner, sought)
     }
 
-    // What is sought, at the nearest name above that of a key. Each turn of the loop goes up at least one label.
+    // What is sought, at the nearest name above that of a key.
     fn above(&self, key: &NameKey, sought: Sought) -> Result<Option<Option<&RecordSet>>, AllocError>
+        ensures { IfOk result (λ at. lent at ≡ option_map (λ found. found.1) (above (sought_in self.now sought) key.now)) }
+    {
+        if key.is_root() {
+            return Ok(None);
+        }
+        let Some((owner, _)) = nearest_above(self.names(sought), key)? else {
+            return Ok(None);
+        };
+        let found = self.sought_at(owner, sought)?;
+        if found.is_some() {
+            return Ok(found);
+        }
+        self.climb(owner, sought)
+    }
+
+    // The same, level by level. Each turn of the loop goes up at least one label.
+    fn climb(&self, key: &NameKey, sought: Sought) -> Result<Option<Option<&RecordSet>>, AllocError>
         ensures { IfOk result (λ at. lent at ≡ option_map (λ found. found.1) (above (sought_in self.now sought) key.now)) }
     {
         let mut at = key.clone()?;

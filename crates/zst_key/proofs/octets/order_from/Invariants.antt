@@ -1,12 +1,11 @@
 use Rattle.std.proofs.Common.{◌-◌, ◌≡◌, ◌+◌, ◌≤◌, min, length}
 use Rattle.zst_key.proofs.WordOrder.{AreAlike}
-use Rattle.zst_key.proofs.octets.order.Given as goal
+use Rattle.zst_key.proofs.octets.order_from.Given as goal
 
 abbrev pub invariant-words : goal.invariant-words
 invariant-words l = record {
-  both : l.both ≡ min (length l.first) (length l.second);
-  last : l.last + 8 ≡ l.both;
-  within : l.at ≤ l.both;
+  last : l.last + 8 ≡ min (length l.first) (length l.second);
+  within : l.at ≤ min (length l.first) (length l.second);
   alike : AreAlike l.first l.second l.at;
 }
 

@@ -1,4 +1,4 @@
-use Rattle.std.proofs.Common.{◌≡◌, ◌∙◌, ap, sym}
+use Rattle.std.proofs.Common.{◌∙◌, ap, sym}
 use Rattle.std.specs.Prelude.{false, Some, None}
 use Rattle.std.specs.Ordering.{is_eq}
 use Rattle.zst_key.specs.NameKeys.{name_key}

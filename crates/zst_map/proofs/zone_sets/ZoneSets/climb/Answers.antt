@@ -9,7 +9,7 @@ use Rattle.zst_handler.specs.Found.{above}
 use Rattle.zst_map.specs.Searches.{lent, sought_in}
 use Rattle.zst_map.proofs.NearestOf.{above_parent, leads_to, none_nearest}
 use Rattle.zst_map.proofs.Searched.{found_above, found_here, lent_some, shorter}
-use Rattle.zst_map.proofs.zone_sets.ZoneSets.above.Goals as goal
+use Rattle.zst_map.proofs.zone_sets.ZoneSets.climb.Goals as goal
 
 pub returns-in_default : goal.returns-in_default
 returns-in_default c =

@@ -1,4 +1,4 @@
-use Rattle.std.proofs.Common.{◌≡◌, ◌∙◌, ap, sym, List, None, Some}
+use Rattle.std.proofs.Common.{◌≡◌, ◌∙◌, ap, sym, List, None}
 use Rattle.std.specs.Prelude.{option_copied}
 use Rattle.zst_handler.specs.zst_record.RecordSets.{RRset}
 use Rattle.zst_handler.specs.Found.{cut_at}

@@ -1,4 +1,4 @@
-use Rattle.std.proofs.Common.{◌∙◌, ap, sym, List, None, ◌≡◌}
+use Rattle.std.proofs.Common.{◌∙◌, ap, sym, List}
 use Rattle.zst_handler.specs.zst_record.RecordSets.{RRset}
 use Rattle.zst_handler.specs.Found.{delegation}
 use Rattle.zst_map.proofs.Searched.{no_delegation}
