@@ -111,7 +111,7 @@ behind_first text i rest r found e cut =
     ap (λ (n : ℕ). drop n rest) (sym (place_is is_blank rest r cut)) ∙ ap (λ (t : List ℕ). drop (position_or_len is_blank t) t) from
 
 -- ---- a text may be cut beside a blank
-blank_ascii : (octet : ℕ) → is_blank octet ≡ true → octet < 128
+pub blank_ascii : (octet : ℕ) → is_blank octet ≡ true → octet < 128
 blank_ascii octet h = either (eqb octet 32) (eqb octet 9) refl refl h
   where
     either : (a b : Bool) → eqb octet 32 ≡ a → eqb octet 9 ≡ b → a || b ≡ true → octet < 128
@@ -132,3 +132,13 @@ blank_boundary text None found = IsCharBoundary-end text
 blank_boundary text (Some i) found =
     let at = position-Some is_blank text i 0 found in
     IsCharBoundary-before_ascii text i at.0 (blank_ascii (get_or text i 0) at.1)
+
+-- ---- the only word of a text
+pub behind_blank : (b : ℕ) (text : List ℕ) → is_blank b ≡ true → words_of (b ∷ text) ≡ words_of text
+behind_blank b text blank = ap no_words (slice_split-cons_yes is_blank b text blank)
+
+-- A text that begins with no blank has a word, which may be its only one.
+pub first_of : (c : ℕ) (cs : List ℕ) → is_blank c ≡ false → (front back : List ℕ) × (c ∷ cs ≡ front ++ back) × (words_of (c ∷ cs) ≡ front ∷ words_of back)
+first_of c cs plain =
+    let n : ℕ = unwrap_or (position is_blank (c ∷ cs)) (length (c ∷ cs)) in
+    (take n (c ∷ cs), drop n (c ∷ cs), sym (take-append-drop n (c ∷ cs)), word_first (c ∷ cs) (omega arith) plain (position is_blank (c ∷ cs)) refl)

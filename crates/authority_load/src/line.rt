@@ -19,10 +19,10 @@ use zst_zone::{DNSClass, InMemoryZoneHandler, Name, NameKey, RData, Record, Reco
 /// The first four words of a line, and the text of the data behind them.
 #[derive(Clone, Copy)]
 struct Fields<'a> {
-    owner: &'a [u8],
-    ttl: &'a [u8],
-    dns_class: &'a [u8],
-    record_type: &'a [u8],
+    owner: &'a str,
+    ttl: &'a str,
+    dns_class: &'a str,
+    record_type: &'a str,
     rdata: &'a str,
 }
 
@@ -125,7 +125,10 @@ fn header_of(alloc: Global, line: &str) -> Result<Header<'_>, LoadCause>
     let Some(fields) = fields_of(line) else {
         return Err(LoadCause::FieldCount);
     };
-    let name = or_cause(parse_owner(alloc, fields.owner), LoadCause::Owner)?;
+    let name = or_cause(
+        parse_owner(alloc, fields.owner.as_bytes()),
+        LoadCause::Owner,
+    )?;
     let (ttl, record_type) = ttl_and_type(&fields)?;
     Ok(Header {
         name,
@@ -143,10 +146,10 @@ fn ttl_and_type(fields: &Fields<'_>) -> Result<(u32, RecordType), LoadCause>
         → HeaderGives line (λ told. record { name = name; ttl = told.0; record_type = told.1; rdata = data_text line }) result }
 {
     let ttl = or_cause(parse_u32(fields.ttl), LoadCause::Ttl)?;
-    if !is_internet_word(fields.dns_class) {
+    if !is_internet_word(fields.dns_class.as_bytes()) {
         return Err(LoadCause::Class);
     }
-    match parse_type(fields.record_type) {
+    match parse_type(fields.record_type.as_bytes()) {
         Some(record_type) => Ok((ttl, record_type)),
         None => Err(LoadCause::UnknownType),
     }

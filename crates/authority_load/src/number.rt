@@ -11,10 +11,18 @@ pub fn parse_u64(text: &[u8]) -> Result<u64, TextError>
     ensures number { ReadsText (IsNumberText 64 text.now) result }
     ensures only { IfErr result (λ e. e ≡ TextError.Malformed) }
 {
-    let Ok(digits) = str::from_utf8(text) else {
-        return Err(TextError::Malformed);
-    };
-    if digits.starts_with('+') {
+    match str::from_utf8(text) {
+        Ok(digits) => parse_digits(digits),
+        Err(_) => Err(TextError::Malformed),
+    }
+}
+
+// The number of digits, of 64 bits.
+fn parse_digits(digits: &str) -> Result<u64, TextError>
+    ensures number { ReadsText (IsNumberText 64 digits.now) result }
+    ensures only { IfErr result (λ e. e ≡ TextError.Malformed) }
+{
+    if digits.as_bytes().first() == Some(&b'+') {
         return Err(TextError::Malformed);
     }
     match digits.parse() {
@@ -24,9 +32,9 @@ pub fn parse_u64(text: &[u8]) -> Result<u64, TextError>
 }
 
 /// The number of a text, of 32 bits.
-pub fn parse_u32(text: &[u8]) -> Result<u32, TextError>
+pub fn parse_u32(text: &str) -> Result<u32, TextError>
     ensures number { ReadsText (IsNumberText 32 text.now) result }
     ensures only { IfErr result (λ e. e ≡ TextError.Malformed) }
 {
-    u32::try_from(parse_u64(text)?).map_err(|_| TextError::Malformed)
+    u32::try_from(parse_digits(text)?).map_err(|_| TextError::Malformed)
 }

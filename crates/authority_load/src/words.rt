@@ -6,13 +6,12 @@ ghost use Rattle.dnw_codes.specs.Ascii.{is_blank};
 ghost use Rattle.authority_load.specs.ZoneText.{behind_word, is_skipped_line, words_of};
 
 /// The first word, and what stands behind it.
-pub fn first_word(text: &str) -> Option<(&[u8], &str)>
+pub fn first_word(text: &str) -> Option<(&str, &str)>
     ensures { MatchOption result (words_of text.now ≡ []) (λ p. (words_of text.now ≡ p.0.now ∷ words_of p.1.now) × (p.1.now ≡ behind_word text.now)) }
 {
     let (_, from_word) = text.split_at(first_plain(text.as_bytes())?);
     let len = first_blank(from_word.as_bytes()).unwrap_or(from_word.len());
-    let (word, behind) = from_word.split_at(len);
-    Some((word.as_bytes(), behind))
+    Some(from_word.split_at(len))
 }
 
 /// Where the first octet stands that is no space and no tab.

@@ -29,8 +29,8 @@ returns c =
     let from = words_from c.args.text.now c.in_ok-first_plain.field-0 rest found c.split_at.ensures.back in
     let first = word_first rest from.2 from.1 c.first_blank.result cut in
     let len = c.unwrap_or-len.ensures in
-    let front : c.as_bytes-3.result.now ≡ take (unwrap_or c.first_blank.result (length rest)) rest = c.as_bytes-3.ensures.value ∙ c.split_at-2.ensures.front ∙ ap (λ n. take n rest) len in
+    let front : c.split_at-2.result.0.now ≡ take (unwrap_or c.first_blank.result (length rest)) rest = c.split_at-2.ensures.front ∙ ap (λ n. take n rest) len in
     let behind : c.split_at-2.result.1.now ≡ drop (unwrap_or c.first_blank.result (length rest)) rest = c.split_at-2.ensures.back ∙ ap (λ n. drop n rest) len in (
-      from.0 ∙ first ∙ ap (λ w. w ∷ words_of (drop (unwrap_or c.first_blank.result (length rest)) rest)) (sym front) ∙ ap (λ r. c.as_bytes-3.result.now ∷ words_of r) (sym behind),
+      from.0 ∙ first ∙ ap (λ w. w ∷ words_of (drop (unwrap_or c.first_blank.result (length rest)) rest)) (sym front) ∙ ap (λ r. c.split_at-2.result.0.now ∷ words_of r) (sym behind),
       behind ∙ behind_first c.args.text.now c.in_ok-first_plain.field-0 rest c.first_blank.result found c.split_at.ensures.back cut,
     )
