@@ -1,7 +1,7 @@
 -- What was sent answers the request.
 use Rattle.std.proofs.Common.{◌≡◌, ◌∙◌, ◌<◌, ◌≤◌, ap, arith, length, refl, subst, sym}
 use Rattle.std.proofs.lemmas.Bool.{true≢false}
-use Rattle.std.specs.Prelude.{ℕ, Bool, true, false, List, Option, Some, None}
+use Rattle.std.specs.Prelude.{ℕ, Bool, true, false, List, Option, Some, None, Result, Ok, Err, IfOk, IfErr, OnErr}
 use Rattle.std.specs.Net.Socket.{socket_ip}
 use Rattle.std.specs.declared.net.SocketAddr.{SocketAddr}
 use Rattle.zsv_access.specs.Access.{is_allowed}
@@ -117,3 +117,14 @@ sent_answers world octets request source transport moment info reply is (parts, 
       let stands = reply_of_encoded octets reply info parts request.asked (limit_of transport parts.edns) _ _ is.questions (sent.stands back) in
       subst (λ (id : ℕ). IsReply octets reply parts request.asked id (limit_of transport parts.edns)) (same_id world request source parts gives) stands,
 )
+
+-- ---- what a message gets to which a reply was written
+-- What is said of a reply that was written is said of the answer.
+pub answer_of : {A V E F : Type 0} (P : Option V → Type 0) (Q : A × V → Type 0) (sent : Result (A × V) E) (result : Result (Option V) F) (want : F) → IfOk sent (λ s. result ≡ Ok (Some s.1)) → OnErr sent (result ≡ Err want) → IfOk sent Q → ((s : A × V) → Q s → P (Some s.1)) → IfOk result P
+answer_of P Q (Ok s) result want ok err told turn = subst (λ r. IfOk r P) (sym ok) (turn s told)
+answer_of P Q (Err e) result want ok err told turn = subst (λ r. IfOk r P) (sym err) tt
+
+-- It is refused only for memory.
+pub answer_refused_for : {A V E F : Type 0} (sent : Result (A × V) E) (result : Result (Option V) F) (want : F) (P : F → Type 0) → IfOk sent (λ s. result ≡ Ok (Some s.1)) → OnErr sent (result ≡ Err want) → P want → IfErr result P
+answer_refused_for (Ok s) result want P ok err holds = subst (λ r. IfErr r P) (sym ok) tt
+answer_refused_for (Err e) result want P ok err holds = subst (λ r. IfErr r P) (sym err) holds

@@ -1,6 +1,8 @@
 //! The server: one message in, one reply out.
 
-ghost use Rattle.std.specs.Prelude.{◌≡◌, ◌+◌, ◌<◌, ◌≤◌, vec_len, vec_capacity, length, map, IfOk, IfErr, OnErr, OnOk, None, false};
+ghost use Rattle.std.specs.Prelude.{◌≡◌, ◌+◌, ◌<◌, ◌≤◌, ℕ, vec_len, vec_capacity, length, map, IfOk, IfErr, OnErr, OnOk, Ok, Err, None, Some, false};
+ghost use Rattle.std.specs.Net.Socket.{socket_ip};
+ghost use Rattle.zsv_access.specs.Access.{is_allowed};
 ghost use Rattle.zsv_catalog.specs.Chains.{chain_at};
 ghost use Rattle.zsv_catalog.specs.ReadingBack.{ChainReadsBack};
 ghost use Rattle.zsv_catalog.specs.zsv_answer.zst_request.dnw_name.DomainName.{lowercase_name};
@@ -18,8 +20,8 @@ use std::net::SocketAddr;
 use thiserror::Error;
 use zsv_access::AccessControl;
 use zsv_catalog::{
-    Chains, DecodeError, MessageRequest, Name, Protocol, ResponseCode, ResponseInfo, ZoneHandler,
-    encode_error, reply_by,
+    BareRequest, Chains, DecodeError, MessageRequest, Name, Protocol, ResponseCode, ResponseInfo,
+    ZoneHandler, encode_error, encode_refusal, reply_by,
 };
 
 /// A message as it came.
@@ -54,6 +56,19 @@ fn answer_refused(refused: DecodeError) -> Result<Option<Vec<u8>>, ServeError>
     match refused {
         DecodeError::Memory => Err(ServeError::OutOfMemory { applied: false }),
         _ => Ok(None),
+    }
+}
+
+// What a message gets to which a reply was written, and its header.
+fn answer_sent(
+    sent: Result<(ResponseInfo, Vec<u8>), AllocError>,
+) -> Result<Option<Vec<u8>>, ServeError>
+    ensures ok { IfOk sent (λ sent. result ≡ Ok (Some sent.1)) }
+    ensures err { OnErr sent (result ≡ Err (ServeError.OutOfMemory false)) }
+{
+    match sent {
+        Ok((_, reply)) => Ok(Some(reply)),
+        Err(_) => Err(ServeError::OutOfMemory { applied: false }),
     }
 }
 
@@ -164,20 +179,43 @@ impl<S, H: ZoneHandler> Authority<S, H> {
         Ok(sent)
     }
 
-    // The reply to a request, and its header: who isn't allowed to ask is refused, without options.
+    // The reply to a request, and its header: whose source may not ask is refused, without options.
     fn reply_to(
         &self,
         request: &MessageRequest<'_>,
         src: SocketAddr,
         protocol: Protocol,
+        may_ask: bool,
     ) -> Result<(ResponseInfo, Vec<u8>), AllocError>
         requires { FitsOpCode request.now.metadata }
-        ensures { IfOk result (λ sent. SendsReply (world_of H.view self.now) request.now src protocol sent.0 sent.1.items) }
+        ensures { may_ask ≡ is_allowed self.now.access (socket_ip src)
+            → IfOk result (λ sent. SendsReply (world_of H.view self.now) request.now src protocol sent.0 sent.1.items) }
     {
-        if self.access.allow(src.ip()) {
+        if may_ask {
             return self.zones_reply(request, src, protocol);
         }
         self.error_reply(request, protocol, ResponseCode::Refused)
+    }
+
+    // Serves one message, whatever it holds, of a source that may ask or not.
+    fn serve_any(
+        &self,
+        message: &[u8],
+        src: SocketAddr,
+        protocol: Protocol,
+        may_ask: bool,
+    ) -> Result<Option<Vec<u8>>, ServeError>
+        ensures served { may_ask ≡ is_allowed self.now.access (socket_ip src) → (moment : ℕ) → IfOk result
+            (λ answer. Serves (world_of H.view self.now)
+            (record { message = message.now; source = src; transport = protocol; now = moment }) (octets_of answer)
+            (world_of H.view self.now)) }
+        ensures refused { IfErr result (λ e. (e ≡ ServeError.OutOfMemory false) × (12 ≤ length message.now)) }
+    {
+        let request = match MessageRequest::read(self.alloc, message) {
+            Ok(request) => request,
+            Err(refused) => return answer_refused(refused),
+        };
+        answer_sent(self.reply_to(&request, src, protocol, may_ask))
     }
 
     /// Serves one message. A message outside the request grammar gets no reply; each other gets one, within the
@@ -199,14 +237,14 @@ impl<S, H: ZoneHandler> Authority<S, H> {
         ensures refused { IfErr result (λ e. (e ≡ ServeError.OutOfMemory false) × (12 ≤ length message.now)) }
         ensures unchanged { self.new ≡ self.old }
     {
-        let request = match MessageRequest::read(self.alloc, message) {
-            Ok(request) => request,
-            Err(refused) => return answer_refused(refused),
-        };
-        match self.reply_to(&request, src, protocol) {
-            Ok(sent) => Ok(Some(sent.1)),
-            Err(_) => Err(ServeError::OutOfMemory { applied: false }),
+        let may_ask = self.access.allow(src.ip());
+        if !may_ask {
+            // (a refusal of a question alone shows no name)
+            if let Some(request) = BareRequest::read(message) {
+                return answer_sent(encode_refusal(self.alloc, request, protocol));
+            }
         }
+        self.serve_any(message, src, protocol, may_ask)
     }
 
     // Serves one message, and keeps its answer behind those before.

@@ -10,9 +10,9 @@ pub use zst_request::{
     ZoneHandler, ZoneRequest, ZoneType,
 };
 pub use zsv_reply::{
-    A, DNSClass, DecodeError, Edns, Label, MessageRequest, MessageResponse, MessageResponseBuilder,
-    MessageType, Metadata, NS, Name, OpCode, Queries, Query, RData, Record, RecordSet, RecordType,
-    ResponseCode, ResponseInfo, SOA, TsigRecord,
+    A, BareRequest, DNSClass, DecodeError, Edns, Label, MessageRequest, MessageResponse,
+    MessageResponseBuilder, MessageType, Metadata, NS, Name, OpCode, Queries, Query, RData, Record,
+    RecordSet, RecordType, ResponseCode, ResponseInfo, SOA, TsigRecord,
 };
 pub use zsv_request::{
     Header, HeaderCounts, LowerQuery, Protocol, Request, RequestInfo, Tsig, UpdateRequest,
@@ -27,4 +27,4 @@ mod response;
 mod written;
 
 pub use chain::chain_response;
-pub use response::{Response, encode_error, error_response};
+pub use response::{Response, encode_error, encode_refusal, error_response};

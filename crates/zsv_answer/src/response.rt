@@ -1,11 +1,13 @@
 //! What a reply holds in full, and its octets.
 
 ghost use Rattle.std.specs.Prelude.{◌≡◌, List, [], false, length, IfOk, None, Some, if◌then◌else◌, option_copied, IfSome};
+ghost use Rattle.zst_request.specs.zst_codes.declared.response_code.ResponseCode.TheVariants as responses;
 ghost use Rattle.zst_request.specs.zst_handler.Answers.{additionals_in, answers_in, records_in};
 ghost use Rattle.zsv_answer.specs.Responses.{Sends, error_parts, has_no_authority, lends_records, list_parts, parts_of, parts_with, reply_metadata};
 ghost use Rattle.zsv_answer.specs.Shown.{shown_if};
 ghost use Rattle.zsv_answer.specs.zsv_reply.Writing.{AreWritten, FitsOpCode, IsEncoded};
 ghost use Rattle.zsv_answer.specs.zsv_reply.zst_pointing.Pointing.{ArePointing};
+ghost use Rattle.zsv_answer.specs.zsv_reply.zsv_message.zsv_parts.Questions.{Asked};
 ghost use Rattle.zsv_answer.specs.zsv_reply.zst_record.declared.records.Record.{Record as Entry};
 ghost use Rattle.zsv_answer.specs.zsv_reply.zst_record.dnw_name.DomainName.{DomainName};
 ghost use Rattle.zsv_request.specs.Requests.{limit_of};
@@ -17,8 +19,8 @@ use std::alloc::{AllocError, Global};
 use std::iter;
 use zst_request::{AuthLookup, LookupRecords, LookupRecordsIter, RecordRef};
 use zsv_reply::{
-    Edns, MessageResponseBuilder, MessageType, Metadata, Queries, RecordType, ResponseCode,
-    ResponseInfo, WrittenRecords, encode_bare, encode_written,
+    BareRequest, Edns, MessageResponseBuilder, MessageType, Metadata, Queries, RecordType,
+    ResponseCode, ResponseInfo, WrittenRecords, encode_bare, encode_written,
 };
 use zsv_request::Protocol;
 
@@ -266,7 +268,22 @@ pub fn encode_error(
     ensures { IfOk result (λ sent. IsEncoded sent.0 sent.1.items (error_parts request response_code) queries.now (limit_of protocol None)) }
 {
     let header = reply_header(request, false, response_code);
-    encode_bare(alloc, header, queries, protocol)
+    let count = queries.len() as u16;
+    encode_bare(alloc, header, count, queries.as_bytes(), protocol)
+}
+
+/// The octets of the refusal of a message of one question and no records, and its header as it was written.
+pub fn encode_refusal(
+    alloc: Global,
+    request: BareRequest<'_>,
+    protocol: Protocol,
+) -> Result<(ResponseInfo, Vec<u8>), AllocError>
+    requires { FitsOpCode request.metadata }
+    ensures { (asked : Asked) → length asked.questions ≡ 1 → asked.octets ≡ request.entry.question.now
+        → IfOk result (λ sent. IsEncoded sent.0 sent.1.items (error_parts request.entry.metadata responses.Refused) asked (limit_of protocol None)) }
+{
+    let header = reply_header(request.metadata, false, ResponseCode::Refused);
+    encode_bare(alloc, header, 1, request.question, protocol)
 }
 
 /// A reply without records.

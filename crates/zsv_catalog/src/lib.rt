@@ -7,12 +7,13 @@
 
 pub use drd_types::NSIDPayload;
 pub use zsv_answer::{
-    A, AuthLookup, BlocklistConsultAction, DNSClass, DecodeError, Edns, Header, HeaderCounts,
-    Label, LookupControlFlow, LookupError, LookupOptions, LookupRecords, LowerName, LowerQuery,
-    MessageRequest, MessageResponse, MessageResponseBuilder, MessageType, Metadata, NS, Name,
-    OpCode, Protocol, Queries, Query, RData, Record, RecordRef, RecordSet, RecordType, Request,
-    RequestInfo, ResponseCode, ResponseInfo, SOA, TSigResponseContext, Tsig, TsigRecord,
-    TsigVerdict, UpdateRequest, ZoneHandler, ZoneRequest, ZoneType, encode_error, error_response,
+    A, AuthLookup, BareRequest, BlocklistConsultAction, DNSClass, DecodeError, Edns, Header,
+    HeaderCounts, Label, LookupControlFlow, LookupError, LookupOptions, LookupRecords, LowerName,
+    LowerQuery, MessageRequest, MessageResponse, MessageResponseBuilder, MessageType, Metadata, NS,
+    Name, OpCode, Protocol, Queries, Query, RData, Record, RecordRef, RecordSet, RecordType,
+    Request, RequestInfo, ResponseCode, ResponseInfo, SOA, TSigResponseContext, Tsig, TsigRecord,
+    TsigVerdict, UpdateRequest, ZoneHandler, ZoneRequest, ZoneType, encode_error, encode_refusal,
+    error_response,
 };
 
 mod catalog;

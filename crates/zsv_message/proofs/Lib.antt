@@ -10,3 +10,4 @@ pub mod zst_edns_lemmas
 pub use Rattle.zsv_sections.proofs.zst_record_lemmas
 pub use Rattle.zsv_sections.proofs.zsv_parts_lemmas
 pub mod BareOptions
+mod BareRequests

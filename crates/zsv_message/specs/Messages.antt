@@ -4,6 +4,7 @@ use Rattle.std.specs.List.{filter}
 use Rattle.zsv_sections.specs.zst_record.dnw_codes.declared.error.DecodeError.{DecodeError}
 use Rattle.zsv_sections.specs.zst_record.dnw_codes.DNSClass.{class_number}
 use Rattle.zsv_sections.specs.zst_record.dnw_decoder.Reading.{IsCut, IsWantOfMemory}
+use Rattle.zsv_sections.specs.zst_record.dnw_name.DomainName.{DomainName}
 use Rattle.zsv_sections.specs.zst_record.drd_rdata.declared.rdata.RData.{RData}
 use Rattle.zsv_sections.specs.zst_record.drd_rdata.declared.rdata.RData.TheVariants as rdata
 use Rattle.zsv_sections.specs.zst_record.declared.records.Record.{Record}
@@ -17,7 +18,7 @@ use Rattle.zsv_sections.specs.zsv_parts.declared.header.OpCode.TheVariants as op
 use Rattle.zsv_sections.specs.zsv_parts.declared.tsig.TsigRecord.{TsigRecord}
 use Rattle.zsv_sections.specs.zsv_parts.zst_codes.ResponseCode.{joined_code, low_bits}
 use Rattle.zsv_sections.specs.zsv_parts.Headers.{header_of}
-use Rattle.zsv_sections.specs.zsv_parts.Questions.{Asked, AskedAt, RefusesQuestions}
+use Rattle.zsv_sections.specs.zsv_parts.Questions.{Asked, AskedAt, HasWholeName, RefusesQuestions}
 use Rattle.zsv_sections.specs.zsv_parts.Signatures.{RefusesTsig, TsigAt}
 use Rattle.zsv_sections.specs.declared.placing.Placing.{Placing}
 use Rattle.zsv_sections.specs.Sections.{PlacedRecords, RefusesSection, SectionAt, is_opt, is_root, is_tsig}
@@ -36,6 +37,10 @@ pub record Message : Type 0 where
 -- A header counts no records in any section behind the questions.
 abbrev pub counts_no_records : HeaderCounts → Bool
 counts_no_records counts = counts.answers == 0 && counts.authorities == 0 && counts.additionals == 0
+
+-- It counts one question, and no records.
+abbrev pub asks_alone : HeaderCounts → Bool
+asks_alone counts = counts.queries == 1 && counts_no_records counts
 
 -- A message of questions alone.
 abbrev pub bare_message : Metadata → Asked → Message
@@ -164,6 +169,16 @@ pub record IsMessage (octets : List ℕ) (m : Message) : Type 0 where
   pub additionals : AdditionalsAt octets (header_of octets).metadata.op_code authorities_end
       (header_of octets).counts.additionals m.additionals m.edns m.signature end
   pub metadata : m.metadata ≡ joined_metadata (header_of octets).metadata m.edns
+
+-- Octets hold a header that counts one question and no records, and the question, whose name stands
+-- in full.
+pub record AsksWhole (octets : List ℕ) (asked : Asked) : Type 0 where
+  pub long : 12 ≤ length octets
+  pub alone : asks_alone (header_of octets).counts ≡ true
+  pub end : ℕ
+  pub there : AskedAt octets 12 1 asked end
+  pub name : DomainName
+  pub whole : HasWholeName asked name
 
 -- The data of a TSIG that ends the records of a section are refused.
 pub record RefusesSignature (op : OpCode) (message : List ℕ) (place count : ℕ) (e : DecodeError) :

@@ -14,9 +14,11 @@ pub use zsv_sections::{
 };
 
 mod additionals;
+mod bare_request;
 mod emit;
 mod equality;
 mod records;
 mod request;
 
+pub use bare_request::BareRequest;
 pub use request::MessageRequest;

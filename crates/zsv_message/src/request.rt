@@ -54,7 +54,7 @@ fn joined(metadata: Metadata, edns: &Option<Edns>) -> Metadata
 }
 
 // Whether a header counts no records, as those of most requests without options do.
-fn counts_no_records(counts: HeaderCounts) -> bool
+pub(crate) fn counts_no_records(counts: HeaderCounts) -> bool
     ensures { result ≡ counts_no_records counts }
 {
     counts.answers == 0 && counts.authorities == 0 && counts.additionals == 0

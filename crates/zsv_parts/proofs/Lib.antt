@@ -1,4 +1,5 @@
 pub mod Flags
+mod NamesInFull
 pub mod Pieces
 pub mod Questions
 pub mod QuestionsOver
@@ -6,3 +7,4 @@ pub mod SignatureWriting
 pub mod TsigLaws
 pub mod TsigWriting
 pub mod WholeNames
+mod WholeQuestions

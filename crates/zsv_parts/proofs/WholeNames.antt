@@ -35,7 +35,7 @@ stand_in_full message segment bound place found end (at_pointer {target = target
     absurd (no_pointer message target segment target found last rest (omega (arith, long, there.behind)))
 
 -- Behind its name a question has four octets.
-question_end : (message : List ℕ) (place : ℕ) (q : Query) (end : ℕ) → (a : QuestionAt message place q end) → end ≡ a.middle + 4
+pub question_end : (message : List ℕ) (place : ℕ) (q : Query) (end : ℕ) → (a : QuestionAt message place q end) → end ≡ a.middle + 4
 question_end message place q end a = omega (arith, a.query_type.there.behind, a.query_class.there.behind)
 
 -- The first of a list of one is all.
@@ -45,7 +45,7 @@ first_alone (x ∷ []) q is one = ap (λ (o : Option Query). option_to_list o) (
 first_alone (x ∷ y ∷ ys) q is one = absurd (omega (arith, one))
 
 -- The one question of a section, at the section's place.
-only_at : (asked : Asked) (q : Query) → (s : IsSection asked) → asked.questions ≡ q ∷ [] → QuestionAt s.message s.place q s.end
+pub only_at : (asked : Asked) (q : Query) → (s : IsSection asked) → asked.questions ≡ q ∷ [] → QuestionAt s.message s.place q s.end
 only_at asked q s only =
     let there = subst (λ (qs : List Query). Entries (QuestionAt s.message) s.place qs s.end) only s.there.questions.0 in
     subst (λ (e : ℕ). QuestionAt s.message s.place q e) (sym there.2) there.1

@@ -212,6 +212,7 @@ impl Metadata {
 
 impl Header {
     /// The header at the decoder's index, which moves behind it. Where the message is cut, the decoder stays.
+    #[inline(always)]
     pub fn read(decoder: &mut BinDecoder<'_>) -> Result<Header, DecodeError>
         ensures header { IfOk result (λ header. HeaderAt decoder.old.octets decoder.old.index header decoder.new.index) }
         ensures same { decoder.new.octets ≡ decoder.old.octets }

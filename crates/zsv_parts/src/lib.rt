@@ -7,10 +7,12 @@
 pub use zst_codes::ResponseCode;
 
 mod header;
+mod in_full;
 mod question;
 mod signature;
 mod tsig;
 
 pub use header::{Header, HeaderCounts, MessageType, Metadata, OpCode};
+pub use in_full::whole_question;
 pub use question::{Queries, Query};
 pub use tsig::{Tsig, TsigRecord};

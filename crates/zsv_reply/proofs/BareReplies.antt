@@ -1,5 +1,5 @@
 -- A reply of a header and its questions, with nothing behind.
-use Rattle.std.proofs.Common.{◌≡◌, ℕ, ◌+◌, ◌≤◌, ◌∙◌, false, List, [], ◌++◌, length, length-append, drop, refl, sym, ap, arith}
+use Rattle.std.proofs.Common.{◌≡◌, ℕ, ◌+◌, ◌<◌, ◌≤◌, ◌∙◌, false, List, [], ◌++◌, length, length-append, drop, refl, sym, ap, arith}
 use Rattle.std.proofs.lemmas.List.{append-nil, drop_all, drop_at}
 use Rattle.zsv_request.specs.zsv_message.zst_record.dnw_decoder.Octets.{Stands}
 use Rattle.zsv_request.specs.zsv_message.zsv_parts.Headers.{header_of, header_octets, reserved_bit}
@@ -8,7 +8,7 @@ use Rattle.zsv_request.specs.zsv_message.zsv_parts.declared.header.Header.{Heade
 use Rattle.zsv_request.specs.zsv_message.zsv_parts.declared.header.Metadata.{Metadata}
 use Rattle.zsv_request.proofs.zsv_message_lemmas.zsv_parts_lemmas.Flags.{reserved_zero}
 use Rattle.zsv_reply.specs.Replies.{header_of_reply}
-use Rattle.zsv_reply.specs.Writing.{IsEncoded, bare_parts}
+use Rattle.zsv_reply.specs.Writing.{IsBare, IsEncoded, bare_parts}
 
 -- The questions of such a reply stand behind its header, and nothing behind them.
 questions_stand : (h : Header) (octets reply : List ℕ) → reply ≡ header_octets h ++ octets → Stands reply 12 octets (12 + length octets)
@@ -54,3 +54,12 @@ bare_encoded m h asked limit reply is back same room =
       };
       bare = λ less. absurd (omega (arith, less, room));
     }
+
+-- A header alone, where the questions don't fit.
+pub bare_failed : (m : Metadata) (h : Header) (asked : Asked) (limit : ℕ) (reply : List ℕ) → IsBare h reply m.id → 12 ≤ limit → limit < 12 + length asked.octets → IsEncoded h reply (bare_parts m) asked limit
+bare_failed m h asked limit reply told least passes = record {
+  within = omega (arith, told.long, least);
+  reserved = told.reserved;
+  whole = λ fits. absurd (omega (arith, fits, passes));
+  bare = λ less. told;
+}

@@ -6,9 +6,9 @@
 
 pub use zst_pointing::push_pointing;
 pub use zsv_request::{
-    A, DNSClass, DecodeError, Edns, Label, MessageRequest, MessageType, Metadata, NS, Name, OpCode,
-    Protocol, Queries, Query, RData, Record, RecordSet, RecordType, ResponseCode, ResponseInfo,
-    SOA, TsigRecord,
+    A, BareRequest, DNSClass, DecodeError, Edns, Label, MessageRequest, MessageType, Metadata, NS,
+    Name, OpCode, Protocol, Queries, Query, RData, Record, RecordSet, RecordType, ResponseCode,
+    ResponseInfo, SOA, TsigRecord,
 };
 
 mod bare_reply;

@@ -5,10 +5,10 @@
 #![tactic(auto)]
 
 pub use zsv_message::{
-    A, BinDecodable, BinDecoder, BinEncodable, BinEncoder, DNSClass, DecodeError, Edns, Header,
-    HeaderCounts, Label, LookupError, LowerName, MessageRequest, MessageType, Metadata, NS, Name,
-    NameEncoding, OpCode, ProtoError, Queries, Query, RData, Record, RecordRef, RecordSet,
-    RecordType, ResponseCode, SOA, Tsig, TsigRecord,
+    A, BareRequest, BinDecodable, BinDecoder, BinEncodable, BinEncoder, DNSClass, DecodeError,
+    Edns, Header, HeaderCounts, Label, LookupError, LowerName, MessageRequest, MessageType,
+    Metadata, NS, Name, NameEncoding, OpCode, ProtoError, Queries, Query, RData, Record, RecordRef,
+    RecordSet, RecordType, ResponseCode, SOA, Tsig, TsigRecord,
 };
 
 mod lower_query;

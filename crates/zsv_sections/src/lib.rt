@@ -10,7 +10,7 @@ pub use zst_record::{
 };
 pub use zsv_parts::{
     Header, HeaderCounts, MessageType, Metadata, OpCode, Queries, Query, ResponseCode, Tsig,
-    TsigRecord,
+    TsigRecord, whole_question,
 };
 
 mod placing;
