@@ -75,6 +75,10 @@ above-shorter name other e =
     let long = pointwise-long other.labels (drop k name.labels) e in
     omega (arith, long, length-drop k name.labels)
 
+pub beq-itself : (f : Bool) → beq f f ≡ true
+beq-itself true = refl
+beq-itself false = refl
+
 pub beq-same : (f g : Bool) → beq f g ≡ true → f ≡ g
 beq-same true true e = refl
 beq-same false false e = refl
@@ -90,13 +94,9 @@ pub is-above : (name other : DomainName) → lowercase_name name ≡ name → lo
 is-above name other low also e =
     let k = length name.labels - length other.labels in
     let parts = and_parts (beq name.fqdn other.fqdn) (is_at_or_below name other) e in
-    let flags : beq other.fqdn name.fqdn ≡ true = ap (beq other.fqdn) (beq-same name.fqdn other.fqdn parts.0) ∙ same other.fqdn in
+    let flags : beq other.fqdn name.fqdn ≡ true = ap (beq other.fqdn) (beq-same name.fqdn other.fqdn parts.0) ∙ beq-itself other.fqdn in
     let eq : name_eq other (up name k) ≡ true = rw flags parts.1 in
     sym also ∙ one-lower other (up name k) eq ∙ up-lower name k low
-  where
-    same : (f : Bool) → beq f f ≡ true
-    same true = refl
-    same false = refl
 
 -- ---- going up
 drop-none : (ls : List (List ℕ)) (n : ℕ) → length ls ≤ length (drop n ls) → drop n ls ≡ ls

@@ -22,13 +22,11 @@ use Rattle.dnw_name.specs.NameOrderLaws.{name_eq-by_cmp}
 use Rattle.dnw_name.proofs.Fronts.{ancestor-first}
 use Rattle.zst_key.specs.Ancestors.{up}
 use Rattle.zst_key.proofs.KeyLemmas.{one-lower}
-use Rattle.zst_key.proofs.NamesAbove.{IsLastAbove, below-up, is-equal, le-not_gt, name_total, not_behind, up-lower}
+use Rattle.zst_key.proofs.NamesAbove.{IsLastAbove, beq-itself, below-up, is-equal, le-not_gt, name_total, not_behind, up-lower}
 
-reversed-less : (o p : Ordering) → o ≡ Less → p ≡ ordering_reverse o → is_lt p ≡ false
-reversed-less o p less is = ap is_lt (is ∙ ap ordering_reverse less)
-
-reversed-equal : (o p : Ordering) → o ≡ Equal → p ≡ ordering_reverse o → is_lt p ≡ false
-reversed-equal o p equal is = ap is_lt (is ∙ ap ordering_reverse equal)
+-- What stands before another, or with it, has the other not before it.
+not_before : (a b : DomainName) (o : Ordering) → name_cmp a b ≡ o → is_lt (ordering_reverse o) ≡ false → is_lt (name_cmp b a) ≡ false
+not_before a b o is e = ap is_lt (name_total.antisymm b a ∙ ap ordering_reverse is) ∙ e
 
 module _ {X : Type 0} where
   -- Whether one of some entries is a name's.
@@ -69,14 +67,14 @@ module _ {X : Type 0} where
     where
       by : (hit : Bool) → is_at (name_cmp q) e.0 ≡ hit → (hit || has q t) ≡ true → (has q t ≡ true → is_lt (name_cmp b q) ≡ false) → is_lt (name_cmp b q) ≡ false
       by true same h rest =
-          reversed-less (name_cmp q b) (name_cmp b q) (name_total.congr q e.0 b (is-equal (name_cmp q e.0) same) ∙ all.0) (name_total.antisymm b q)
+          not_before q b Less (name_total.congr q e.0 b (is-equal (name_cmp q e.0) same) ∙ all.0) refl
       by false same h rest = rest h
 
   among_or : (q : DomainName) (t : List (DomainName × X)) (b : DomainName × X) → AllByRecursion (λ e. name_cmp e.0 b.0 ≡ Less) t → has q (t ++ b ∷ []) ≡ true → is_lt (name_cmp b.0 q) ≡ false
   among_or q t b all any = by (has q t) refl (sym (list_any-append (λ e. is_at (name_cmp q) e.0) t (b ∷ [])) ∙ any)
     where
       last : (hit : Bool) → is_at (name_cmp q) b.0 ≡ hit → (hit || false) ≡ true → is_lt (name_cmp b.0 q) ≡ false
-      last true same h = reversed-equal (name_cmp q b.0) (name_cmp b.0 q) (is-equal (name_cmp q b.0) same) (name_total.antisymm b.0 q)
+      last true same h = not_before q b.0 Equal (is-equal (name_cmp q b.0) same) refl
       last false same h = absurd (true≢false (sym h))
 
       by : (one : Bool) → has q t ≡ one → (one || has q (b ∷ [])) ≡ true → is_lt (name_cmp b.0 q) ≡ false
@@ -146,16 +144,12 @@ module _ {X : Type 0} (names : BTreeMap DomainName X) (ordered : IsOrdered name_
     other_above : (n : ℕ) → is_eq (name_cmp (up key n) a.0) ≡ false
     other_above n = by (is_eq (name_cmp (up key n) a.0)) refl
       where
-        same_flag : (f : Bool) → beq f f ≡ true
-        same_flag true = refl
-        same_flag false = refl
-
         by : (b : Bool) → is_eq (name_cmp (up key n) a.0) ≡ b → b ≡ false
         by false e = refl
         by true e =
             let one : up key n ≡ a.0 = sym (up-lower key n low) ∙ one-lower (up key n) a.0 (name_eq-by_cmp (up key n) a.0 ∙ e) ∙ also in
             let on : (beq key.fqdn a.0.fqdn && is_at_or_below key a.0) ≡ true
-            = subst (λ (p : DomainName). (beq key.fqdn p.fqdn && is_at_or_below key p) ≡ true) one (rw (same_flag key.fqdn) (below-up key n)) in
+            = subst (λ (p : DomainName). (beq key.fqdn p.fqdn && is_at_or_below key p) ≡ true) one (rw (beq-itself key.fqdn) (below-up key n)) in
             absurd (true≢false (sym on ∙ off))
 
     -- It is the only one up to the name.
