@@ -1,4 +1,5 @@
 pub mod CandidateLaws
+pub mod EightLaws
 pub mod LongestLaws
 pub mod MemberLaws
 pub mod KeepingLaws

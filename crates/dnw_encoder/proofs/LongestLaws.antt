@@ -1,10 +1,11 @@
 -- Laws of the search for the longest name that ends another one.
-use Rattle.std.proofs.Common.{◌≡◌, ℕ, ◌+◌, ◌-◌, ◌<◌, ◌≤◌, ◌⊎◌, inl, inr, true, List, [], ◌∷◌, ◌++◌, length, take, drop, get_or, Option, Some, None, refl, sym, ap, subst, ◌∙◌, arith}
+use Rattle.std.proofs.Common.{◌≡◌, ℕ, ◌+◌, ◌-◌, ◌<◌, ◌≤◌, ◌⊎◌, inl, inr, ◌==◌, true, false, List, [], ◌∷◌, ◌++◌, length, take, drop, get_or, Option, Some, None, refl, sym, ap, subst, ◌∙◌, arith}
 use Rattle.std.specs.List.{slice_range}
+use Rattle.std.proofs.lemmas.Bool.{true≢false}
 use Rattle.std.proofs.lemmas.List.{get_or-drop, get_or-take, length-append, length-drop, length-take, drop-append-le}
 use Rattle.dnw_decoder.specs.dnw_name.DomainName.{domain_name, name_octets}
 use Rattle.dnw_decoder.specs.dnw_label.Labels.{label_octets}
-use Rattle.dnw_encoder.specs.Candidates.{AreWithin, ClashesAt, IsWithin, candidate_of, candidates_of, FindsLongest, IsNameBehind, NoneBefore}
+use Rattle.dnw_encoder.specs.Candidates.{AreWithin, ClashesAt, IsWithin, candidate_of, candidates_of, FindsLongest, IsLongest, IsNameBehind, NoneBefore}
 use Rattle.dnw_encoder.specs.Members.{In}
 use Rattle.dnw_encoder.specs.State.{Candidate}
 use Rattle.dnw_encoder.specs.declared.candidates.Entry.{Entry}
@@ -81,6 +82,22 @@ search_whole octets es i labels front whole found lt within s less is zero = rec
   place = refl;
   small = (within (get_or es i blank) (in_get es i blank lt)).small;
   longest = λ c member before rest split spelled. omega (arith, zero);
+}
+
+pub some_octets : (all octets : List ℕ) → false ≡ (length all == 0) → all ≡ octets → 0 < length octets
+some_octets [] octets empty same = absurd (true≢false (sym empty))
+some_octets (x ∷ all) octets empty same = omega (arith, ap length same)
+
+-- So is one that is the whole name wherever it stands.
+pub whole_longest : (octets : List ℕ) (es : List Entry) (e : Entry) (labels : List (List ℕ)) → AreWithin octets es → In e es → 0 < length (label_octets labels) → slice_range octets e.from e.to ≡ label_octets labels ++ 0 ∷ [] → IsLongest (candidates_of octets es) labels (record { front = 0; place = e.place })
+whole_longest octets es e labels within member some spelled = record {
+  kept = candidate_of octets e;
+  among = in_map_back (candidate_of octets) e es member;
+  behind = record { before = []; rest = labels; split = refl; behind = refl; spelled = spelled };
+  labelled = some;
+  place = refl;
+  small = (within e member).small;
+  longest = λ c kept before rest split other. omega arith;
 }
 
 -- ---- octets that clash with a name's end

@@ -20,6 +20,26 @@ fn overwrite(buffer: &mut Vec<u8>, place: usize, more: &[u8])
     put(buffer, place, more);
 }
 
+// Puts few octets over others, without a call.
+#[inline(always)]
+fn put_each(octets: &mut [u8], place: usize, more: &[u8])
+    requires { place + length more.now ≤ length octets.old }
+    ensures { octets.new ≡ written_at octets.old place more.now }
+{
+    'octets: for i in 0..more.len() {
+        octets[place + i] = more[i];
+    }
+}
+
+// Puts few octets over others of a buffer.
+#[inline(always)]
+pub(crate) fn overwrite_few(buffer: &mut Vec<u8>, place: usize, more: &[u8])
+    requires { place + length more.now ≤ length buffer.old.items }
+    ensures { buffer.new.items ≡ written_at buffer.old.items place more.now }
+{
+    put_each(buffer, place, more);
+}
+
 // Puts octets over what is there and behind it.
 fn write_over(buffer: &mut Vec<u8>, place: usize, octets: &[u8]) -> Result<(), AllocError>
     requires { place ≤ length buffer.old.items }
@@ -92,6 +112,7 @@ fn clear_inside(buffer: &mut Vec<u8>, place: usize, size: usize)
 }
 
 // Puts so many zeros over what is there and behind it.
+#[inline(never)]
 fn clear_over(buffer: &mut Vec<u8>, place: usize, size: usize) -> Result<(), AllocError>
     requires within { place ≤ length buffer.old.items }
     requires fits { place + size < 2 ^ 64 }
@@ -108,7 +129,7 @@ fn clear_over(buffer: &mut Vec<u8>, place: usize, size: usize) -> Result<(), All
 }
 
 // Puts so many zeros at a place, which is the end but where a buffer is written anew.
-#[inline]
+#[inline(always)]
 pub(crate) fn clear_at(buffer: &mut Vec<u8>, place: usize, size: usize) -> Result<(), AllocError>
     requires within { place ≤ length buffer.old.items }
     requires fits { place + size < 2 ^ 64 }

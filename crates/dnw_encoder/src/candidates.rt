@@ -1,11 +1,12 @@
 //! The names to which later ones may point (RFC 1035 4.1.4).
-ghost use Rattle.std.specs.Prelude.{◌≡◌, ◌↔◌, ◌+◌, ◌<◌, ◌≤◌, ◌^◌, ◌-◌, ◌∷◌, [], ◌++◌, ◌⊎◌, true, false, length, filter, get_or, nat_le, slice_range, IfSome, OnOk, OnErr};
+ghost use Rattle.std.specs.Prelude.{◌≡◌, ◌↔◌, ◌+◌, ◌<◌, ◌≤◌, ◌^◌, ◌-◌, ◌∷◌, [], ◌++◌, ◌⊎◌, true, false, length, filter, nat_le, slice_range, IfSome, OnOk, OnErr};
 ghost use Rattle.dnw_decoder.specs.dnw_label.Labels.{label_octets};
-ghost use Rattle.dnw_encoder.specs.Candidates.{AreWithin, FindsAmong, FindsLongest, IsWithin, KeepsOctets, KeepsSuffixes, Meets, PushesOthers, PushesSuffixes, SplitsAt, candidates_of};
+ghost use Rattle.dnw_encoder.specs.Candidates.{AreWithin, FindsAmong, FindsLongest, IsLongest, IsWithin, KeepsOctets, KeepsSuffixes, Meets, PushesOthers, PushesSuffixes, SplitsAt, candidates_of};
 ghost use Rattle.dnw_encoder.specs.Members.{In};
 ghost use Rattle.dnw_encoder.specs.State.{Candidate};
 ghost use Rattle.dnw_encoder.specs.declared.candidates.Entry.{Entry};
 
+use crate::eights::{clash_of, is_name_of, starts_apart};
 use dnw_decoder::Name;
 use smallvec::SmallVec;
 use std::alloc::{AllocError, Global};
@@ -62,9 +63,9 @@ pub(crate) struct Suffix {
 // The names that are kept. A contract sees the list of them.
 #[derive(Drop)]
 pub(crate) struct Candidates {
-    entries: SmallVec<Entry, 8>,
+    entries: SmallVec<Entry, 16>,
     // The octets of one name behind those of another, each in full.
-    octets: SmallVec<u8, 64>,
+    octets: SmallVec<u8, 192>,
 }
 
 impl Model for Candidates {
@@ -90,16 +91,6 @@ fn place_of(entries: &[Entry], octets: &[u8], wanted: &[u8]) -> Option<u16>
         }
     }
     None
-}
-
-// Whether octets are these labels and the end.
-pub(crate) fn is_name_of(octets: &[u8], labels: &[u8]) -> bool
-    ensures { (result ≡ true) ↔ (octets.now ≡ labels.now ++ 0 ∷ []) }
-{
-    match octets.split_last() {
-        Some((end, front)) => *end == 0 && front == labels,
-        None => false,
-    }
 }
 
 // Whether a name's first so many octets are labels.
@@ -129,62 +120,6 @@ enum Meeting {
     Apart,
 }
 
-// Eight octets from a place on, as one number.
-#[inline(always)]
-fn word(octets: &[u8], at: usize) -> u64
-    requires { at + 8 ≤ length octets.now }
-{
-    u64::from_be_bytes([
-        octets[at],
-        octets[at + 1],
-        octets[at + 2],
-        octets[at + 3],
-        octets[at + 4],
-        octets[at + 5],
-        octets[at + 6],
-        octets[at + 7],
-    ])
-}
-
-// How many of the octets that both have are the same at either end, counted by eights.
-fn same_at_ends(octets: &[u8], others: &[u8], both: usize) -> usize
-    requires own { both ≤ length octets.now }
-    requires other { both ≤ length others.now }
-{
-    let half = both / 2;
-    let mut same = 0;
-    'words: while half - same >= 8 {
-        let behind = both - same - 8;
-        if word(octets, same) != word(others, same)
-            || word(octets, behind) != word(others, behind)
-        {
-            return same;
-        }
-        same += 8;
-    }
-    same
-}
-
-// A place at which octets are others, of those that both have. They are read from both ends at once, so that one near
-// either is found soon.
-#[inline(never)]
-fn clash_of(octets: &[u8], others: &[u8]) -> Option<usize>
-    ensures { IfSome result (λ place. (place < length octets.now) × (place < length others.now)
-        × (get_or octets.now place 0 ≡ get_or others.now place 0 → ⊥)) }
-{
-    let both = octets.len().min(others.len());
-    'octets: for place in same_at_ends(octets, others, both)..both {
-        if octets[place] != others[place] {
-            return Some(place);
-        }
-        let behind = both - 1 - place;
-        if octets[behind] != others[behind] {
-            return Some(behind);
-        }
-    }
-    None
-}
-
 // What octets are to the end of a name: whether they are the name that ends it behind fewer octets than so many.
 #[inline(always)]
 fn meeting_of(octets: &[u8], name: &Name, before: usize) -> Meeting
@@ -200,6 +135,9 @@ fn meeting_of(octets: &[u8], name: &Name, before: usize) -> Meeting
         return Meeting::Apart;
     }
     let rest = &labels[front..];
+    if starts_apart(octets, rest) {
+        return Meeting::Apart;
+    }
     if is_name_of(octets, rest) {
         if splits_at(name, front) {
             return Meeting::Ends(front);
@@ -244,6 +182,24 @@ fn longest_of(entries: &[Entry], octets: &[u8], name: &Name) -> Option<Suffix>
         }
     }
     longest
+}
+
+// The last name that is kept, where it is the whole of another: a record is often written right behind one that points to
+// its owner, as an alias does.
+#[inline]
+fn last_whole(entries: &[Entry], octets: &[u8], name: &Name) -> Option<Suffix>
+    requires { AreWithin octets.now entries.now }
+    ensures { IfSome result (λ suffix. IsLongest (candidates_of octets.now entries.now) name.now.labels suffix) }
+{
+    let labels = name.as_octets();
+    let entry = entries.last()?;
+    if labels.is_empty() || !is_name_of(entry.octets(octets), labels) {
+        return None;
+    }
+    Some(Suffix {
+        front: 0,
+        place: entry.place,
+    })
 }
 
 // Whether a name that begins so many octets behind a place is kept beside so many others.
@@ -296,7 +252,7 @@ fn start_of_others(name: &Name, shorter: bool, others: usize) -> usize
 // Puts an entry for each name that ends a name behind a place and begins in its first so many octets, as long as there is
 // room. Their octets among those of all end at a place.
 fn push_entries(
-    entries: &mut SmallVec<Entry, 8>,
+    entries: &mut SmallVec<Entry, 16>,
     name: &Name,
     behind: usize,
     front: usize,
@@ -338,7 +294,7 @@ fn push_entries(
 // Puts an entry for a name, whose octets are the last, and for those that end it and begin in its first so many octets, as
 // long as there is room; the shorter of a long name, where those are wanted.
 fn push_name(
-    entries: &mut SmallVec<Entry, 8>,
+    entries: &mut SmallVec<Entry, 16>,
     name: &Name,
     shorter: bool,
     front: usize,
@@ -408,7 +364,11 @@ impl Candidates {
     pub(crate) fn longest(&self, name: &Name) -> Option<Suffix>
         ensures { FindsLongest self.now name.now.labels result }
     {
-        longest_of(self.entries.as_slice(), self.octets.as_slice(), name)
+        let (entries, octets) = (self.entries.as_slice(), self.octets.as_slice());
+        match last_whole(entries, octets, name) {
+            Some(suffix) => Some(suffix),
+            None => longest_of(entries, octets, name),
+        }
     }
 
     // Keeps octets that stand at a place, if there is room. Where memory is refused all stays as it was.

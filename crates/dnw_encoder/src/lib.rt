@@ -9,6 +9,7 @@ pub use dnw_decoder::{
 
 mod buffer;
 mod candidates;
+mod eights;
 mod encodable;
 mod encoder;
 mod modal;

@@ -1,15 +1,17 @@
 //! Places that are reserved in a message and filled later.
 ghost use Rattle.std.specs.Prelude.{◌≡◌, ◌+◌, ◌<◌, ◌≤◌, filter, replicate, take, nat_le, length, IfOk, IfErr, OnOk, OnErr};
+ghost use Rattle.dnw_decoder.specs.Octets.{octets_16};
 ghost use Rattle.dnw_encoder.specs.Effects.{Writes, Opens, Fills, Trims, IsRefusal, place_of};
 ghost use Rattle.dnw_encoder.specs.Encoders.{state};
 ghost use Rattle.dnw_encoder.specs.Members.{In};
 ghost use Rattle.dnw_encoder.specs.State.{State, at_offset};
 
-use crate::buffer::clear_at;
+use crate::buffer::{clear_at, overwrite_few};
 use crate::encodable::EncodedSize;
 use crate::encoder::BinEncoder;
 use crate::open_places::{OpenPlace, drop_behind, shut};
 use dnw_codes::ProtoError;
+use std::alloc::AllocError;
 use std::marker::PhantomData;
 
 /// A place that was reserved for a value of this type. It is filled once.
@@ -35,7 +37,7 @@ impl<T: EncodedSize + Drop> Place<T> {
 
 impl BinEncoder<'_> {
     // Reserves octets.
-    #[inline]
+    #[inline(always)]
     fn open(&mut self, size: usize) -> Result<usize, ProtoError>
         ensures same_reference { self.new.buffer.ghost_name ≡ self.old.buffer.ghost_name }
         ensures writes { Writes (state self.old) (state self.new) }
@@ -45,18 +47,20 @@ impl BinEncoder<'_> {
         ensures cause { IfErr result (IsRefusal (state self.old) size) }
     {
         self.check_size(size)?;
-        if let Err(refused) = self.places.reserve(1) {
-            return Err(ProtoError::Memory(refused));
-        }
-        match clear_at(self.buffer, self.offset, size) {
+        let from = self.offset;
+        let to = from + size;
+        let Ok(()) = self.places.push(OpenPlace { from, to }) else {
+            return Err(ProtoError::Memory(AllocError));
+        };
+        match clear_at(self.buffer, from, size) {
             Ok(()) => {
-                let from = self.offset;
-                self.offset += size;
-                let to = self.offset;
-                self.places.push_reserved(OpenPlace { from, to });
+                self.offset = to;
                 Ok(from)
             }
-            Err(refused) => Err(ProtoError::Memory(refused)),
+            Err(refused) => {
+                self.places.pop();
+                Err(ProtoError::Memory(refused))
+            }
         }
     }
 
@@ -110,6 +114,19 @@ impl BinEncoder<'_> {
             }
             Err(refused) => Err(refused),
         }
+    }
+
+    /// Fills an open place of two octets, which ends at or before the offset, with a number. The offset stays. It takes no
+    /// memory, and nothing refuses it.
+    #[inline]
+    pub fn fill_u16(&mut self, place: Place<u16>, number: u16)
+        requires is_open { In (place_of place.start 2) (state self.old).places }
+        requires behind { place.start + 2 ≤ (state self.old).offset }
+        ensures same_reference { self.new.buffer.ghost_name ≡ self.old.buffer.ghost_name }
+        ensures fills { Fills place.start (octets_16 number) (state self.old) (state self.new) }
+    {
+        overwrite_few(self.buffer, place.start, &number.to_be_bytes());
+        shut(&mut self.places, place.start, place.start + 2);
     }
 
     /// Drops the octets behind the offset, with the candidates and the open places that reach into them.

@@ -8,7 +8,7 @@ ghost use Rattle.dnw_encoder.specs.Encoders.{state};
 ghost use Rattle.dnw_encoder.specs.Members.{In};
 ghost use Rattle.dnw_encoder.specs.State.{Candidate};
 
-use crate::candidates::is_name_of;
+use crate::eights::is_name_of;
 use crate::encoder::BinEncoder;
 use dnw_codes::ProtoError;
 use dnw_decoder::Name;

@@ -9,7 +9,7 @@ ghost use Rattle.dnw_name.specs.DomainName.{name_eq, name_cmp, name_len, is_at_o
 ghost use Rattle.dnw_name.specs.NameOrderLaws.{name_eq-by_cmp};
 ghost use Rattle.zst_key.specs.Ancestors.{other_flag, parent, star, GoesToShared};
 
-use crate::octets::{INLINE, octets_of, order, parent_end, shared_end};
+use crate::octets::{INLINE, are_same, octets_of, order, parent_end, shared_end};
 use dnw_name::Name;
 use smallvec::SmallVec;
 use std::alloc::{AllocError, Global};
@@ -154,7 +154,7 @@ impl PartialEq for NameKey {
     ghost laws = { Prim.search (comparing, rules) depth 12 };
 
     fn eq(&self, other: &NameKey) -> bool {
-        self.octets.as_slice() == other.octets.as_slice()
+        are_same(self.octets.as_slice(), other.octets.as_slice())
     }
 }
 

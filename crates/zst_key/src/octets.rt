@@ -4,6 +4,7 @@ ghost use Rattle.std.specs.Cmp.Lexicographic.{slice_cmp};
 ghost use Rattle.std.specs.Bool.{beq};
 ghost use Rattle.std.specs.Int.{from_be_bytes, w64};
 ghost use Rattle.std.specs.Ordering.{nat_cmp};
+ghost use Rattle.std.specs.Str.{bytes_eq};
 ghost use Rattle.smallvec.specs.SmallVec.{HasRoomFor, small_vec_len};
 ghost use Rattle.dnw_name.specs.DomainName.{DomainName, name_len};
 ghost use Rattle.zst_key.specs.Ancestors.{GoesToShared, parent};
@@ -136,6 +137,23 @@ fn word(octets: &[u8], at: usize) -> u64
         octets[at + 6],
         octets[at + 7],
     ])
+}
+
+// Whether the last eight octets tell that octets aren't the same. Keys of one zone have the same ones in front.
+#[inline(always)]
+fn ends_apart(first: &[u8], second: &[u8]) -> bool
+    ensures { result ≡ true → first.now ≡ second.now → ⊥ }
+{
+    let size = first.len();
+    size != second.len() || size >= 8 && word(first, size - 8) != word(second, size - 8)
+}
+
+// Whether octets are the same.
+#[inline]
+pub(crate) fn are_same(first: &[u8], second: &[u8]) -> bool
+    ensures { result ≡ bytes_eq first.now second.now }
+{
+    !ends_apart(first, second) && first == second
 }
 
 // The order of octets, eight at a time. Most keys have up to 24: these are compared without a loop.

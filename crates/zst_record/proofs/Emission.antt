@@ -1,6 +1,6 @@
 -- A record that is written piece by piece.
 use Rattle.std.proofs.Common.{◌≡◌, ℕ, ◌+◌, ◌^◌, ◌<◌, ◌≤◌, inr, List, [], ◌∷◌, ◌++◌, length, length-append, slice_index_or, refl, sym, ap, subst, ◌∙◌, arith}
-use Rattle.std.specs.Prelude.{Result, Ok, Err, OnOk, OnErr}
+use Rattle.std.specs.Prelude.{Result, Ok, Err, OnOk}
 use Rattle.std.specs.Int.{to_be_bytes, w32}
 use Rattle.std.specs.Net.Addr.{ipv4_bits}
 use Rattle.drd_fields.proofs.ReadableLaws.{own_fields}
@@ -91,18 +91,13 @@ head_emitted r a b c name ab numbers bc small = record {
 pub still_open : (p size : ℕ) (a b c : State) → Opens p size a b → Writes b c → In (place_of p size) c.places
 still_open p size a b c opens bc = bc.keeps.stay_open (place_of p size) (opens_open p size a b opens) (omega (arith, opens.at, opens.offset))
 
-filled_writes : (p : ℕ) (more : List ℕ) (a b c : State) → p ≡ a.offset → Writes a b → Fills p more b c → Writes a c
+pub filled_writes : (p : ℕ) (more : List ℕ) (a b c : State) → p ≡ a.offset → Writes a b → Fills p more b c → Writes a c
 filled_writes p more a b c at w f = record {
   keeps = keeps_then a.offset a.offset a b c (omega arith) w.keeps (subst (λ (n : ℕ). Keeps n b c) at f.keeps);
   forward = omega (arith, w.forward, f.offset);
   sound = λ s. f.sound (w.sound s);
   modes = modes_then a b c w.modes f.modes;
 }
-
--- The place is filled, or nothing more is done.
-pub replaced_writes : (p : ℕ) (more : List ℕ) (a b c : State) (r : Result (Unit {0}) ProtoError) → p ≡ a.offset → Writes a b → OnOk r (Fills p more b c) → OnErr r (c ≡ b) → Writes a c
-replaced_writes p more a b c (Ok done) at w fills same = filled_writes p more a b c at w fills
-replaced_writes p more a b c (Err e) at w fills same = subst (λ (s : State). Writes a s) (sym same) w
 
 data_filled : (v : RData) (n : ℕ) (a b c d : State) → Opens a.offset 2 a b → Writes a b → EmitsRData v b c → Writes b c → Fills a.offset (octets_16 n) c d → a.offset + 2 + n ≡ c.offset → n < 2 ^ 16 → IsReadable v → (type_of v ≡ OPT → ⊥) → WritesInFull a → StaysTrue d d.offset (λ message. DataAt message a.offset v d.offset)
 data_filled v n a b c d opens ab emits bc fills long small readable none full =

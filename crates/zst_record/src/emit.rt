@@ -99,7 +99,10 @@ fn emit_behind_length(encoder: &mut BinEncoder<'_>, rdata: &RData) -> Result<(),
     let length = encoder.place::<u16>()?;
     rdata.emit(encoder)?;
     match u16::try_from(encoder.len_since_place(&length)) {
-        Ok(octets) => length.replace(encoder, octets),
+        Ok(octets) => {
+            encoder.fill_u16(length, octets);
+            Ok(())
+        }
         Err(_) => Err(ProtoError::Message("more octets of data than 16 bits count")),
     }
 }

@@ -3,8 +3,7 @@ use Rattle.std.proofs.lemmas.Result.{err_from_is_err_and}
 use Rattle.drd_rdata.specs.dnw_decoder.Octets.{octets_16}
 use Rattle.drd_rdata.specs.dnw_encoder.Encoders.{state}
 use Rattle.drd_rdata.proofs.dnw_encoder_lemmas.Laws.{writes_then}
-use Rattle.drd_rdata.proofs.drd_fields_lemmas.WritingLaws.{on_ok}
-use Rattle.zst_record.proofs.Emission.{still_open, replaced_writes, behind_emitted, data_refused}
+use Rattle.zst_record.proofs.Emission.{still_open, filled_writes, behind_emitted, data_refused}
 use Rattle.zst_record.proofs.emit.emit_behind_length.Goals as goal
 
 pub returns-in_err-emit-clause-writes : goal.returns-in_err-emit-clause-writes
@@ -16,22 +15,19 @@ returns-in_err-emit-clause-cause c =
     let p = err_from_is_err_and c.from_residual-in_err-emit.result c.from_residual-in_err-emit.ensures.1 in
     rw (p.1, p.2) (data_refused c.args.rdata.now c.in_ok-length.length.start (state c.args.encoder.now) (state c.place.new.self) c.in_err-emit.field-0.0 c.in_ok-length.ensures.ok c.in_err-emit.ensures.err)
 
-pub replace-requires-clause-is_open : goal.replace-requires-clause-is_open
-replace-requires-clause-is_open c =
+pub fill_u16-requires-clause-is_open : goal.fill_u16-requires-clause-is_open
+fill_u16-requires-clause-is_open c =
     still_open c.in_ok-length.length.start 2 (state c.args.encoder.now) (state c.place.new.self) (state c.emit.new.encoder) c.in_ok-length.ensures.ok c.emit.ensures.writes
 
 pub returns-in-Ok-clause-writes : goal.returns-in-Ok-clause-writes
 returns-in-Ok-clause-writes c =
     let old = state c.args.encoder.now in
     let mid = state c.emit.new.encoder in
-    let new = state c.replace.new.encoder in
-    replaced_writes c.in_ok-length.length.start (octets_16 c.in-Ok.octets) old mid new c.replace.result c.in_ok-length.ensures.ok.at (writes_then old (state c.place.new.self) mid c.place.ensures.writes c.emit.ensures.writes) c.replace.ensures.ok c.replace.ensures.err
+    filled_writes c.in_ok-length.length.start (octets_16 c.in-Ok.octets) old mid (state c.fill_u16.new.self) c.in_ok-length.ensures.ok.at (writes_then old (state c.place.new.self) mid c.place.ensures.writes c.emit.ensures.writes) c.fill_u16.ensures.fills
 
 pub returns-in-Ok-clause-ok : goal.returns-in-Ok-clause-ok
 returns-in-Ok-clause-ok c =
-    on_ok c.replace.result
-    (λ fills. behind_emitted c.args.rdata.now c.in_ok-length.length.start c.in-Ok.octets (state c.args.encoder.now) (state c.place.new.self) (state c.emit.new.encoder) (state c.replace.new.encoder) c.in_ok-length.ensures.ok c.place.ensures.writes c.in_ok-length.ensures.fits c.in_ok-emit.ensures.ok c.emit.ensures.writes fills (ap (λ (n : ℕ). c.in_ok-length.length.start + 2 + n) c.in-Ok.ensures.1 ∙ c.len_since_place.ensures) (search rules))
-    c.replace.ensures.ok
+    behind_emitted c.args.rdata.now c.in_ok-length.length.start c.in-Ok.octets (state c.args.encoder.now) (state c.place.new.self) (state c.emit.new.encoder) (state c.fill_u16.new.self) c.in_ok-length.ensures.ok c.place.ensures.writes c.in_ok-length.ensures.fits c.in_ok-emit.ensures.ok c.emit.ensures.writes c.fill_u16.ensures.fills (ap (λ (n : ℕ). c.in_ok-length.length.start + 2 + n) c.in-Ok.ensures.1 ∙ c.len_since_place.ensures) (search rules)
 
 pub returns-in-Err-clause-writes : goal.returns-in-Err-clause-writes
 returns-in-Err-clause-writes c =

@@ -8,5 +8,5 @@ pub returns : goal.returns
 returns c =
     let own = c.as_slice.ensures ∙ octets-of c.self.inside.octets.items c.args.self.now c.self.invariant c.self.view_is in
     let others = c.as_slice-2.ensures ∙ octets-of c.other.inside.octets.items c.args.other.now c.other.invariant c.other.view_is in
-    c.eq.ensures ∙ ap (λ (t : List ℕ). bytes_eq t c.as_slice-2.result.now) own
+    c.are_same.ensures ∙ ap (λ (t : List ℕ). bytes_eq t c.as_slice-2.result.now) own
     ∙ ap (bytes_eq (name_key c.args.self.now)) others ∙ same_key c.args.self.now c.args.other.now

@@ -1,5 +1,5 @@
 use Rattle.std.proofs.Common.{◌≤◌, ◌-◌}
-use Rattle.dnw_encoder.proofs.candidates.same_at_ends.Given as goal
+use Rattle.dnw_encoder.proofs.eights.same_at_ends.Given as goal
 
 abbrev pub invariant-words : goal.invariant-words
 invariant-words l = l.same ≤ l.half
