@@ -221,6 +221,16 @@ def build(name, words, program):
         shutil.rmtree(copy, ignore_errors=True)
 
 
+def server(path):
+    """The built program: the one given, else the repository's, which its script builds where it is missing."""
+    if path:
+        return os.path.abspath(path)
+    made = os.path.join(TOP, "crates", "authority_program", "out", "authority_program")
+    if not os.path.exists(made):
+        subprocess.run([os.path.join(TOP, "authority"), "--build"], stdin=subprocess.DEVNULL)
+    return made
+
+
 def built(path, name, words):
     """The built program: the one given, else that of PROGRAMS, which is proved and built where it is missing."""
     if path:

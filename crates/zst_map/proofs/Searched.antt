@@ -1,6 +1,6 @@
 -- What a search of the sets of a zone comes to.
 use Rattle.std.proofs.Common.{◌≡◌, ℕ, ◌<◌, length, drop, refl, ap, sym, ◌∙◌, arith}
-use Rattle.std.specs.Prelude.{Bool, true, false, List, [], ◌∷◌, Option, Some, None, is_some, IsSome, cond, find, option_map, option_copied}
+use Rattle.std.specs.Prelude.{Bool, true, false, List, [], ◌∷◌, Option, Some, None, is_some, IsSome, cond, find, option_map, option_copied, IfSome}
 use Rattle.std.specs.Option.{option_flatten}
 use Rattle.std.specs.BTreeMap.{BTreeMap, btree_map_len, get, is_at}
 use Rattle.std.specs.Map.{lookup}
@@ -94,6 +94,14 @@ module _ (sets : List RRset) (beside : (name : DomainName) → IsSome (rrset_at 
       by : (b : Bool) → cond b (cut_found (above (cut_at sets) name)) (cut_found (nearest_in (cut_at sets) name)) ≡ None
       by true = none_above name.fqdn name.labels
       by false = none_from name.fqdn name.labels
+
+-- ---- what a name's own sets answer where there is no cut
+pub uncut_found : (sets : List RRset) (name : DomainName) (t : RecordType) (own : Option (Bor RRset)) → delegation sets name t ≡ None → option_copied own ≡ here sets t name
+    → IfSome own (λ set. found sets name t ≡ Some set.now)
+uncut_found sets name t None uncut same = tt
+uncut_found sets name t (Some set) uncut same =
+    ap (λ (cut : Option RRset). or_else cut (or_else (here sets t name) (wildcard_answer sets name t))) uncut
+    ∙ ap (λ (at : Option RRset). or_else at (wildcard_answer sets name t)) (sym same)
 
 -- ---- what a name's own sets answer
 pub own_found : (zone sets : List RRset) (name : DomainName) (t : RecordType) → sets ≡ sets_of_name zone name → find (is_of_type t) sets ≡ rrset_at zone name t

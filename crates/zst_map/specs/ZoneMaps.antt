@@ -32,8 +32,14 @@ abbrev pub some_sets : List RRset → Option (List RRset)
 some_sets [] = None
 some_sets (set ∷ sets) = Some (set ∷ sets)
 
+-- The sets of a name that owns some.
 abbrev pub owned : List RRset → DomainName → Option (List RRset)
 owned sets name = some_sets (sets_of_name sets name)
+
+-- These are all sets of an owner, or none.
+abbrev pub AreOwned : List RRset → List RRset → Type 0
+AreOwned zone [] = Unit {0}
+AreOwned zone (set ∷ sets) = set ∷ sets ≡ sets_of_name zone set.name
 
 -- Each type is above those before it.
 abbrev pub TypesRise : List RRset → Type 0

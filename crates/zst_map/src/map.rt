@@ -1,6 +1,6 @@
 //! The sets of a zone, in the canonical order of their owners.
 
-ghost use Rattle.std.specs.Prelude.{◌≡◌, true, [], None, Some, IfOk, OnOk, OnErr, option_map};
+ghost use Rattle.std.specs.Prelude.{◌≡◌, true, [], None, Some, IfOk, IfSome, OnOk, OnErr, option_map};
 ghost use Rattle.std.specs.List.{AllByRecursion};
 ghost use Rattle.zst_handler.specs.dnw_name.DomainName.{name_eq, lowercase_name};
 ghost use Rattle.zst_handler.specs.dnw_codes.RecordType.{record_type_number};
@@ -9,7 +9,7 @@ ghost use Rattle.zst_handler.specs.Updates.{Replaces};
 ghost use Rattle.zst_handler.specs.Zones.{AreInOrder, rrset_at};
 ghost use Rattle.zst_map.specs.Changes.{alters, is_only, made, owner_of, set_of_type, type_in, with_change, without_type};
 ghost use Rattle.zst_key.specs.Ancestors.{nearest_in};
-ghost use Rattle.zst_map.specs.ZoneMaps.{IsPlace, TypesRise, owned, place_from};
+ghost use Rattle.zst_map.specs.ZoneMaps.{AreOwned, IsPlace, TypesRise, owned, place_from};
 
 use crate::change::Change;
 use std::alloc::{AllocError, Global};
@@ -19,7 +19,7 @@ use std::collections::btree_map::Entry;
 use std::marker::Model;
 use std::mem;
 use zst_handler::{RecordSet, RecordType};
-use zst_key::{NameKey, nearest};
+use zst_key::{NameKey, nearest_beside};
 
 /// What stands at the name of a key.
 #[derive(Clone, Copy)]
@@ -28,6 +28,17 @@ pub(crate) struct Place<'z> {
     pub(crate) sets: &'z [RecordSet],
     /// Whether an owner equals the name or lies below it, where both end at the root or neither does.
     pub(crate) exists: bool,
+}
+
+/// The nearest owner, from a name up.
+#[derive(Clone, Copy)]
+pub(crate) struct Nearest<'z> {
+    /// Its key.
+    pub(crate) owner: &'z NameKey,
+    /// All its sets, by rising type.
+    pub(crate) sets: &'z [RecordSet],
+    /// Those of another owner between it and the name, if one was met on the way.
+    pub(crate) beside: &'z [RecordSet],
 }
 
 /// The sets of a zone, by owner in canonical order (RFC 4034 section 6.1), then by type.
@@ -73,8 +84,8 @@ impl ZoneMap {
         }
     }
 
-    // All sets at the name of a key, by a search of the map.
-    fn searched(&self, key: &NameKey) -> &[RecordSet]
+    /// All sets at the name of a key, by a search of the map.
+    pub(crate) fn searched(&self, key: &NameKey) -> &[RecordSet]
         ensures { result.now ≡ sets_of_name self.now key.now }
     {
         match self.nodes.get(key) {
@@ -112,16 +123,25 @@ impl ZoneMap {
         }
     }
 
-    /// The nearest owner, from the name of a key up, and its sets.
-    pub(crate) fn nearest(
-        &self,
-        key: &NameKey,
-    ) -> Result<Option<(&NameKey, &[RecordSet])>, AllocError>
-        ensures { IfOk result (λ found. option_map (λ p. (p.0.now, p.1.now)) found ≡ nearest_in (owned self.now) key.now) }
+    /// The nearest owner, from the name of a key up.
+    pub(crate) fn nearest(&self, key: &NameKey) -> Result<Option<Nearest<'_>>, AllocError>
+        ensures nearest { IfOk result (λ found. option_map (λ near. (near.owner.now, near.sets.now)) found ≡ nearest_in (owned self.now) key.now) }
+        ensures beside { IfOk result (λ found. IfSome found (λ near. AreOwned self.now near.beside.now)) }
     {
-        match nearest(&self.nodes, key)? {
-            Some((owner, sets)) => Ok(Some((owner, sets.as_slice()))),
-            None => Ok(None),
+        let Some(near) = nearest_beside(&self.nodes, key)? else {
+            return Ok(None);
+        };
+        match near.beside {
+            Some((_, beside)) => Ok(Some(Nearest {
+                owner: near.owner,
+                sets: near.value.as_slice(),
+                beside: beside.as_slice(),
+            })),
+            None => Ok(Some(Nearest {
+                owner: near.owner,
+                sets: near.value.as_slice(),
+                beside: &[],
+            })),
         }
     }
 

@@ -14,7 +14,7 @@ ghost use Rattle.zst_handler.specs.Updates.{Replaces, upsert_changes, upserted};
 ghost use Rattle.zst_handler.specs.Zones.{Adds, AreInOrder, exists_in, rrset_at};
 ghost use Rattle.zst_map.specs.Changes.{alters, made, owner_of, type_in};
 ghost use Rattle.zst_map.specs.Searches.{IsSearch, lent, looked_for, match_set, sought_in};
-ghost use Rattle.zst_map.specs.ZoneMaps.{IsPlace, exists_alike};
+ghost use Rattle.zst_map.specs.ZoneMaps.{AreOwned, IsPlace, exists_alike};
 
 use crate::apart::is_kept_out;
 use crate::change::Change;
@@ -65,8 +65,9 @@ impl<'z> Match<'z> {
 /// What a search finds for a name and a type.
 #[derive(Clone, Copy)]
 pub enum Search<'z> {
-    /// The set that answers.
-    Found(Match<'z>),
+    /// The set that answers, and all sets of an owner that was met on the way: below a cut it is often the host of a name
+    /// server.
+    Found(Match<'z>, &'z [RecordSet]),
     /// No set does.
     Absent {
         /// Whether the name exists: whether an owner equals it or lies below it (RFC 4592 section 2.2.2).
@@ -130,6 +131,29 @@ impl ZoneSets {
             find_set(sets, RecordType::A),
             find_set(sets, RecordType::AAAA),
         )
+    }
+
+    /// The IPv4 addresses and the IPv6 addresses of a name, beside all sets of an owner, which may be the name.
+    pub fn addresses_beside<'z>(
+        &'z self,
+        alloc: Global,
+        beside: &'z [RecordSet],
+        name: &Name,
+    ) -> Result<(Option<&'z RecordSet>, Option<&'z RecordSet>), AllocError>
+        requires { AreOwned self.now beside.now }
+        ensures first { IfOk result (λ found. option_copied found.0 ≡ rrset_at self.now name.now kind.A) }
+        ensures second { IfOk result (λ found. option_copied found.1 ≡ rrset_at self.now name.now kind.AAAA) }
+    {
+        match beside.first() {
+            Some(first) if first.name() == name => Ok((
+                find_set(beside, RecordType::A),
+                find_set(beside, RecordType::AAAA),
+            )),
+            _ => {
+                let key = NameKey::of(alloc, name)?;
+                Ok(self.addresses(&key))
+            }
+        }
     }
 
     /// All sets at the name of a key, by rising type.
@@ -271,10 +295,24 @@ impl ZoneSets {
     ) -> Result<Option<Match<'_>>, AllocError>
         ensures { IfOk result (λ answer. option_map (match_set key.now) answer ≡ found self.now key.now record_type) }
     {
+        if let Some(set) = self.own_uncut(key, record_type) {
+            return Ok(Some(Match::own(set)));
+        }
         match self.find(key, record_type)? {
-            Search::Found(set) => Ok(Some(set)),
+            Search::Found(set, _) => Ok(Some(set)),
             Search::Absent { .. } => Ok(None),
         }
+    }
+
+    // What the sets at the name of a key answer, where the zone has no cuts. Whether the name exists isn't asked, so that
+    // the search is a plain one.
+    fn own_uncut(&self, key: &NameKey, record_type: RecordType) -> Option<&RecordSet>
+        ensures { IfSome result (λ set. found self.now key.now record_type ≡ Some set.now) }
+    {
+        if self.index.has_cuts {
+            return None;
+        }
+        here(self.sets.searched(key), record_type)
     }
 
     /// What `search` answers; where it answers nothing, whether the name exists. The map is searched once for the name, and
@@ -297,14 +335,18 @@ impl ZoneSets {
     fn find_deep(&self, key: &NameKey, record_type: RecordType) -> Result<Search<'_>, AllocError>
         ensures { IfOk result (IsSearch self.now key.now record_type) }
     {
-        let Some((owner, sets)) = self.sets.nearest(key)? else {
+        let Some(near) = self.sets.nearest(key)? else {
             return self.find_start(key, record_type);
         };
-        if owner.is_below(key) {
-            return self.find_at(key, Place { sets, exists: true }, record_type);
+        if near.owner.is_below(key) {
+            let place = Place {
+                sets: near.sets,
+                exists: true,
+            };
+            return self.find_at(key, place, record_type);
         }
-        match self.cut_from(owner, sets)? {
-            Some(set) => Ok(Search::Found(Match::own(set))),
+        match self.cut_from(near.owner, near.sets)? {
+            Some(set) => Ok(Search::Found(Match::own(set), near.beside)),
             None => self.find_unowned(key, record_type, None),
         }
     }
@@ -321,7 +363,7 @@ impl ZoneSets {
         ensures { IfOk result (IsSearch self.now key.now record_type) }
     {
         match self.delegation_at(key, place.sets, record_type)? {
-            Some(set) => Ok(Search::Found(Match::own(set))),
+            Some(set) => Ok(Search::Found(Match::own(set), &[])),
             None => self.find_uncut(key, place, record_type),
         }
     }
@@ -369,7 +411,7 @@ impl ZoneSets {
     {
         let place = self.sets.searched_place(key);
         match self.delegation_near(key, above, place.sets, record_type)? {
-            Some(set) => Ok(Search::Found(Match::own(set))),
+            Some(set) => Ok(Search::Found(Match::own(set), &[])),
             None => self.find_uncut(key, place, record_type),
         }
     }
@@ -387,7 +429,7 @@ impl ZoneSets {
         ensures { IfOk result (IsSearch self.now key.now record_type) }
     {
         if let Some(set) = here(place.sets, record_type) {
-            return Ok(Search::Found(Match::own(set)));
+            return Ok(Search::Found(Match::own(set), &[]));
         }
         self.find_unowned(key, record_type, Some(place.exists))
     }
@@ -406,10 +448,11 @@ impl ZoneSets {
         ensures { IfOk result (IsSearch self.now key.now record_type) }
     {
         if let Some(set) = self.wildcard(key, record_type)? {
-            return Ok(Search::Found(Match {
+            let wildcard = Match {
                 set,
                 is_wildcard: true,
-            }));
+            };
+            return Ok(Search::Found(wildcard, &[]));
         }
         match is_alike {
             Some(is_alike) => Ok(Search::Absent {

@@ -117,9 +117,9 @@ pub(crate) fn alias_chain<'z>(
     requires leads { leads record_type first.set.now ≡ Some target.now }
     ensures { IfOk result (λ chain. IsAliasChain sets.now name.now record_type (map set_in chain.items)) }
 {
-    let mut asked = Vec::with_capacity(alloc, 2)?;
+    let mut asked = Vec::with_capacity(alloc, 8)?;
     asked.push(NameKey::of(alloc, name)?)?;
-    let mut chain = Vec::with_capacity(alloc, 2)?;
+    let mut chain = Vec::with_capacity(alloc, 8)?;
     chain.push(first.answer(alloc, name)?)?;
     follow(sets, alloc, record_type, target, &mut chain, &mut asked)?;
     Ok(chain)

@@ -238,7 +238,7 @@ impl<K> InMemoryZoneHandler<K> {
     {
         let (name, key) = (&self.origin, &self.origin_key);
         match self.sets.find_start(key, RecordType::SOA)? {
-            Search::Found(first) if first.set.record_type() == RecordType::SOA => {
+            Search::Found(first, _) if first.set.record_type() == RecordType::SOA => {
                 let found = answer_alone(&self.sets, alloc, name, RecordType::SOA, options, first)?;
                 Ok(LookupControlFlow::Continue(Ok(found)))
             }
@@ -263,8 +263,16 @@ impl<K> InMemoryZoneHandler<K> {
             return self.lookup_any(alloc, name, key, record_type, options);
         }
         match self.sets.find(key, record_type)? {
-            Search::Found(first) => {
-                let found = answer_from(&self.sets, alloc, name, record_type, options, first)?;
+            Search::Found(first, beside) => {
+                let found = answer_from(
+                    &self.sets,
+                    alloc,
+                    name,
+                    record_type,
+                    options,
+                    first,
+                    beside,
+                )?;
                 Ok(LookupControlFlow::Continue(Ok(found)))
             }
             Search::Absent { exists } => {

@@ -6,6 +6,7 @@ ghost use Rattle.zst_map.specs.zst_handler.Chains.{first_target, leads};
 ghost use Rattle.zst_map.specs.zst_handler.Found.{found, is_address};
 ghost use Rattle.zst_map.specs.zst_handler.Lookups.{additionals, alias_answer, alias_ttl, behind_alias, has_additionals, is_flattened, listed};
 ghost use Rattle.zst_map.specs.Searches.{match_set};
+ghost use Rattle.zst_map.specs.ZoneMaps.{AreOwned};
 ghost use Rattle.zst_zone.specs.Answering.{AnswersAll, AnswersSet, IsBehind};
 
 use crate::chain::{alias_chain, first_target, leads};
@@ -58,7 +59,8 @@ pub(crate) fn answer_alone<'z>(
     })
 }
 
-/// What the set that was found first answers: its alias chain, and what goes with it.
+/// What the set that was found first answers: its alias chain, and what goes with it. The sets beside it may be those of a
+/// name that it leads to.
 pub(crate) fn answer_from<'z>(
     sets: &'z ZoneSets,
     alloc: Global,
@@ -66,8 +68,10 @@ pub(crate) fn answer_from<'z>(
     record_type: RecordType,
     options: LookupOptions,
     first: Match<'z>,
+    beside: &'z [RecordSet],
 ) -> Result<AuthLookup<'z>, AllocError>
-    requires { found sets.now name.now record_type ≡ Some (match_set name.now first) }
+    requires found { found sets.now name.now record_type ≡ Some (match_set name.now first) }
+    requires beside { AreOwned sets.now beside.now }
     ensures { IfOk result (AnswersSet options sets.now name.now record_type (match_set name.now first.entry)) }
 {
     if is_flattened(record_type, first.set) {
@@ -81,7 +85,7 @@ pub(crate) fn answer_from<'z>(
         });
     }
     let answers = LookupRecords::new(options, first.answer(alloc, name)?);
-    let additionals = additionals(sets, alloc, options, first.set)?;
+    let additionals = additionals(sets, alloc, options, first.set, beside)?;
     Ok(AuthLookup::Records {
         answers,
         additionals,
@@ -165,7 +169,9 @@ fn additionals<'z>(
     alloc: Global,
     options: LookupOptions,
     first: &'z RecordSet,
+    beside: &'z [RecordSet],
 ) -> Result<Option<LookupRecords<'z>>, AllocError>
+    requires { AreOwned sets.now beside.now }
     ensures { IfOk result (λ found. records_if found ≡ sets_shown options.dnssec_ok (additionals sets.now first.now)) }
 {
     if !has_additionals(first.record_type()) {
@@ -174,8 +180,7 @@ fn additionals<'z>(
     let Some(target) = first_target(first) else {
         return Ok(None);
     };
-    let key = NameKey::of(alloc, target)?;
-    let (v4, v6) = sets.addresses(&key);
+    let (v4, v6) = sets.addresses_beside(alloc, beside, target)?;
     both(alloc, options, v4, v6)
 }
 
