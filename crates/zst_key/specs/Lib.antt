@@ -1,3 +1,4 @@
 pub mod Ancestors
+pub mod NameKeyLaws
 pub mod NameKeys
 pub mod dnw_name

@@ -14,6 +14,7 @@ use dnw_name::Name;
 use smallvec::SmallVec;
 use std::alloc::{AllocError, Global};
 use std::cmp::Ordering;
+use std::hash::{Hash, Hasher};
 use std::marker::Model;
 
 /// The key of a name, which stands for the name in lower case. Keys are equal and ordered as names are (RFC 4034 6.1).
@@ -155,6 +156,20 @@ impl PartialEq for NameKey {
 
     fn eq(&self, other: &NameKey) -> bool {
         are_same(self.octets.as_slice(), other.octets.as_slice())
+    }
+}
+
+impl Hash for NameKey {
+    ghost use Rattle.std.specs.Prelude.{◌∷◌, []};
+    ghost use Rattle.zst_key.specs.NameKeys.{name_key};
+    ghost use Rattle.zst_key.specs.NameKeyLaws.{name_key-alike};
+
+    ghost hash_input = { λ key. name_key key ∷ [] };
+
+    ghost respects_eq = { name_key-alike };
+
+    fn hash<H: Hasher>(&self, state: &mut H) {
+        state.write(self.octets.as_slice());
     }
 }
 
