@@ -1,6 +1,5 @@
 -- Answers, as their records come one after the other.
-use Rattle.std.specs.Prelude.{◌≡◌, ℕ, Bool, true, false, List, [], ◌∷◌, ◌++◌, map, drop, not, ◌&&◌, is_some, Option, Some, None, Ok, Err, option_map, if◌then◌else◌}
-use Rattle.std.proofs.Common.{Box, Global}
+use Rattle.std.specs.Prelude.{◌≡◌, ℕ, Bool, true, false, List, [], ◌∷◌, ◌++◌, map, drop, not, ◌&&◌, Option, Some, None, Ok, Err, option_map, if◌then◌else◌}
 use Rattle.zst_record.specs.drd_rdata.Types.{type_of}
 use Rattle.std.specs.List.{flat_map}
 use Rattle.zst_record.specs.declared.records.Record.{Record}
@@ -8,6 +7,8 @@ use Rattle.zst_record.specs.RecordSets.{RRset, flattened_record, flattened_set, 
 use Rattle.zst_handler.specs.declared.answer_set.AnswerSet.{AnswerSet}
 use Rattle.zst_handler.specs.declared.answer_set.Guise.{Guise}
 use Rattle.zst_handler.specs.declared.answer_set.Guise.TheVariants as guises
+use Rattle.zst_handler.specs.declared.answer_set.Owner.{Owner}
+use Rattle.zst_handler.specs.declared.answer_set.Owner.TheVariants as owners
 use Rattle.zst_handler.specs.declared.auth_lookup.AuthLookup.{AuthLookup}
 use Rattle.zst_handler.specs.declared.auth_lookup.AuthLookup.TheVariants as auths
 use Rattle.zst_handler.specs.declared.lookup_options.LookupOptions.{LookupOptions}
@@ -29,11 +30,14 @@ under set None behind = set
 under set (Some owner) None = renamed owner set
 under set (Some owner) (Some ttl) = flattened_set owner ttl set
 
-abbrev pub unboxed : Option (Box DomainName Global) → Option DomainName
-unboxed owner = option_map (λ name. name.value) owner
+-- The name under which it is shown, if it isn't its own.
+abbrev pub owner_name : Owner → Option DomainName
+owner_name owners.Own = None
+owner_name (owners.Lent name) = Some name.now
+owner_name (owners.Made name) = Some name.value
 
 abbrev pub set_in : AnswerSet → RRset
-set_in answer = under answer.set.now (unboxed answer.owner) answer.behind
+set_in answer = under answer.set.now (owner_name answer.owner) answer.behind
 
 abbrev pub first_of : List Record → Option Record
 first_of [] = None
@@ -86,13 +90,18 @@ answers_in auths.Empty = []
 answers_in (auths.Records answers additionals) = records_in answers
 answers_in (auths.Response answers authorities additionals) = answers.items
 
--- Sets that a zone lends as it has them, whose list takes no memory.
-abbrev pub is_own : AnswerSet → Bool
-is_own answer = not (is_some answer.owner)
+-- Whether it was made for the answer.
+abbrev pub is_made : Owner → Bool
+is_made (owners.Made name) = true
+is_made other = false
+
+-- Sets that are lent, as the name that they are shown under is: their list takes no memory.
+abbrev pub is_set_lent : AnswerSet → Bool
+is_set_lent answer = not (is_made answer.owner)
 
 abbrev pub is_lent : LookupRecords → Bool
 is_lent lookups.Empty = true
-is_lent (lookups.Records options set) = is_own set
+is_lent (lookups.Records options set) = is_set_lent set
 is_lent other = false
 
 abbrev pub lends_all : AuthLookup → Bool

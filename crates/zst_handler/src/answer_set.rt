@@ -3,7 +3,7 @@
 ghost use Rattle.std.specs.Prelude.{◌≡◌, Some, IfOk, map, option_copied};
 ghost use Rattle.zst_record.specs.Lending.{seen};
 ghost use Rattle.zst_record.specs.RecordSets.{flattened_set, renamed};
-ghost use Rattle.zst_handler.specs.Answers.{first_of, is_own, set_in, shown, shown_as, under};
+ghost use Rattle.zst_handler.specs.Answers.{first_of, is_set_lent, owner_name, set_in, shown, shown_as, under};
 
 use crate::lookup_options::LookupOptions;
 use std::alloc::{AllocError, Global};
@@ -13,10 +13,34 @@ use zst_record::{Name, Record, RecordRef, RecordSet, RrsetRecords};
 #[derive(Drop)]
 pub struct AnswerSet<'z> {
     set: &'z RecordSet,
-    /// The name under which the records are shown, if it isn't their own. It is boxed, so that an answer is small to move.
-    owner: Option<Box<Name>>,
+    owner: Owner<'z>,
     /// Whether they are addresses behind an alias, and for how long they may be kept at most.
     behind: Option<u32>,
+}
+
+/// The name under which the records of a set are shown.
+#[derive(Drop)]
+enum Owner<'z> {
+    /// Their own.
+    Own,
+    /// One that is lent, as the records are.
+    Lent(&'z Name),
+    /// One that was made for the answer. It is boxed, so that an answer is small to move.
+    Made(Box<Name>),
+}
+
+impl Owner<'_> {
+    // The name, if it isn't the records' own.
+    #[inline(always)]
+    fn name(&self) -> Option<&Name>
+        ensures { option_copied result ≡ owner_name self.now }
+    {
+        match self {
+            Owner::Own => None,
+            Owner::Lent(name) => Some(name),
+            Owner::Made(name) => Some(name),
+        }
+    }
 }
 
 /// How the records of a set are shown.
@@ -37,7 +61,18 @@ impl<'z> AnswerSet<'z> {
     {
         AnswerSet {
             set,
-            owner: None,
+            owner: Owner::Own,
+            behind: None,
+        }
+    }
+
+    /// The same records and signatures under another name, which is lent too.
+    pub fn lent(set: &'z RecordSet, owner: &'z Name) -> AnswerSet<'z>
+        ensures { set_in result ≡ renamed owner.now set.now }
+    {
+        AnswerSet {
+            set,
+            owner: Owner::Lent(owner),
             behind: None,
         }
     }
@@ -78,18 +113,18 @@ impl<'z> AnswerSet<'z> {
         match Box::new(alloc, owner) {
             Ok(owner) => Ok(AnswerSet {
                 set,
-                owner: Some(owner),
+                owner: Owner::Made(owner),
                 behind,
             }),
             Err(_) => Err(AllocError),
         }
     }
 
-    // Whether it is a set as the zone has it, and takes no memory.
-    pub(crate) fn is_own(&self) -> bool
-        ensures { result ≡ is_own self.now }
+    // Whether nothing was made for it, so that it takes no memory.
+    pub(crate) fn is_lent(&self) -> bool
+        ensures { result ≡ is_set_lent self.now }
     {
-        self.owner.is_none()
+        !matches!(self.owner, Owner::Made(_))
     }
 
     // The first record, under its own name.
@@ -100,10 +135,11 @@ impl<'z> AnswerSet<'z> {
     }
 
     // The records that are asked for, and how they are shown.
+    #[inline(always)]
     pub(crate) fn shown(&self, options: LookupOptions) -> (RrsetRecords<'_>, Guise<'_>)
         ensures { map (shown_as result.1) result.0 ≡ shown options.dnssec_ok (set_in self.now) }
     {
-        match (&self.owner, self.behind) {
+        match (self.owner.name(), self.behind) {
             (None, _) => (options.rrset_with_rrigs(self.set), Guise::Own),
             (Some(owner), None) => (options.rrset_with_rrigs(self.set), Guise::Renamed(owner)),
             (Some(owner), Some(ttl)) => (

@@ -38,13 +38,13 @@ impl<'z> LookupRecords<'z> {
         LookupRecords::ManyRecords(options, sets)
     }
 
-    /// Whether a zone lends the records as it has them, so that the list takes no memory.
+    /// Whether the records are lent, and the name that they are shown under, so that the list takes no memory.
     pub fn is_lent(&self) -> bool
         ensures { result ≡ is_lent self.now }
     {
         match self {
             LookupRecords::Empty => true,
-            LookupRecords::Records(_, set) => set.is_own(),
+            LookupRecords::Records(_, set) => set.is_lent(),
             LookupRecords::ManyRecords(_, _) | LookupRecords::Section(_) => false,
         }
     }
@@ -70,6 +70,7 @@ impl<'z> LookupRecords<'z> {
     }
 
     /// The records, in order, behind those of each set its signatures if they were asked for.
+    #[inline(always)]
     pub fn iter(&self) -> LookupRecordsIter<'_>
         ensures { result ≡ records_in self.now }
     {
