@@ -1,6 +1,6 @@
 mod AddsLemmas
+mod EntryLemmas
 mod NamesLemmas
-mod OrderLemmas
 mod ReadLemmas
 mod TextLemmas
 mod WildcardLemmas

@@ -1,9 +1,7 @@
 -- Names among others.
 use Rattle.std.proofs.Common.{ℕ, ◌≡◌, ◌≤◌, ◌<◌, ◌+◌, ◌-◌, Bool, true, false, List, [], ◌∷◌, length, drop, map, zero, suc, arith, refl, ap, sym, ◌∙◌}
 use Rattle.std.specs.List.{list_any, range_with_len}
-use Rattle.std.specs.BTreeMap.{is_at}
-use Rattle.dnw_name.specs.DomainName.{DomainName, domain_name, lowercase_name, name_cmp, name_eq}
-use Rattle.dnw_name.specs.NameOrderLaws.{name_eq-by_cmp}
+use Rattle.dnw_name.specs.DomainName.{DomainName, domain_name, lowercase_name}
 use Rattle.dnw_name.specs.dnw_label.Label.{wildcard_label}
 use Rattle.std.specs.Str.{str_to_ascii_lowercase}
 use Rattle.zst_key.specs.Ancestors.{parent, star, up}
@@ -16,14 +14,6 @@ use Rattle.std.proofs.lemmas.Bool.{cases_lt}
 use Rattle.std.proofs.lemmas.Grind.{common_steps}
 use Rattle.zst_key.proofs.KeyLemmas.{eq-lower-first}
 use Rattle.zsv_blocked.specs.BlockedNames.{has_wildcard, is_listed, wildcard_over}
-
--- What a set of names finds is what is listed.
-pub contains-listed : (name : DomainName) (names : List DomainName) → list_any (is_at (name_cmp name)) names ≡ is_listed names name
-contains-listed name [] = refl
-contains-listed name (n ∷ names) =
-    let one : is_at (name_cmp name) n ≡ name_eq name n = sym (name_eq-by_cmp name n) in
-    let more = contains-listed name names in
-    cc
 
 -- A name in lower case is listed where the name is.
 pub listed-lower : (name : DomainName) (names : List DomainName) → is_listed names (lowercase_name name) ≡ is_listed names name

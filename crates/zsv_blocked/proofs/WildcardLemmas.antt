@@ -1,22 +1,17 @@
 -- Wildcards among names.
 use Rattle.std.proofs.Common.{ℕ, ◌≡◌, ◌<◌, ◌+◌, ◌-◌, ◌==◌, Bool, true, false, List, [], ◌∷◌, drop, length, ◌&&◌, arith, refl, ap, sym, ◌∙◌}
-use Rattle.std.specs.BTreeSet.{insert_key}
 use Rattle.std.specs.Bool.{beq}
 use Rattle.std.specs.Cmp.Lexicographic.{pointwise}
 use Rattle.std.specs.List.{list_any}
-use Rattle.std.specs.Ordering.{is_eq, match_ordering}
-use Rattle.std.specs.declared.cmp.Ordering.{Ordering}
-use Rattle.std.specs.declared.cmp.Ordering.TheVariants.{Less, Equal, Greater}
 use Rattle.std.specs.Str.{str_to_ascii_lowercase}
-use Rattle.std.proofs.Math.Bool.{◌||◌, or-false, or_comm}
+use Rattle.std.proofs.Math.Bool.{◌||◌}
 use Rattle.std.proofs.lemmas.Bool.Decides.{nat_tests}
 use Rattle.std.proofs.lemmas.Grind.{common_steps}
 use Rattle.std.proofs.lemmas.List.{length-drop}
 use Rattle.std.proofs.lemmas.Slice.Eq.{bytes_eq-Decides}
-use Rattle.dnw_name.specs.DomainName.{DomainName, domain_name, is_wildcard, lowercase_name, name_cmp, name_eq}
-use Rattle.dnw_name.specs.NameOrderLaws.{name_eq-by_cmp}
+use Rattle.dnw_name.specs.DomainName.{DomainName, domain_name, is_wildcard, lowercase_name, name_eq}
 use Rattle.dnw_name.specs.dnw_label.Label.{is_wildcard_label, label_eq}
-use Rattle.zsv_blocked.specs.BlockedNames.{has_wildcard, is_listed, wildcard_over, with_listed}
+use Rattle.zsv_blocked.specs.BlockedNames.{has_wildcard, is_listed, wildcard_over}
 use Rattle.zsv_blocked.proofs.NamesLemmas.{has-none}
 
 -- An asterisk has no case.
@@ -25,7 +20,7 @@ label-lower [] = refl
 label-lower (a ∷ []) = grind (arith, nat_tests)
 label-lower (a ∷ b ∷ label) = grind (arith, nat_tests)
 
-name-lower : (name : DomainName) → is_wildcard (lowercase_name name) ≡ is_wildcard name
+pub name-lower : (name : DomainName) → is_wildcard (lowercase_name name) ≡ is_wildcard name
 name-lower name = by_labels name.labels
   where
     by_labels : (labels : List (List ℕ)) → is_wildcard (lowercase_name (domain_name true labels)) ≡ is_wildcard (domain_name true labels)
@@ -54,32 +49,6 @@ names-same a b same = by_labels a.labels b.labels (both-right (beq a.fqdn b.fqdn
     by_labels [] (y ∷ ys) e = cc
     by_labels (x ∷ xs) [] e = cc
     by_labels (x ∷ xs) (y ∷ ys) e = labels-same x y (both-left (label_eq x y) (pointwise label_eq xs ys) e)
-
-once-more : (a b : Bool) → (a || b) ≡ ((a || b) || a)
-once-more true b = refl
-once-more false b = sym (or-false b)
-
-in-turn : (a b c : Bool) → (a || (b || c)) ≡ ((a || b) || c)
-in-turn true b c = refl
-in-turn false b c = refl
-
--- One name more is a wildcard, or one of those before is.
-inserted : (names : List DomainName) (name : DomainName) → list_any is_wildcard (insert_key name_cmp names name) ≡ (list_any is_wildcard names || is_wildcard name)
-inserted [] name = or-false (is_wildcard name)
-inserted (n ∷ names) name = by_order (name_cmp name n) refl (inserted names name)
-  where
-    by_order : (o : Ordering) → name_cmp name n ≡ o → list_any is_wildcard (insert_key name_cmp names name) ≡ (list_any is_wildcard names || is_wildcard name)
-        → list_any is_wildcard (match_ordering o (name ∷ n ∷ names) (n ∷ names) (n ∷ insert_key name_cmp names name)) ≡ (list_any is_wildcard (n ∷ names) || is_wildcard name)
-    by_order Less e more = or_comm (is_wildcard name) (list_any is_wildcard (n ∷ names))
-    by_order Equal e more =
-        let same = names-same name n (name_eq-by_cmp name n ∙ ap is_eq e) in
-        once-more (is_wildcard n) (list_any is_wildcard names) ∙ ap (λ w. list_any is_wildcard (n ∷ names) || w) (sym same)
-    by_order Greater e more = ap (λ w. is_wildcard n || w) more ∙ in-turn (is_wildcard n) (list_any is_wildcard names) (is_wildcard name)
-
-pub listed-more : (names : List DomainName) (name : DomainName) → list_any is_wildcard (with_listed names name) ≡ (list_any is_wildcard names || is_wildcard name)
-listed-more names name =
-    inserted names (lowercase_name (domain_name true name.labels))
-    ∙ ap (λ w. list_any is_wildcard names || w) (name-lower (domain_name true name.labels))
 
 neither-left : (a b : Bool) → (a || b) ≡ false → a ≡ false
 neither-left true b neither = neither

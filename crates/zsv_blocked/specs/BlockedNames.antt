@@ -1,9 +1,8 @@
 -- Names that are blocked: which names they block, and which ones the text of a list adds.
-use Rattle.std.specs.Prelude.{ℕ, ◌≡◌, ◌+◌, ◌-◌, ◌⊎◌, Bool, true, List, [], ◌∷◌, drop, length, Option, Some, None}
+use Rattle.std.specs.Prelude.{ℕ, ◌≡◌, ◌+◌, ◌-◌, ◌⊎◌, ◌||◌, if◌then◌else◌, Bool, true, List, [], ◌∷◌, drop, length, Option, Some, None}
 use Rattle.std.specs.List.{list_any, range_with_len}
-use Rattle.std.specs.BTreeSet.{insert_key}
 use Rattle.std.specs.Str.Lines.{lines}
-use Rattle.dnw_name.specs.DomainName.{DomainName, domain_name, lowercase_name, name_cmp, name_eq, wildcard_of}
+use Rattle.dnw_name.specs.DomainName.{DomainName, domain_name, name_eq, wildcard_of}
 use Rattle.dnw_name.specs.NameText.{NameText}
 use Rattle.zsv_blocked.specs.ListText.{name_text_of_line}
 
@@ -24,15 +23,20 @@ has_wildcard names depth name =
     (range_with_len depth (length name.labels - depth))
 
 -- ---- what the text of a list adds
--- The names with one more in its place, fully qualified and in lower case, unless it is there.
-abbrev pub with_listed : List DomainName → DomainName → List DomainName
-with_listed names name =
-    insert_key name_cmp names (lowercase_name (domain_name true name.labels))
+-- The names with one more, fully qualified, unless it is there. They are a set: their order means
+-- nothing.
+pub record AddsName (names : List DomainName) (name : DomainName) (new : List DomainName) :
+    Type 0 where
+  pub listed : (other : DomainName)
+      → is_listed new other
+      ≡ (name_eq other (domain_name true name.labels) || is_listed names other)
+  pub count : length new
+      ≡ length names + (if is_listed names (domain_name true name.labels) then 0 else 1)
 
 -- The text of a name adds it, and any other text none.
 abbrev pub AddsText : List DomainName → List ℕ → List DomainName → Type 0
 AddsText names text new =
-    ((name : DomainName) × NameText text name × (new ≡ with_listed names name))
+    ((name : DomainName) × NameText text name × AddsName names name new)
     ⊎ (((name : DomainName) → NameText text name → ⊥) × (new ≡ names))
 
 abbrev pub AddsIf : List DomainName → Option (List ℕ) → List DomainName → Type 0

@@ -1,3 +1,4 @@
 pub mod BlockedNames
+pub mod Entries
 pub mod ListText
 pub mod Reading

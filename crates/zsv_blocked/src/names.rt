@@ -1,40 +1,41 @@
 //! Names that are blocked.
-ghost use Rattle.std.specs.Prelude.{◌≡◌, [], false, length, IfOk, IfSome, IfNone, IsOk, IsTrue, OnErr, OnOk, ◌↔◌};
+ghost use Rattle.std.specs.Prelude.{◌≡◌, ◌+◌, ◌||◌, [], false, length, IfOk, IfSome, IfNone, IsOk, IsTrue, None, OnErr, OnOk, Some, ◌↔◌, option_copied, if◌then◌else◌};
 ghost use Rattle.std.specs.List.{list_any};
-ghost use Rattle.dnw_name.specs.DomainName.{DomainName, is_wildcard, lowercase_name};
+ghost use Rattle.dnw_name.specs.DomainName.{DomainName, is_wildcard, lowercase_name, name_eq};
 ghost use Rattle.dnw_name.specs.NameText.{NameText};
 ghost use Rattle.dnw_name.specs.dnw_codes.ProtoError.{IsMemory};
-ghost use Rattle.zsv_blocked.specs.BlockedNames.{AddsIf, AddsListed, AddsText, has_wildcard, is_listed, with_listed};
+ghost use Rattle.zsv_blocked.specs.BlockedNames.{AddsIf, AddsListed, AddsName, AddsText, has_wildcard, is_listed};
 ghost use Rattle.zsv_blocked.specs.ListText.{name_text_of_line};
 ghost use Rattle.zst_key.specs.Ancestors.{star};
 
 use crate::text::name_text_of_line;
 use dnw_name::{Name, ProtoError};
 use std::alloc::{AllocError, Global};
-use std::collections::BTreeSet;
+use std::collections::HashMap;
 use std::marker::Model;
 use zst_key::NameKey;
 
 /// Names that are blocked, each once, up to case.
 #[derive(Drop)]
 pub struct BlockedNames {
-    // In canonical order (RFC 4034 6.1), so that they are halved to find one.
-    names: Vec<NameKey>,
+    // Each name in lower case, under its key, so that a search makes none.
+    names: HashMap<NameKey, Name>,
     // Whether a wildcard is among them: where none is, none is searched for.
     has_wildcards: bool,
 }
 
 impl Model for BlockedNames {
     ghost use Rattle.std.specs.Prelude.{◌≡◌, List};
+    ghost use Rattle.std.specs.HashMap.{keys};
     ghost use Rattle.std.specs.List.{list_any};
-    ghost use Rattle.std.specs.List.Sorted.{IsStrictlySortedBy};
-    ghost use Rattle.dnw_name.specs.DomainName.{DomainName, is_wildcard, name_cmp};
+    ghost use Rattle.dnw_name.specs.DomainName.{DomainName, is_wildcard};
+    ghost use Rattle.zsv_blocked.specs.Entries.{AreLower};
 
     ghost Value = { List DomainName };
 
-    ghost view = { λ set. set.names.items };
+    ghost view = { λ set. keys set.names };
 
-    ghost invariant = { λ set. (set.has_wildcards ≡ list_any is_wildcard set.names.items) × IsStrictlySortedBy name_cmp set.names.items };
+    ghost invariant = { λ set. AreLower set.names.entries × (set.has_wildcards ≡ list_any is_wildcard (keys set.names)) };
 }
 
 impl Clone for BlockedNames {
@@ -55,7 +56,7 @@ impl BlockedNames {
         ensures { result ≡ [] }
     {
         BlockedNames {
-            names: Vec::new(alloc),
+            names: HashMap::new(alloc),
             has_wildcards: false,
         }
     }
@@ -67,18 +68,19 @@ impl BlockedNames {
         self.names.len()
     }
 
-    /// Whether a name is among them, which has this key. It takes no memory.
-    pub fn is_listed(&self, key: &NameKey) -> bool
-        ensures { (name : DomainName) → key.now ≡ lowercase_name name → result ≡ is_listed self.now name }
+    /// The name among them that has this key, in lower case. It takes no memory.
+    pub fn listed(&self, key: &NameKey) -> Option<&Name>
+        ensures { (name : DomainName) → key.now ≡ lowercase_name name
+            → option_copied result ≡ (if is_listed self.now name then Some (lowercase_name name) else None) }
     {
-        self.holds(key)
+        self.names.get(key)
     }
 
     // Whether the name of a key is among them.
     fn holds(&self, key: &NameKey) -> bool
         ensures { result ≡ is_listed self.now key.now }
     {
-        self.names.binary_search(key).is_ok()
+        self.names.contains_key(key)
     }
 
     /// Whether a wildcard over at least so many of a name's labels is among them; the name has this key. Where no wildcard
@@ -126,60 +128,10 @@ impl BlockedNames {
         ensures ok { OnOk result (AddsListed self.old text.now self.new) }
         ensures err { OnErr result (self.new ≡ self.old) }
     {
-        let mut names = self.to_set(alloc)?;
+        let mut names = self.clone()?;
         names.add_lines(alloc, text)?;
-        *self = names.into_names(alloc)?;
+        *self = names;
         Ok(())
-    }
-
-    // The same names, to which others can be added.
-    fn to_set(&self, alloc: Global) -> Result<NameSet, AllocError>
-        ensures { IfOk result (λ names. names ≡ self.now) }
-    {
-        let mut names = BTreeSet::new(alloc);
-        'names: for i in 0..self.names.len() {
-            names.insert(self.names[i].clone()?)?;
-        }
-        Ok(NameSet {
-            names,
-            has_wildcards: self.has_wildcards,
-        })
-    }
-}
-
-/// Blocked names to which others are added.
-#[derive(Drop)]
-struct NameSet {
-    names: BTreeSet<NameKey>,
-    has_wildcards: bool,
-}
-
-impl Model for NameSet {
-    ghost use Rattle.std.specs.Prelude.{◌≡◌, List};
-    ghost use Rattle.std.specs.List.{list_any};
-    ghost use Rattle.dnw_name.specs.DomainName.{DomainName, is_wildcard};
-
-    ghost Value = { List DomainName };
-
-    ghost view = { λ set. set.names.keys };
-
-    ghost invariant = { λ set. set.has_wildcards ≡ list_any is_wildcard set.names.keys };
-}
-
-impl NameSet {
-    // The same names, of which none is added any more.
-    fn into_names(self, alloc: Global) -> Result<BlockedNames, AllocError>
-        ensures { IfOk result (λ names. names ≡ self) }
-    {
-        let NameSet {
-            names,
-            has_wildcards,
-        } = self;
-        let names = names.into_iter().collect(alloc)?;
-        Ok(BlockedNames {
-            names,
-            has_wildcards,
-        })
     }
 
     // Adds the names on the lines of a text.
@@ -214,12 +166,27 @@ impl NameSet {
 
     // Adds a name, fully qualified.
     fn add_name(&mut self, alloc: Global, mut name: Name) -> Result<(), AllocError>
-        ensures { OnOk result (self.new ≡ with_listed self.old name) }
+        ensures { OnOk result (AddsName self.old name self.new) }
     {
         name.set_fqdn(true);
+        let lower = name.to_lowercase()?;
         let key = NameKey::of(alloc, &name)?;
-        self.names.insert(key)?;
-        self.has_wildcards |= name.is_wildcard();
+        if self.holds(&key) {
+            return Ok(());
+        }
+        self.put(key, lower)
+    }
+
+    // Adds a name in lower case, which isn't there, under its key.
+    fn put(&mut self, key: NameKey, name: Name) -> Result<(), AllocError>
+        requires lower { name ≡ lowercase_name key }
+        requires new { is_listed self.old key ≡ false }
+        ensures { OnOk result (((other : DomainName) → is_listed self.new other ≡ (name_eq other key || is_listed self.old other))
+            × (length self.new ≡ length self.old + 1)) }
+    {
+        let is_wildcard = name.is_wildcard();
+        self.names.insert(key, name)?;
+        self.has_wildcards |= is_wildcard;
         Ok(())
     }
 }

@@ -6,7 +6,7 @@ use Rattle.std.proofs.lemmas.Iterator.Splits.{YieldsList-from_lines}
 use Rattle.std.proofs.lemmas.Iterator.Consumers.{YieldsList-turn, YieldsList-end}
 use Rattle.zsv_blocked.specs.BlockedNames.{AddsLines}
 use Rattle.zsv_blocked.proofs.AddsLemmas.{adds_more}
-use Rattle.zsv_blocked.proofs.names.NameSet.add_lines.Goals as goal
+use Rattle.zsv_blocked.proofs.names.BlockedNames.add_lines.Goals as goal
 
 pub loop-line-preserved : goal.loop-line-preserved
 loop-line-preserved c =
