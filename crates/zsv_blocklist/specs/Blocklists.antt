@@ -1,7 +1,9 @@
 -- Lists of blocked names, by their settings.
-use Rattle.std.specs.Prelude.{ℕ, Bool, false, List, length, nat_lt, Option, Some, None, option_map, string_bytes}
+use Rattle.std.specs.Prelude.{◌≡◌, ℕ, Bool, true, false, List, length, nat_lt, Option, Some, None, option_map, string_bytes}
 use Rattle.zst_request.specs.Views.{Blocklist}
 use Rattle.zst_request.specs.dnw_name.DomainName.{DomainName}
+use Rattle.zsv_blocked.specs.declared.read.BlocklistError.{BlocklistError}
+use Rattle.zsv_blocked.specs.declared.read.BlocklistError.TheVariants as causes
 use Rattle.zsv_blocklist.specs.declared.config.BlocklistConfig.{BlocklistConfig}
 
 abbrev pub message_of : BlocklistConfig → Option (List ℕ)
@@ -25,3 +27,9 @@ blocklist_of origin names config = record {
   block_message = message_of config;
   consult_action = config.consult_action;
 }
+
+-- Why no list is made of these settings: the message is too long, or for want of memory.
+abbrev pub IsNewFault : BlocklistConfig → BlocklistError → Type 0
+IsNewFault config causes.MessageTooLong = is_too_long (message_of config) ≡ true
+IsNewFault config causes.OutOfMemory = is_too_long (message_of config) ≡ false
+IsNewFault config other = ⊥

@@ -1,18 +1,20 @@
 //! A list of blocked names.
 
-ghost use Rattle.std.specs.Prelude.{◌≡◌, [], true, false, length, IfOk, IfErr, OnOk, OnErr};
+ghost use Rattle.std.specs.Prelude.{◌≡◌, ◌&&◌, [], true, false, length, IfOk, IfErr, None, OnOk, OnErr, Some, if◌then◌else◌, option_copied};
 ghost use Rattle.zsv_blocked.specs.Reading.{AddsRead, IsListFault};
-ghost use Rattle.zsv_blocked.specs.declared.read.BlocklistError.TheVariants.{MessageTooLong};
-ghost use Rattle.zst_request.specs.Blocking.{is_blocked};
-ghost use Rattle.zst_request.specs.dnw_name.DomainName.{lowercase_name};
-ghost use Rattle.zsv_blocklist.specs.Blocklists.{blocklist_of, is_too_long, message_of};
+ghost use Rattle.zst_request.specs.Blocking.{has_listed_wildcard, is_blocked, is_listed};
+ghost use Rattle.zst_request.specs.Handling.{ShowsBlocked};
+ghost use Rattle.zst_request.specs.dnw_name.DomainName.{DomainName, lowercase_name};
+ghost use Rattle.zsv_blocklist.specs.Answers.{answer_of};
+ghost use Rattle.zsv_blocklist.specs.Blocklists.{IsNewFault, blocklist_of, is_too_long, message_of};
 
 use crate::config::BlocklistConfig;
+use crate::sinkholes::Sinkholes;
 use std::alloc::{AllocError, Global};
 use std::io::Read;
 use std::marker::Model;
 use std::mem;
-use zst_request::{Name, NameKey};
+use zst_request::{AnswerSet, AuthLookup, LookupOptions, LookupRecords, Name, NameKey, RecordType};
 use zsv_blocked::{BlockedNames, BlocklistError, ReadFaults, add_list};
 
 /// A list of blocked names, and what is answered in their place.
@@ -20,6 +22,7 @@ use zsv_blocked::{BlockedNames, BlocklistError, ReadFaults, add_list};
 pub struct BlocklistZoneHandler {
     pub(crate) origin: Name,
     names: BlockedNames,
+    sinkholes: Sinkholes,
     pub(crate) config: BlocklistConfig,
 }
 
@@ -27,34 +30,44 @@ impl Model for BlocklistZoneHandler {
     ghost use Rattle.std.specs.Prelude.{◌≡◌, false};
     ghost use Rattle.zst_request.specs.Views.{Blocklist};
     ghost use Rattle.zsv_blocklist.specs.Blocklists.{blocklist_of, is_too_long, message_of};
+    ghost use Rattle.zsv_blocklist.specs.Sinkholes.{AreSinkholes};
 
     ghost Value = { Blocklist };
 
     ghost view = { λ list. blocklist_of list.origin list.names list.config };
 
-    ghost invariant = { λ list. is_too_long (message_of list.config) ≡ false };
+    ghost invariant = { λ list. (is_too_long (message_of list.config) ≡ false)
+        × AreSinkholes (blocklist_of list.origin list.names list.config) list.sinkholes };
 }
 
 impl BlocklistZoneHandler {
-    /// A list without names. It is refused where its message has more than 255 octets.
+    /// A list without names. It is refused where its message has more than 255 octets, or for want of memory.
     pub fn new(
         alloc: Global,
         origin: Name,
         config: BlocklistConfig,
     ) -> Result<BlocklistZoneHandler, BlocklistError>
         ensures ok { IfOk result (λ list. (list ≡ blocklist_of origin [] config) × (is_too_long (message_of config) ≡ false)) }
-        ensures refused { IfErr result (λ e. (e ≡ MessageTooLong) × (is_too_long (message_of config) ≡ true)) }
+        ensures refused { IfErr result (IsNewFault config) }
     {
         if has_long_message(&config) {
             mem::drop(origin);
             mem::drop(config);
             return Err(BlocklistError::MessageTooLong);
         }
-        Ok(BlocklistZoneHandler {
-            origin,
-            names: BlockedNames::new(alloc),
-            config,
-        })
+        match Sinkholes::new(alloc, &origin, &config) {
+            Ok(sinkholes) => Ok(BlocklistZoneHandler {
+                origin,
+                names: BlockedNames::new(alloc),
+                sinkholes,
+                config,
+            }),
+            Err(_) => {
+                mem::drop(origin);
+                mem::drop(config);
+                Err(BlocklistError::OutOfMemory)
+            }
+        }
     }
 
     /// How many names there are, wildcards among them.
@@ -78,14 +91,42 @@ impl BlocklistZoneHandler {
         requires { key.now ≡ lowercase_name name.now }
         ensures { IfOk result (λ blocked. blocked ≡ is_blocked self.now name.now) }
     {
-        if self.names.is_listed(key) {
+        if self.names.listed(key).is_some() {
             return Ok(true);
         }
+        self.has_wildcard_at(name, key)
+    }
+
+    // Whether a wildcard blocks a name, which has this key.
+    pub(crate) fn has_wildcard_at(&self, name: &Name, key: &NameKey) -> Result<bool, AllocError>
+        requires { key.now ≡ lowercase_name name.now }
+        ensures { IfOk result (λ found. found ≡ (self.now.wildcard_match && has_listed_wildcard self.now name.now)) }
+    {
         if !self.config.wildcard_match {
             return Ok(false);
         }
         self.names
             .has_wildcard(name, key, self.config.min_wildcard_depth)
+    }
+
+    // The listed name that has this key.
+    pub(crate) fn listed(&self, key: &NameKey) -> Option<&Name>
+        ensures { (name : DomainName) → key.now ≡ lowercase_name name
+            → option_copied result ≡ (if is_listed self.now name then Some (lowercase_name name) else None) }
+    {
+        self.names.listed(key)
+    }
+
+    // The address under a listed name, both of which are lent: the answer where no message goes with it.
+    pub(crate) fn lend<'z>(&'z self, listed: &'z Name, record_type: RecordType) -> AuthLookup<'z>
+        requires { self.now.block_message ≡ None }
+        ensures { (name : DomainName) → listed.now ≡ lowercase_name name → ShowsBlocked (answer_of self.now name record_type) result }
+    {
+        let set = AnswerSet::lent(self.sinkholes.of(record_type), listed);
+        AuthLookup::Records {
+            answers: LookupRecords::new(LookupOptions { dnssec_ok: false }, set),
+            additionals: None,
+        }
     }
 
     /// Adds the names of a list, of which a reader gives all octets: the name on each line, alone or behind the address

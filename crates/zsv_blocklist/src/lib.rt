@@ -10,6 +10,7 @@ pub use zsv_blocked::{BlocklistError, ReadFaults};
 mod config;
 mod handler;
 mod records;
+mod sinkholes;
 mod zone_handler;
 
 pub use config::BlocklistConfig;

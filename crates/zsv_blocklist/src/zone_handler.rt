@@ -157,8 +157,16 @@ impl BlocklistZoneHandler {
         requires { key.now ≡ lowercase_name name.now }
         ensures { IfOk result (λ found. ShowsIf (blocked_answer self.now name.now record_type) found) }
     {
-        if !self.is_blocked_at(name, key)? {
-            return Ok(None);
+        match self.listed(key) {
+            Some(listed) if self.config.block_message.is_none() => {
+                return Ok(Some(self.lend(listed, record_type)));
+            }
+            Some(_) => {}
+            None => {
+                if !self.has_wildcard_at(name, key)? {
+                    return Ok(None);
+                }
+            }
         }
         let records = self.records(alloc, name, record_type)?;
         Ok(Some(AuthLookup::Records {
