@@ -1,8 +1,9 @@
 -- Names that are blocked: which names they block, and which ones the text of a list adds.
-use Rattle.std.specs.Prelude.{ℕ, ◌≡◌, ◌+◌, ◌-◌, ◌⊎◌, ◌||◌, if◌then◌else◌, Bool, true, List, [], ◌∷◌, drop, length, Option, Some, None}
+use Rattle.std.specs.Prelude.{ℕ, ◌≡◌, ◌+◌, ◌-◌, ◌⊎◌, Bool, true, false, List, [], ◌∷◌, drop, length, Option, Some, None}
 use Rattle.std.specs.List.{list_any, range_with_len}
+use Rattle.std.specs.List.Sorted.{IsPermutation}
 use Rattle.std.specs.Str.Lines.{lines}
-use Rattle.dnw_name.specs.DomainName.{DomainName, domain_name, name_eq, wildcard_of}
+use Rattle.dnw_name.specs.DomainName.{DomainName, domain_name, lowercase_name, name_eq, wildcard_of}
 use Rattle.dnw_name.specs.NameText.{NameText}
 use Rattle.zsv_blocked.specs.ListText.{name_text_of_line}
 
@@ -23,15 +24,13 @@ has_wildcard names depth name =
     (range_with_len depth (length name.labels - depth))
 
 -- ---- what the text of a list adds
--- The names with one more, fully qualified, unless it is there. They are a set: their order means
--- nothing.
-pub record AddsName (names : List DomainName) (name : DomainName) (new : List DomainName) :
-    Type 0 where
-  pub listed : (other : DomainName)
-      → is_listed new other
-      ≡ (name_eq other (domain_name true name.labels) || is_listed names other)
-  pub count : length new
-      ≡ length names + (if is_listed names (domain_name true name.labels) then 0 else 1)
+-- The names and one more, fully qualified and in lower case, in whatever order; the same names where
+-- it is there.
+abbrev pub AddsName : List DomainName → DomainName → List DomainName → Type 0
+AddsName names name new =
+    let added = lowercase_name (domain_name true name.labels) in
+    ((is_listed names added ≡ true) × (new ≡ names))
+    ⊎ ((is_listed names added ≡ false) × IsPermutation (added ∷ names) new)
 
 -- The text of a name adds it, and any other text none.
 abbrev pub AddsText : List DomainName → List ℕ → List DomainName → Type 0

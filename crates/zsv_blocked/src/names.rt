@@ -1,7 +1,8 @@
 //! Names that are blocked.
-ghost use Rattle.std.specs.Prelude.{◌≡◌, ◌+◌, ◌||◌, [], false, length, IfOk, IfSome, IfNone, IsOk, IsTrue, None, OnErr, OnOk, Some, ◌↔◌, option_copied, if◌then◌else◌};
+ghost use Rattle.std.specs.Prelude.{◌≡◌, ◌∷◌, [], false, length, IfOk, IfSome, IfNone, IsOk, IsTrue, None, OnErr, OnOk, Some, ◌↔◌, option_copied, if◌then◌else◌};
 ghost use Rattle.std.specs.List.{list_any};
-ghost use Rattle.dnw_name.specs.DomainName.{DomainName, is_wildcard, lowercase_name, name_eq};
+ghost use Rattle.std.specs.List.Sorted.{IsPermutation};
+ghost use Rattle.dnw_name.specs.DomainName.{DomainName, is_wildcard, lowercase_name};
 ghost use Rattle.dnw_name.specs.NameText.{NameText};
 ghost use Rattle.dnw_name.specs.dnw_codes.ProtoError.{IsMemory};
 ghost use Rattle.zsv_blocked.specs.BlockedNames.{AddsIf, AddsListed, AddsName, AddsText, has_wildcard, is_listed};
@@ -181,8 +182,7 @@ impl BlockedNames {
     fn put(&mut self, key: NameKey, name: Name) -> Result<(), AllocError>
         requires lower { name ≡ lowercase_name key }
         requires new { is_listed self.old key ≡ false }
-        ensures { OnOk result (((other : DomainName) → is_listed self.new other ≡ (name_eq other key || is_listed self.old other))
-            × (length self.new ≡ length self.old + 1)) }
+        ensures { OnOk result (IsPermutation (key ∷ self.old) self.new) }
     {
         let is_wildcard = name.is_wildcard();
         self.names.insert(key, name)?;

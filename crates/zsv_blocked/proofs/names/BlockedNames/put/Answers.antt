@@ -1,14 +1,13 @@
-use Rattle.std.proofs.Common.{◌≡◌, ◌∷◌, List, ℕ, Option, Bool, cond, length, ap, sym, ◌∙◌, arith}
+use Rattle.std.proofs.Common.{◌≡◌, ◌∷◌, List, Bool, ap, sym, subst, ◌∙◌}
 use Rattle.std.proofs.Math.Bool.{◌||◌, or_comm}
-use Rattle.std.specs.Prelude.{is_some}
 use Rattle.std.specs.List.{list_any}
+use Rattle.std.specs.List.Sorted.{IsPermutation}
 use Rattle.std.specs.Map.{keys_of}
-use Rattle.std.proofs.lemmas.List.{length-map}
 use Rattle.std.proofs.lemmas.List.Elements.{All-cons}
 use Rattle.std.proofs.lemmas.List.Sorted.{All-permutation, list_any-IsPermutation}
-use Rattle.dnw_name.specs.DomainName.{DomainName, is_wildcard, lowercase_name, name_eq}
+use Rattle.dnw_name.specs.DomainName.{DomainName, is_wildcard, lowercase_name}
 use Rattle.zsv_blocked.specs.BlockedNames.{is_listed}
-use Rattle.zsv_blocked.proofs.EntryLemmas.{any-key, entry-put, is-new, put-listed}
+use Rattle.zsv_blocked.proofs.EntryLemmas.{any-key, entry-put, keys-permuted}
 use Rattle.zsv_blocked.proofs.WildcardLemmas.{name-lower}
 use Rattle.zsv_blocked.proofs.names.BlockedNames.put.Goals as goal
 
@@ -36,8 +35,5 @@ returns c =
     let new = c.insert.new.self.entries in
     let key = c.args.key in
     let gone = ap (λ (names : List DomainName). is_listed names key) c.self.view_is ∙ c.requires.new in
-    let put = entry-put old new key c.args.name c.in_ok-insert.field-0 _ c.in_ok-insert.ensures.old gone c.in_ok-insert.ensures.entries in (
-      λ other. put-listed old new key c.args.name other put
-          ∙ ap (λ (names : List DomainName). name_eq other key || is_listed names other) c.self.view_is,
-      omega (arith, length-map new (λ e. e.0), length-map old (λ e. e.0), c.in_ok-insert.ensures.len, ap {B = ℕ} (λ (o : Option DomainName). cond (is_some o) 0 1) (is-new old key c.in_ok-insert.field-0 c.in_ok-insert.ensures.old gone), ap (λ (names : List DomainName). length names) c.self.view_is),
-    )
+    let put = entry-put old new key c.args.name c.in_ok-insert.field-0 _ c.in_ok-insert.ensures.old gone c.in_ok-insert.ensures.entries in
+    subst (λ (names : List DomainName). IsPermutation (key ∷ names) (keys_of new)) c.self.view_is (keys-permuted ((key, c.args.name) ∷ old) new put)
