@@ -9,8 +9,8 @@ pub use zst_edns::{
     ResponseCode, Salt, SaltLenError, ZoneType,
 };
 pub use zst_record::{
-    ANAME, CNAME, DNSClass, LowerName, MX, NS, Name, ProtoError, RData, Record, RecordRef,
-    RecordSet, RecordType, RrKey, RrsetRecords, SOA, SRV,
+    ANAME, CNAME, DNSClass, LowerName, MX, NS, Name, OneOrMany, ProtoError, RData, Record,
+    RecordRef, RecordSet, RecordType, RrKey, RrsetRecords, SOA, SRV,
 };
 
 mod answer_set;

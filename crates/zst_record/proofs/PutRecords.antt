@@ -1,7 +1,7 @@
 -- A set's records with one more.
 use Rattle.std.proofs.Common.{◌≡◌, ℕ, ◌+◌, ◌<◌, ◌≤◌, suc, refl, ap, sym, ◌∙◌, arith, length, set, ◌⊎◌, inl, inr}
 use Rattle.std.specs.Prelude.{Bool, true, false, not, ◌||◌, List, [], ◌∷◌, ◌++◌, Some, None, position, cond, nat_lt}
-use Rattle.std.specs.List.{AllByRecursion, position_or_len}
+use Rattle.std.specs.List.{AllByRecursion, insert, position_or_len}
 use Rattle.std.proofs.lemmas.Bool.{ltb-true, ltb-false, eq-eqb, true≢false}
 use Rattle.drd_rdata.specs.dnw_codes.declared.record_type.RecordType.{RecordType}
 use Rattle.zst_record.specs.declared.records.Record.{Record}
@@ -142,6 +142,11 @@ held t e items sigs some all signed = record {
     spelled = λ first later h. spelled_first t e items sigs first later h;
   };
 }
+
+-- What is put in behind all others.
+pub insert_last : {X : Type 0} (xs : List X) (x : X) → insert xs (length xs) x ≡ xs ++ x ∷ []
+insert_last [] x = refl
+insert_last {X} (y ∷ xs) x = ap (λ (ys : List X). y ∷ ys) (insert_last xs x)
 
 pub held_one : (r : Record) (t : RecordType) (items sigs : List Record) → items ≡ r ∷ [] → sigs ≡ [] → same_record_type (type_of r.rdata) t ≡ true → (e : Bool) → IsHeld t e items sigs
 held_one r t items sigs one none kind e = rw (one, none) (by e)

@@ -1,3 +1,4 @@
+pub mod OneOrMany
 pub mod Lending
 pub mod Records
 pub mod RecordSets

@@ -11,11 +11,13 @@ pub use drd_rdata::{
 };
 
 mod emit;
+mod one_or_many;
 mod read;
 mod record_set;
 mod records;
 mod rrset_records;
 
+pub use one_or_many::OneOrMany;
 pub use record_set::RecordSet;
 pub use records::{Record, RecordRef};
 pub use rrset_records::RrsetRecords;

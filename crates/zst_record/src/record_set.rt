@@ -7,9 +7,11 @@ ghost use Rattle.drd_rdata.specs.Types.{type_of};
 ghost use Rattle.drd_rdata.specs.dnw_codes.DNSClass.{same_class};
 ghost use Rattle.drd_rdata.specs.dnw_codes.RecordType.{same_record_type};
 ghost use Rattle.drd_rdata.specs.dnw_name.DomainName.{name_eq};
+ghost use Rattle.zst_record.specs.OneOrMany.{items_of};
 ghost use Rattle.zst_record.specs.RecordSets.{IsRRset, empty_set, holds, inserted, is_signature_of, is_single, keeps_last, least_from, least_ttl, loses, none_left, outlasts, removed, set_of, set_with, signed_with, takes, with_one};
 ghost use Rattle.zst_record.specs.RecordSets.{put_record as with_record};
 
+use crate::one_or_many::OneOrMany;
 use crate::records::Record;
 use crate::rrset_records::RrsetRecords;
 use drd_rdata::{DNSClass, Name, RData, RecordType};
@@ -24,19 +26,20 @@ pub struct RecordSet {
     record_type: RecordType,
     /// Whether there are no records. Then one stands in for owner and class.
     is_empty: bool,
-    /// The records, at least one.
-    records: Vec<Record>,
+    /// The records; most sets have one.
+    records: OneOrMany<Record>,
     rrsigs: Vec<Record>,
 }
 
 impl Model for RecordSet {
+    ghost use Rattle.zst_record.specs.OneOrMany.{items_of};
     ghost use Rattle.zst_record.specs.RecordSets.{RRset, IsHeld, held_set};
 
     ghost Value = { RRset };
 
-    ghost view = { λ set. held_set set.record_type set.is_empty set.records.items set.rrsigs.items };
+    ghost view = { λ set. held_set set.record_type set.is_empty (items_of set.records) set.rrsigs.items };
 
-    ghost invariant = { λ set. IsHeld set.record_type set.is_empty set.records.items set.rrsigs.items };
+    ghost invariant = { λ set. IsHeld set.record_type set.is_empty (items_of set.records) set.rrsigs.items };
 }
 
 impl RecordSet {
@@ -54,12 +57,10 @@ impl RecordSet {
         ensures { IfOk result (λ set. set ≡ set_of first) }
     {
         let record_type = first.record_type();
-        let mut records = Vec::with_capacity(alloc, 1)?;
-        records.push_reserved(first);
         Ok(RecordSet {
             record_type,
             is_empty: false,
-            records,
+            records: OneOrMany::One(first),
             rrsigs: Vec::new(alloc),
         })
     }
@@ -68,14 +69,14 @@ impl RecordSet {
     pub fn name(&self) -> &Name
         ensures { result.now ≡ self.now.name }
     {
-        &self.records[0].name
+        &self.records.as_slice()[0].name
     }
 
     /// The class.
     pub fn dns_class(&self) -> DNSClass
         ensures { result ≡ self.now.dns_class }
     {
-        self.records[0].dns_class
+        self.records.as_slice()[0].dns_class
     }
 
     /// The type.
@@ -107,7 +108,11 @@ impl RecordSet {
         ensures value { result.now ≡ self.now.records }
         ensures set { IsRRset self.now }
     {
-        if self.is_empty { &[] } else { &self.records }
+        if self.is_empty {
+            &[]
+        } else {
+            self.records.as_slice()
+        }
     }
 
     /// The records, in order, and behind them the signatures where these are asked for.
@@ -209,12 +214,12 @@ impl RecordSet {
         ensures err { OnErr result (self.new ≡ self.old) }
     {
         if either(alone, self.is_empty) {
-            put_alone(&mut self.records, next);
+            self.records = OneOrMany::One(next);
             self.is_empty = false;
             self.rrsigs.clear();
             return Ok(());
         }
-        put_record(&mut self.records, next)?;
+        put_record(*self.rrsigs.allocator(), &mut self.records, next)?;
         self.rrsigs.clear();
         Ok(())
     }
@@ -302,23 +307,20 @@ fn either(first: bool, second: bool) -> bool
     first || second
 }
 
-// Puts a record in place of all others.
-fn put_alone(records: &mut Vec<Record>, next: Record)
-    requires { 0 < length records.old.items }
-    ensures { records.new.items ≡ next ∷ [] }
-{
-    records.truncate(1);
-    records[0] = next;
-}
-
 // Puts a record in place of the one with equal data, else behind the others.
-fn put_record(records: &mut Vec<Record>, next: Record) -> Result<(), AllocError>
-    ensures ok { OnOk result (records.new.items ≡ with_record records.old.items next) }
-    ensures err { OnErr result (records.new.items ≡ records.old.items) }
+fn put_record(
+    alloc: Global,
+    records: &mut OneOrMany<Record>,
+    next: Record,
+) -> Result<(), AllocError>
+    ensures ok { OnOk result (items_of records.new ≡ with_record (items_of records.old) next) }
+    ensures err { OnErr result (items_of records.new ≡ items_of records.old) }
 {
-    match place_of(records, &next.rdata) {
-        Some(place) => records[place] = next,
-        None => records.push(next)?,
+    let held = records.as_slice();
+    let count = held.len();
+    match place_of(held, &next.rdata) {
+        Some(place) => records.set(place, next),
+        None => records.insert(alloc, count, next)?,
     }
     Ok(())
 }
