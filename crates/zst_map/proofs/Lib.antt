@@ -1,4 +1,6 @@
+pub mod Entries
 pub mod Indexed
+pub mod Kept
 pub mod Keys
 pub mod NamedSets
 pub mod Names

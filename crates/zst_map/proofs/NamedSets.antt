@@ -17,7 +17,8 @@ use Rattle.zst_handler.specs.zst_record.RecordSets.{RRset}
 use Rattle.zst_key.specs.NameKeys.{name_key}
 use Rattle.zst_handler.specs.Lookups.{sets_of_name}
 use Rattle.zst_handler.specs.Zones.{rrset_at}
-use Rattle.zst_map.specs.ZoneMaps.{IsNode, IsOwnedAt, sets_of}
+use Rattle.zst_map.specs.ZoneMaps.{IsNode, IsOwnedAt}
+use Rattle.zst_map.proofs.Entries.{sets_of}
 use Rattle.zst_map.proofs.ZoneEntries.{node_sets}
 use Rattle.zst_map.proofs.ZoneNodes.{is_of_type, owner_test, past_key}
 

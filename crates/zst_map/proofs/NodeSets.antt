@@ -1,6 +1,6 @@
 -- The sets of one owner with one more, or with one in place of another: where they differ, and what each type's set is then.
 use Rattle.std.proofs.Common.{◌≡◌, ℕ, ◌+◌, ◌<◌, ◌≤◌, suc, zero, refl, ap, sym, ◌∙◌, arith, length, get_or, set, take, drop, subst}
-use Rattle.std.specs.Prelude.{Bool, true, false, not, ◌==◌, List, [], ◌∷◌, ◌++◌, Option, Some, None, cond, find, nat_lt, Result, Ok, Err, OnOk, OnErr}
+use Rattle.std.specs.Prelude.{Bool, true, false, not, ◌==◌, List, [], ◌∷◌, ◌++◌, Option, Some, None, cond, find, nat_lt, Result, Ok, Err, OnOk, OnErr, slice_get}
 use Rattle.std.specs.declared.alloc.AllocError.{AllocError}
 use Rattle.std.specs.Str.{bytes_eq}
 use Rattle.std.specs.List.{AllByRecursion, insert, remove}
@@ -274,6 +274,12 @@ none_without t (s ∷ sets) e = by (is_of_type t s) e (none_without t sets)
     by : (b : Bool) → cond b (Some s) (find (is_of_type t) sets) ≡ None → (find (is_of_type t) sets ≡ None → without_type sets t ≡ sets) → cond b sets (s ∷ without_type sets t) ≡ s ∷ sets
     by true e more = let h : ⊥ = cc in absurd h
     by false e more = ap (λ (ss : List RRset). s ∷ ss) (more e)
+
+-- What stands at a place that is there.
+pub got_at : (sets : List RRset) (d : RRset) (k : ℕ) → k < length sets → slice_get sets k ≡ Some (get_or sets k d)
+got_at [] d k below = absurd (omega arith)
+got_at (s ∷ sets) d zero below = refl
+got_at (s ∷ sets) d (suc k) below = got_at sets d k (omega arith)
 
 pub each_at : (P : RRset → Type 0) (sets : List RRset) (d : RRset) (k : ℕ) → AllByRecursion P sets → k < length sets → P (get_or sets k d)
 each_at P [] d k all below = absurd (omega arith)

@@ -1,17 +1,17 @@
 -- The nearest owner from a name up: what is at a cut is at an owner, and nothing at the names passed.
-use Rattle.std.proofs.Common.{◌≡◌, ℕ, ◌-◌, ◌<◌, length, refl, ap, sym, ◌∙◌, arith, subst}
-use Rattle.std.specs.Prelude.{Bool, true, false, ◌&&◌, ◌||◌, List, [], ◌∷◌, Option, Some, None, cond, filter, find, is_some, IsSome, option_map, slice_get}
+use Rattle.std.proofs.Common.{◌≡◌, ℕ, ◌-◌, ◌<◌, drop, length, refl, ap, sym, ◌∙◌, arith, subst}
+use Rattle.std.specs.Prelude.{Bool, true, false, ◌&&◌, ◌||◌, ◌==◌, List, [], ◌∷◌, Option, Some, None, cond, filter, find, is_some, IsSome, option_map, slice_get}
 use Rattle.std.specs.Bool.{beq}
 use Rattle.std.specs.List.{AllByRecursion}
 use Rattle.std.specs.BTreeMap.{is_at}
 use Rattle.std.specs.Map.{lookup}
-use Rattle.std.proofs.lemmas.Bool.{true≢false, and_parts}
+use Rattle.std.proofs.lemmas.Bool.{true≢false, and_parts, eqb-false, eqb-true}
 use Rattle.zst_handler.specs.dnw_codes.declared.record_type.RecordType.{RecordType}
 use Rattle.zst_handler.specs.dnw_codes.declared.record_type.RecordType.TheVariants as kind
 use Rattle.zst_handler.specs.dnw_codes.RecordType.{same_record_type}
 use Rattle.zst_handler.specs.dnw_name.DomainName.{DomainName, domain_name, is_at_or_below, lowercase_name, name_cmp, name_eq}
 use Rattle.zst_handler.specs.zst_record.RecordSets.{RRset}
-use Rattle.zst_key.specs.Ancestors.{nearest_from, nearest_in, or_else, up}
+use Rattle.zst_key.specs.Ancestors.{nearest_from, nearest_in, or_else, parent, up}
 use Rattle.zst_key.specs.NameKeys.{name_key}
 use Rattle.zst_key.specs.declared.key.NameKey.{NameKey}
 use Rattle.zst_key.proofs.KeyLemmas.{eq-below, one-lower}
@@ -19,53 +19,38 @@ use Rattle.zst_key.proofs.NamesAbove.{above-shorter, below-up, is-above}
 use Rattle.zst_handler.specs.Found.{above, cut_at, cut_found, delegation, here, is_address}
 use Rattle.zst_handler.specs.Lookups.{sets_of_name}
 use Rattle.zst_handler.specs.Zones.{rrset_at}
-use Rattle.zst_map.specs.ZoneMaps.{AreOwned, IsNode, IsZone, exists_alike, owned, sets_of, some_sets}
+use Rattle.zst_map.specs.ZoneMaps.{AreOwned, IsNode, exists_alike, owned, some_sets}
+use Rattle.zst_map.proofs.Entries.{IsZone, sets_of}
 use Rattle.zst_map.proofs.NamedSets.{type_among}
-use Rattle.zst_map.proofs.NearestOf.{leads_to, nearest_above_it, nearest_here}
+use Rattle.zst_map.proofs.NearestOf.{above_parent, leads_to, nearest_above_it, nearest_here}
 use Rattle.zst_map.proofs.Searched.{address_here}
 use Rattle.zst_map.proofs.Upserted.{sets_named}
 use Rattle.zst_map.proofs.ZoneEntries.{node_sets}
 use Rattle.zst_map.proofs.ZoneMapsBy.{Entries, Node, named_by, sets}
 use Rattle.zst_map.proofs.ZoneNodes.{is_of_type}
 
--- ---- what is nearest, seen another way
-module _ {Y Z : Type 0} (h : Y → Z) where
-  abbrev pub seen : DomainName × Y → DomainName × Z
-  seen p = (p.0, h p.1)
-
-  seen_at : (name : DomainName) (o : Option Y) → option_map seen (option_map (λ y. (name, y)) o) ≡ option_map (λ z. (name, z)) (option_map h o)
-  seen_at name None = refl
-  seen_at name (Some y) = refl
-
-  seen_first : (a b : Option (DomainName × Y)) → option_map seen (or_else a b) ≡ or_else (option_map seen a) (option_map seen b)
-  seen_first None b = refl
-  seen_first (Some p) b = refl
-
-  module _ (g : DomainName → Option Y) (k : DomainName → Option Z) (same : (name : DomainName) → option_map h (g name) ≡ k name) where
-    seen_from : (fqdn : Bool) (labels : List (List ℕ)) → option_map seen (nearest_from g fqdn labels) ≡ nearest_from k fqdn labels
-    seen_from fqdn [] = let name = domain_name fqdn [] in seen_at name (g name) ∙ ap (option_map (λ z. (name, z))) (same name)
-    seen_from fqdn (label ∷ labels) =
-        let name = domain_name fqdn (label ∷ labels) in
-        seen_first (option_map (λ y. (name, y)) (g name)) (nearest_from g fqdn labels)
-        ∙ ap (λ (o : Option (DomainName × Z)). or_else o (option_map seen (nearest_from g fqdn labels))) (seen_at name (g name) ∙ ap (option_map (λ z. (name, z))) (same name))
-        ∙ ap (or_else (option_map (λ z. (name, z)) (k name))) (seen_from fqdn labels)
-
-    pub seen_nearest : (name : DomainName) → option_map seen (nearest_in g name) ≡ nearest_in k name
-    seen_nearest name = seen_from name.fqdn name.labels
-
 -- ---- what stands in the map
 filled_at : (test : NameKey → Bool) (entries : Entries) (node : Node) → AllByRecursion (λ entry. IsNode (name_key entry.0) (sets entry.1)) entries
-    → lookup test entries ≡ Some node → 0 < length node.items
+    → lookup test entries ≡ Some node → 0 < length node
 filled_at test [] node all there = let h : ⊥ = cc in absurd h
 filled_at test (entry ∷ entries) node all there = by (test entry.0) there (λ e. filled_at test entries node all.1 e)
   where
-    by : (b : Bool) → cond b (Some entry.1) (lookup test entries) ≡ Some node → (lookup test entries ≡ Some node → 0 < length node.items) → 0 < length node.items
-    by true e rest = let same : entry.1 ≡ node = cc in subst (λ (n : Node). 0 < length n.items) same all.0.filled
+    by : (b : Bool) → cond b (Some entry.1) (lookup test entries) ≡ Some node → (lookup test entries ≡ Some node → 0 < length node) → 0 < length node
+    by true e rest = let same : entry.1 ≡ node = cc in subst (λ (n : Node). 0 < length n) same all.0.filled
     by false e rest = rest e
 
-some_filled : (xs : List RRset) → 0 < length xs → some_sets xs ≡ Some xs
+pub some_filled : (xs : List RRset) → 0 < length xs → some_sets xs ≡ Some xs
 some_filled [] some = absurd (omega (arith, some))
 some_filled (x ∷ xs) some = refl
+
+-- Sets are none, or some, as a slice's `is_empty` says it.
+pub no_sets : (xs : List RRset) (b : Bool) → b ≡ (length xs == 0) → b ≡ true → xs ≡ []
+no_sets [] b e f = refl
+no_sets (x ∷ xs) b e f = absurd (let none = eqb-true (length (x ∷ xs)) 0 (sym e ∙ f) in omega (arith, none))
+
+pub more_sets : (xs : List RRset) (b : Bool) → b ≡ (length xs == 0) → b ≡ false → 0 < length xs
+more_sets [] b e f = absurd (eqb-false (length {A = RRset} []) 0 (sym e ∙ f) refl)
+more_sets (x ∷ xs) b e f = omega arith
 
 -- The sets under a name's key are the name's, if it owns some.
 pub owned_by : (entries : Entries) (zone : List RRset) (name : DomainName) → IsZone name_key sets entries → sets_of name_key sets entries ≡ zone
@@ -76,11 +61,11 @@ owned_by entries zone name is view =
   where
     by : (found : Option Node) → lookup (is_at (name_cmp name)) entries ≡ found → option_map sets found ≡ some_sets (node_sets name_key sets found)
     by None e = refl
-    by (Some node) e = sym (some_filled node.items (filled_at (is_at (name_cmp name)) entries node is.nodes e))
+    by (Some node) e = sym (some_filled node (filled_at (is_at (name_cmp name)) entries node is.nodes e))
 
 -- ---- the nearest owner
 module _ {Y : Type 0} (g : DomainName → Option Y) where
-  at_from : (fqdn : Bool) (labels : List (List ℕ)) (o : DomainName) (y : Y) → nearest_from g fqdn labels ≡ Some (o, y) → g o ≡ Some y
+  pub at_from : (fqdn : Bool) (labels : List (List ℕ)) (o : DomainName) (y : Y) → nearest_from g fqdn labels ≡ Some (o, y) → g o ≡ Some y
   at_from fqdn [] o y e = by (g (domain_name fqdn [])) refl e
     where
       by : (r : Option Y) → g (domain_name fqdn []) ≡ r → option_map {U = DomainName × Y} (λ x. (domain_name fqdn [], x)) r ≡ Some (o, y) → g o ≡ Some y
@@ -161,16 +146,28 @@ module _ (zone : List RRset) (key owner : DomainName) (own : List RRset) (e : ne
           = subst (λ (p : DomainName). (beq p.fqdn key.fqdn && is_at_or_below p key) ≡ true) (sym named) (rw (same_flag key.fqdn) (below-up key 0)) in
           absurd (true≢false (sym on ∙ off))
 
-  pub delegation_from : (t : RecordType) → (beq owner.fqdn key.fqdn && is_at_or_below owner key) ≡ false → cut_found (nearest_in (cut_at zone) owner) ≡ delegation zone key t
+  pub delegation_from : (t : RecordType) → owned zone key ≡ None → cut_found (nearest_in (cut_at zone) owner) ≡ delegation zone key t
   delegation_from t off =
       ap cut_found (sym same_cuts) ∙ by (same_record_type t kind.DS)
     where
       none : cut_at zone key ≡ None
-      none = ap (option_map (λ (set : RRset). cond (is_some (rrset_at zone key kind.SOA)) None (Some set))) (none_typed zone key kind.NS (unowned off))
+      none = ap (option_map (λ (set : RRset). cond (is_some (rrset_at zone key kind.SOA)) None (Some set))) (none_typed zone key kind.NS off)
 
       by : (b : Bool) → cut_found (nearest_in (cut_at zone) key) ≡ cond b (cut_found (above (cut_at zone) key)) (cut_found (nearest_in (cut_at zone) key))
       by true = ap cut_found (nearest_above_it (cut_at zone) key none)
       by false = refl
+
+-- Where a name owns nothing and the name above it owns sets, that is the nearest.
+pub nearest_parent : (zone : List RRset) (key : DomainName) (own : List RRset) → owned zone key ≡ None → owned zone (parent key) ≡ Some own → nearest_in (owned zone) key ≡ Some (parent key, own)
+nearest_parent zone key own none some =
+    nearest_above_it (owned zone) key none
+    ∙ above_parent (owned zone) key (λ root. by root)
+    ∙ nearest_here (owned zone) (parent key) own some
+  where
+    by : key.labels ≡ [] → ⊥
+    by root =
+        let same : parent key ≡ key = ap (λ (labels : List (List ℕ)). domain_name key.fqdn (drop 1 labels)) root ∙ ap (domain_name key.fqdn) (sym root) in
+        true≢false (sym (ap is_some (sym (ap (owned zone) same) ∙ some)) ∙ ap is_some none)
 
 -- A name that owns sets exists.
 alike : (name other : DomainName) → name_eq name other ≡ true → (beq other.fqdn name.fqdn && is_at_or_below other name) ≡ true

@@ -15,7 +15,8 @@ use Rattle.std.proofs.lemmas.Map.Text.{is_eq-slice_cmp}
 use Rattle.zst_handler.specs.dnw_name.DomainName.{DomainName}
 use Rattle.zst_handler.specs.zst_record.RecordSets.{RRset}
 use Rattle.zst_key.specs.NameKeys.{name_key}
-use Rattle.zst_map.specs.ZoneMaps.{IsNode, exists_alike, sets_of}
+use Rattle.zst_map.specs.ZoneMaps.{IsNode, exists_alike}
+use Rattle.zst_map.proofs.Entries.{sets_of}
 use Rattle.zst_map.proofs.Keys.{begins}
 use Rattle.zst_map.proofs.ZoneEntries.{at_key, key_cmp, same_octets}
 use Rattle.zst_map.proofs.ZoneNodes.{exists_from, first_begins, from_key}

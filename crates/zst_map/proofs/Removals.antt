@@ -1,12 +1,9 @@
 -- A zone without one set: what the map's own calls say of it.
-use Rattle.std.proofs.Common.{◌≡◌, ℕ, ◌-◌, ◌∙◌, refl, sym, ap, subst, length, get_or}
+use Rattle.std.proofs.Common.{◌≡◌, ℕ, ◌∙◌, refl, sym, ap, subst}
 use Rattle.std.specs.Prelude.{Bool, true, false, List, [], ◌∷◌, Option, Some, None, cond, find}
 use Rattle.std.specs.BTreeMap.{is_at}
-use Rattle.std.specs.List.{AllByRecursion}
-use Rattle.std.specs.List.Sorted.{IsStrictlySortedBy}
-use Rattle.std.specs.Map.{keys_of, lookup, remove_entry, set_value}
+use Rattle.std.specs.Map.{lookup}
 use Rattle.std.specs.Str.{bytes_eq}
-use Rattle.std.specs.declared.cmp.Ordering.{Ordering}
 use Rattle.std.proofs.lemmas.Bool.{true≢false}
 use Rattle.zst_handler.specs.dnw_codes.declared.record_type.RecordType.{RecordType}
 use Rattle.zst_handler.specs.dnw_codes.RecordType.{same_record_type}
@@ -15,15 +12,15 @@ use Rattle.zst_handler.specs.dnw_name.NameOrderLaws.{name_eq-by_cmp}
 use Rattle.zst_handler.specs.zst_record.RecordLaws.{name_eq_equiv}
 use Rattle.zst_handler.specs.zst_record.RecordSets.{RRset}
 use Rattle.zst_key.specs.NameKeys.{name_key}
-use Rattle.zst_key.proofs.KeyOrder.{keys-order}
 use Rattle.zst_handler.specs.Updates.{Replaces}
 use Rattle.zst_handler.specs.Zones.{rrset_at}
 use Rattle.zst_map.specs.Changes.{is_only, set_of_type, without_type}
-use Rattle.zst_map.specs.ZoneMaps.{IsNode, IsZone, sets_of}
+use Rattle.zst_map.specs.ZoneMaps.{IsNode}
+use Rattle.zst_map.proofs.Entries.{IsZone, sets_of}
 use Rattle.zst_map.proofs.Keys.{same_key}
-use Rattle.zst_map.proofs.NodeSets.{find_without, node_without}
-use Rattle.zst_map.proofs.ZoneEntries.{at_key, node_found, node_sets, nodes_removed, nodes_set, replaced, same_octets, stored_at}
-use Rattle.zst_map.proofs.ZoneMapsBy.{Entries, Node, looked_by_key, sets, sorted_by_key}
+use Rattle.zst_map.proofs.NodeSets.{find_without}
+use Rattle.zst_map.proofs.ZoneEntries.{at_key, node_found, node_sets, replaced, same_octets, stored_at}
+use Rattle.zst_map.proofs.ZoneMapsBy.{Entries, Node, looked_by_key, sets}
 use Rattle.zst_map.proofs.ZoneNodes.{is_of_type}
 
 -- ---- keys of names, as the map's calls compare them
@@ -38,25 +35,14 @@ updated old new key o looked name =
     ∙ ap (λ (b : Bool). cond b o (lookup (is_at (name_cmp name)) old)) (tested key name)
     ∙ ap (λ (u : Option Node). cond (bytes_eq (name_key name) (name_key key)) o u) (looked_by_key name old)
 
-removed_by_key : (key : DomainName) (entries : Entries) → remove_entry (is_at (name_cmp key)) entries ≡ remove_entry (at_key name_key sets (name_key key)) entries
-removed_by_key key entries = ap (λ (R : DomainName → DomainName → Ordering). remove_entry (is_at (R key)) entries) (sym keys-order)
-
-set_by_key : (key : DomainName) (entries : Entries) (w : Node) → set_value (is_at (name_cmp key)) entries w ≡ set_value (at_key name_key sets (name_key key)) entries w
-set_by_key key entries w = ap (λ (R : DomainName → DomainName → Ordering). set_value (is_at (R key)) entries w) (sym keys-order)
-
 -- ---- the owner's only set
 only_without : (ss : List RRset) (t : RecordType) → is_only ss t ≡ true → without_type ss t ≡ []
 only_without [] t one = absurd (true≢false (sym one))
 only_without (s ∷ []) t one = ap (λ (b : Bool). cond b [] (s ∷ [])) one
 only_without (s ∷ u ∷ ss) t one = absurd (true≢false (sym one))
 
-pub only_found : (ss : List RRset) (t : RecordType) (d : RRset) → is_only ss t ≡ true → find (is_of_type t) ss ≡ Some (get_or ss (length ss - 1) d)
-only_found [] t d one = absurd (true≢false (sym one))
-only_found (s ∷ []) t d one = ap (λ (b : Bool). cond b (Some s) None) one
-only_found (s ∷ u ∷ ss) t d one = absurd (true≢false (sym one))
-
 -- ---- what stands under the key
-pub node_at : (entries : Entries) (key : DomainName) (v : Node) → IsZone name_key sets entries → Some v ≡ lookup (is_at (name_cmp key)) entries → IsNode (name_key key) v.items
+pub node_at : (entries : Entries) (key : DomainName) (v : Node) → IsZone name_key sets entries → Some v ≡ lookup (is_at (name_cmp key)) entries → IsNode (name_key key) v
 node_at entries key v is there = node_found name_key sets (name_key key) entries v is.nodes (sym (looked_by_key key entries) ∙ sym there)
 
 pub set_taken : (entries : Entries) (zone : List RRset) (key : DomainName) (t : RecordType) (o : Option Node) → IsZone name_key sets entries → sets_of name_key sets entries ≡ zone
@@ -74,41 +60,24 @@ none_there t u = by (same_record_type t u)
     by true = refl
     by false = refl
 
--- the owner went with its only set
-pub zone_removed : (old new : Entries) (key : DomainName) → IsZone name_key sets old → new ≡ remove_entry (is_at (name_cmp key)) old → IsStrictlySortedBy name_cmp (keys_of new)
-    → IsZone name_key sets new
-zone_removed old new key was is sorted = record {
-  nodes = subst (λ (es : Entries). AllByRecursion (λ entry. IsNode (name_key entry.0) (sets entry.1)) es) (sym (is ∙ removed_by_key key old)) (nodes_removed name_key sets (name_key key) old was.nodes);
-  ordered = sorted_by_key new sorted;
-}
-
 pub removes_only : (old new : Entries) (zone : List RRset) (key : DomainName) (t : RecordType) (v : Node) → IsZone name_key sets old → IsZone name_key sets new → sets_of name_key sets old ≡ zone
-    → Some v ≡ lookup (is_at (name_cmp key)) old → is_only v.items t ≡ true
+    → Some v ≡ lookup (is_at (name_cmp key)) old → is_only v t ≡ true
     → ((q : DomainName) → lookup (is_at (name_cmp q)) new ≡ cond (is_at (name_cmp key) q) None (lookup (is_at (name_cmp q)) old))
     → Replaces zone key t None (sets_of name_key sets new)
 removes_only old new zone key t v was is view there one looked =
     subst (λ (z : List RRset). Replaces z key t None (sets_of name_key sets new)) view
     (replaced name_key sets old new key t None None was is (updated old new key None looked)
-    (λ u. ap (find (is_of_type u)) (sym (only_without v.items t one)) ∙ find_without t u v.items (node_at old key v was there).rise
+    (λ u. ap (find (is_of_type u)) (sym (only_without v t one)) ∙ find_without t u v (node_at old key v was there).rise
     ∙ ap (λ (o : Option Node). cond (same_record_type t u) None (find (is_of_type u) (node_sets name_key sets o))) (there ∙ looked_by_key key old)))
 
--- the owner keeps its other sets
-pub zone_set : (old new : Entries) (key : DomainName) (t : RecordType) (v w : Node) → IsZone name_key sets old → new ≡ set_value (is_at (name_cmp key)) old w → IsStrictlySortedBy name_cmp (keys_of new)
-    → Some v ≡ lookup (is_at (name_cmp key)) old → w.items ≡ without_type v.items t → is_only v.items t ≡ false → IsZone name_key sets new
-zone_set old new key t v w was is sorted there left two = record {
-  nodes = subst (λ (es : Entries). AllByRecursion (λ entry. IsNode (name_key entry.0) (sets entry.1)) es) (sym (is ∙ set_by_key key old w))
-      (nodes_set name_key sets (name_key key) w old (subst (IsNode (name_key key)) (sym left) (node_without (name_key key) v.items t (node_at old key v was there) two)) was.nodes);
-  ordered = sorted_by_key new sorted;
-}
-
 pub removes_among : (old new : Entries) (zone : List RRset) (key : DomainName) (t : RecordType) (v w : Node) → IsZone name_key sets old → IsZone name_key sets new → sets_of name_key sets old ≡ zone
-    → Some v ≡ lookup (is_at (name_cmp key)) old → w.items ≡ without_type v.items t
+    → Some v ≡ lookup (is_at (name_cmp key)) old → w ≡ without_type v t
     → ((q : DomainName) → lookup (is_at (name_cmp q)) new ≡ cond (is_at (name_cmp key) q) (Some w) (lookup (is_at (name_cmp q)) old))
     → Replaces zone key t None (sets_of name_key sets new)
 removes_among old new zone key t v w was is view there left looked =
     subst (λ (z : List RRset). Replaces z key t None (sets_of name_key sets new)) view
     (replaced name_key sets old new key t None (Some w) was is (updated old new key (Some w) looked)
-    (λ u. ap (find (is_of_type u)) left ∙ find_without t u v.items (node_at old key v was there).rise
+    (λ u. ap (find (is_of_type u)) left ∙ find_without t u v (node_at old key v was there).rise
     ∙ ap (λ (o : Option Node). cond (same_record_type t u) None (find (is_of_type u) (node_sets name_key sets o))) (there ∙ looked_by_key key old)))
 
 -- nothing is there

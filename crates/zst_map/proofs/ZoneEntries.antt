@@ -2,8 +2,7 @@
 use Rattle.std.proofs.Common.{◌≡◌, ℕ, refl, ap, sym, ◌∙◌, subst, length, arith}
 use Rattle.std.specs.Prelude.{Bool, true, false, ◌&&◌, List, [], ◌∷◌, ◌++◌, Option, Some, None, cond, find}
 use Rattle.std.specs.List.{AllByRecursion}
-use Rattle.std.specs.List.Sorted.{IsStrictlySortedBy}
-use Rattle.std.specs.Map.{keys_of, lookup, remove_entry, set_value}
+use Rattle.std.specs.Map.{keys_of, lookup}
 use Rattle.std.specs.BTreeMap.{is_at, insert_entry}
 use Rattle.std.specs.Ordering.{nat_cmp, is_eq, match_ordering}
 use Rattle.std.specs.declared.cmp.Ordering.{Ordering}
@@ -21,7 +20,8 @@ use Rattle.zst_handler.specs.Updates.{Replaces}
 use Rattle.zst_handler.specs.Zones.{rrset_at}
 use Rattle.zst_map.specs.Changes.{made, owner_of, set_of_type, type_in, with_change}
 use Rattle.zst_map.specs.declared.change.Change.{Change}
-use Rattle.zst_map.specs.ZoneMaps.{IsNode, IsZone, sets_of}
+use Rattle.zst_map.specs.ZoneMaps.{IsNode}
+use Rattle.zst_map.proofs.Entries.{IsZone, sets_of}
 use Rattle.zst_map.proofs.Keys.{same_key}
 use Rattle.zst_map.proofs.ZoneNodes.{is_of_type, set_in, stored_in}
 use Rattle.zst_map.proofs.NodeSets.{find_change}
@@ -42,12 +42,6 @@ module _ {K V : Type 0} (octets : K → List ℕ) (sets : V → List RRset) wher
   test : (q : List ℕ) (k : K) → at_key q k ≡ bytes_eq q (octets k)
   test q k = is_eq-slice_cmp q (octets k)
 
-  at_same : (q k : List ℕ) (e : K) → at_key k e ≡ true → at_key q e ≡ bytes_eq q k
-  at_same q k e h = test q e ∙ ap (bytes_eq q) (sym (same_octets k (octets e) (sym (test k e) ∙ h)))
-
-  not_at : (q k : List ℕ) (e : K) → at_key k e ≡ false → bytes_eq q k ≡ true → at_key q e ≡ false
-  not_at q k e h same = ap (λ (t : List ℕ). at_key t e) (same_octets q k same) ∙ h
-
   node_step : (a : Bool) (k : List ℕ) (e : K × V) (o : Option V) (v : V) → cond a (Some e.1) o ≡ Some v
       → (a ≡ true → IsNode k (sets e.1)) → (o ≡ Some v → IsNode k (sets v)) → IsNode k (sets v)
   node_step true k e o v found h more = let g : e.1 ≡ v = cc in subst (λ (t : V). IsNode k (sets t)) g (h refl)
@@ -62,44 +56,6 @@ module _ {K V : Type 0} (octets : K → List ℕ) (sets : V → List RRset) wher
       (node_found k es v nodes.1)
 
   -- ---- with a value under a key
-  inserted_pick : (o : Ordering) (q : List ℕ) (k : K) (v : V) (e : K × V) (es rest : List (K × V)) → slice_cmp nat_cmp (octets k) (octets e.0) ≡ o
-      → lookup (at_key q) rest ≡ cond (bytes_eq q (octets k)) (Some v) (lookup (at_key q) es)
-      → lookup (at_key q) (match_ordering o ((k, v) ∷ e ∷ es) ((e.0, v) ∷ es) (e ∷ rest)) ≡ cond (bytes_eq q (octets k)) (Some v) (lookup (at_key q) (e ∷ es))
-  inserted_pick Less q k v e es rest is more = ap (λ (t : Bool). cond t (Some v) (lookup (at_key q) (e ∷ es))) (test q k)
-  inserted_pick Equal q k v e es rest is more = rw (at_same q (octets k) e.0 (ap is_eq is)) (by (bytes_eq q (octets k)))
-    where
-      by : (b : Bool) → cond b (Some v) (lookup (at_key q) es) ≡ cond b (Some v) (cond b (Some e.1) (lookup (at_key q) es))
-      by true = refl
-      by false = refl
-  inserted_pick Greater q k v e es rest is more = by (bytes_eq q (octets k)) refl
-    where
-      by : (b : Bool) → bytes_eq q (octets k) ≡ b → cond (at_key q e.0) (Some e.1) (lookup (at_key q) rest) ≡ cond b (Some v) (lookup (at_key q) (e ∷ es))
-      by true t =
-          let off : at_key q e.0 ≡ false = not_at q (octets k) e.0 (ap is_eq is) t in
-          let r : lookup (at_key q) rest ≡ Some v = more ∙ ap (λ (u : Bool). cond u (Some v) (lookup (at_key q) es)) t in
-          rw (off, r) refl
-      by false t =
-          let r : lookup (at_key q) rest ≡ lookup (at_key q) es = more ∙ ap (λ (u : Bool). cond u (Some v) (lookup (at_key q) es)) t in
-          rw r refl
-
-  pub lookup_inserted : (q : List ℕ) (k : K) (v : V) (es : List (K × V))
-      → lookup (at_key q) (insert_entry key_cmp es k v) ≡ cond (bytes_eq q (octets k)) (Some v) (lookup (at_key q) es)
-  lookup_inserted q k v [] = ap (λ (t : Bool). cond t (Some v) None) (test q k)
-  lookup_inserted q k v (e ∷ es) =
-      inserted_pick (slice_cmp nat_cmp (octets k) (octets e.0)) q k v e es (insert_entry key_cmp es k v) refl (lookup_inserted q k v es)
-
-  inserted_step : (o : Ordering) (k : K) (v : V) (e : K × V) (es rest : List (K × V)) → slice_cmp nat_cmp (octets k) (octets e.0) ≡ o
-      → IsNode (octets k) (sets v) → AreNodes (e ∷ es) → AreNodes rest → AreNodes (match_ordering o ((k, v) ∷ e ∷ es) ((e.0, v) ∷ es) (e ∷ rest))
-  inserted_step Less k v e es rest is h nodes more = (h, nodes)
-  inserted_step Equal k v e es rest is h nodes more =
-      (subst (λ (t : List ℕ). IsNode t (sets v)) (same_octets (octets k) (octets e.0) (sym (is_eq-slice_cmp (octets k) (octets e.0)) ∙ ap is_eq is)) h, nodes.1)
-  inserted_step Greater k v e es rest is h nodes more = (nodes.0, more)
-
-  pub nodes_inserted : (k : K) (v : V) (es : List (K × V)) → IsNode (octets k) (sets v) → AreNodes es → AreNodes (insert_entry key_cmp es k v)
-  nodes_inserted k v [] h nodes = (h, tt)
-  nodes_inserted k v (e ∷ es) h nodes =
-      inserted_step (slice_cmp nat_cmp (octets k) (octets e.0)) k v e es (insert_entry key_cmp es k v) refl h nodes (nodes_inserted k v es h nodes.1)
-
   -- ---- the zone
   abbrev pub node_sets : Option V → List RRset
   node_sets None = []
@@ -140,22 +96,6 @@ module _ {K V : Type 0} (octets : K → List ℕ) (sets : V → List RRset) wher
   stored_at es name t is = stored_in octets sets name t es is.nodes is.ordered ∙ find_in_node (lookup (at_key (name_key name)) es) t
 
   -- ---- with another value under a key, or none
-  pub nodes_set : (k : List ℕ) (w : V) (es : List (K × V)) → IsNode k (sets w) → AreNodes es → AreNodes (set_value (at_key k) es w)
-  nodes_set k w [] node nodes = tt
-  nodes_set k w (e ∷ es) node nodes = by (at_key k e.0) refl (nodes_set k w es node nodes.1)
-    where
-      by : (b : Bool) → at_key k e.0 ≡ b → AreNodes (set_value (at_key k) es w) → AreNodes (cond b ((e.0, w) ∷ es) (e ∷ set_value (at_key k) es w))
-      by true at more = (subst (λ (t : List ℕ). IsNode t (sets w)) (same_octets k (octets e.0) (sym (test k e.0) ∙ at)) node, nodes.1)
-      by false at more = (nodes.0, more)
-
-  pub nodes_removed : (k : List ℕ) (es : List (K × V)) → AreNodes es → AreNodes (remove_entry (at_key k) es)
-  nodes_removed k [] nodes = tt
-  nodes_removed k (e ∷ es) nodes = by (at_key k e.0) (nodes_removed k es nodes.1)
-    where
-      by : (b : Bool) → AreNodes (remove_entry (at_key k) es) → AreNodes (cond b es (e ∷ remove_entry (at_key k) es))
-      by true more = nodes.1
-      by false more = (nodes.0, more)
-
   -- ---- after a value is written under a key
   found_first : (a : Bool) (x v : V) (o : Option V) → cond a (Some x) o ≡ Some v → a ≡ true → x ≡ v
   found_first true x v o e h = cc
@@ -183,21 +123,16 @@ module _ {K V : Type 0} (octets : K → List ℕ) (sets : V → List RRset) wher
   same_sets k (e ∷ es) v w found same keys =
       same_step (slice_cmp nat_cmp (octets k) (octets e.0)) k e es (insert_entry key_cmp es k w) v w found same keys (λ f later. same_sets k es v w f same later)
 
-  pub zone_inserted : (k : K) (old new : List (K × V)) (w : V) → IsZone octets sets old → new ≡ insert_entry key_cmp old k w
-      → IsStrictlySortedBy key_cmp (keys_of new) → IsNode (octets k) (sets w) → IsZone octets sets new
-  zone_inserted k old new w was is sorted node =
-      record { nodes = subst AreNodes (sym is) (nodes_inserted k w old node was.nodes); ordered = sorted }
-
-  pub changes_inserted : (k : K) (old new : List (K × V)) (w : V) (there : Option V) (change : Change) → IsZone octets sets old → IsZone octets sets new
-      → octets k ≡ name_key (owner_of change) → there ≡ lookup (at_key (octets k)) old → new ≡ insert_entry key_cmp old k w → sets w ≡ with_change (node_sets there) change
+  -- The set of one type is what a change makes of it.
+  pub changed_at : (old new : List (K × V)) (w : V) (there : Option V) (change : Change) → IsZone octets sets old → IsZone octets sets new
+      → there ≡ lookup (at_key (name_key (owner_of change))) old → sets w ≡ with_change (node_sets there) change
+      → ((name : DomainName) → lookup (at_key (name_key name)) new ≡ cond (bytes_eq (name_key name) (name_key (owner_of change))) (Some w) (lookup (at_key (name_key name)) old))
       → Replaces (sets_of octets sets old) (owner_of change) (type_in change) (Some (made change (rrset_at (sets_of octets sets old) (owner_of change) (type_in change)))) (sets_of octets sets new)
-  changes_inserted k old new w there change was now same found is holds =
-      let node : node_sets there ≡ node_sets (lookup (at_key (name_key (owner_of change))) old)
-      = ap node_sets (found ∙ ap (λ (t : List ℕ). lookup (at_key t) old) same) in
+  changed_at old new w there change was now found holds looked =
+      let node : node_sets there ≡ node_sets (lookup (at_key (name_key (owner_of change))) old) = ap node_sets found in
       let stored : rrset_at (sets_of octets sets old) (owner_of change) (type_in change) ≡ set_of_type (type_in change) (node_sets there)
       = stored_at old (owner_of change) (type_in change) was ∙ ap (find (is_of_type (type_in change))) (sym node) in
-      replaced old new (owner_of change) (type_in change) _ (Some w) was now
-      (λ name. ap (lookup (at_key (name_key name))) is ∙ lookup_inserted (name_key name) k w old ∙ ap (λ (t : List ℕ). cond (bytes_eq (name_key name) t) (Some w) (lookup (at_key (name_key name)) old)) same)
+      replaced old new (owner_of change) (type_in change) _ (Some w) was now looked
       (λ t. ap (find (is_of_type t)) holds ∙ find_change t (node_sets there) change
       ∙ ap (λ (s : Option RRset). cond (same_record_type (type_in change) t) (Some (made change s)) (find (is_of_type t) (node_sets there))) (sym stored)
       ∙ ap (λ (ss : List RRset). cond (same_record_type (type_in change) t) (Some (made change (rrset_at (sets_of octets sets old) (owner_of change) (type_in change)))) (find (is_of_type t) ss)) node)

@@ -1,11 +1,11 @@
 -- What the map's own calls say of a zone.
-use Rattle.std.proofs.Common.{◌≡◌, ℕ, ◌∙◌, sym, ap, subst, Vec, Global}
-use Rattle.std.specs.Prelude.{Bool, true, false, List, [], ◌∷◌, ◌&&◌, Option, Some, None, cond}
+use Rattle.std.proofs.Common.{◌≡◌, ℕ, ◌∙◌, sym, ap, subst}
+use Rattle.std.specs.Prelude.{Bool, true, List, ◌∷◌, ◌&&◌, Option, Some, None, cond}
 use Rattle.std.specs.Bool.{beq}
 use Rattle.std.specs.List.{filter}
 use Rattle.std.specs.List.Sorted.{IsStrictlySortedBy}
 use Rattle.std.specs.Map.{keys_of, lookup}
-use Rattle.std.specs.BTreeMap.{insert_entry, is_at}
+use Rattle.std.specs.BTreeMap.{is_at}
 use Rattle.std.specs.Ordering.{is_eq, is_le}
 use Rattle.std.specs.declared.cmp.Ordering.{Ordering}
 use Rattle.zst_handler.specs.dnw_name.DomainName.{DomainName, is_at_or_below, name_cmp}
@@ -16,7 +16,8 @@ use Rattle.zst_key.proofs.KeyOrder.{key-order, keys-order}
 use Rattle.zst_handler.specs.zst_record.RecordSets.{RRset}
 use Rattle.zst_handler.specs.Lookups.{sets_of_name}
 use Rattle.zst_handler.specs.Zones.{rrset_at}
-use Rattle.zst_map.specs.ZoneMaps.{IsZone, exists_alike, sets_of}
+use Rattle.zst_map.specs.ZoneMaps.{exists_alike}
+use Rattle.zst_map.proofs.Entries.{IsZone, sets_of}
 use Rattle.zst_map.proofs.Keys.{begins, begins-starts_with}
 use Rattle.zst_map.specs.Changes.{owner_of, set_of_type, type_in}
 use Rattle.zst_map.specs.declared.change.Change.{Change}
@@ -26,18 +27,13 @@ use Rattle.zst_map.proofs.Places.{first_at, found_from, there_exists}
 use Rattle.zst_map.proofs.ZoneNodes.{exists_from, first_begins, from_key}
 
 abbrev pub Node : Type 0
-Node = Vec RRset Global
+Node = List RRset
 
 abbrev pub sets : Node → List RRset
-sets node = node.items
+sets node = node
 
 abbrev pub Entries : Type 0
 Entries = List (NameKey × Node)
-
--- No entries are a zone's.
-pub none_kept : IsZone name_key sets []
-unfolding IsStrictlySortedBy
-none_kept = record { nodes = tt; ordered = tt }
 
 -- The order of names is that of their keys.
 pub looked_by_key : (key : DomainName) (entries : Entries) → lookup (is_at (name_cmp key)) entries ≡ lookup (at_key name_key sets (name_key key)) entries
@@ -45,9 +41,6 @@ looked_by_key key entries = ap (λ (R : DomainName → DomainName → Ordering).
 
 pub from_by_key : (key : DomainName) (entries : Entries) → filter (λ (e : NameKey × Node). is_le (name_cmp key e.0) && true) entries ≡ from_key name_key sets (name_key key) entries
 from_by_key key entries = ap (λ (R : DomainName → DomainName → Ordering). filter (λ (e : NameKey × Node). is_le (R key e.0) && true) entries) (sym keys-order)
-
-pub inserted_by_key : (key : NameKey) (node : Node) (entries : Entries) → insert_entry name_cmp entries key node ≡ insert_entry (key_cmp name_key sets) entries key node
-inserted_by_key key node entries = ap (λ (R : DomainName → DomainName → Ordering). insert_entry R entries key node) (sym keys-order)
 
 pub sorted_by_key : (entries : Entries) → IsStrictlySortedBy name_cmp (keys_of entries) → IsStrictlySortedBy (key_cmp name_key sets) (keys_of entries)
 sorted_by_key entries = subst (λ (R : DomainName → DomainName → Ordering). IsStrictlySortedBy R (keys_of entries)) (sym keys-order)
@@ -82,7 +75,7 @@ set_there entries zone key change there is view same found =
     ∙ ap (λ (o : Option Node). set_of_type (type_in change) (node_sets name_key sets o)) (sym found)
 
 -- ---- what stands at a name
-abbrev from_in : DomainName → Entries → Entries
+abbrev pub from_in : DomainName → Entries → Entries
 from_in key entries = filter (λ (e : NameKey × Node). is_le (name_cmp key e.0) && true) entries
 
 first_in : (entries : Entries) (key : DomainName) (first : Entries) → IsZone name_key sets entries
@@ -96,17 +89,6 @@ pub found_first : (entries : Entries) (key : DomainName) (owner : NameKey) (node
     → from_in key entries ≡ (owner, node) ∷ later → is_eq (name_cmp key owner) ≡ true → Some node ≡ lookup (is_at (name_cmp key)) entries
 found_first entries key owner node later is from same =
     sym (ap (λ (b : Bool). cond b (Some node) None) (ap is_eq (key-order key owner) ∙ same)) ∙ first_in entries key ((owner, node) ∷ later) is from
-
--- The first key is another one.
-pub found_past : (entries : Entries) (key : DomainName) (owner : NameKey) (node : Node) (later : Entries) → IsZone name_key sets entries
-    → from_in key entries ≡ (owner, node) ∷ later → is_eq (name_cmp key owner) ≡ false → None ≡ lookup (is_at (name_cmp key)) entries
-found_past entries key owner node later is from other =
-    sym (ap (λ (b : Bool). cond b (Some node) None) (ap is_eq (key-order key owner) ∙ other)) ∙ first_in entries key ((owner, node) ∷ later) is from
-
--- There is no key.
-pub found_none : (entries : Entries) (key : DomainName) → IsZone name_key sets entries
-    → from_in key entries ≡ [] → None ≡ lookup (is_at (name_cmp key)) entries
-found_none entries key is from = first_in entries key [] is from
 
 -- A name under which something stands exists.
 pub exists_there : (entries : Entries) (zone : List RRset) (key : DomainName) (node : Node) → IsZone name_key sets entries → sets_of name_key sets entries ≡ zone

@@ -1,5 +1,5 @@
 -- What a zone's entries say of a name: which set is stored there, and whether it exists.
-use Rattle.std.proofs.Common.{◌≡◌, ℕ, ◌<◌, ◌≤◌, length, refl, ap, sym, ◌∙◌, arith, ⊎_elim}
+use Rattle.std.proofs.Common.{◌≡◌, ℕ, ◌<◌, length, refl, ap, sym, ◌∙◌, arith, ⊎_elim}
 use Rattle.std.specs.Prelude.{Bool, true, false, ◌&&◌, ◌||◌, List, [], ◌∷◌, ◌++◌, Option, Some, None, cond, find, nat_eq, nat_lt}
 use Rattle.std.specs.Bool.{beq}
 use Rattle.std.specs.List.{AllByRecursion, list_any, filter}
@@ -22,7 +22,8 @@ use Rattle.zst_map.proofs.Keys.{begins}
 use Rattle.zst_handler.specs.zst_record.RecordSets.{RRset}
 use Rattle.zst_handler.specs.Zones.{rrset_at}
 use Rattle.zst_map.specs.ZoneMaps.{exists_alike}
-use Rattle.zst_map.specs.ZoneMaps.{IsOwnedAt, IsNode, sets_of}
+use Rattle.zst_map.specs.ZoneMaps.{IsOwnedAt, IsNode}
+use Rattle.zst_map.proofs.Entries.{sets_of}
 use Rattle.zst_map.proofs.Keys.{begins-starts_with, same_key}
 use Rattle.zst_key.proofs.KeyLemmas.{key-below}
 
@@ -151,30 +152,12 @@ begins_between (x ∷ q) (y ∷ k) (z ∷ l) le less e =
     (cases_order x y)
 
 -- ---- a key and one that begins with it
-pub not_begun_differs : (q k : List ℕ) → begins q k ≡ false → bytes_eq q k ≡ false
-not_begun_differs [] [] e = absurd (true≢false e)
-not_begun_differs [] (y ∷ k) e = refl
-not_begun_differs (x ∷ q) [] e = refl
-not_begun_differs (x ∷ q) (y ∷ k) e = by (nat_eq x y) refl (not_begun_differs q k)
-  where
-    by : (b : Bool) → nat_eq x y ≡ b → (begins q k ≡ false → bytes_eq q k ≡ false) → (b && bytes_eq q k) ≡ false
-    by true t more = more (sym (ap (λ (u : Bool). u && begins q k) t) ∙ e)
-    by false t more = refl
-
 pub longer_differs : (q k : List ℕ) → length q < length k → bytes_eq q k ≡ false
 longer_differs q k longer = by (bytes_eq q k) refl
   where
     by : (b : Bool) → bytes_eq q k ≡ b → b ≡ false
     by true t = absurd (omega (arith, longer, ap length ((bytes_eq-Decides q k).0 t)))
     by false t = refl
-
-pub begun_is_same : (q k : List ℕ) → begins q k ≡ true → length k ≤ length q → bytes_eq q k ≡ true
-begun_is_same [] [] e short = refl
-begun_is_same [] (y ∷ k) e short = absurd (omega (arith, short))
-begun_is_same (x ∷ q) [] e short = absurd (true≢false (sym e))
-begun_is_same (x ∷ q) (y ∷ k) e short =
-    let p = and_parts (nat_eq x y) (begins q k) e in
-    rw p.0 (begun_is_same q k p.1 (omega (arith, short)))
 
 -- ---- all entries
 module _ {K V : Type 0} (octets : K → List ℕ) (sets : V → List RRset) where

@@ -16,7 +16,8 @@ use Rattle.zst_handler.specs.dnw_name.DomainName.{name_cmp}
 use Rattle.zst_key.specs.NameKeys.{name_key}
 use Rattle.zst_key.proofs.KeyOrder.{key-order}
 use Rattle.zst_handler.specs.Zones.{AreInOrder, set_cmp}
-use Rattle.zst_map.specs.ZoneMaps.{IsNode, IsOwnedAt, IsZone, TypesRise, sets_of}
+use Rattle.zst_map.specs.ZoneMaps.{IsNode, IsOwnedAt, TypesRise}
+use Rattle.zst_map.proofs.Entries.{IsZone, sets_of}
 
 own_reverse : (o : Ordering) → o ≡ ordering_reverse o → o ≡ Equal
 own_reverse Less e = cc

@@ -20,8 +20,8 @@ abbrev pub match_set : DomainName → Match → RRset
 match_set name found =
     if found.is_wildcard then renamed (lowercase_name name) found.set.now else found.set.now
 
--- What is found for a name and a type, and the sets of an owner beside it; where nothing is, whether
--- the name exists.
+-- What is found for a name and a type, and the sets of an owner beside it; where nothing is,
+-- whether the name exists.
 abbrev pub IsSearch : List RRset → DomainName → RecordType → Search → Type 0
 IsSearch sets name record_type (searches.Found match beside) =
     (found sets name record_type ≡ Some (match_set name match)) × AreOwned sets beside.now

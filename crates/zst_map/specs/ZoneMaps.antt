@@ -1,15 +1,18 @@
 -- How a zone's sets stand in its map: under each owner's key, the owner's sets by rising type.
-use Rattle.std.specs.Prelude.{◌≡◌, ℕ, ◌+◌, ◌<◌, ◌&&◌, Bool, List, [], ◌∷◌, length, if◌then◌else◌, nat_lt, ◌==◌, Option, Some, None, Result, Ok, Err}
+use Rattle.std.specs.Prelude.{◌≡◌, ℕ, ◌+◌, ◌<◌, ◌&&◌, Bool, List, [], ◌∷◌, length, if◌then◌else◌, nat_lt, ◌==◌, Option, Some, None, IsSome, Result, Ok, Err}
 use Rattle.std.specs.Bool.{beq}
 use Rattle.std.specs.List.{AllByRecursion, flat_map, list_any}
 use Rattle.std.specs.List.Sorted.{IsStrictlySortedBy}
-use Rattle.std.specs.Ordering.{nat_cmp}
-use Rattle.std.specs.Cmp.Lexicographic.{slice_cmp}
+use Rattle.std.specs.BTreeMap.{BTreeMap, get}
+use Rattle.std.specs.HashMap.{HashMap}
+use Rattle.std.specs.HashMap.{get as hashed}
 use Rattle.std.specs.Map.{keys_of}
-use Rattle.zst_handler.specs.dnw_name.DomainName.{DomainName, is_at_or_below}
+use Rattle.zst_handler.specs.dnw_name.DomainName.{DomainName, is_at_or_below, name_cmp, name_eq}
 use Rattle.zst_handler.specs.dnw_codes.RecordType.{record_type_number}
 use Rattle.zst_key.specs.NameKeys.{name_key}
+use Rattle.zst_handler.specs.zst_record.OneOrMany.{items_of}
 use Rattle.zst_handler.specs.zst_record.RecordSets.{RRset}
+use Rattle.zst_handler.specs.zst_record.declared.one_or_many.OneOrMany.{OneOrMany}
 use Rattle.zst_handler.specs.Lookups.{sets_of_name}
 use Rattle.zst_map.specs.declared.map.Place.{Place}
 
@@ -62,13 +65,26 @@ place_from i (set ∷ sets) code =
     if nat_lt (record_type_number set.record_type) code then place_from (i + 1) sets code
     else if record_type_number set.record_type == code then Ok i else Err i
 
-module _ {K V : Type 0} (octets : K → List ℕ) (sets : V → List RRset) where
-  -- The zone's sets, by owner, then by type.
-  abbrev pub sets_of : List (K × V) → List RRset
-  sets_of entries = flat_map (λ entry. sets entry.1) entries
+-- The sets of a node, or of none.
+abbrev pub held_sets : Option (OneOrMany RRset) → List RRset
+held_sets None = []
+held_sets (Some node) = items_of node
 
-  -- Each entry is a node, and the keys rise.
-  pub record IsZone (entries : List (K × V)) : Type 0 where
-    pub nodes : AllByRecursion (λ entry. IsNode (octets entry.0) (sets entry.1)) entries
-    pub ordered : IsStrictlySortedBy (λ a b. slice_cmp nat_cmp (octets a) (octets b))
-        (keys_of entries)
+module _ {S : Type 0} where
+  -- The sets under a name's key.
+  abbrev pub held : HashMap DomainName (OneOrMany RRset) S → DomainName → List RRset
+  held nodes name = held_sets (hashed name_eq nodes name)
+
+  -- The sets of owners, one owner after the other.
+  abbrev pub sets_in : HashMap DomainName (OneOrMany RRset) S → List (DomainName × Unit {0})
+      → List RRset
+  sets_in nodes owners = flat_map (λ owner. held nodes owner.0) owners
+
+  -- The owners, in order, are the names under whose keys something stands: for each its node.
+  pub record IsKept (owners : BTreeMap DomainName (Unit {0}))
+      (nodes : HashMap DomainName (OneOrMany RRset) S) : Type 0 where
+    pub known : (name : DomainName) → IsSome (hashed name_eq nodes name)
+        → IsSome (get name_cmp owners name)
+    pub each : (name : DomainName) → IsSome (get name_cmp owners name)
+        → IsNode (name_key name) (held nodes name)
+    pub ordered : IsStrictlySortedBy name_cmp (keys_of owners.entries)

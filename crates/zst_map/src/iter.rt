@@ -3,10 +3,11 @@
 ghost use Rattle.std.specs.Prelude.{◌≡◌};
 ghost use Rattle.std.specs.Iterator.{YieldsFirstRef, item_count};
 
-use crate::map::ZoneMap;
+use crate::map::{ZoneMap, sets_under};
+use std::collections::HashMap;
 use std::collections::btree_map::Iter;
 use std::marker::Model;
-use zst_handler::RecordSet;
+use zst_handler::{OneOrMany, RecordSet};
 use zst_key::NameKey;
 
 /// The sets of a zone, in order. A contract sees it as those that are left.
@@ -15,7 +16,9 @@ pub struct ZoneSetsIter<'z> {
     /// The sets of the owner that is shown.
     current: &'z [RecordSet],
     /// The owners behind it.
-    nodes: Iter<'z, NameKey, Vec<RecordSet>>,
+    owners: Iter<'z, NameKey, ()>,
+    /// The sets of each owner.
+    nodes: &'z HashMap<NameKey, OneOrMany<RecordSet>>,
 }
 
 impl<'z> Model for ZoneSetsIter<'z> {
@@ -24,10 +27,9 @@ impl<'z> Model for ZoneSetsIter<'z> {
 
     ghost Value = { List RRset };
 
-    ghost use Rattle.zst_key.specs.NameKeys.{name_key};
-    ghost use Rattle.zst_map.specs.ZoneMaps.{sets_of};
+    ghost use Rattle.zst_map.specs.ZoneMaps.{sets_in};
 
-    ghost view = { λ iter. iter.current.now ++ sets_of name_key (λ node. node.items) iter.nodes };
+    ghost view = { λ iter. iter.current.now ++ sets_in iter.nodes.now iter.owners };
 }
 
 impl<'z> ZoneSetsIter<'z> {
@@ -37,7 +39,8 @@ impl<'z> ZoneSetsIter<'z> {
     {
         ZoneSetsIter {
             current: &[],
-            nodes: map.nodes.iter(),
+            owners: map.owners.iter(),
+            nodes: &map.nodes,
         }
     }
 }
@@ -50,13 +53,13 @@ impl<'z> Iterator for ZoneSetsIter<'z> {
     ghost remaining = { item_count (λ sets. sets) };
 
     fn next(&mut self) -> Option<&'z RecordSet> {
-        'nodes: loop {
+        'owners: loop {
             if let Some((first, later)) = self.current.split_first() {
                 self.current = later;
                 return Some(first);
             }
-            match self.nodes.next() {
-                Some((_, sets)) => self.current = sets,
+            match self.owners.next() {
+                Some((owner, _)) => self.current = sets_under(self.nodes, owner),
                 None => return None,
             }
         }

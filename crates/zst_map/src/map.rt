@@ -1,24 +1,25 @@
 //! The sets of a zone, in the canonical order of their owners.
 
-ghost use Rattle.std.specs.Prelude.{◌≡◌, true, [], None, Some, IfOk, IfSome, OnOk, OnErr, option_map};
-ghost use Rattle.std.specs.List.{AllByRecursion};
-ghost use Rattle.zst_handler.specs.dnw_name.DomainName.{name_eq, lowercase_name};
-ghost use Rattle.zst_handler.specs.dnw_codes.RecordType.{record_type_number};
+ghost use Rattle.std.specs.Prelude.{◌≡◌, ◌<◌, [], None, Some, IfOk, IfSome, OnOk, OnErr, if◌then◌else◌, option_map};
+ghost use Rattle.std.specs.BTreeMap.{get};
+ghost use Rattle.std.specs.HashMap.{spare};
+ghost use Rattle.std.specs.HashMap.{get as hashed};
+ghost use Rattle.std.specs.List.Sorted.{IsStrictlySortedBy};
+ghost use Rattle.std.specs.Map.{keys_of};
+ghost use Rattle.zst_handler.specs.dnw_name.DomainName.{DomainName, lowercase_name, name_cmp, name_eq};
 ghost use Rattle.zst_handler.specs.Lookups.{sets_of_name};
 ghost use Rattle.zst_handler.specs.Updates.{Replaces};
 ghost use Rattle.zst_handler.specs.Zones.{AreInOrder, rrset_at};
-ghost use Rattle.zst_map.specs.Changes.{alters, is_only, made, owner_of, set_of_type, type_in, with_change, without_type};
+ghost use Rattle.zst_map.specs.Changes.{alters, made, owner_of, type_in};
 ghost use Rattle.zst_key.specs.Ancestors.{nearest_in};
-ghost use Rattle.zst_map.specs.ZoneMaps.{AreOwned, IsPlace, TypesRise, owned, place_from};
+ghost use Rattle.zst_map.specs.ZoneMaps.{AreOwned, IsPlace, exists_alike, held, owned};
 
 use crate::change::Change;
+use crate::node::{change_node, is_only, only, take_out};
 use std::alloc::{AllocError, Global};
-use std::cmp::Ordering;
-use std::collections::BTreeMap;
-use std::collections::btree_map::Entry;
+use std::collections::{BTreeMap, HashMap};
 use std::marker::Model;
-use std::mem;
-use zst_handler::{RecordSet, RecordType};
+use zst_handler::{OneOrMany, RecordSet, RecordType};
 use zst_key::{NameKey, nearest_beside};
 
 /// What stands at the name of a key.
@@ -41,11 +42,14 @@ pub(crate) struct Nearest<'z> {
     pub(crate) beside: &'z [RecordSet],
 }
 
-/// The sets of a zone, by owner in canonical order (RFC 4034 section 6.1), then by type.
+/// The sets of a zone, by owner in canonical order (RFC 4034 section 6.1), then by type. What a name owns is found by a
+/// hash, so that it takes as long in a large zone as in a small one; the order is there for what has none.
 #[derive(Drop)]
 pub struct ZoneMap {
+    /// The owners' keys, in order.
+    pub(crate) owners: BTreeMap<NameKey, ()>,
     /// The sets of each owner, by rising type, under the owner's key.
-    pub(crate) nodes: BTreeMap<NameKey, Vec<RecordSet>>,
+    pub(crate) nodes: HashMap<NameKey, OneOrMany<RecordSet>>,
 }
 
 impl Model for ZoneMap {
@@ -54,12 +58,11 @@ impl Model for ZoneMap {
 
     ghost Value = { List RRset };
 
-    ghost use Rattle.zst_key.specs.NameKeys.{name_key};
-    ghost use Rattle.zst_map.specs.ZoneMaps.{sets_of, IsZone};
+    ghost use Rattle.zst_map.specs.ZoneMaps.{IsKept, sets_in};
 
-    ghost view = { λ zone. sets_of name_key (λ node. node.items) zone.nodes.entries };
+    ghost view = { λ zone. sets_in zone.nodes zone.owners.entries };
 
-    ghost invariant = { λ zone. IsZone name_key (λ node. node.items) zone.nodes.entries };
+    ghost invariant = { λ zone. IsKept zone.owners zone.nodes };
 }
 
 impl ZoneMap {
@@ -68,58 +71,42 @@ impl ZoneMap {
         ensures { result ≡ [] }
     {
         ZoneMap {
-            nodes: BTreeMap::new(alloc),
+            owners: BTreeMap::new(alloc),
+            nodes: HashMap::new(alloc),
         }
     }
 
-    /// All sets at the name of a key, by rising type. Where this is the first of all keys, as the origin's is among those
-    /// of its zone, the map is not searched.
-    #[inline(always)]
+    /// All sets at the name of a key, by rising type.
     pub fn sets_at(&self, key: &NameKey) -> &[RecordSet]
         ensures { result.now ≡ sets_of_name self.now key.now }
     {
-        match self.nodes.first_key_value() {
-            Some((owner, sets)) if owner == key => sets,
-            _ => self.searched(key),
-        }
+        sets_under(&self.nodes, key)
     }
 
-    /// All sets at the name of a key, by a search of the map.
-    pub(crate) fn searched(&self, key: &NameKey) -> &[RecordSet]
-        ensures { result.now ≡ sets_of_name self.now key.now }
-    {
-        match self.nodes.get(key) {
-            Some(sets) => sets,
-            None => &[],
-        }
-    }
-
-    /// What stands at the name of a key. Where this is the first of all keys, the map is not searched.
-    #[inline(always)]
+    /// What stands at the name of a key. The order is searched only where the name owns nothing.
     pub(crate) fn place_at(&self, key: &NameKey) -> Place<'_>
         ensures { IsPlace self.now key.now result }
     {
-        match self.nodes.first_key_value() {
-            Some((owner, sets)) if owner == key => Place { sets, exists: true },
-            _ => self.searched_place(key),
-        }
-    }
-
-    /// What stands at the name of a key, by one search of the map: the first key that is not before this one tells. `cmp`
-    /// is cheaper here than `==`.
-    pub(crate) fn searched_place(&self, key: &NameKey) -> Place<'_>
-        ensures { IsPlace self.now key.now result }
-    {
-        match self.nodes.range(key..).next() {
-            Some((owner, sets)) if key.cmp(owner).is_eq() => Place { sets, exists: true },
-            Some((owner, _)) => Place {
-                sets: &[],
-                exists: owner.is_below(key),
+        match self.nodes.get(key) {
+            Some(node) => Place {
+                sets: node.as_slice(),
+                exists: true,
             },
             None => Place {
                 sets: &[],
-                exists: false,
+                exists: self.has_below(key),
             },
+        }
+    }
+
+    // Whether an owner equals the name of a key or lies below it, where both end at the root or neither does: the first key
+    // that is not before this one tells.
+    fn has_below(&self, key: &NameKey) -> bool
+        ensures { result ≡ exists_alike self.now key.now }
+    {
+        match self.owners.range(key..).next() {
+            Some((owner, _)) => owner.is_below(key),
+            None => false,
         }
     }
 
@@ -128,25 +115,25 @@ impl ZoneMap {
         ensures nearest { IfOk result (λ found. option_map (λ near. (near.owner.now, near.sets.now)) found ≡ nearest_in (owned self.now) key.now) }
         ensures beside { IfOk result (λ found. IfSome found (λ near. AreOwned self.now near.beside.now)) }
     {
-        let Some(near) = nearest_beside(&self.nodes, key)? else {
+        let Some(near) = nearest_beside(&self.owners, key)? else {
             return Ok(None);
         };
         match near.beside {
-            Some((_, beside)) => Ok(Some(Nearest {
+            Some((beside, _)) => Ok(Some(Nearest {
                 owner: near.owner,
-                sets: near.value.as_slice(),
-                beside: beside.as_slice(),
+                sets: self.sets_at(near.owner),
+                beside: self.sets_at(beside),
             })),
             None => Ok(Some(Nearest {
                 owner: near.owner,
-                sets: near.value.as_slice(),
+                sets: self.sets_at(near.owner),
                 beside: &[],
             })),
         }
     }
 
     /// Changes the set of an owner, which has this key, and a type, and tells whether that changed it; where there is no
-    /// such set, one is made. The map is searched once.
+    /// such set, one is made.
     pub(crate) fn change(
         &mut self,
         alloc: Global,
@@ -161,17 +148,12 @@ impl ZoneMap {
         ensures before { AreInOrder self.old }
         ensures err { OnErr result (self.new ≡ self.old) }
     {
-        match self.nodes.entry(key) {
-            Ok(Entry::Occupied(entry)) => change_node(alloc, entry.into_mut(), change),
-            Ok(Entry::Vacant(entry)) => {
-                Entry::Vacant(entry).or_try_insert_with(|| node_of(alloc, change))?;
-                Ok(true)
-            }
-            Err(_) => {
-                mem::drop(change);
-                Err(AllocError)
-            }
+        if let Some(node) = self.nodes.get_mut(&key) {
+            return change_node(alloc, node, change);
         }
+        let set = change.into_set(alloc)?;
+        put_owner(&mut self.owners, &mut self.nodes, key, OneOrMany::One(set))?;
+        Ok(true)
     }
 
     /// Takes out the set of an owner, which has this key, and a type.
@@ -180,11 +162,12 @@ impl ZoneMap {
         ensures others { Replaces self.old key.now record_type None self.new }
         ensures ordered { AreInOrder self.new }
     {
-        if is_only(self.searched(key), record_type) {
-            let Some(mut node) = self.nodes.remove(key) else {
+        if is_only(self.sets_at(key), record_type) {
+            self.owners.remove(key);
+            let Some(node) = self.nodes.remove(key) else {
                 return None;
             };
-            return node.pop();
+            return only(node);
         }
         let Some(node) = self.nodes.get_mut(key) else {
             return None;
@@ -196,69 +179,60 @@ impl ZoneMap {
     pub(crate) fn clear(&mut self)
         ensures { self.new ≡ [] }
     {
+        self.owners.clear();
         self.nodes.clear();
     }
 }
 
-/// The sets of an owner that has only one.
-fn node_of(alloc: Global, change: Change) -> Result<Vec<RecordSet>, AllocError>
-    ensures { IfOk result (λ node. node.items ≡ with_change [] change) }
+/// The sets under a key.
+pub(crate) fn sets_under<'z>(
+    nodes: &'z HashMap<NameKey, OneOrMany<RecordSet>>,
+    key: &NameKey,
+) -> &'z [RecordSet]
+    ensures { result.now ≡ held nodes.now key.now }
 {
-    let mut node = Vec::with_capacity(alloc, 1)?;
-    node.push_reserved(change.into_set(alloc)?);
-    Ok(node)
-}
-
-/// Changes a set of an owner, and tells whether that changed it.
-fn change_node(alloc: Global, sets: &mut Vec<RecordSet>, change: Change) -> Result<bool, AllocError>
-    requires owned { AllByRecursion (λ set. name_eq (owner_of change) set.name ≡ true) sets.old.items }
-    requires rise { TypesRise sets.old.items }
-    ensures changed { IfOk result (λ changed. changed ≡ alters change (set_of_type (type_in change) sets.old.items)) }
-    ensures ok { OnOk result (sets.new.items ≡ with_change sets.old.items change) }
-    ensures err { OnErr result (sets.new.items ≡ sets.old.items) }
-{
-    match place_of(sets, change.record_type()) {
-        Ok(place) => change.apply(&mut sets[place]),
-        Err(place) => {
-            let set = change.into_set(alloc)?;
-            sets.insert(place, set)?;
-            Ok(true)
-        }
+    match nodes.get(key) {
+        Some(node) => node.as_slice(),
+        None => &[],
     }
 }
 
-/// Whether the sets of an owner are one, of this type.
-fn is_only(sets: &[RecordSet], record_type: RecordType) -> bool
-    ensures { result ≡ is_only sets.now record_type }
+// Puts in an owner's key and its sets; where memory is wanting, neither.
+fn put_owner(
+    owners: &mut BTreeMap<NameKey, ()>,
+    nodes: &mut HashMap<NameKey, OneOrMany<RecordSet>>,
+    key: NameKey,
+    node: OneOrMany<RecordSet>,
+) -> Result<(), AllocError>
+    ensures nodes { OnOk result ((name : DomainName) → hashed name_eq nodes.new name ≡ (if name_eq key name then Some node else hashed name_eq nodes.old name)) }
+    ensures owners { OnOk result ((name : DomainName) → get name_cmp owners.new name ≡ (if name_eq key name then Some tt else get name_cmp owners.old name)) }
+    ensures ordered { OnOk result (IsStrictlySortedBy name_cmp (keys_of owners.new.entries)) }
+    ensures err_nodes { OnErr result ((name : DomainName) → hashed name_eq nodes.new name ≡ hashed name_eq nodes.old name) }
+    ensures err_owners { OnErr result (owners.new.entries ≡ owners.old.entries) }
 {
-    match sets {
-        [set] => set.record_type() == record_type,
-        _ => false,
+    add_owner(owners, nodes, &key)?;
+    match nodes.insert(key, node) {
+        Ok(_) => Ok(()),
+        Err(_) => Err(AllocError),
     }
 }
 
-/// Takes the set of a type out of an owner's.
-fn take_out(sets: &mut Vec<RecordSet>, record_type: RecordType) -> Option<RecordSet>
-    requires { TypesRise sets.old.items }
-    ensures value { result ≡ set_of_type record_type sets.old.items }
-    ensures others { sets.new.items ≡ without_type sets.old.items record_type }
+// Puts in an owner's key, and makes room for its sets.
+fn add_owner(
+    owners: &mut BTreeMap<NameKey, ()>,
+    nodes: &mut HashMap<NameKey, OneOrMany<RecordSet>>,
+    key: &NameKey,
+) -> Result<(), AllocError>
+    ensures nodes { (name : DomainName) → hashed name_eq nodes.new name ≡ hashed name_eq nodes.old name }
+    ensures room { OnOk result (0 < spare nodes.new) }
+    ensures owners { OnOk result ((name : DomainName) → get name_cmp owners.new name ≡ (if name_eq key.now name then Some tt else get name_cmp owners.old name)) }
+    ensures ordered { OnOk result (IsStrictlySortedBy name_cmp (keys_of owners.new.entries)) }
+    ensures err { OnErr result (owners.new.entries ≡ owners.old.entries) }
 {
-    match place_of(sets, record_type) {
-        Ok(place) => Some(sets.remove(place)),
-        Err(_) => None,
+    nodes.reserve(1)?;
+    let owner = key.clone()?;
+    match owners.insert(owner, ()) {
+        Ok(_) => Ok(()),
+        Err(_) => Err(AllocError),
     }
-}
-
-/// Where the set of a type stands, or where it would go.
-fn place_of(sets: &[RecordSet], record_type: RecordType) -> Result<usize, usize>
-    ensures { result ≡ place_from 0 sets.now (record_type_number record_type) }
-{
-    for (place, set) in sets.iter().enumerate() {
-        match set.record_type().cmp(&record_type) {
-            Ordering::Less => {}
-            Ordering::Equal => return Ok(place),
-            Ordering::Greater => return Err(place),
-        }
-    }
-    Err(sets.len())
 }

@@ -1,14 +1,21 @@
 //! The sets of one owner.
 
-ghost use Rattle.std.specs.Prelude.{◌≡◌, List, find, option_copied};
-ghost use Rattle.zst_handler.specs.dnw_codes.RecordType.{same_record_type};
-ghost use Rattle.zst_handler.specs.dnw_name.DomainName.{DomainName};
+ghost use Rattle.std.specs.Prelude.{◌≡◌, ◌∷◌, ◌<◌, [], false, true, List, Some, IfOk, OnErr, OnOk, find, length, option_copied, slice_get, slice_set};
+ghost use Rattle.std.specs.List.{AllByRecursion};
+ghost use Rattle.zst_handler.specs.dnw_codes.RecordType.{record_type_number, same_record_type};
+ghost use Rattle.zst_handler.specs.dnw_name.DomainName.{DomainName, name_eq};
+ghost use Rattle.zst_handler.specs.zst_record.OneOrMany.{items_of};
 ghost use Rattle.zst_handler.specs.zst_record.RecordSets.{RRset};
 ghost use Rattle.zst_handler.specs.Found.{cut_at, here, is_address};
 ghost use Rattle.zst_handler.specs.Lookups.{sets_of_name};
+ghost use Rattle.zst_map.specs.Changes.{alters, is_only, made, owner_of, set_of_type, type_in, with_change, without_type};
 ghost use Rattle.zst_map.specs.Searches.{lent};
+ghost use Rattle.zst_map.specs.ZoneMaps.{TypesRise, place_from};
 
-use zst_handler::{RecordSet, RecordType};
+use crate::change::Change;
+use std::alloc::{AllocError, Global};
+use std::cmp::Ordering;
+use zst_handler::{OneOrMany, RecordSet, RecordType};
 
 /// The set of a type.
 pub(crate) fn find_set(sets: &[RecordSet], record_type: RecordType) -> Option<&RecordSet>
@@ -55,4 +62,98 @@ pub(crate) fn cut_of(sets: &[RecordSet]) -> Option<Option<&RecordSet>>
         Some(_) => Some(None),
         None => Some(Some(servers)),
     }
+}
+
+/// Changes a set of an owner, and tells whether that changed it.
+pub(crate) fn change_node(
+    alloc: Global,
+    sets: &mut OneOrMany<RecordSet>,
+    change: Change,
+) -> Result<bool, AllocError>
+    requires owned { AllByRecursion (λ set. name_eq (owner_of change) set.name ≡ true) (items_of sets.old) }
+    requires rise { TypesRise (items_of sets.old) }
+    ensures changed { IfOk result (λ changed. changed ≡ alters change (set_of_type (type_in change) (items_of sets.old))) }
+    ensures ok { OnOk result (items_of sets.new ≡ with_change (items_of sets.old) change) }
+    ensures err { OnErr result (items_of sets.new ≡ items_of sets.old) }
+{
+    match place_of(sets.as_slice(), change.record_type()) {
+        Ok(place) => change_at(sets, place, change),
+        Err(place) => {
+            let set = change.into_set(alloc)?;
+            sets.insert(alloc, place, set)?;
+            Ok(true)
+        }
+    }
+}
+
+// Changes the set at a place, which is the one of the owner and the type, and tells whether that changed it.
+fn change_at(
+    sets: &mut OneOrMany<RecordSet>,
+    place: usize,
+    change: Change,
+) -> Result<bool, AllocError>
+    requires place { place < length (items_of sets.old) }
+    requires owner { (set : RRset) → slice_get (items_of sets.old) place ≡ Some set → name_eq (owner_of change) set.name ≡ true }
+    requires kind { (set : RRset) → slice_get (items_of sets.old) place ≡ Some set → same_record_type (type_in change) set.record_type ≡ true }
+    ensures changed { IfOk result (λ changed. changed ≡ alters change (slice_get (items_of sets.old) place)) }
+    ensures ok { OnOk result (items_of sets.new ≡ slice_set (items_of sets.old) place (made change (slice_get (items_of sets.old) place))) }
+    ensures err { OnErr result (items_of sets.new ≡ items_of sets.old) }
+{
+    match sets {
+        OneOrMany::One(set) => change.apply(set),
+        OneOrMany::Many(sets) => change.apply(&mut sets[place]),
+    }
+}
+
+/// Whether the sets of an owner are one, of this type.
+pub(crate) fn is_only(sets: &[RecordSet], record_type: RecordType) -> bool
+    ensures { result ≡ is_only sets.now record_type }
+{
+    match sets {
+        [set] => set.record_type() == record_type,
+        _ => false,
+    }
+}
+
+/// The only set of an owner.
+pub(crate) fn only(sets: OneOrMany<RecordSet>) -> Option<RecordSet>
+    ensures { (set : RRset) → items_of sets ≡ set ∷ [] → result ≡ Some set }
+{
+    match sets {
+        OneOrMany::One(set) => Some(set),
+        OneOrMany::Many(sets) => {
+            let mut sets = sets;
+            sets.pop()
+        }
+    }
+}
+
+/// Takes the set of a type out of an owner's, where it is not the only one.
+pub(crate) fn take_out(
+    sets: &mut OneOrMany<RecordSet>,
+    record_type: RecordType,
+) -> Option<RecordSet>
+    requires rise { TypesRise (items_of sets.old) }
+    requires others { is_only (items_of sets.old) record_type ≡ false }
+    ensures value { result ≡ set_of_type record_type (items_of sets.old) }
+    ensures others { items_of sets.new ≡ without_type (items_of sets.old) record_type }
+{
+    match place_of(sets.as_slice(), record_type) {
+        Ok(place) => sets.remove(place),
+        Err(_) => None,
+    }
+}
+
+/// Where the set of a type stands, or where it would go.
+fn place_of(sets: &[RecordSet], record_type: RecordType) -> Result<usize, usize>
+    ensures { result ≡ place_from 0 sets.now (record_type_number record_type) }
+{
+    for (place, set) in sets.iter().enumerate() {
+        match set.record_type().cmp(&record_type) {
+            Ordering::Less => {}
+            Ordering::Equal => return Ok(place),
+            Ordering::Greater => return Err(place),
+        }
+    }
+    Err(sets.len())
 }

@@ -312,27 +312,54 @@ impl ZoneSets {
         if self.index.has_cuts {
             return None;
         }
-        here(self.sets.searched(key), record_type)
+        here(self.sets.sets_at(key), record_type)
     }
 
-    /// What `search` answers; where it answers nothing, whether the name exists. The map is searched once for the name, and
-    /// once for a cut that is found. For the zone's start and a name right below it no cut is searched.
+    /// What `search` answers; where it answers nothing, whether the name exists. The sets of a name are found by a hash; the
+    /// order of names is searched where the name owns nothing, and for a cut that isn't at the name or right above it.
     #[inline(always)]
     pub fn find(&self, key: &NameKey, record_type: RecordType) -> Result<Search<'_>, AllocError>
         ensures { IfOk result (IsSearch self.now key.now record_type) }
     {
         if !self.index.has_cuts {
-            return self.find_uncut(key, self.sets.searched_place(key), record_type);
+            return self.find_uncut(key, self.sets.place_at(key), record_type);
         }
         match self.start_above(key) {
             Some(start) => self.find_near(key, start, record_type),
-            None if self.is_start(key) => self.find_start(key, record_type),
             None => self.find_deep(key, record_type),
         }
     }
 
-    // What `find` answers, by the nearest owner from the name up.
+    // What `find` answers, by the name's own sets first.
     fn find_deep(&self, key: &NameKey, record_type: RecordType) -> Result<Search<'_>, AllocError>
+        ensures { IfOk result (IsSearch self.now key.now record_type) }
+    {
+        let sets = self.sets.sets_at(key);
+        if sets.is_empty() {
+            return self.find_above(key, record_type);
+        }
+        self.find_at(key, Place { sets, exists: true }, record_type)
+    }
+
+    // What `find` answers to a name that owns nothing, by the sets of the name above, which a hash finds at once.
+    fn find_above(&self, key: &NameKey, record_type: RecordType) -> Result<Search<'_>, AllocError>
+        requires { sets_of_name self.now key.now ≡ [] }
+        ensures { IfOk result (IsSearch self.now key.now record_type) }
+    {
+        let mut above = key.clone()?;
+        above.to_parent();
+        let sets = self.sets.sets_at(&above);
+        if sets.is_empty() {
+            return self.find_far(key, record_type);
+        }
+        match self.cut_from(&above, sets)? {
+            Some(set) => Ok(Search::Found(Match::own(set), &[])),
+            None => self.find_unowned(key, record_type, None),
+        }
+    }
+
+    // What `find` answers, by the nearest owner from the name up.
+    fn find_far(&self, key: &NameKey, record_type: RecordType) -> Result<Search<'_>, AllocError>
         ensures { IfOk result (IsSearch self.now key.now record_type) }
     {
         let Some(near) = self.sets.nearest(key)? else {
@@ -378,16 +405,7 @@ impl ZoneSets {
         }
     }
 
-    // Whether the name of a key is the first that owns NS, as a zone's start is.
-    fn is_start(&self, key: &NameKey) -> bool {
-        match self.index.name_servers.first_key_value() {
-            Some((start, _)) => start == key,
-            None => false,
-        }
-    }
-
-    /// What `find` answers, by the name's own sets first: for the start of a zone, whose key is the first of all, the map is
-    /// not searched.
+    /// What `find` answers, by the name's own sets first, as suits the start of a zone.
     #[inline(always)]
     pub fn find_start(
         &self,
@@ -409,7 +427,7 @@ impl ZoneSets {
         requires { above.now ≡ parent key.now }
         ensures { IfOk result (IsSearch self.now key.now record_type) }
     {
-        let place = self.sets.searched_place(key);
+        let place = self.sets.place_at(key);
         match self.delegation_near(key, above, place.sets, record_type)? {
             Some(set) => Ok(Search::Found(Match::own(set), &[])),
             None => self.find_uncut(key, place, record_type),

@@ -1,25 +1,27 @@
-use Rattle.std.proofs.Common.{◌≡◌, ◌∙◌, ap, sym, ℕ, List}
-use Rattle.std.specs.Prelude.{Some}
-use Rattle.std.specs.BTreeMap.{is_at}
-use Rattle.std.specs.Map.{lookup}
-use Rattle.std.proofs.lemmas.Slice.Eq.{bytes_eq-Decides}
-use Rattle.zst_handler.specs.dnw_name.DomainName.{name_cmp}
-use Rattle.zst_key.specs.NameKeys.{name_key}
-use Rattle.zst_map.proofs.Keys.{same_key}
-use Rattle.zst_map.proofs.ZoneEntries.{at_key}
-use Rattle.zst_map.proofs.ZoneMapsBy.{sets, exists_there, named_by, looked_by_key}
+use Rattle.std.proofs.Common.{◌∙◌, ap, sym}
+use Rattle.std.specs.Prelude.{option_map}
+use Rattle.zst_handler.specs.zst_record.OneOrMany.{items_of}
+use Rattle.zst_map.specs.ZoneMaps.{held_sets}
+use Rattle.zst_map.proofs.Kept.{entries_of, looked_at, seen_as, sets_named, zone_of}
+use Rattle.zst_map.proofs.ZoneMapsBy.{exists_there}
 use Rattle.zst_map.proofs.map.ZoneMap.place_at.Goals as goal
 
--- the first key is the one asked for
 pub returns-in-Some : goal.returns-in-Some
 returns-in-Some c =
-    let same : name_key c.in-Some.owner.now ≡ name_key c.args.key.now
-    = (bytes_eq-Decides (name_key c.in-Some.owner.now) (name_key c.args.key.now)).0 (same_key c.in-Some.owner.now c.args.key.now ∙ sym c.if-eq.ensures) in
-    let there : Some c.in-Some.sets.now ≡ lookup (is_at (name_cmp c.args.key.now)) c.self.inside.nodes.entries
-    = sym c.in-Some.ensures.value ∙ looked_by_key c.in-Some.owner.now c.self.inside.nodes.entries
-    ∙ ap (λ (q : List ℕ). lookup (at_key name_key sets q) c.self.inside.nodes.entries) same
-    ∙ sym (looked_by_key c.args.key.now c.self.inside.nodes.entries) in
+    let owners = c.self.inside.owners in
+    let nodes = c.self.inside.nodes in
+    let named = sets_named nodes owners c.self.invariant c.args.self.now c.self.view_is c.args.key.now in
     record {
-      sets_are = c.deref.ensures.value ∙ named_by c.self.inside.nodes.entries c.args.self.now c.args.key.now (Some c.in-Some.sets.now) c.self.invariant c.self.view_is there;
-      exists_is = exists_there c.self.inside.nodes.entries c.args.self.now c.args.key.now c.in-Some.sets.now c.self.invariant c.self.view_is there;
+      sets_are = c.as_slice.ensures ∙ ap held_sets c.in-Some.ensures.value ∙ named;
+      exists_is = exists_there (entries_of nodes owners.entries) c.args.self.now c.args.key.now (items_of c.in-Some.node.now)
+          (zone_of nodes owners c.self.invariant) (seen_as nodes owners c.self.invariant c.args.self.now c.self.view_is)
+          (ap (option_map items_of) c.in-Some.ensures.value ∙ sym (looked_at nodes owners c.self.invariant c.args.key.now));
+    }
+
+pub returns-in-None : goal.returns-in-None
+returns-in-None c =
+    record {
+      sets_are = ap held_sets c.in-None.ensures.value
+          ∙ sets_named c.self.inside.nodes c.self.inside.owners c.self.invariant c.args.self.now c.self.view_is c.args.key.now;
+      exists_is = c.has_below.ensures;
     }

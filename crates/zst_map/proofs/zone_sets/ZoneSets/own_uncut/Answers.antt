@@ -10,4 +10,4 @@ returns c =
     uncut_found c.args.self.now c.args.key.now c.args.record_type c.here.result
     (sym (ap (λ (zone : List RRset). delegation zone c.args.key.now c.args.record_type) c.self.view_is)
     ∙ no_delegation c.self.inside.sets (c.self.invariant.uncut c.if-self.false) c.args.key.now c.args.record_type)
-    (c.here.ensures c.args.self.now c.args.key.now (c.searched.ensures ∙ ap (λ (zone : List RRset). sets_of_name zone c.args.key.now) c.self.view_is))
+    (c.here.ensures c.args.self.now c.args.key.now (c.sets_at.ensures ∙ ap (λ (zone : List RRset). sets_of_name zone c.args.key.now) c.self.view_is))

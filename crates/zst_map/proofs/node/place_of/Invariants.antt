@@ -1,7 +1,7 @@
 use Rattle.std.proofs.Common.{◌≡◌, drop}
 use Rattle.zst_handler.specs.dnw_codes.RecordType.{record_type_number}
 use Rattle.zst_map.specs.ZoneMaps.{place_from}
-use Rattle.zst_map.proofs.map.place_of.Given as goal
+use Rattle.zst_map.proofs.node.place_of.Given as goal
 
 abbrev pub invariant-loop-place : goal.invariant-loop-place
 invariant-loop-place l =
