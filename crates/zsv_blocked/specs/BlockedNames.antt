@@ -24,8 +24,8 @@ has_wildcard names depth name =
     (range_with_len depth (length name.labels - depth))
 
 -- ---- what the text of a list adds
--- The names and one more, fully qualified and in lower case, in whatever order; the same names where
--- it is there.
+-- The names and one more, fully qualified and in lower case, in whatever order; the same names
+-- where it is there.
 abbrev pub AddsName : List DomainName → DomainName → List DomainName → Type 0
 AddsName names name new =
     let added = lowercase_name (domain_name true name.labels) in
