@@ -204,8 +204,10 @@ fn put_owner(
     key: NameKey,
     node: OneOrMany<RecordSet>,
 ) -> Result<(), AllocError>
-    ensures nodes { OnOk result ((name : DomainName) → hashed name_eq nodes.new name ≡ (if name_eq key name then Some node else hashed name_eq nodes.old name)) }
-    ensures owners { OnOk result ((name : DomainName) → get name_cmp owners.new name ≡ (if name_eq key name then Some tt else get name_cmp owners.old name)) }
+    ensures nodes { OnOk result ((name : DomainName) → hashed name_eq nodes.new name
+        ≡ (if name_eq key name then Some node else hashed name_eq nodes.old name)) }
+    ensures owners { OnOk result ((name : DomainName) → get name_cmp owners.new name
+        ≡ (if name_eq key name then Some tt else get name_cmp owners.old name)) }
     ensures ordered { OnOk result (IsStrictlySortedBy name_cmp (keys_of owners.new.entries)) }
     ensures err_nodes { OnErr result ((name : DomainName) → hashed name_eq nodes.new name ≡ hashed name_eq nodes.old name) }
     ensures err_owners { OnErr result (owners.new.entries ≡ owners.old.entries) }
@@ -225,7 +227,8 @@ fn add_owner(
 ) -> Result<(), AllocError>
     ensures nodes { (name : DomainName) → hashed name_eq nodes.new name ≡ hashed name_eq nodes.old name }
     ensures room { OnOk result (0 < spare nodes.new) }
-    ensures owners { OnOk result ((name : DomainName) → get name_cmp owners.new name ≡ (if name_eq key.now name then Some tt else get name_cmp owners.old name)) }
+    ensures owners { OnOk result ((name : DomainName) → get name_cmp owners.new name
+        ≡ (if name_eq key.now name then Some tt else get name_cmp owners.old name)) }
     ensures ordered { OnOk result (IsStrictlySortedBy name_cmp (keys_of owners.new.entries)) }
     ensures err { OnErr result (owners.new.entries ≡ owners.old.entries) }
 {
