@@ -6,7 +6,7 @@
 
 pub use dnw_name::{
     CaseInsensitive, CaseSensitive, IntoLabel, IntoName, IpNet, Label, LabelCmp, LabelIter,
-    LowerName, Name, PrefixLenError, RrKey,
+    LowerName, Name, PrefixLenError, RrKey, word,
 };
 
 mod chains;

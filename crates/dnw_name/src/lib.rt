@@ -18,9 +18,11 @@ mod name;
 mod name_print;
 mod name_text;
 mod network;
+mod octets;
 mod rr_key;
 
 pub use lower_name::LowerName;
 pub use name::Name;
 pub use name_text::IntoName;
+pub use octets::word;
 pub use rr_key::RrKey;

@@ -1,8 +1,7 @@
 //! Octets whose plain order is the canonical order of names.
-ghost use Rattle.std.specs.Prelude.{ℕ, ◌≡◌, ◌+◌, ◌++◌, ◌<◌, ◌≤◌, get_or, length, min, take, drop, true, IfOk, IsOk};
+ghost use Rattle.std.specs.Prelude.{ℕ, ◌≡◌, ◌+◌, ◌++◌, ◌<◌, ◌≤◌, get_or, length, min, take, true, IfOk, IsOk};
 ghost use Rattle.std.specs.Cmp.Lexicographic.{slice_cmp};
 ghost use Rattle.std.specs.Bool.{beq};
-ghost use Rattle.std.specs.Int.{from_be_bytes, w64};
 ghost use Rattle.std.specs.Ordering.{nat_cmp};
 ghost use Rattle.std.specs.Str.{bytes_eq};
 ghost use Rattle.smallvec.specs.SmallVec.{HasRoomFor, small_vec_len};
@@ -10,7 +9,7 @@ ghost use Rattle.dnw_name.specs.DomainName.{DomainName, name_len};
 ghost use Rattle.zst_key.specs.Ancestors.{GoesToShared, parent};
 ghost use Rattle.zst_key.specs.NameKeys.{IsLastEnd, ShareFront, rank, label_key, name_key};
 
-use dnw_name::Name;
+use dnw_name::{Name, word};
 use smallvec::SmallVec;
 use std::alloc::{AllocError, Global};
 use std::cmp::Ordering;
@@ -119,24 +118,6 @@ pub(crate) fn shared_end(octets: &[u8], others: &[u8]) -> usize
         → (new : DomainName) × (take result octets.now ≡ name_key new) × GoesToShared old other new }
 {
     last_end(octets, same_front(octets, others))
-}
-
-// Eight octets from a place on, as one number of which the first counts most.
-#[inline(always)]
-fn word(octets: &[u8], at: usize) -> u64
-    requires { at + 8 ≤ length octets.now }
-    ensures { result ≡ from_be_bytes w64 (take 8 (drop at octets.now)) }
-{
-    u64::from_be_bytes([
-        octets[at],
-        octets[at + 1],
-        octets[at + 2],
-        octets[at + 3],
-        octets[at + 4],
-        octets[at + 5],
-        octets[at + 6],
-        octets[at + 7],
-    ])
 }
 
 // Whether the last eight octets tell that octets aren't the same. Keys of one zone have the same ones in front.
