@@ -84,7 +84,7 @@ owned_is : (xs y : List RRset) → some_sets xs ≡ Some y → y ≡ xs
 owned_is [] y e = let h : ⊥ = cc in absurd h
 owned_is (x ∷ xs) y e = let same : x ∷ xs ≡ y = cc in sym same
 
-none_owned : (xs : List RRset) → some_sets xs ≡ None → xs ≡ []
+pub none_owned : (xs : List RRset) → some_sets xs ≡ None → xs ≡ []
 none_owned [] e = refl
 none_owned (x ∷ xs) e = let h : ⊥ = cc in absurd h
 
@@ -157,17 +157,17 @@ module _ (zone : List RRset) (key owner : DomainName) (own : List RRset) (e : ne
       by true = ap cut_found (nearest_above_it (cut_at zone) key none)
       by false = refl
 
--- Where a name owns nothing and the name above it owns sets, that is the nearest.
-pub nearest_parent : (zone : List RRset) (key : DomainName) (own : List RRset) → owned zone key ≡ None → owned zone (parent key) ≡ Some own → nearest_in (owned zone) key ≡ Some (parent key, own)
-nearest_parent zone key own none some =
-    nearest_above_it (owned zone) key none
-    ∙ above_parent (owned zone) key (λ root. by root)
-    ∙ nearest_here (owned zone) (parent key) own some
+-- Where a name owns nothing, the nearest owner from it up is the nearest from the name above it.
+pub nearest_parent : (zone : List RRset) (key : DomainName) → owned zone key ≡ None → nearest_in (owned zone) key ≡ nearest_in (owned zone) (parent key)
+nearest_parent zone key none = by key.labels refl
   where
-    by : key.labels ≡ [] → ⊥
-    by root =
+    by : (labels : List (List ℕ)) → key.labels ≡ labels → nearest_in (owned zone) key ≡ nearest_in (owned zone) (parent key)
+    by [] root =
         let same : parent key ≡ key = ap (λ (labels : List (List ℕ)). domain_name key.fqdn (drop 1 labels)) root ∙ ap (domain_name key.fqdn) (sym root) in
-        true≢false (sym (ap is_some (sym (ap (owned zone) same) ∙ some)) ∙ ap is_some none)
+        ap (nearest_in (owned zone)) (sym same)
+    by (label ∷ labels) is =
+        nearest_above_it (owned zone) key none
+        ∙ above_parent (owned zone) key (λ (root : key.labels ≡ []). let h : ⊥ = cc in h)
 
 -- A name that owns sets exists.
 alike : (name other : DomainName) → name_eq name other ≡ true → (beq other.fqdn name.fqdn && is_at_or_below other name) ≡ true

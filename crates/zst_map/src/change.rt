@@ -41,12 +41,12 @@ impl Change {
     }
 
     /// The set where there is none.
-    pub(crate) fn into_set(self, alloc: Global) -> Result<RecordSet, AllocError>
-        ensures { IfOk result (λ set. set ≡ made self None) }
+    pub(crate) fn into_set(self, alloc: Global) -> RecordSet
+        ensures { result ≡ made self None }
     {
         match self {
             Change::Add(next) | Change::Upsert(next) => RecordSet::from_record(alloc, next),
-            Change::Put(set) => Ok(set),
+            Change::Put(set) => set,
         }
     }
 

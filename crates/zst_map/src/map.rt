@@ -18,6 +18,7 @@ use crate::change::Change;
 use crate::node::{change_node, is_only, only, take_out};
 use std::alloc::{AllocError, Global};
 use std::collections::{BTreeMap, HashMap};
+use std::hash::Hash;
 use std::marker::Model;
 use zst_handler::{OneOrMany, RecordSet, RecordType};
 use zst_key::{NameKey, nearest_beside};
@@ -151,7 +152,7 @@ impl ZoneMap {
         if let Some(node) = self.nodes.get_mut(&key) {
             return change_node(alloc, node, change);
         }
-        let set = change.into_set(alloc)?;
+        let set = change.into_set(alloc);
         put_owner(&mut self.owners, &mut self.nodes, key, OneOrMany::One(set))?;
         Ok(true)
     }
@@ -213,10 +214,16 @@ fn put_owner(
     ensures err_owners { OnErr result (owners.new.entries ≡ owners.old.entries) }
 {
     add_owner(owners, nodes, &key)?;
-    match nodes.insert(key, node) {
-        Ok(_) => Ok(()),
-        Err(_) => Err(AllocError),
-    }
+    insert_reserved(nodes, key, node);
+    Ok(())
+}
+
+// Puts a value under a key; there is room for one.
+fn insert_reserved<K: Eq + Hash + Drop, V: Drop>(map: &mut HashMap<K, V>, key: K, value: V)
+    requires { 0 < spare map.old }
+    ensures { (k : K) → hashed K.eq map.new k ≡ (if K.eq key k then Some value else hashed K.eq map.old k) }
+{
+    let _replaced = map.insert(key, value);
 }
 
 // Puts in an owner's key, and makes room for its sets.

@@ -79,7 +79,7 @@ pub(crate) fn change_node(
     match place_of(sets.as_slice(), change.record_type()) {
         Ok(place) => change_at(sets, place, change),
         Err(place) => {
-            let set = change.into_set(alloc)?;
+            let set = change.into_set(alloc);
             sets.insert(alloc, place, set)?;
             Ok(true)
         }

@@ -14,7 +14,7 @@ ghost use Rattle.zst_handler.specs.Updates.{Replaces, upsert_changes, upserted};
 ghost use Rattle.zst_handler.specs.Zones.{Adds, AreInOrder, exists_in, rrset_at};
 ghost use Rattle.zst_map.specs.Changes.{alters, made, owner_of, type_in};
 ghost use Rattle.zst_map.specs.Searches.{IsSearch, lent, looked_for, match_set, sought_in};
-ghost use Rattle.zst_map.specs.ZoneMaps.{AreOwned, IsPlace, exists_alike};
+ghost use Rattle.zst_map.specs.ZoneMaps.{AreOwned, IsPlace, exists_alike, owned};
 
 use crate::apart::is_kept_out;
 use crate::change::Change;
@@ -309,10 +309,18 @@ impl ZoneSets {
     fn own_uncut(&self, key: &NameKey, record_type: RecordType) -> Option<&RecordSet>
         ensures { IfSome result (λ set. found self.now key.now record_type ≡ Some set.now) }
     {
-        if self.index.has_cuts {
+        if !self.is_uncut() {
             return None;
         }
         here(self.sets.sets_at(key), record_type)
+    }
+
+    // Whether it is known that no owner is a cut.
+    #[inline(always)]
+    fn is_uncut(&self) -> bool
+        ensures { result ≡ true → (name : DomainName) → (asked : RecordType) → delegation self.now name asked ≡ None }
+    {
+        !self.index.has_cuts
     }
 
     /// What `search` answers; where it answers nothing, whether the name exists. The sets of a name are found by a hash; the
@@ -321,7 +329,7 @@ impl ZoneSets {
     pub fn find(&self, key: &NameKey, record_type: RecordType) -> Result<Search<'_>, AllocError>
         ensures { IfOk result (IsSearch self.now key.now record_type) }
     {
-        if !self.index.has_cuts {
+        if self.is_uncut() {
             return self.find_uncut(key, self.sets.place_at(key), record_type);
         }
         match self.start_above(key) {
@@ -341,21 +349,20 @@ impl ZoneSets {
         self.find_at(key, Place { sets, exists: true }, record_type)
     }
 
-    // What `find` answers to a name that owns nothing, by the sets of the name above, which a hash finds at once.
+    // What `find` answers to a name that owns nothing, by the two names above, whose sets a hash finds at once.
     fn find_above(&self, key: &NameKey, record_type: RecordType) -> Result<Search<'_>, AllocError>
         requires { sets_of_name self.now key.now ≡ [] }
         ensures { IfOk result (IsSearch self.now key.now record_type) }
     {
         let mut above = key.clone()?;
-        above.to_parent();
-        let sets = self.sets.sets_at(&above);
-        if sets.is_empty() {
-            return self.find_far(key, record_type);
+        'levels: for _ in 0..2 {
+            above.to_parent();
+            let sets = self.sets.sets_at(&above);
+            if !sets.is_empty() {
+                return self.find_below(key, &above, sets, &[], record_type);
+            }
         }
-        match self.cut_from(&above, sets)? {
-            Some(set) => Ok(Search::Found(Match::own(set), &[])),
-            None => self.find_unowned(key, record_type, None),
-        }
+        self.find_far(key, record_type)
     }
 
     // What `find` answers, by the nearest owner from the name up.
@@ -372,8 +379,26 @@ impl ZoneSets {
             };
             return self.find_at(key, place, record_type);
         }
-        match self.cut_from(near.owner, near.sets)? {
-            Some(set) => Ok(Search::Found(Match::own(set), near.beside)),
+        self.find_below(key, near.owner, near.sets, near.beside, record_type)
+    }
+
+    // What `find` answers to a name that owns nothing, by the nearest owner above it with all its sets, and by those of
+    // some owner that was met on the way.
+    fn find_below<'z>(
+        &'z self,
+        key: &NameKey,
+        owner: &NameKey,
+        sets: &'z [RecordSet],
+        beside: &'z [RecordSet],
+        record_type: RecordType,
+    ) -> Result<Search<'z>, AllocError>
+        requires none { owned self.now key.now ≡ None }
+        requires nearest { nearest_in (owned self.now) key.now ≡ Some (owner.now, sets.now) }
+        requires beside { AreOwned self.now beside.now }
+        ensures { IfOk result (IsSearch self.now key.now record_type) }
+    {
+        match self.cut_from(owner, sets)? {
+            Some(set) => Ok(Search::Found(Match::own(set), beside)),
             None => self.find_unowned(key, record_type, None),
         }
     }
@@ -389,6 +414,9 @@ impl ZoneSets {
         requires own { IsPlace self.now key.now place }
         ensures { IfOk result (IsSearch self.now key.now record_type) }
     {
+        if self.is_uncut() {
+            return self.find_uncut(key, place, record_type);
+        }
         match self.delegation_at(key, place.sets, record_type)? {
             Some(set) => Ok(Search::Found(Match::own(set), &[])),
             None => self.find_uncut(key, place, record_type),

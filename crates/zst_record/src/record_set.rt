@@ -44,25 +44,25 @@ impl Model for RecordSet {
 
 impl RecordSet {
     /// A set of class IN without records.
-    pub fn new(alloc: Global, name: Name, record_type: RecordType) -> Result<RecordSet, AllocError>
-        ensures { IfOk result (λ set. set ≡ empty_set name record_type) }
+    pub fn new(alloc: Global, name: Name, record_type: RecordType) -> RecordSet
+        ensures { result ≡ empty_set name record_type }
     {
-        let mut set = RecordSet::from_record(alloc, Record::update0(name, 0, record_type))?;
+        let mut set = RecordSet::from_record(alloc, Record::update0(name, 0, record_type));
         set.is_empty = true;
-        Ok(set)
+        set
     }
 
     /// The set of one record.
-    pub fn from_record(alloc: Global, first: Record) -> Result<RecordSet, AllocError>
-        ensures { IfOk result (λ set. set ≡ set_of first) }
+    pub fn from_record(alloc: Global, first: Record) -> RecordSet
+        ensures { result ≡ set_of first }
     {
         let record_type = first.record_type();
-        Ok(RecordSet {
+        RecordSet {
             record_type,
             is_empty: false,
             records: OneOrMany::One(first),
             rrsigs: Vec::new(alloc),
-        })
+        }
     }
 
     /// The owner, as the first record spells it.

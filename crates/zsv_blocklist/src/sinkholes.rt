@@ -32,10 +32,10 @@ impl Sinkholes {
     {
         let ipv4 = config.sinkhole_ipv4.unwrap_or(Ipv4Addr::UNSPECIFIED);
         let ipv4 = Record::from_rdata(origin.clone()?, config.ttl, RData::from(ipv4));
-        let ipv4 = RecordSet::from_record(alloc, ipv4)?;
+        let ipv4 = RecordSet::from_record(alloc, ipv4);
         let ipv6 = config.sinkhole_ipv6.unwrap_or(Ipv6Addr::UNSPECIFIED);
         let ipv6 = Record::from_rdata(origin.clone()?, config.ttl, RData::from(ipv6));
-        let ipv6 = RecordSet::from_record(alloc, ipv6)?;
+        let ipv6 = RecordSet::from_record(alloc, ipv6);
         Ok(Sinkholes { ipv4, ipv6 })
     }
 

@@ -101,5 +101,5 @@ returns-in_ok-insert-in-Err-clause-ok c =
     (c.in-Err.ensures ∙ ap (λ (t : List RRset). place_from 0 t (record_type_number c.record_type.result)) c.as_slice.ensures
     ∙ ap (λ (t : RecordType). place_from 0 (items_of c.args.sets.now) (record_type_number t)) c.record_type.ensures) in
     c.in_ok-insert-in-Err.ensures.ok
-    ∙ ap (insert (items_of c.args.sets.now) c.in-Err.place) (c.in_ok-set-in-Err.ensures ∙ ap (made c.args.change) (sym f.found))
+    ∙ ap (insert (items_of c.args.sets.now) c.in-Err.place) (c.into_set-set.ensures ∙ ap (made c.args.change) (sym f.found))
     ∙ sym (f.with _ (change_type (items_of c.args.sets.now) c.args.change))

@@ -92,12 +92,12 @@ returns-in-Some-clause-err c =
 -- ---- an owner that has none
 pub invariant_of-self-2 : goal.invariant_of-self-2
 invariant_of-self-2 c =
-    kept_after c.self.inside.nodes c.put_owner.new.nodes c.self.inside.owners c.put_owner.new.owners c.args.key (Some (One c.in_ok-set.set)) c.self.invariant
-    (λ name. c.in_ok-put_owner.ensures.nodes name ∙ ap (λ m. cond (name_eq c.args.key name) (Some (One c.in_ok-set.set)) (hashed name_eq m name)) c.get_mut.follows.holds-at-none)
+    kept_after c.self.inside.nodes c.put_owner.new.nodes c.self.inside.owners c.put_owner.new.owners c.args.key (Some (One c.into_set-set.result)) c.self.invariant
+    (λ name. c.in_ok-put_owner.ensures.nodes name ∙ ap (λ m. cond (name_eq c.args.key name) (Some (One c.into_set-set.result)) (hashed name_eq m name)) c.get_mut.follows.holds-at-none)
     c.in_ok-put_owner.ensures.owners
     c.in_ok-put_owner.ensures.ordered
-    (λ n is. subst (λ (m : OneOrMany RRset). IsNode (name_key c.args.key) (items_of m)) (one (One c.in_ok-set.set) n is)
-    (node_alone (name_key c.args.key) (c.in_ok-set.set ∷ []) c.args.change (keyed c.args.key (owner_of c.args.change) c.requires) (ap (λ (s : RRset). s ∷ []) c.in_ok-set.ensures)))
+    (λ n is. subst (λ (m : OneOrMany RRset). IsNode (name_key c.args.key) (items_of m)) (one (One c.into_set-set.result) n is)
+    (node_alone (name_key c.args.key) (c.into_set-set.result ∷ []) c.args.change (keyed c.args.key (owner_of c.args.change) c.requires) (ap (λ (s : RRset). s ∷ []) c.into_set-set.ensures)))
 
 pub returns-clause-changed : goal.returns-clause-changed
 returns-clause-changed c =
@@ -107,11 +107,11 @@ returns-clause-changed c =
 
 pub returns-clause-ok : goal.returns-clause-ok
 returns-clause-ok c =
-    replaced_after c.self.inside.nodes c.put_owner.new.nodes c.self.inside.owners c.put_owner.new.owners c.args.key (Some (One c.in_ok-set.set)) c.self.invariant
-    (λ name. c.in_ok-put_owner.ensures.nodes name ∙ ap (λ m. cond (name_eq c.args.key name) (Some (One c.in_ok-set.set)) (hashed name_eq m name)) c.get_mut.follows.holds-at-none)
+    replaced_after c.self.inside.nodes c.put_owner.new.nodes c.self.inside.owners c.put_owner.new.owners c.args.key (Some (One c.into_set-set.result)) c.self.invariant
+    (λ name. c.in_ok-put_owner.ensures.nodes name ∙ ap (λ m. cond (name_eq c.args.key name) (Some (One c.into_set-set.result)) (hashed name_eq m name)) c.get_mut.follows.holds-at-none)
     (invariant_of-self-2 c) c.args.self.now c.self.view_is c.args.change (keyed c.args.key (owner_of c.args.change) c.requires)
-    (One c.in_ok-set.set) refl
-    (ap (λ (s : RRset). s ∷ []) c.in_ok-set.ensures ∙ ap (λ (o : Option (OneOrMany RRset)). with_change (held_sets o) c.args.change) c.in_default.ensures.value)
+    (One c.into_set-set.result) refl
+    (ap (λ (s : RRset). s ∷ []) c.into_set-set.ensures ∙ ap (λ (o : Option (OneOrMany RRset)). with_change (held_sets o) c.args.change) c.in_default.ensures.value)
 
 pub returns-clause-ordered : goal.returns-clause-ordered
 returns-clause-ordered c = in_order c.put_owner.new.nodes c.put_owner.new.owners (invariant_of-self-2 c)
@@ -119,9 +119,6 @@ returns-clause-ordered c = in_order c.put_owner.new.nodes c.put_owner.new.owners
 -- ---- the sets were in order
 pub returns-in-Some-clause-before : goal.returns-in-Some-clause-before
 returns-in-Some-clause-before c = subst AreInOrder c.self.view_is (in_order c.self.inside.nodes c.self.inside.owners c.self.invariant)
-
-pub returns-in_err-set-clause-before : goal.returns-in_err-set-clause-before
-returns-in_err-set-clause-before c = subst AreInOrder c.self.view_is (in_order c.self.inside.nodes c.self.inside.owners c.self.invariant)
 
 pub returns-in_err-put_owner-clause-before : goal.returns-in_err-put_owner-clause-before
 returns-in_err-put_owner-clause-before c = subst AreInOrder c.self.view_is (in_order c.self.inside.nodes c.self.inside.owners c.self.invariant)
