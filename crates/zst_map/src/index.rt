@@ -1,7 +1,9 @@
 //! The names at which a search of a zone looks for cuts and wildcards.
 
-ghost use Rattle.std.specs.Prelude.{◌≡◌, ◌&&◌, true, false, not, OnOk, IsSome};
-ghost use Rattle.std.specs.BTreeMap.{get};
+ghost use Rattle.std.specs.Prelude.{◌≡◌, ◌&&◌, true, false, not, OnErr, OnOk, IsSome, Some};
+ghost use Rattle.std.specs.BTreeMap.{Updates, get};
+ghost use Rattle.std.specs.List.Sorted.{IsStrictlySortedBy};
+ghost use Rattle.std.specs.Map.{keys_of};
 ghost use Rattle.zst_handler.specs.dnw_codes.RecordType.{same_record_type};
 ghost use Rattle.zst_handler.specs.dnw_codes.declared.record_type.RecordType.TheVariants as kind;
 ghost use Rattle.zst_handler.specs.dnw_name.DomainName.{DomainName, lowercase_name, name_cmp};
@@ -119,7 +121,19 @@ fn put(names: &mut BTreeMap<NameKey, ()>, key: &NameKey) -> Result<(), AllocErro
     ensures kept { (name : DomainName) → IsSome (get name_cmp names.old name) → IsSome (get name_cmp names.new name) }
     ensures there { OnOk result (HasName names.new key.now) }
 {
-    match names.insert(key.clone()?, ()) {
+    insert_key(names, key.clone()?)
+}
+
+/// Puts a key among others.
+pub(crate) fn insert_key<K: Ord + Drop>(
+    keys: &mut BTreeMap<K, ()>,
+    key: K,
+) -> Result<(), AllocError>
+    ensures updates { OnOk result (Updates K.cmp keys.old keys.new key (Some tt)) }
+    ensures ordered { IsStrictlySortedBy K.cmp (keys_of keys.new.entries) }
+    ensures err { OnErr result (keys.new.entries ≡ keys.old.entries) }
+{
+    match keys.insert(key, ()) {
         Ok(_) => Ok(()),
         Err(_) => Err(AllocError),
     }

@@ -15,6 +15,7 @@ ghost use Rattle.zst_key.specs.Ancestors.{nearest_in};
 ghost use Rattle.zst_map.specs.ZoneMaps.{AreOwned, IsPlace, exists_alike, held, owned};
 
 use crate::change::Change;
+use crate::index::insert_key;
 use crate::node::{change_node, is_only, only, take_out};
 use std::alloc::{AllocError, Global};
 use std::collections::{BTreeMap, HashMap};
@@ -240,9 +241,5 @@ fn add_owner(
     ensures err { OnErr result (owners.new.entries ≡ owners.old.entries) }
 {
     nodes.reserve(1)?;
-    let owner = key.clone()?;
-    match owners.insert(owner, ()) {
-        Ok(_) => Ok(()),
-        Err(_) => Err(AllocError),
-    }
+    insert_key(owners, key.clone()?)
 }
