@@ -104,11 +104,18 @@ class Verdicts:
         return False if mine and self.proved.issuperset(mine) else None
 
 
-class Trial:
-    """The wrong bodies of one crate, tried in rounds of one a function."""
+# The bodies of a round: of a large one nothing is heard for long, since its slowest body holds up all others.
+ROUND = 6
 
-    def __init__(self, rt, crate, say):
+
+class Trial:
+    """The wrong bodies of one crate, tried in rounds of at most one a function, each over a copy of what a check of the crate
+    as it stands keeps."""
+
+    def __init__(self, rt, crate, say, slots, jobs, share):
+        """`slots` are as many as there may be checks at once, `jobs`; `share` of them are this crate's alone."""
         self.rt, self.crate, self.say = rt, crate, say
+        self.slots, self.jobs, self.share = slots, jobs, share
         self.refused, self.failed = [], []
 
     def run(self):
@@ -120,20 +127,29 @@ class Trial:
                 self.fail(body, f"BAD EDIT: {body.fault}")
             else:
                 waiting.append(body)
-        groups = [waiting] if waiting else []
-        with tempfile.TemporaryDirectory(prefix="wrong-bodies-") as self.kept:
+        with tempfile.TemporaryDirectory(prefix="wrong-bodies-") as self.kept, ThreadPoolExecutor(self.jobs) as pool:
+            groups = rounds_of(waiting) if self.stands() else []
             while groups:
-                chosen, texts, later = choose(groups.pop())
-                groups += [later] if later else []
-                groups += self.try_together(chosen, texts)
+                groups = [later for again in pool.map(self.try_together, groups) for later in again]
+
+    def stands(self):
+        """Whether the crate is proved as it stands; what its check kept is what each round begins with."""
+        with self.slots:
+            self.say(f"{self.crate.name}: proving it as it stands")
+            words = [*self.crate.words(["--jobs", str(self.share)], keeps=False), "--incremental", self.kept]
+            ran = run([self.rt.rtlib.RATTLE, "check", *words], self.crate.folder)
+        if ran.returncode != 0:
+            self.failed.append(self.crate)
+            self.say(f"{self.crate.name}: NOT PROVED\n{ran.stdout[-2000:]}")
+        return ran.returncode == 0
 
     def fail(self, body, why):
         self.failed.append(body)
         self.say(f"{self.crate.name}/{body.name}: {why}")
 
-    def try_together(self, chosen, texts):
-        """Tries one round, and returns the groups that are to be tried by themselves."""
-        is_alone = len(chosen) == 1
+    def try_together(self, chosen):
+        """Tries one round, and returns those that are to be tried again."""
+        texts, is_alone = texts_with(chosen), len(chosen) == 1
         output = self.check(texts, [it.proved_as() for body in chosen for it in body.touched.values()])
         unread = [it for it in output.split("\n") if self.rt.unread(it, texts)]
         if unread or not ENDED.search(output):
@@ -155,16 +171,17 @@ class Trial:
         return again
 
     def check(self, texts, paths):
-        """What a check of these functions says, of a copy with these texts in place of its own, over what the checks before
-        it proved. Where a path fits no function or several, the whole crate is checked."""
-        with tempfile.TemporaryDirectory(prefix="wrong-body-") as room:
+        """What a check of these functions says, of a copy with these texts in place of its own. Where a path fits no function
+        or several, the whole crate is checked."""
+        with self.slots, tempfile.TemporaryDirectory(prefix="wrong-body-") as room:
+            kept = shutil.copytree(self.kept, f"{room}/kept")
             for part in self.rt.rtlib.PARTS:
                 if os.path.isdir(f"{self.crate.folder}/{part}"):
                     shutil.copytree(f"{self.crate.folder}/{part}", f"{room}/{part}")
             for path, text in texts.items():
                 with open(f"{room}/{path}", "w", encoding="utf-8") as file:
                     file.write(text)
-            words = [*self.crate.words(["--jobs", "1"], keeps=False), "--incremental", self.kept]
+            words = [*self.crate.words(["--jobs", "1"], keeps=False), "--incremental", kept]
             only = [word for path in paths for word in ("--only", path)] if all(paths) else []
             ran = run([self.rt.rtlib.RATTLE, "check", *words, *only], room)
             if only and ran.returncode == 2:
@@ -172,13 +189,25 @@ class Trial:
             return ran.stdout
 
 
-def choose(waiting):
-    """The next round of these bodies, the texts with it in place, and the bodies that are left."""
-    chosen, touched, texts = [], set(), {}
-    for body in waiting:
-        applied = None if touched & body.touched.keys() else body.applied(texts)
-        if applied is not None:
-            chosen.append(body)
-            touched |= body.touched.keys()
-            texts = applied
-    return chosen, texts, [it for it in waiting if it not in chosen]
+def texts_with(chosen):
+    """The texts with these bodies in place, none of which touches what another does."""
+    texts = {}
+    for body in chosen:
+        texts = body.applied(texts)
+    return texts
+
+
+def rounds_of(waiting):
+    """These bodies in rounds, in each at most one of a function."""
+    rounds = []
+    while waiting:
+        chosen, touched, texts = [], set(), {}
+        for body in waiting:
+            applied = None if touched & body.touched.keys() else body.applied(texts)
+            if applied is not None and len(chosen) < ROUND:
+                chosen.append(body)
+                touched |= body.touched.keys()
+                texts = applied
+        rounds.append(chosen)
+        waiting = [it for it in waiting if it not in chosen]
+    return rounds

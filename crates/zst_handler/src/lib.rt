@@ -10,7 +10,7 @@ pub use zst_edns::{
 };
 pub use zst_record::{
     ANAME, CNAME, DNSClass, LowerName, MX, NS, Name, OneOrMany, ProtoError, RData, Record,
-    RecordRef, RecordSet, RecordType, RrKey, RrsetRecords, SOA, SRV,
+    RecordRef, RecordSet, RecordType, RrKey, RrsetRecords, SOA, SRV, push,
 };
 
 mod answer_set;

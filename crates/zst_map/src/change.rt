@@ -6,6 +6,7 @@ ghost use Rattle.zst_handler.specs.dnw_codes.RecordType.{same_record_type};
 ghost use Rattle.zst_map.specs.Changes.{alters, made, owner_of, type_in};
 
 use std::alloc::{AllocError, Global};
+use std::mem;
 use zst_handler::{Name, Record, RecordSet, RecordType};
 
 /// What changes at an owner.
@@ -65,7 +66,7 @@ impl Change {
             }
             Change::Upsert(next) => set.insert(next),
             Change::Put(new) => {
-                *set = new;
+                mem::drop(mem::replace(set, new));
                 Ok(true)
             }
         }

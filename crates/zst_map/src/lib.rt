@@ -8,7 +8,7 @@ pub use zst_handler::{
     AnswerSet, AuthLookup, AxfrPolicy, DNSClass, LookupControlFlow, LookupError, LookupOptions,
     LookupRecords, LookupRecordsIter, LowerName, Name, Nsec3HashAlgorithm, NxProofKind, ProtoError,
     RData, Record, RecordRef, RecordSet, RecordType, ResponseCode, RrKey, RrsetRecords, Salt,
-    SaltLenError, ZoneSettings, ZoneType,
+    SaltLenError, ZoneSettings, ZoneType, push,
 };
 pub use zst_key::NameKey;
 

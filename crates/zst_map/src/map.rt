@@ -21,6 +21,7 @@ use std::alloc::{AllocError, Global};
 use std::collections::{BTreeMap, HashMap};
 use std::hash::Hash;
 use std::marker::Model;
+use std::mem;
 use zst_handler::{OneOrMany, RecordSet, RecordType};
 use zst_key::{NameKey, nearest_beside};
 
@@ -214,7 +215,11 @@ fn put_owner(
     ensures err_nodes { OnErr result ((name : DomainName) → hashed name_eq nodes.new name ≡ hashed name_eq nodes.old name) }
     ensures err_owners { OnErr result (owners.new.entries ≡ owners.old.entries) }
 {
-    add_owner(owners, nodes, &key)?;
+    if add_owner(owners, nodes, &key).is_err() {
+        mem::drop(node);
+        mem::drop(key);
+        return Err(AllocError);
+    }
     insert_reserved(nodes, key, node);
     Ok(())
 }

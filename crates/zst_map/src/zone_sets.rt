@@ -323,8 +323,9 @@ impl ZoneSets {
         !self.index.has_cuts
     }
 
-    /// What `search` answers; where it answers nothing, whether the name exists. The sets of a name are found by a hash; the
-    /// order of names is searched where the name owns nothing, and for a cut that isn't at the name or right above it.
+    /// What `search` answers; where it answers nothing, whether the name exists. What the name or one of the two names above
+    /// it owns is found by a hash. The order of names is searched for an owner further up, and for whether a name exists
+    /// that owns nothing; the index of cuts, for a cut above the nearest owner.
     #[inline(always)]
     pub fn find(&self, key: &NameKey, record_type: RecordType) -> Result<Search<'_>, AllocError>
         ensures { IfOk result (IsSearch self.now key.now record_type) }

@@ -11,12 +11,14 @@ pub use drd_rdata::{
 };
 
 mod emit;
+mod lists;
 mod one_or_many;
 mod read;
 mod record_set;
 mod records;
 mod rrset_records;
 
+pub use lists::push;
 pub use one_or_many::OneOrMany;
 pub use record_set::RecordSet;
 pub use records::{Record, RecordRef};

@@ -43,6 +43,13 @@ impl<T: Drop> OneOrMany<T> {
         }
     }
 
+    /// Puts an item in the place of all.
+    pub(crate) fn set_only(&mut self, item: T)
+        ensures { items_of self.new ≡ item ∷ [] }
+    {
+        *self = OneOrMany::One(item);
+    }
+
     /// Puts an item in at a place.
     pub fn insert(&mut self, alloc: Global, place: usize, item: T) -> Result<(), AllocError>
         requires { place ≤ length (items_of self.old) }

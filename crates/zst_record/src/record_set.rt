@@ -214,7 +214,7 @@ impl RecordSet {
         ensures err { OnErr result (self.new ≡ self.old) }
     {
         if either(alone, self.is_empty) {
-            self.records = OneOrMany::One(next);
+            self.records.set_only(next);
             self.is_empty = false;
             self.rrsigs.clear();
             return Ok(());

@@ -10,7 +10,7 @@ ghost use Rattle.zst_map.specs.Searches.{match_set};
 ghost use Rattle.zst_zone.specs.Answering.{LeadsOn, LeadsTo};
 
 use std::alloc::{AllocError, Global};
-use zst_map::{AnswerSet, Match, Name, NameKey, RData, RecordSet, RecordType, ZoneSets};
+use zst_map::{AnswerSet, Match, Name, NameKey, RData, RecordSet, RecordType, ZoneSets, push};
 
 /// How many sets an alias chain has at most.
 const LONGEST_CHAIN: u8 = 8;
@@ -76,7 +76,7 @@ fn link<'z>(
     let Some(found) = sets.search(&key, record_type)? else {
         return Ok(None);
     };
-    chain.push(found.answer(alloc, next)?)?;
+    push(chain, found.answer(alloc, next)?)?;
     asked.push(key)?;
     Ok(leads(record_type, found.set))
 }
@@ -120,7 +120,7 @@ pub(crate) fn alias_chain<'z>(
     let mut asked = Vec::with_capacity(alloc, 8)?;
     asked.push(NameKey::of(alloc, name)?)?;
     let mut chain = Vec::with_capacity(alloc, 8)?;
-    chain.push(first.answer(alloc, name)?)?;
+    push(&mut chain, first.answer(alloc, name)?)?;
     follow(sets, alloc, record_type, target, &mut chain, &mut asked)?;
     Ok(chain)
 }

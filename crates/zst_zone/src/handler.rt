@@ -366,7 +366,10 @@ impl<K> InMemoryZoneHandler<K> {
         ensures ok { OnOk result (AddsTo self.old next self.new) }
         ensures err { OnErr result (self.new ≡ self.old) }
     {
-        let key = NameKey::of(alloc, &next.name)?;
+        let Ok(key) = NameKey::of(alloc, &next.name) else {
+            mem::drop(next);
+            return Err(AllocError);
+        };
         self.insert_at(alloc, key, next)
     }
 
@@ -389,7 +392,10 @@ impl<K> InMemoryZoneHandler<K> {
         ensures ok { OnOk result (Upserts self.old next self.new) }
         ensures err { OnErr result (self.new ≡ self.old) }
     {
-        let key = NameKey::of(alloc, &next.name)?;
+        let Ok(key) = NameKey::of(alloc, &next.name) else {
+            mem::drop(next);
+            return Err(AllocError);
+        };
         self.sets.upsert(alloc, key, next)
     }
 
@@ -426,7 +432,10 @@ impl<K> InMemoryZoneHandler<K> {
         ensures ok { OnOk result (ZoneReplaces self.old set.name set.record_type (Some set) self.new) }
         ensures err { OnErr result (self.new ≡ self.old) }
     {
-        let key = NameKey::of(alloc, set.name())?;
+        let Ok(key) = NameKey::of(alloc, set.name()) else {
+            mem::drop(set);
+            return Err(AllocError);
+        };
         let _held = set.as_slice();
         self.sets.put(alloc, key, set)
     }

@@ -30,11 +30,12 @@ impl Sinkholes {
         ensures ipv4 { IfOk result (λ sets. sets.ipv4 ≡ set_of (record_with origin.now IN config.now.ttl (sinkhole_ipv4 config.now))) }
         ensures ipv6 { IfOk result (λ sets. sets.ipv6 ≡ set_of (record_with origin.now IN config.now.ttl (sinkhole_ipv6 config.now))) }
     {
+        let owner = origin.clone()?;
         let ipv4 = config.sinkhole_ipv4.unwrap_or(Ipv4Addr::UNSPECIFIED);
         let ipv4 = Record::from_rdata(origin.clone()?, config.ttl, RData::from(ipv4));
         let ipv4 = RecordSet::from_record(alloc, ipv4);
         let ipv6 = config.sinkhole_ipv6.unwrap_or(Ipv6Addr::UNSPECIFIED);
-        let ipv6 = Record::from_rdata(origin.clone()?, config.ttl, RData::from(ipv6));
+        let ipv6 = Record::from_rdata(owner, config.ttl, RData::from(ipv6));
         let ipv6 = RecordSet::from_record(alloc, ipv6);
         Ok(Sinkholes { ipv4, ipv6 })
     }

@@ -17,7 +17,7 @@ use std::mem;
 use zst_edns::Edns;
 use zsv_sections::{
     BinDecoder, DNSClass, DecodeError, Placing, RData, Record, Tsig, TsigRecord, is_opt, is_tsig,
-    read_placed,
+    push, read_placed,
 };
 
 /// What is kept of an additional section.
@@ -222,12 +222,12 @@ impl Additionals {
         if is_tsig(&standing) {
             let len = data_len(&standing.rdata);
             let signature = signature_of(alloc, decoder, standing, len)?;
-            let Ok(()) = self.signature.push(signature) else {
+            let Ok(()) = push(&mut self.signature, signature) else {
                 return Err(DecodeError::Memory);
             };
             return Ok(());
         }
-        let Ok(()) = self.records.push(standing) else {
+        let Ok(()) = push(&mut self.records, standing) else {
             return Err(DecodeError::Memory);
         };
         Ok(())

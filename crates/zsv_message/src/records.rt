@@ -5,7 +5,7 @@ ghost use Rattle.zsv_message.specs.Holding.{additionals_held, answers_held, auth
 ghost use Rattle.zsv_message.specs.zst_record.dnw_decoder.Reading.{IsWantOfMemory};
 
 use std::alloc::Global;
-use zsv_sections::{DecodeError, Record, TsigRecord};
+use zsv_sections::{DecodeError, Record, TsigRecord, push};
 
 /// The records of a message by section, and its signature.
 #[derive(Debug, Drop)]
@@ -49,7 +49,7 @@ impl HeldRecords {
             additionals,
             signature,
         };
-        let Ok(()) = held.push(records) else {
+        let Ok(()) = push(&mut held, records) else {
             return Err(DecodeError::Memory);
         };
         Ok(held)

@@ -6,7 +6,7 @@
 
 pub use zst_record::{
     A, BinDecodable, BinDecoder, BinEncodable, BinEncoder, DNSClass, DecodeError, Label, LowerName,
-    NS, Name, NameEncoding, ProtoError, RData, Record, RecordRef, RecordSet, RecordType, SOA,
+    NS, Name, NameEncoding, ProtoError, RData, Record, RecordRef, RecordSet, RecordType, SOA, push,
 };
 pub use zsv_parts::{
     Header, HeaderCounts, MessageType, Metadata, OpCode, Queries, Query, ResponseCode, Tsig,

@@ -9,7 +9,7 @@ ghost use Rattle.zsv_sections.specs.Sections.{RefusesPlaced, RefusesSection, Sec
 use crate::placing::Placing;
 use std::alloc::Global;
 use std::mem;
-use zst_record::{BinDecodable, BinDecoder, DecodeError, Record};
+use zst_record::{BinDecodable, BinDecoder, DecodeError, Record, push};
 
 /// The record at the decoder's index, which may stand there.
 pub fn read_placed(
@@ -53,7 +53,7 @@ fn read_records(
     let mut records = Vec::new(alloc);
     'records: for _ in 0..count {
         let standing = read_placed(alloc, decoder, at)?;
-        let Ok(()) = records.push(standing) else {
+        let Ok(()) = push(&mut records, standing) else {
             return Err(DecodeError::Memory);
         };
     }

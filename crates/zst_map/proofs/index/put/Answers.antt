@@ -1,6 +1,7 @@
 use Rattle.std.proofs.Common.{◌∙◌, sym, ap, Some, is_some}
-use Rattle.std.specs.Prelude.{Bool, Result, Ok, Err, OnOk, cond}
+use Rattle.std.specs.Prelude.{Bool, cond}
 use Rattle.std.specs.BTreeMap.{BTreeMap, Updates, get}
+use Rattle.std.proofs.lemmas.Result.{on_ok_weaker}
 use Rattle.zst_handler.specs.dnw_name.DomainName.{DomainName, name_cmp}
 use Rattle.zst_handler.specs.dnw_name.NameOrderLaws.{name_eq-by_cmp}
 use Rattle.zst_handler.specs.zst_record.RecordLaws.{name_eq_equiv}
@@ -14,12 +15,8 @@ inserted old new key updates name e =
     ∙ ap (λ (b : Bool). is_some (cond b (Some tt) (get name_cmp old name)))
     (sym (name_eq-by_cmp key name) ∙ sym (name_eq_equiv.symm name key) ∙ e)
 
-on_ok : {T E : Type 0} {P Q : Type 0} (r : Result T E) → (P → Q) → OnOk r P → OnOk r Q
-on_ok (Ok x) f h = f h
-on_ok (Err e) f h = h
-
 pub returns-clause-there : goal.returns-clause-there
 returns-clause-there c =
-    on_ok c.insert_key.result
+    on_ok_weaker c.insert_key.result
     (λ updates. rw (← c.in_ok-clone.ensures.cases) (inserted c.args.names.now c.insert_key.new.keys c.in_ok-clone.field-0 updates))
     c.insert_key.ensures.updates

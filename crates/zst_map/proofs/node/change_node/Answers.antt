@@ -1,6 +1,7 @@
 use Rattle.std.proofs.Common.{◌∙◌, sym, ap, subst, get_or, set}
-use Rattle.std.specs.Prelude.{◌≡◌, true, Option, slice_get, List, Some, None, Result, Ok, Err, OnOk, IfOk}
+use Rattle.std.specs.Prelude.{◌≡◌, true, Option, slice_get, List, Some, None}
 use Rattle.std.specs.List.{insert}
+use Rattle.std.proofs.lemmas.Result.{IfOk-weaker, on_ok_weaker}
 use Rattle.zst_handler.specs.dnw_codes.declared.record_type.RecordType.{RecordType}
 use Rattle.zst_handler.specs.dnw_codes.RecordType.{record_type_number, same_record_type}
 use Rattle.zst_handler.specs.dnw_name.DomainName.{name_eq}
@@ -53,14 +54,6 @@ insert-requires c =
     ∙ ap (λ (t : RecordType). place_from 0 (items_of c.args.sets.now) (record_type_number t)) c.record_type.ensures) in
     f.within
 
-on_ok : {T E : Type 0} {P Q : Type 0} (r : Result T E) → (P → Q) → OnOk r P → OnOk r Q
-on_ok (Ok x) f h = f h
-on_ok (Err e) f h = h
-
-if_ok : {T E : Type 0} {P Q : T → Type 0} (r : Result T E) → ((x : T) → P x → Q x) → IfOk r P → IfOk r Q
-if_ok (Ok x) f h = f x h
-if_ok (Err e) f h = h
-
 pub returns-in-Ok-clause-changed : goal.returns-in-Ok-clause-changed
 returns-in-Ok-clause-changed c =
     let f : FoundHere c.in-Ok.place (items_of c.args.sets.now) (type_in c.args.change) (made c.args.change None)
@@ -70,7 +63,7 @@ returns-in-Ok-clause-changed c =
     let d = made c.args.change None in
     let g : slice_get (items_of c.args.sets.now) c.in-Ok.place ≡ Some (get_or (items_of c.args.sets.now) c.in-Ok.place d)
     = got_at (items_of c.args.sets.now) d c.in-Ok.place f.below in
-    if_ok c.change_at.result (λ changed e. e ∙ ap (alters c.args.change) (g ∙ sym f.found)) c.change_at.ensures.changed
+    IfOk-weaker c.change_at.result _ _ (λ changed e. e ∙ ap (alters c.args.change) (g ∙ sym f.found)) c.change_at.ensures.changed
 
 pub returns-in-Ok-clause-ok : goal.returns-in-Ok-clause-ok
 returns-in-Ok-clause-ok c =
@@ -81,7 +74,7 @@ returns-in-Ok-clause-ok c =
     let d = made c.args.change None in
     let g : slice_get (items_of c.args.sets.now) c.in-Ok.place ≡ Some (get_or (items_of c.args.sets.now) c.in-Ok.place d)
     = got_at (items_of c.args.sets.now) d c.in-Ok.place f.below in
-    on_ok c.change_at.result
+    on_ok_weaker c.change_at.result
     (λ e. e ∙ ap (λ (o : Option RRset). set (items_of c.args.sets.now) c.in-Ok.place (made c.args.change o)) (g ∙ sym f.found)
     ∙ sym (f.with _ (change_type (items_of c.args.sets.now) c.args.change)))
     c.change_at.ensures.ok

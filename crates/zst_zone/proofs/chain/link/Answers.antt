@@ -23,8 +23,8 @@ returns c =
     let new : list_any (name_eq c.in_ok-key.key) c.args.asked.now.items ≡ false
     = ap (list_any (name_eq c.in_ok-key.key)) (sym c.deref.ensures.value) ∙ sym c.was_asked.ensures ∙ c.if-was_asked.false in
     let there = found-match c.args.sets.now c.in_ok-key.key c.args.next.now c.args.record_type c.in-Some.found c.in_ok-key.ensures.key (rw c.in-Some.is at c.in_ok-found.ensures) in
-    let longer : map set_in c.push.new.self.items ≡ map set_in c.args.chain.now.items ++ match_set c.args.next.now c.in-Some.found ∷ []
-    = sets-more c.args.chain.now.items c.push.new.self.items c.in_ok-answer.field-0 (match_set c.args.next.now c.in-Some.found) c.in_ok-push.ensures.items c.in_ok-answer.ensures in
+    let longer : map set_in c.push.new.values.items ≡ map set_in c.args.chain.now.items ++ match_set c.args.next.now c.in-Some.found ∷ []
+    = sets-more c.args.chain.now.items c.push.new.values.items c.in_ok-answer.field-0 (match_set c.args.next.now c.in-Some.found) c.in_ok-push.ensures.ok c.in_ok-answer.ensures in
     λ name n few is. one-more c.args.sets.now name c.args.record_type (map set_in c.args.chain.now.items) c.args.asked.now.items n c.args.next.now is
-    c.in_ok-key.key (match_set c.args.next.now c.in-Some.found) _ (map set_in c.push.new.self.items) c.push-2.new.self.items few c.in_ok-key.ensures.key new there
+    c.in_ok-key.key (match_set c.args.next.now c.in-Some.found) _ (map set_in c.push.new.values.items) c.push-2.new.self.items few c.in_ok-key.ensures.key new there
     (c.leads.ensures ∙ sym (match-leads c.args.record_type c.args.next.now c.in-Some.found)) longer c.in_ok-push-2.ensures.items

@@ -1,4 +1,4 @@
-use Rattle.std.proofs.Common.{arith, inr, ◌∙◌}
+use Rattle.std.proofs.Common.{[], ◌∷◌, ap, arith, inr, length, length-append, ◌∙◌}
 use Rattle.std.proofs.lemmas.Result.{err_from_is_err_and}
 use Rattle.zsv_sections.proofs.Sectioning.{ordinary_more, ordinary_none, ordinary_refused}
 use Rattle.zsv_sections.proofs.section.read_records.Goals as goal
@@ -19,8 +19,8 @@ pub records-preserved : goal.records-preserved
 records-preserved c =
     let here = rw c.records.invariant.same at c.in_ok-standing.ensures.ok in
     record {
-      there = rw c.in-Ok.ensures.items (ordinary_more c.args.at c.args.decoder.now.octets c.args.decoder.now.index _ _ _ _ c.requires c.records.invariant.there here c.in_ok-standing.ensures.placed);
-      counted = omega (arith, c.in-Ok.ensures.len, c.records.invariant.counted);
+      there = rw c.in-Ok.ensures.ok (ordinary_more c.args.at c.args.decoder.now.octets c.args.decoder.now.index _ _ _ _ c.requires c.records.invariant.there here c.in_ok-standing.ensures.placed);
+      counted = omega (arith, ap length c.in-Ok.ensures.ok ∙ length-append c.records.records.items (c.in_ok-standing.standing ∷ []), c.records.invariant.counted);
       same = c.in_ok-standing.ensures.same ∙ c.records.invariant.same;
     }
 

@@ -1,6 +1,7 @@
 use Rattle.std.proofs.Common.{◌≡◌, ◌∙◌, refl, sym, ap, subst}
-use Rattle.std.specs.Prelude.{[], ◌∷◌, Option, Some, Result, Ok, Err, OnOk, OnErr, IfOk, cond, is_some}
+use Rattle.std.specs.Prelude.{[], ◌∷◌, Option, Some, Result, Ok, Err, OnOk, cond, is_some}
 use Rattle.std.specs.HashMap.{get as hashed}
+use Rattle.std.proofs.lemmas.Result.{IfOk-weaker, on_err_weaker, on_ok_weaker}
 use Rattle.zst_handler.specs.dnw_name.DomainName.{DomainName, lowercase_name, name_eq}
 use Rattle.zst_handler.specs.Zones.{AreInOrder}
 use Rattle.zst_handler.specs.zst_record.OneOrMany.{items_of}
@@ -21,18 +22,6 @@ keyed key owner e = ap name_key e ∙ key-lower owner
 
 one : {X : Type 0} (x y : X) → Some x ≡ Some y → x ≡ y
 one x y e = cc
-
-on_ok : {T E : Type 0} {P Q : Type 0} (r : Result T E) → (P → Q) → OnOk r P → OnOk r Q
-on_ok (Ok x) f h = f h
-on_ok (Err e) f h = h
-
-on_err : {T E : Type 0} {P Q : Type 0} (r : Result T E) → (P → Q) → OnErr r P → OnErr r Q
-on_err (Ok x) f h = h
-on_err (Err e) f h = f h
-
-if_ok : {T E : Type 0} {P Q : T → Type 0} (r : Result T E) → ((x : T) → P x → Q x) → IfOk r P → IfOk r Q
-if_ok (Ok x) f h = f x h
-if_ok (Err e) f h = h
 
 any_ok : {T E : Type 0} {P : Type 0} (r : Result T E) → P → OnOk r P
 any_ok (Ok x) p = p
@@ -59,7 +48,7 @@ invariant_of-self c =
 
 pub returns-in-Some-clause-changed : goal.returns-in-Some-clause-changed
 returns-in-Some-clause-changed c =
-    if_ok c.change_node.result
+    IfOk-weaker c.change_node.result _ _
     (λ changed e. e ∙ ap (alters c.args.change) (sym (set_held c.self.inside.nodes c.self.inside.owners c.self.invariant c.args.self.now c.self.view_is c.args.key c.args.change (keyed c.args.key (owner_of c.args.change) c.requires)
     ∙ ap (λ (o : Option (OneOrMany RRset)). set_of_type (type_in c.args.change) (held_sets o)) (sym c.in-Some.ensures.value))))
     c.change_node.ensures.changed
@@ -68,7 +57,7 @@ pub returns-in-Some-clause-ok : goal.returns-in-Some-clause-ok
 returns-in-Some-clause-ok c =
     let w = c.change_node.new.sets in
     let there = c.in-Some.ensures.value in
-    on_ok c.change_node.result
+    on_ok_weaker c.change_node.result
     (λ e. replaced_after c.self.inside.nodes (c.get_mut.follows.lender w) c.self.inside.owners c.self.inside.owners c.args.key (Some w) c.self.invariant
     ((c.get_mut.follows.holds w).3 (sym (ap is_some there))).0 (invariant_of-self c) c.args.self.now c.self.view_is c.args.change (keyed c.args.key (owner_of c.args.change) c.requires)
     w refl (e ∙ ap (λ (o : Option (OneOrMany RRset)). with_change (held_sets o) c.args.change) there))
@@ -82,7 +71,7 @@ pub returns-in-Some-clause-err : goal.returns-in-Some-clause-err
 returns-in-Some-clause-err c =
     let w = c.change_node.new.sets in
     let there = c.in-Some.ensures.value in
-    on_err c.change_node.result
+    on_err_weaker c.change_node.result
     (λ e. same_sets c.self.inside.nodes (c.get_mut.follows.lender w) c.self.inside.owners.entries
     (same_after c.self.inside.nodes (c.get_mut.follows.lender w) c.self.inside.owners c.self.inside.owners c.args.key (Some w) c.self.invariant
     ((c.get_mut.follows.holds w).3 (sym (ap is_some there))).0 w refl (e ∙ ap held_sets there))

@@ -1,6 +1,7 @@
 use Rattle.std.proofs.Common.{◌≡◌, ◌∙◌, sym, ap, List}
-use Rattle.std.specs.Prelude.{Bool, true, false, not, ◌||◌, Result, Ok, Err, OnOk, IfOk}
+use Rattle.std.specs.Prelude.{Bool, true, false, not, ◌||◌, Result, Ok, Err, OnOk}
 use Rattle.std.proofs.lemmas.Bool.{true≢false}
+use Rattle.std.proofs.lemmas.Result.{IfOk-weaker}
 use Rattle.zst_handler.specs.dnw_codes.DNSClass.{same_class}
 use Rattle.zst_handler.specs.dnw_codes.declared.dns_class.DNSClass.TheVariants.{IN}
 use Rattle.zst_handler.specs.zst_record.declared.records.Record.{Record}
@@ -35,10 +36,6 @@ returns-then-is_kept_out-clause-ok c = λ changes. absurd (true≢false (sym cha
 pub returns-then-is_kept_out-clause-ordered : goal.returns-then-is_kept_out-clause-ordered
 returns-then-is_kept_out-clause-ordered c = λ changes. absurd (true≢false (sym changes ∙ sym (returns-then-is_kept_out-clause-changed c)))
 
-if_ok : {T E : Type 0} {P Q : T → Type 0} (r : Result T E) → ((x : T) → P x → Q x) → IfOk r P → IfOk r Q
-if_ok (Ok x) f h = f x h
-if_ok (Err e) f h = h
-
 all_ok : {T E : Type 0} {P Q R S : Type 0} (r : Result T E) → (P → Q → R → S) → OnOk r P → OnOk r Q → OnOk r R → OnOk r S
 all_ok (Ok x) f p q s = f p q s
 all_ok (Err e) f p q s = p
@@ -46,7 +43,7 @@ all_ok (Err e) f p q s = p
 pub returns-clause-changed : goal.returns-clause-changed
 returns-clause-changed c =
     let there = rrset_at c.args.self.now c.args.next.name (type_of c.args.next.rdata) in
-    if_ok c.change.result
+    IfOk-weaker c.change.result _ _
     (λ changed e. e ∙ alters_joins there c.args.next
     ∙ let_in (same_class c.args.next.dns_class IN) (is_kept_out (sets_of_name c.args.self.now c.args.next.name) (type_of c.args.next.rdata)) (joins (rrset_at c.args.self.now c.args.next.name (type_of c.args.next.rdata)) c.args.next)
     (tested c.self.inside.sets c.args.self.now c.sets_at.result.now c.args.key c.args.next c.is_kept_out.result false c.requires c.self.view_is c.sets_at.ensures c.is_kept_out.ensures c.if-is_kept_out.false))

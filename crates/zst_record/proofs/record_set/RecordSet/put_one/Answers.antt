@@ -12,12 +12,12 @@ use Rattle.zst_record.proofs.record_set.RecordSet.put_one.Goals as goal
 
 pub invariant_of-self : goal.invariant_of-self
 invariant_of-self c =
-    held_one c.args.next c.self.inside.record_type (c.args.next ∷ []) c.clear.new.self.items refl c.clear.ensures.items
+    held_one c.args.next c.self.inside.record_type (items_of c.set_only.new.self) c.clear.new.self.items c.set_only.ensures c.clear.ensures.items
     (subst (λ (s : RRset). same_record_type (type_of c.args.next.rdata) s.record_type ≡ true) (sym c.self.view_is) c.requires.kind) _
 
 pub returns-then-either-clause-ok : goal.returns-then-either-clause-ok
 returns-then-either-clause-ok c =
-    rw c.clear.ensures.items
+    rw (c.clear.ensures.items, c.set_only.ensures)
     (alone_is c.self.inside.record_type c.args.alone c.self.inside.is_empty (items_of c.self.inside.records) c.self.inside.rrsigs.items c.args.next (sym c.either.ensures ∙ c.if-either.true)
     ∙ ap (λ (s : RRset). with_one c.args.alone s c.args.next) c.self.view_is)
 

@@ -59,9 +59,9 @@ returns-then-is_tsig-clause-ok c = λ op place n g.
     let signed = subst (λ (n : ℕ). IsSigned c.args.decoder.now.octets (end - n) n c.in_ok-standing.standing tsig) held.counted
     (subst (λ (m : List ℕ). IsSigned m (end - c.data_len-len.result) c.data_len-len.result c.in_ok-standing.standing tsig) c.in_ok-standing.ensures.same c.in_ok-signature.ensures.ok) in
     rw c.in_ok-signature.ensures.stays (gathers_tsig op c.args.decoder.now.octets place n c.args.self.now _ c.args.decoder.now.index c.in_ok-standing.standing end held.octets tsig g
-    c.in_ok-standing.ensures.ok c.in_ok-standing.ensures.placed (sym c.is_opt.ensures ∙ c.if-is_opt.false) is held.whole signed c.past-self.ensures refl refl c.in-Ok.ensures.items)
+    c.in_ok-standing.ensures.ok c.in_ok-standing.ensures.placed (sym c.is_opt.ensures ∙ c.if-is_opt.false) is held.whole signed c.past-self.ensures refl refl c.in-Ok.ensures.ok)
 
 pub returns-clause-ok : goal.returns-clause-ok
 returns-clause-ok c = λ op place n g.
     gathers_other op c.args.decoder.now.octets place n c.args.self.now _ c.args.decoder.now.index c.in_ok-standing.standing c.read_placed.new.decoder.index g
-    c.in_ok-standing.ensures.ok c.in_ok-standing.ensures.placed (sym c.is_opt.ensures ∙ c.if-is_opt.false) (sym c.is_tsig.ensures ∙ c.if-is_tsig.false) c.past-self.ensures c.in-Ok-push.ensures.items refl refl
+    c.in_ok-standing.ensures.ok c.in_ok-standing.ensures.placed (sym c.is_opt.ensures ∙ c.if-is_opt.false) (sym c.is_tsig.ensures ∙ c.if-is_tsig.false) c.past-self.ensures c.in-Ok-push.ensures.ok refl refl
