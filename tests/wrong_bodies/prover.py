@@ -113,7 +113,7 @@ class Trial:
     as it stands keeps."""
 
     def __init__(self, rt, crate, say, slots, jobs, share):
-        """`slots` are as many as there may be checks at once, `jobs`; `share` of them are this crate's alone."""
+        """There are `jobs` slots, one for each check that may run at once; the crate as it stands is proved by `share` processes."""
         self.rt, self.crate, self.say = rt, crate, say
         self.slots, self.jobs, self.share = slots, jobs, share
         self.refused, self.failed = [], []
