@@ -22,7 +22,7 @@ pub(crate) fn find_set(sets: &[RecordSet], record_type: RecordType) -> Option<&R
     ensures { option_copied result ≡ find (λ set. same_record_type set.record_type record_type) sets.now }
 {
     for set in sets {
-        if set.record_type() == record_type {
+        if set.is_of_type(record_type) {
             return Some(set);
         }
     }

@@ -86,6 +86,17 @@ impl RecordSet {
         self.record_type
     }
 
+    /// Whether the set is of a type. The first record tells, which who asks goes on to read: in a large zone neither lies in a
+    /// near cache, and both are waited for at once.
+    pub fn is_of_type(&self, record_type: RecordType) -> bool
+        ensures { result ≡ same_record_type self.now.record_type record_type }
+    {
+        match self.as_slice().split_first() {
+            Some((first, _)) => first.record_type() == record_type,
+            None => self.record_type == record_type,
+        }
+    }
+
     /// The least time to live of the records, in seconds; 0 without records.
     pub fn ttl(&self) -> u32
         ensures { result ≡ least_ttl self.now.records }
