@@ -86,8 +86,8 @@ impl RecordSet {
         self.record_type
     }
 
-    /// Whether the set is of a type. The first record tells, which who asks goes on to read: in a large zone neither lies in a
-    /// near cache, and both are waited for at once.
+    /// Whether the set is of a type. Its first record tells: the caller goes on to read it, and so waits once, not twice, for a
+    /// set that lies in no near cache.
     pub fn is_of_type(&self, record_type: RecordType) -> bool
         ensures { result ≡ same_record_type self.now.record_type record_type }
     {
