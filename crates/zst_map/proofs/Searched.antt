@@ -1,11 +1,11 @@
 -- What a search of the sets of a zone comes to.
 use Rattle.std.proofs.Common.{◌≡◌, ℕ, ◌<◌, length, drop, refl, ap, sym, ◌∙◌, arith}
-use Rattle.std.specs.Prelude.{Bool, true, false, List, [], ◌∷◌, Option, Some, None, is_some, IsSome, cond, find, option_map, option_copied, IfSome}
+use Rattle.std.specs.Prelude.{Bool, true, false, ◌==◌, List, [], ◌∷◌, Option, Some, None, is_some, IsSome, cond, find, option_map, option_copied, IfSome}
 use Rattle.std.specs.Option.{option_flatten}
 use Rattle.std.specs.BTreeMap.{BTreeMap, btree_map_len, get, is_at}
 use Rattle.std.specs.Map.{lookup}
 use Rattle.std.specs.Borrow.{Bor}
-use Rattle.std.proofs.lemmas.Bool.{true≢false}
+use Rattle.std.proofs.lemmas.Bool.{true≢false, eqb-true}
 use Rattle.zst_handler.specs.dnw_codes.declared.record_type.RecordType.{RecordType}
 use Rattle.zst_handler.specs.dnw_codes.declared.record_type.RecordType.TheVariants as kind
 use Rattle.zst_handler.specs.dnw_codes.RecordType.{same_record_type}
@@ -177,6 +177,17 @@ address_none : (b : Bool) (o : Option RRset) → o ≡ None → cond b o None �
 address_none true o e = e
 address_none false o e = refl
 
+pub no_sets : (sets : List RRset) → true ≡ (length sets == 0) → sets ≡ []
+no_sets [] e = refl
+no_sets (set ∷ sets) e =
+    let none : length (set ∷ sets) ≡ 0 = eqb-true (length (set ∷ sets)) 0 (sym e) in
+    absurd (omega (arith, none))
+
+pub nothing_here : (zone : List RRset) (name : DomainName) (t : RecordType) → ((u : RecordType) → rrset_at zone name u ≡ None) → here zone t name ≡ None
+nothing_here zone name t none =
+    address_here zone name t (is_address t) (none t) (none kind.CNAME) refl
+    ∙ address_none (is_address t) (rrset_at zone name kind.ANAME) (none kind.ANAME)
+
 pub no_wildcard : (zone : List RRset) (names : BTreeMap DomainName (Unit {0})) (key : DomainName) (t : RecordType) → btree_map_len names ≡ 0
     → ((name : DomainName) (type : RecordType) → IsSome (rrset_at zone (star name) type) → IsSome (get name_cmp names name))
     → looked_for (above (sought_in zone (seeks.Wildcard t)) key) ≡ None
@@ -186,9 +197,7 @@ no_wildcard zone names key t empty stars = ap looked_for (nothing_above (sought_
     none name type = never_some (rrset_at zone (star name) type) (λ some. true≢false (sym (stars name type some) ∙ ap is_some (empty_get names name empty)))
 
     nothing : (name : DomainName) → sought_in zone (seeks.Wildcard t) name ≡ None
-    nothing name = ap (option_map (λ (set : RRset). Some set))
-        (address_here zone (star name) t (is_address t) (none name t) (none name kind.CNAME) refl
-        ∙ address_none (is_address t) (rrset_at zone (star name) kind.ANAME) (none name kind.ANAME))
+    nothing name = ap (option_map (λ (set : RRset). Some set)) (nothing_here zone (star name) t (none name))
 
 pub third_found : (zone : List RRset) (key : DomainName) (t : RecordType) → delegation zone key t ≡ None → here zone t key ≡ None → found zone key t ≡ wildcard_answer zone key t
 third_found zone key t first second =

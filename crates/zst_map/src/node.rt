@@ -21,12 +21,14 @@ use zst_handler::{OneOrMany, RecordSet, RecordType};
 pub(crate) fn find_set(sets: &[RecordSet], record_type: RecordType) -> Option<&RecordSet>
     ensures { option_copied result ≡ find (λ set. same_record_type set.record_type record_type) sets.now }
 {
-    for set in sets {
-        if set.is_of_type(record_type) {
-            return Some(set);
-        }
-    }
-    None
+    sets.iter().find(|set| set.record_type() == record_type)
+}
+
+/// The set of a type, whose records are read next.
+fn find_to_read(sets: &[RecordSet], record_type: RecordType) -> Option<&RecordSet>
+    ensures { option_copied result ≡ find (λ set. same_record_type set.record_type record_type) sets.now }
+{
+    sets.iter().find(|set| set.is_of_type(record_type))
 }
 
 /// Whether questions of a type are answered by an alias for addresses.
@@ -40,7 +42,10 @@ pub(crate) fn is_address(record_type: RecordType) -> bool
 pub(crate) fn here(sets: &[RecordSet], record_type: RecordType) -> Option<&RecordSet>
     ensures { (zone : List RRset) (name : DomainName) → sets.now ≡ sets_of_name zone name → option_copied result ≡ here zone record_type name }
 {
-    if let Some(set) = find_set(sets, record_type) {
+    if sets.is_empty() {
+        return None;
+    }
+    if let Some(set) = find_to_read(sets, record_type) {
         return Some(set);
     }
     if let Some(alias) = find_set(sets, RecordType::CNAME) {
