@@ -10,7 +10,7 @@ use Rattle.std.proofs.lemmas.Fmt.{decimal_is_IsNumeral, decimal_nonempty}
 use Rattle.std.proofs.lemmas.Str.{IsAscii-append, chars-IsAscii, encodes-IsAscii}
 use Rattle.std.proofs.lemmas.Str.Ascii.{IsAscii-nil, IsAscii-cons}
 use Rattle.std.proofs.lemmas.Str.Parse.{digit_from_value}
-use Rattle.dnw_codes.specs.Ascii.{is_blank}
+use Rattle.dnw_lexer.specs.dnw_codes.Ascii.{is_blank}
 use Rattle.dnw_lexer.specs.Lexer.{at_line_end, without_blanks, without_comment, ends_word, PlainText, ends as word-ends, plain, blank, word, bare_lexeme, lexeme_given, Given, unread, BareToken, WordToken, LineToken, IsToken}
 use Rattle.dnw_lexer.proofs.TokenLemmas.{bare-word, blank-token, line-goes}
 use Rattle.zst_zone.specs.drd_words.Text.{IsSplitInto, TextReading, ends, more}

@@ -1,26 +1,23 @@
 -- The causes of a refused line, in their order.
-use Rattle.std.proofs.Common.{◌≡◌, refl, sym, ap, ◌∙◌, subst, ℕ, ◌+◌, ◌<◌, ◌≤◌, Bool, true, false, eqb, if◌then◌else◌, List, [], ◌∷◌, length, get_or, Option, Some, None, IsSome, is_some, Result, Ok, Err, arith}
+use Rattle.std.proofs.Common.{◌≡◌, refl, sym, ap, ◌∙◌, subst, ℕ, ◌+◌, ◌<◌, ◌≤◌, Bool, true, false, eqb, if◌then◌else◌, List, [], ◌∷◌, length, get_or, Option, Some, None, Result, Ok, Err, arith}
 use Rattle.std.proofs.lemmas.Bool.{eqb-true, eqb-false, both_ways}
+use Rattle.drd_record_data.specs.Numbers.{NumbersFit}
 use Rattle.zst_zone.specs.dnw_codes.declared.record_type.RecordType.{RecordType}
-use Rattle.zst_zone.specs.dnw_codes.declared.record_type.RecordType.TheVariants as types
 use Rattle.authority_load.specs.declared.loader.LoadCause.{LoadCause}
 use Rattle.authority_load.specs.declared.loader.LoadCause.TheVariants as causes
 use Rattle.authority_load.specs.declared.text.TextError.{TextError}
 use Rattle.authority_load.specs.declared.text.TextError.TheVariants as errors
 use Rattle.zst_zone.specs.drd_rdata.declared.rdata.RData.{RData}
-use Rattle.zst_zone.specs.drd_rdata.Reading.{IsReadable}
-use Rattle.zst_zone.specs.drd_rdata.Texts.{IsTextOf}
 use Rattle.zst_zone.specs.drd_rdata.Types.{type_of}
-use Rattle.zst_zone.proofs.drd_words_lemmas.TextLemmas.{words-one}
 use Rattle.zst_zone.specs.dnw_name.DomainName.{DomainName, is_at_or_below}
 use Rattle.zst_zone.specs.dnw_codes.ProtoError.{IsMemory}
 use Rattle.zst_zone.specs.dnw_codes.declared.error.ProtoError.{ProtoError}
 use Rattle.std.specs.Prelude.{◌⊎◌, IfOk}
 use Rattle.std.proofs.Common.{inl, inr}
-use Rattle.authority_load.specs.ZoneText.{ReadsText, TellsTextCause}
-use Rattle.zst_zone.specs.zst_handler.Zones.{Zone, rrset_at}
-use Rattle.authority_load.specs.ZoneText.{words_of, data_text, field, IsOwnerText, IsNumberText, is_internet, type_of_text, AreData, IsDataText, has_full_names, is_start, StandsAt, NoneBefore, cause_order, with_cause, IsHeading, Heading}
-use Rattle.authority_load.proofs.Readable.{loaded, readable, same_full}
+use Rattle.authority_load.specs.ZoneText.{ReadsText, TellsTextCause, DataGives}
+use Rattle.zst_zone.specs.zst_handler.Zones.{Zone}
+use Rattle.authority_load.specs.ZoneText.{words_of, data_text, field, IsOwnerText, IsTtlField, is_internet, type_of_text, AreData, IsDataText, StandsAt, NoneBefore, Stands, cause_order, line_turn, with_cause, IsHeading, IsInside, IsTaken, MayJoin, RefusesValue, Heading, record_at}
+use Rattle.zst_zone.specs.zst_record.Records.{belongs_to_message}
 use Rattle.zst_zone.proofs.dnw_name_lemmas.TextLemmas.{name-same}
 
 cause_at : ℕ → LoadCause
@@ -67,7 +64,10 @@ none_7 zone line h known =
     let n4 : NoneBefore zone line 4 = none_next zone line causes.Ttl n3 (λ none. none h.ttl known.ttl) in
     let n5 : NoneBefore zone line 5 = none_next zone line causes.Class n4 (λ wrong. both_ways (is_internet (field line 2)) wrong known.class_word) in
     let n6 : NoneBefore zone line 6 = none_next zone line causes.UnknownType n5 (λ unknown. let there = known.type_word in cc) in
-    none_next zone line causes.TypeNotLoaded n6 (λ wrong. wrong)
+    none_next zone line causes.TypeNotLoaded n6 (λ wrong.
+    let both : Some wrong.0 ≡ Some h.record_type = sym wrong.1 ∙ known.type_word in
+    let same : wrong.0 ≡ h.record_type = cc in
+    both_ways (belongs_to_message h.record_type) known.loaded (sym (ap belongs_to_message same) ∙ wrong.2))
 
 -- ---- a field that is read
 pub field_read : {X : Type 0} (IsText : X → Type 0) (cause : LoadCause) (r : Result X TextError) (x : X) → ReadsText IsText r → with_cause cause r ≡ Ok x → IsText x
@@ -81,54 +81,88 @@ field_kept P cause (Err errors.Malformed) x keeps e = absurd (cc)
 field_kept P cause (Err errors.OutOfMemory) x keeps e = absurd (cc)
 
 -- ---- a field that is not: its cause stands, unless memory was refused
-abbrev pub Stands : Zone → List ℕ → LoadCause → Type 0
-Stands zone line cause = StandsAt zone line cause × NoneBefore zone line (cause_order cause)
-
 stands_memory : (zone : Zone) (line : List ℕ) → Stands zone line causes.OutOfMemory
 stands_memory zone line = (tt, λ earlier above below. absurd (omega arith))
 
 pub field_refused : {X : Type 0} (IsText : X → Type 0) (zone : Zone) (line : List ℕ) (cause : LoadCause) (r : Result X TextError) (e : LoadCause) → ReadsText IsText r → with_cause cause r ≡ Err e
-    → (((x : X) → IsText x → ⊥) → StandsAt zone line cause) → NoneBefore zone line (cause_order cause) → Stands zone line e
+    → (((x : X) → IsText x → ⊥) → StandsAt zone line cause) → NoneBefore zone line (line_turn cause) → Stands zone line e
 field_refused IsText zone line cause (Ok y) e reads is stands before = absurd (cc)
 field_refused IsText zone line cause (Err errors.Malformed) e reads is stands before = let same : cause ≡ e = cc in subst (Stands zone line) same (stands reads, before)
 field_refused IsText zone line cause (Err errors.OutOfMemory) e reads is stands before = let same : causes.OutOfMemory ≡ e = cc in subst (Stands zone line) same (stands_memory zone line)
 
 -- The time to live of a line with an owner is none.
 pub ttl_refused : (zone : Zone) (line : List ℕ) (owner ttl : List ℕ) (behind : List (List ℕ)) (name : DomainName) (r : Result ℕ TextError) (e : LoadCause) → words_of line ≡ owner ∷ ttl ∷ behind → 4 ≤ length (words_of line)
-    → IsOwnerText owner name → ReadsText (IsNumberText 32 ttl) r → with_cause causes.Ttl r ≡ Err e → Stands zone line e
+    → IsOwnerText owner name → ReadsText (IsTtlField ttl) r → with_cause causes.Ttl r ≡ Err e → Stands zone line e
 ttl_refused zone line owner ttl behind name r e spelled counted owned reads is =
     let first : field line 0 ≡ owner = ap (λ ws. get_or ws 0 []) spelled in
     let second : field line 1 ≡ ttl = ap (λ ws. get_or ws 1 []) spelled in
     let n2 : NoneBefore zone line 2 = none_next zone line causes.FieldCount (none_first zone line) (λ few. omega arith) in
     let n3 : NoneBefore zone line 3 = none_next zone line causes.Owner n2 (λ none. none name (subst (λ w. IsOwnerText w name) (sym first) owned)) in
-    field_refused (IsNumberText 32 ttl) zone line causes.Ttl r e reads is (λ none. λ n known. none n (subst (λ w. IsNumberText 32 w n) second known)) n3
+    field_refused (IsTtlField ttl) zone line causes.Ttl r e reads is (λ none. λ n known. none n (subst (λ w. IsTtlField w n) second known)) n3
 
 -- The class of a line with an owner and a time to live is none that is known here, or its type is none.
 abbrev IsLine : List ℕ → List ℕ → List ℕ → List ℕ → List ℕ → List (List ℕ) → Type 0
 IsLine line owner ttl class type_word behind = words_of line ≡ owner ∷ ttl ∷ class ∷ type_word ∷ behind
 
 none_4 : (zone : Zone) (line : List ℕ) (owner ttl class type_word : List ℕ) (behind : List (List ℕ)) (name : DomainName) (n : ℕ) → IsLine line owner ttl class type_word behind
-    → IsOwnerText owner name → IsNumberText 32 ttl n → NoneBefore zone line 4
+    → IsOwnerText owner name → IsTtlField ttl n → NoneBefore zone line 4
 none_4 zone line owner ttl class type_word behind name n spelled owned timed =
     let first : field line 0 ≡ owner = ap (λ ws. get_or ws 0 []) spelled in
     let second : field line 1 ≡ ttl = ap (λ ws. get_or ws 1 []) spelled in
     let counted : 4 ≤ length (words_of line) = omega (arith, ap length spelled) in
     let n2 : NoneBefore zone line 2 = none_next zone line causes.FieldCount (none_first zone line) (λ few. omega arith) in
     let n3 : NoneBefore zone line 3 = none_next zone line causes.Owner n2 (λ none. none name (subst (λ w. IsOwnerText w name) (sym first) owned)) in
-    none_next zone line causes.Ttl n3 (λ none. none n (subst (λ w. IsNumberText 32 w n) (sym second) timed))
+    none_next zone line causes.Ttl n3 (λ none. none n (subst (λ w. IsTtlField w n) (sym second) timed))
 
 pub class_refused : (zone : Zone) (line : List ℕ) (owner ttl class type_word : List ℕ) (behind : List (List ℕ)) (name : DomainName) (n : ℕ) → IsLine line owner ttl class type_word behind
-    → IsOwnerText owner name → IsNumberText 32 ttl n → is_internet class ≡ false → Stands zone line causes.Class
+    → IsOwnerText owner name → IsTtlField ttl n → is_internet class ≡ false → Stands zone line causes.Class
 class_refused zone line owner ttl class type_word behind name n spelled owned timed other =
     let third : field line 2 ≡ class = ap (λ ws. get_or ws 2 []) spelled in
     (ap is_internet third ∙ other, none_4 zone line owner ttl class type_word behind name n spelled owned timed)
 
-pub type_refused : (zone : Zone) (line : List ℕ) (owner ttl class type_word : List ℕ) (behind : List (List ℕ)) (name : DomainName) (n : ℕ) → IsLine line owner ttl class type_word behind
-    → IsOwnerText owner name → IsNumberText 32 ttl n → is_internet class ≡ true → type_of_text type_word ≡ None → Stands zone line causes.UnknownType
-type_refused zone line owner ttl class type_word behind name n spelled owned timed known unknown =
+none_5 : (zone : Zone) (line : List ℕ) (owner ttl class type_word : List ℕ) (behind : List (List ℕ)) (name : DomainName) (n : ℕ) → IsLine line owner ttl class type_word behind
+    → IsOwnerText owner name → IsTtlField ttl n → is_internet class ≡ true → NoneBefore zone line 5
+none_5 zone line owner ttl class type_word behind name n spelled owned timed known =
+    let third : field line 2 ≡ class = ap (λ ws. get_or ws 2 []) spelled in
+    none_next zone line causes.Class (none_4 zone line owner ttl class type_word behind name n spelled owned timed) (λ wrong. both_ways (is_internet (field line 2)) wrong (ap is_internet third ∙ known))
+
+no_type : (word : List ℕ) → ((t : RecordType) → type_of_text word ≡ Some t → ⊥) → type_of_text word ≡ None
+no_type word none = by (type_of_text word) refl
+  where
+    by : (o : Option RecordType) → type_of_text word ≡ o → o ≡ None
+    by None e = refl
+    by (Some t) e = absurd (none t e)
+
+pub type_refused : (zone : Zone) (line : List ℕ) (owner ttl class type_word : List ℕ) (behind : List (List ℕ)) (name : DomainName) (n : ℕ) (r : Result RecordType TextError) (e : LoadCause) → IsLine line owner ttl class type_word behind
+    → IsOwnerText owner name → IsTtlField ttl n → is_internet class ≡ true → ReadsText (λ (t : RecordType). type_of_text type_word ≡ Some t) r → with_cause causes.UnknownType r ≡ Err e → Stands zone line e
+type_refused zone line owner ttl class type_word behind name n r e spelled owned timed known reads is =
+    let fourth : field line 3 ≡ type_word = ap (λ ws. get_or ws 3 []) spelled in
+    field_refused (λ (t : RecordType). type_of_text type_word ≡ Some t) zone line causes.UnknownType r e reads is (λ none. ap type_of_text fourth ∙ no_type type_word none)
+    (none_5 zone line owner ttl class type_word behind name n spelled owned timed known)
+
+pub not_loaded : (zone : Zone) (line : List ℕ) (owner ttl class type_word : List ℕ) (behind : List (List ℕ)) (name : DomainName) (n : ℕ) (t : RecordType) → IsLine line owner ttl class type_word behind
+    → IsOwnerText owner name → IsTtlField ttl n → is_internet class ≡ true → type_of_text type_word ≡ Some t → belongs_to_message t ≡ true → Stands zone line causes.TypeNotLoaded
+not_loaded zone line owner ttl class type_word behind name n t spelled owned timed known typed of-message =
+    let fourth : field line 3 ≡ type_word = ap (λ ws. get_or ws 3 []) spelled in
+    let there : type_of_text (field line 3) ≡ Some t = ap type_of_text fourth ∙ typed in
+    ((t, there, of-message), none_next zone line causes.UnknownType (none_5 zone line owner ttl class type_word behind name n spelled owned timed known) (λ unknown. cc))
+
+pub heading_of : (line : List ℕ) (owner ttl class type_word : List ℕ) (behind : List (List ℕ)) (name : DomainName) (n : ℕ) (t : RecordType) → IsLine line owner ttl class type_word behind
+    → IsOwnerText owner name → IsTtlField ttl n → is_internet class ≡ true → type_of_text type_word ≡ Some t → belongs_to_message t ≡ false → IsHeading line (record { name = name; ttl = n; record_type = t; rdata = data_text line })
+heading_of line owner ttl class type_word behind name n t spelled owned timed known typed of-zones =
+    let first : field line 0 ≡ owner = ap (λ ws. get_or ws 0 []) spelled in
+    let second : field line 1 ≡ ttl = ap (λ ws. get_or ws 1 []) spelled in
     let third : field line 2 ≡ class = ap (λ ws. get_or ws 2 []) spelled in
     let fourth : field line 3 ≡ type_word = ap (λ ws. get_or ws 3 []) spelled in
-    (ap type_of_text fourth ∙ unknown, none_next zone line causes.Class (none_4 zone line owner ttl class type_word behind name n spelled owned timed) (λ wrong. both_ways (is_internet (field line 2)) wrong (ap is_internet third ∙ known)))
+    record {
+      count = omega (arith, ap length spelled);
+      owner = subst (λ w. IsOwnerText w name) (sym first) owned;
+      ttl = subst (λ w. IsTtlField w n) (sym second) timed;
+      class_word = ap is_internet third ∙ known;
+      type_word = ap type_of_text fourth ∙ typed;
+      loaded = of-zones;
+      rest = refl;
+    }
 
 -- ---- the rest of a line
 pub none_8 : (zone : Zone) (line : List ℕ) (h : Heading) → IsHeading line h → is_at_or_below h.name zone.origin ≡ true → NoneBefore zone line 8
@@ -151,47 +185,31 @@ data_none line h known none value is =
 pub none_9 : (zone : Zone) (line : List ℕ) (value : RData) → NoneBefore zone line 8 → AreData line value → NoneBefore zone line 9
 none_9 zone line value before is = none_next zone line causes.Data before (λ none. none value is)
 
--- The data of a line whose names end at the root are read from their octets.
-pub data_readable : (line : List ℕ) (value : RData) → AreData line value → has_full_names value ≡ true → IsReadable value
-data_readable line value is full = readable (type_of value) is.1.0 value (loaded (field line 3) (type_of value) is.0) is.1.2 full
+-- What was read behind a heading, by its reader's answer.
+pub data_given : (zone : Zone) (line : List ℕ) (h : Heading) (r : Result RData TextError) (o : Result RData LoadCause) → IsHeading line h → is_at_or_below h.name zone.origin ≡ true → ReadsText (IsDataText h.record_type h.rdata) r
+    → IfOk r (λ v. type_of v ≡ h.record_type) → o ≡ with_cause causes.Data r → DataGives zone line h o
+data_given zone line h r (Ok value) known inside reads kinds is =
+    (record { heading = known; inside = inside }, data_some line h value known (field_read (IsDataText h.record_type h.rdata) causes.Data r value reads (sym is)) (field_kept (λ v. type_of v ≡ h.record_type) causes.Data r value kinds (sym is)))
+data_given zone line h r (Err e) known inside reads kinds is =
+    field_refused (IsDataText h.record_type h.rdata) zone line causes.Data r e reads (sym is) (data_none line h known) (none_8 zone line h known inside)
 
-all_full : (line : List ℕ) (a b : RData) → AreData line a → AreData line b → has_full_names a ≡ has_full_names b
-all_full line a b of-a of-b =
-    let both : Some (type_of b) ≡ Some (type_of a) = sym of-b.0 ∙ of-a.0 in
-    let same : type_of b ≡ type_of a = cc in
-    let words : of-b.1.0 ≡ of-a.1.0 = words-one _ of-b.1.0 of-a.1.0 of-b.1.1 of-a.1.1 in
-    same_full (type_of a) of-a.1.0 a b (loaded (field line 3) (type_of a) of-a.0) of-a.1.2
-    (subst (λ t. IsTextOf t of-a.1.0 None b) same (subst (λ ws. IsTextOf (type_of b) ws None b) words of-b.1.2))
+-- A value that is refused: its cause stands, and none before the value.
+pub value_refused : (zone : Zone) (line : List ℕ) (h : Heading) (value : RData) (cause : LoadCause) → IsInside zone line h → AreData line value → RefusesValue zone (record_at h value) cause → Stands zone line cause
+value_refused zone line h value causes.NotReadBack inside is why = ((h, inside, value, is, why), none_9 zone line value (none_8 zone line h inside.heading inside.inside) is)
+value_refused zone line h value causes.BesideCname inside is why = ((h, inside, value, is, why), none_9 zone line value (none_8 zone line h inside.heading inside.inside) is)
+value_refused zone line h value causes.SecondSoa inside is why = ((h, inside, value, is, why), none_9 zone line value (none_8 zone line h inside.heading inside.inside) is)
+value_refused zone line h value other inside is why = absurd why
 
-pub none_11 : (zone : Zone) (line : List ℕ) (value : RData) → NoneBefore zone line 8 → AreData line value → has_full_names value ≡ true → NoneBefore zone line 11
-none_11 zone line value before is full =
-    let n10 : NoneBefore zone line 10 = none_next zone line causes.NotReadBack (none_9 zone line value before is) (λ other.
-    other.2 (data_readable line other.0 other.1 (all_full line other.0 value other.1 is ∙ full))) in
-    none_next zone line causes.BesideCname n10 (λ wrong. wrong)
-
--- A start of authority where there is one.
-pub second_stands : (zone : Zone) (line : List ℕ) (h : Heading) → IsHeading line h → is_start h.record_type ≡ true → is_some (rrset_at zone.sets h.name types.SOA) ≡ true → StandsAt zone line causes.SecondSoa
-second_stands zone line h known start there =
-    (h.name, known.type_word ∙ ap (λ t. Some t) (start_is h.record_type start), known.owner, some_there (rrset_at zone.sets h.name types.SOA) there)
-  where
-    start_is : (t : RecordType) → is_start t ≡ true → t ≡ types.SOA
-    start_is types.SOA e = refl
-    start_is other e = cc
-
-    some_there : {X : Type 0} (o : Option X) → is_some o ≡ true → IsSome o
-    some_there o e = e
-
-pub none_12 : (zone : Zone) (line : List ℕ) (h : Heading) → IsHeading line h → NoneBefore zone line 11 → (is_start h.record_type ≡ true → is_some (rrset_at zone.sets h.name types.SOA) ≡ false) → NoneBefore zone line 12
-none_12 zone line h known before free =
-    none_next zone line causes.SecondSoa before (λ second.
-    let types-same : Some types.SOA ≡ Some h.record_type = sym second.1 ∙ known.type_word in
-    let type-same : h.record_type ≡ types.SOA = cc in
-    let same : second.0 ≡ h.name = name-same (field line 0) second.0 h.name second.2.name_text known.owner.name_text in
-    let there : IsSome (rrset_at zone.sets h.name types.SOA) = subst (λ name. IsSome (rrset_at zone.sets name types.SOA)) same second.3 in
-    not_some (rrset_at zone.sets h.name types.SOA) (free (ap is_start type-same)) there)
-  where
-    not_some : {X : Type 0} (o : Option X) → is_some o ≡ false → IsSome o → ⊥
-    not_some o e h = both_ways (is_some o) e h
+pub value_taken : (zone : Zone) (line : List ℕ) (h : Heading) (value : RData) → IsInside zone line h → AreData line value → MayJoin zone (record_at h value) → NumbersFit value → IsTaken zone line (record_at h value)
+value_taken zone line h value inside is joins fits =
+    let known = inside.heading in
+    record {
+      text = record { count = known.count; owner = known.owner; ttl = known.ttl; class_word = known.class_word; class = refl; value = is };
+      inside = inside.inside;
+      joins = joins;
+      fits = fits;
+      no_cause = none_9 zone line value (none_8 zone line h known inside.inside) is;
+    }
 
 -- A reader that is refused a text says so.
 pub text_err : {X : Type 0} (IsText : X → Type 0) (cause : ProtoError) (e : TextError) → TellsTextCause cause e → IsMemory cause ⊎ ((x : X) → IsText x → ⊥) → ReadsText {X = X} IsText (Err e)

@@ -1,6 +1,8 @@
 pub mod Addresses
 pub mod Causes
+pub mod Joined
 pub mod Loads
 pub mod LoneWords
-pub mod Readable
+pub mod Sound
+pub mod TextTypes
 pub mod WordPlaces

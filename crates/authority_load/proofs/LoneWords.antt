@@ -2,7 +2,7 @@
 use Rattle.std.proofs.Common.{◌≡◌, refl, sym, ap, ◌∙◌, ℕ, Bool, true, false, List, [], ◌∷◌, ◌++◌}
 use Rattle.std.specs.Str.{IsAscii}
 use Rattle.std.proofs.lemmas.Str.Ascii.{IsAscii-nil, IsAscii-cons}
-use Rattle.dnw_codes.specs.Ascii.{is_blank}
+use Rattle.dnw_lexer.specs.dnw_codes.Ascii.{is_blank}
 use Rattle.authority_load.specs.ZoneText.{words_of}
 use Rattle.authority_load.proofs.WordPlaces.{behind_blank, blank_ascii, first_of}
 

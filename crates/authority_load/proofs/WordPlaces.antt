@@ -11,7 +11,7 @@ use Rattle.std.proofs.lemmas.List.Sums.{fails_before_first, prefix_len-le-length
 use Rattle.std.proofs.lemmas.Str.{IsCharBoundary-start, IsCharBoundary-end, IsCharBoundary-before_ascii, IsCharBoundary-after_ascii}
 use Rattle.std.proofs.lemmas.List.Splits.{slice_split_none, slice_split_at, slice_split-cons_yes}
 use Rattle.std.proofs.Math.Seq.{drop-cons, take-length, drop-length}
-use Rattle.dnw_codes.specs.Ascii.{is_blank}
+use Rattle.dnw_lexer.specs.dnw_codes.Ascii.{is_blank}
 use Rattle.authority_load.specs.ZoneText.{behind_word, from_word, words_of}
 
 abbrev no_words : List (List ℕ) → List (List ℕ)

@@ -1,3 +1,5 @@
+pub mod Joining
+pub mod Loaded
 pub mod ZoneText
 pub use Rattle.zst_zone.specs.dnw_codes
 pub mod zst_zone

@@ -1,7 +1,7 @@
-//! A zone from its text (RFC 1035 section 5.1): one record a line, no directives and no relative owners.
+//! A zone from its text (RFC 1035 section 5.1): one record a line, no directives and no relative names.
 //!
-//! `load_zone` gives exactly the zone that the text's lines give (`IsZoneText`), in their order; an error only where its cause
-//! stands at that line, and no earlier cause does.
+//! `load_zone` returns exactly the zone that the lines give, in order (`IsZoneText`); else the first line that is refused, with
+//! the first cause that applies to it. The zone is one that transfers and updates can build on (`IsLoaded`).
 #![tactic(auto)]
 
 pub use zst_zone::{
@@ -10,6 +10,7 @@ pub use zst_zone::{
     ZoneType,
 };
 
+mod joining;
 mod line;
 mod loader;
 mod number;

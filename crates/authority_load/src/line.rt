@@ -1,22 +1,20 @@
 //! The record of a line.
 
-ghost use Rattle.std.specs.Prelude.{◌≡◌, ◌<◌, ◌∷◌, ◌⊎◌, ℕ, List, length, IfOk, MatchOption, false, true, is_some};
-ghost use Rattle.zst_zone.specs.dnw_codes.declared.dns_class.DNSClass.TheVariants as classes;
-ghost use Rattle.zst_zone.specs.dnw_codes.declared.record_type.RecordType.TheVariants as types;
+ghost use Rattle.std.specs.Prelude.{◌≡◌, ◌<◌, ◌∷◌, ℕ, List, length, IfOk, MatchOption};
 ghost use Rattle.zst_zone.specs.dnw_name.DomainName.{DomainName, lowercase_name};
-ghost use Rattle.zst_zone.specs.zst_handler.Zones.{rrset_at};
-ghost use Rattle.zst_zone.specs.zst_record.Records.{record_with};
-ghost use Rattle.authority_load.specs.ZoneText.{data_text, has_full_names, words_of, type_of_text, is_internet, is_start, with_cause, HeaderGives, IsHeading, IsOwnerText, LineGives};
+ghost use Rattle.zst_zone.specs.zst_record.Records.{belongs_to_message};
+ghost use Rattle.authority_load.specs.ZoneText.{data_text, words_of, is_internet, with_cause, DataGives, HeaderGives, IsHeading, IsOwnerText, LineGives};
 
+use crate::joining::fault_of;
 use crate::loader::LoadCause;
-use crate::number::parse_u32;
-use crate::text::{TextError, parse_owner, parse_rdata};
+use crate::text::{TextError, parse_owner, parse_rdata, parse_type, ttl_seconds};
 use crate::words::first_word;
+use drd_record_data::numbers_fit;
 use std::alloc::Global;
 use std::mem;
 use zst_zone::{DNSClass, InMemoryZoneHandler, Name, NameKey, RData, Record, RecordType};
 
-/// The first four words of a line, and the text of the data behind them.
+/// The fields of a line: the first four words, and the text after them.
 #[derive(Clone, Copy)]
 struct Fields<'a> {
     owner: &'a str,
@@ -26,7 +24,7 @@ struct Fields<'a> {
     rdata: &'a str,
 }
 
-/// What the first four words of a line say, and the text of the data.
+/// The fields as values, and the text of the data.
 #[derive(Drop)]
 struct Header<'a> {
     name: Name,
@@ -35,14 +33,14 @@ struct Header<'a> {
     rdata: &'a str,
 }
 
-/// A record, and the key of its owner.
+/// A record and the key of its owner.
 #[derive(Drop)]
 pub struct KeyedRecord {
     pub key: NameKey,
     pub next: Record,
 }
 
-/// The record of a line that may be added to the zone, with its owner's key, or the first cause why it may not.
+/// The record of a line, which may join the zone, with its owner's key; or the first cause why the line is refused.
 pub fn record_of<K>(
     alloc: Global,
     zone: &InMemoryZoneHandler<K>,
@@ -57,18 +55,26 @@ pub fn record_of<K>(
         Err(_) => return Err(LoadCause::OutOfMemory),
     };
     let rdata = data_at(alloc, zone, &key, &header)?;
-    Ok(KeyedRecord {
-        key,
-        next: Record {
-            name: header.name,
-            dns_class: DNSClass::IN,
-            ttl: header.ttl,
-            rdata,
-        },
-    })
+    let next = Record {
+        name: header.name,
+        dns_class: DNSClass::IN,
+        ttl: header.ttl,
+        rdata,
+    };
+    match fault_of(zone, &key, &next) {
+        Some(cause) => {
+            mem::drop(next);
+            mem::drop(key);
+            Err(cause)
+        }
+        None => {
+            numbers_fit(&next.rdata);
+            Ok(KeyedRecord { key, next })
+        }
+    }
 }
 
-/// The data of a line that may be added to the zone at its owner's key, or the first cause why they may not.
+/// The data of a line whose owner has this key; or that the owner is outside the zone, or the text malformed.
 fn data_at<K>(
     alloc: Global,
     zone: &InMemoryZoneHandler<K>,
@@ -78,47 +84,18 @@ fn data_at<K>(
     requires { key.now ≡ lowercase_name header.now.name }
     ensures { (line : List ℕ)
         → IsHeading line (record { name = header.now.name; ttl = header.now.ttl; record_type = header.now.record_type; rdata = header.now.rdata.now })
-        → LineGives zone.now line (λ value. record_with header.now.name classes.IN header.now.ttl value) result }
+        → DataGives zone.now line (record { name = header.now.name; ttl = header.now.ttl; record_type = header.now.record_type; rdata = header.now.rdata.now }) result }
 {
     if !zone.is_in_zone(key) {
         return Err(LoadCause::OutsideZone);
     }
-    let rdata = or_cause(
+    or_cause(
         parse_rdata(alloc, header.record_type, header.rdata),
         LoadCause::Data,
-    )?;
-    match fault_of(zone, header.record_type, key, &rdata) {
-        Some(cause) => {
-            mem::drop(rdata);
-            Err(cause)
-        }
-        None => Ok(rdata),
-    }
+    )
 }
 
-/// Why a record of a type and these data may not be added at the name of a key, if so.
-fn fault_of<K>(
-    zone: &InMemoryZoneHandler<K>,
-    record_type: RecordType,
-    key: &NameKey,
-    rdata: &RData,
-) -> Option<LoadCause>
-    ensures { MatchOption result
-        ((has_full_names rdata.now ≡ true) × (is_start record_type ≡ true → is_some (rrset_at zone.now.sets key.now types.SOA) ≡ false))
-        (λ cause. ((cause ≡ LoadCause.NotReadBack) × (has_full_names rdata.now ≡ false))
-        ⊎ ((cause ≡ LoadCause.SecondSoa) × (has_full_names rdata.now ≡ true) × (is_start record_type ≡ true)
-        × (is_some (rrset_at zone.now.sets key.now types.SOA) ≡ true))) }
-{
-    if !ends_at_root(rdata) {
-        return Some(LoadCause::NotReadBack);
-    }
-    if is_soa(record_type) && has_soa(zone, key) {
-        return Some(LoadCause::SecondSoa);
-    }
-    None
-}
-
-/// What the first four words of a line say.
+/// The fields of a line as values, or the first cause why they have none.
 fn header_of(alloc: Global, line: &str) -> Result<Header<'_>, LoadCause>
     ensures { HeaderGives line.now (λ h. record { name = h.name; ttl = h.ttl; record_type = h.record_type; rdata = h.rdata.now }) result }
 {
@@ -129,7 +106,7 @@ fn header_of(alloc: Global, line: &str) -> Result<Header<'_>, LoadCause>
         parse_owner(alloc, fields.owner.as_bytes()),
         LoadCause::Owner,
     )?;
-    let (ttl, record_type) = ttl_and_type(&fields)?;
+    let (ttl, record_type) = ttl_and_type(alloc, &fields)?;
     Ok(Header {
         name,
         ttl,
@@ -138,24 +115,28 @@ fn header_of(alloc: Global, line: &str) -> Result<Header<'_>, LoadCause>
     })
 }
 
-/// What the words behind the owner say, on a line that has an owner.
-fn ttl_and_type(fields: &Fields<'_>) -> Result<(u32, RecordType), LoadCause>
+/// The values of the fields after the owner.
+fn ttl_and_type(alloc: Global, fields: &Fields<'_>) -> Result<(u32, RecordType), LoadCause>
     ensures { (line : List ℕ) (name : DomainName)
         → words_of line ≡ fields.now.owner.now ∷ fields.now.ttl.now ∷ fields.now.dns_class.now ∷ fields.now.record_type.now ∷ words_of fields.now.rdata.now
         → IsOwnerText fields.now.owner.now name
         → HeaderGives line (λ told. record { name = name; ttl = told.0; record_type = told.1; rdata = data_text line }) result }
 {
-    let ttl = or_cause(parse_u32(fields.ttl), LoadCause::Ttl)?;
+    let ttl = or_cause(ttl_seconds(fields.ttl), LoadCause::Ttl)?;
     if !is_internet_word(fields.dns_class.as_bytes()) {
         return Err(LoadCause::Class);
     }
-    match parse_type(fields.record_type.as_bytes()) {
-        Some(record_type) => Ok((ttl, record_type)),
-        None => Err(LoadCause::UnknownType),
+    let record_type = or_cause(
+        parse_type(alloc, fields.record_type),
+        LoadCause::UnknownType,
+    )?;
+    if is_of_messages(record_type) {
+        return Err(LoadCause::TypeNotLoaded);
     }
+    Ok((ttl, record_type))
 }
 
-/// The first four words of a line, where there are four, and what stands behind them.
+/// The fields of a line, if it has four words.
 fn fields_of(line: &str) -> Option<Fields<'_>>
     ensures { MatchOption result (length (words_of line.now) < 4)
         (λ f. (words_of line.now ≡ f.owner.now ∷ f.ttl.now ∷ f.dns_class.now ∷ f.record_type.now ∷ words_of f.rdata.now)
@@ -174,7 +155,7 @@ fn fields_of(line: &str) -> Option<Fields<'_>>
     })
 }
 
-/// What was read, or the cause where the text is malformed.
+/// The value, or for a malformed text this cause.
 fn or_cause<X>(read: Result<X, TextError>, cause: LoadCause) -> Result<X, LoadCause>
     ensures { result ≡ with_cause cause read }
 {
@@ -185,52 +166,19 @@ fn or_cause<X>(read: Result<X, TextError>, cause: LoadCause) -> Result<X, LoadCa
     }
 }
 
-/// Whether a word names the class of the Internet.
+/// Whether a word is the class IN.
 fn is_internet_word(word: &[u8]) -> bool
     ensures { result ≡ is_internet word.now }
 {
     word.eq_ignore_ascii_case(b"IN")
 }
 
-/// The type that a word names.
-fn parse_type(word: &[u8]) -> Option<RecordType>
-    ensures { result ≡ type_of_text word.now }
+/// Whether a type belongs to one message and never to a zone.
+fn is_of_messages(record_type: RecordType) -> bool
+    ensures { result ≡ belongs_to_message record_type }
 {
-    if word.eq_ignore_ascii_case(b"A") {
-        Some(RecordType::A)
-    } else if word.eq_ignore_ascii_case(b"NS") {
-        Some(RecordType::NS)
-    } else if word.eq_ignore_ascii_case(b"SOA") {
-        Some(RecordType::SOA)
-    } else {
-        None
-    }
-}
-
-/// Whether a type is the start of authority.
-fn is_soa(record_type: RecordType) -> bool
-    ensures { result ≡ is_start record_type }
-{
-    match record_type {
-        RecordType::SOA => true,
-        _ => false,
-    }
-}
-
-/// Whether the zone has a start of authority at the name of a key.
-fn has_soa<K>(zone: &InMemoryZoneHandler<K>, key: &NameKey) -> bool
-    ensures { result ≡ is_some (rrset_at zone.now.sets key.now types.SOA) }
-{
-    zone.get_at(key, RecordType::SOA).is_some()
-}
-
-/// Whether each name in the data ends at the root.
-fn ends_at_root(rdata: &RData) -> bool
-    ensures { result ≡ has_full_names rdata.now }
-{
-    match rdata {
-        RData::NS(ns) => ns.0.is_fqdn(),
-        RData::SOA(soa) => soa.mname.is_fqdn() && soa.rname.is_fqdn(),
-        _ => true,
-    }
+    matches!(
+        record_type,
+        RecordType::OPT | RecordType::SIG | RecordType::TSIG
+    )
 }

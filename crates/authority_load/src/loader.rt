@@ -1,9 +1,11 @@
-//! Lines of a zone's text, one after the other.
+//! The lines of a zone's text, in order.
 
 ghost use Rattle.std.specs.Prelude.{◌≡◌, IfErr, IfOk, OnOk};
 ghost use Rattle.zst_zone.specs.zst_handler.Zones.{ZoneReadsBack, empty_zone};
+ghost use Rattle.authority_load.specs.Loaded.{IsLoaded};
 ghost use Rattle.authority_load.specs.ZoneText.{IsRefusedAt, IsZoneText, LineLoads, LoadAnswers};
 
+use crate::joining::join;
 use crate::line::{KeyedRecord, record_of};
 use crate::words::is_skipped;
 use std::alloc::Global;
@@ -11,50 +13,51 @@ use std::mem;
 use thiserror::Error;
 use zst_zone::{InMemoryZoneHandler, Name, ZoneSettings};
 
-/// Why a line of a zone's text is refused, in the order in which the causes are tried but for the last.
+/// Why a line is refused. The causes are tested in this order; out of memory comes at any time.
 #[derive(Clone, Copy, Debug, PartialEq, Eq)]
 pub enum LoadCause {
     /// The line has fewer than four words.
     FieldCount,
-    /// The owner is no name that ends at the root.
+    /// The owner isn't a fully qualified name.
     Owner,
-    /// The time to live is no number of 32 bits.
+    /// The TTL isn't a time of at most 2^32 - 1 seconds.
     Ttl,
     /// The class is not IN.
     Class,
-    /// The type has no name that is known here.
+    /// The type is neither a known name nor `TYPE` and a number of 16 bits.
     UnknownType,
-    /// The type can't stand in a zone.
+    /// The type belongs to one message: OPT, SIG, TSIG.
     TypeNotLoaded,
     /// The owner is outside the zone.
     OutsideZone,
-    /// The data are no text of their type.
+    /// The text isn't data of the type, or the type has no text.
     Data,
-    /// The record would not read back from its octets as itself.
+    /// The record's octets wouldn't decode to it: a relative name, a TXT without strings.
     NotReadBack,
-    /// Another type would stand beside an alias (RFC 1034 section 3.6.2).
+    /// The owner of an alias would own another type too, or a second, different alias (RFC 1034 section 3.6.2).
     BesideCname,
-    /// The owner already has a start of authority.
+    /// The owner has an SOA.
     SecondSoa,
-    /// Memory was refused.
+    /// An allocation failed.
     OutOfMemory,
 }
 
-/// Why a zone's text is refused, and where.
+/// Why a zone's text is refused, and at which line.
 #[derive(Clone, Copy, Debug, PartialEq, Eq, Error)]
 #[error("line {line}: {cause:?}")]
 pub struct LoadError {
     /// The line's number, from 1.
     pub line: usize,
-    /// What is wrong there.
+    /// The first cause that applies to it.
     pub cause: LoadCause,
 }
 
-/// The zone of a text. Each of its records can be read alone.
+/// The zone of a text.
 ///
-/// Lines end at LF or CR LF. Empty lines, lines of spaces and tabs, and lines that begin with `;` are passed over. Every
-/// other line is a record: owner, time to live, class and type between spaces and tabs, then the words of the data, which may
-/// stand in quotes, in a list, and before a comment. A record given twice is taken once, with its later time to live.
+/// Lines end at LF or CR LF. Empty lines, lines of spaces and tabs, and lines that begin with `;` are skipped. Every other
+/// line is a record: owner, TTL, class and type, then the words of the data, quoted or not, perhaps in parentheses, up to a
+/// comment. A TTL is in seconds or has units, as `1h30m`; class and type are in any case, and a type may be `TYPE` and its
+/// number. A repeated record is taken once, with the later TTL; of the ANAME records of an owner the last is.
 pub fn load_zone<K>(
     alloc: Global,
     origin: Name,
@@ -64,6 +67,7 @@ pub fn load_zone<K>(
     ensures answers { LoadAnswers (empty_zone origin settings) text.now result }
     ensures settings { IfOk result (λ zone. zone ≡ record (empty_zone origin settings) { sets = zone.sets }) }
     ensures reads_back { IfOk result ZoneReadsBack }
+    ensures loaded { IfOk result IsLoaded }
 {
     let mut zone = match InMemoryZoneHandler::empty(alloc, origin, settings) {
         Ok(zone) => zone,
@@ -73,7 +77,11 @@ pub fn load_zone<K>(
         }),
     };
     match load_lines(alloc, &mut zone, text) {
-        Ok(()) => Ok(zone),
+        Ok(()) => {
+            // (wakes the zone's invariant: its sets are in order, and none is empty)
+            let _origin = zone.origin();
+            Ok(zone)
+        }
         Err(error) => {
             mem::drop(zone);
             Err(error)
@@ -81,7 +89,7 @@ pub fn load_zone<K>(
     }
 }
 
-/// Adds the records of a text's lines to the zone, up to the first line that is refused.
+/// Adds the records of the lines, up to the first line that is refused.
 fn load_lines<K>(
     alloc: Global,
     zone: &mut InMemoryZoneHandler<K>,
@@ -104,7 +112,7 @@ fn load_lines<K>(
     Ok(())
 }
 
-/// Adds the record of a line to the zone, if the line has one.
+/// Adds the record of a line, unless the line is skipped.
 fn load_line<K>(
     alloc: Global,
     zone: &mut InMemoryZoneHandler<K>,
@@ -116,6 +124,5 @@ fn load_line<K>(
         return Ok(());
     }
     let KeyedRecord { key, next } = record_of(alloc, zone, line)?;
-    zone.insert_at(alloc, key, next)
-        .map_err(|_| LoadCause::OutOfMemory)
+    join(alloc, zone, key, next)
 }

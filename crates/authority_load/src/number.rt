@@ -1,4 +1,4 @@
-//! Numbers from their text: decimal digits alone.
+//! Numbers in decimal digits.
 
 ghost use Rattle.std.specs.Prelude.{◌≡◌, IfErr};
 ghost use Rattle.authority_load.specs.ZoneText.{IsNumberText, ReadsText};
@@ -29,12 +29,4 @@ fn parse_digits(digits: &str) -> Result<u64, TextError>
         Ok(number) => Ok(number),
         Err(_) => Err(TextError::Malformed),
     }
-}
-
-/// The number of a text, of 32 bits.
-pub fn parse_u32(text: &str) -> Result<u32, TextError>
-    ensures number { ReadsText (IsNumberText 32 text.now) result }
-    ensures only { IfErr result (λ e. e ≡ TextError.Malformed) }
-{
-    u32::try_from(parse_digits(text)?).map_err(|_| TextError::Malformed)
 }

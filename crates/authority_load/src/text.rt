@@ -1,24 +1,25 @@
 //! Names and record data from their texts.
 
-ghost use Rattle.std.specs.Prelude.{◌≡◌, ◌∷◌, [], ℕ, List, IfOk, MatchOption};
+ghost use Rattle.std.specs.Prelude.{◌≡◌, ◌∷◌, [], ℕ, List, Some, IfOk, IfSome, MatchOption};
 ghost use Rattle.std.specs.Net.Grammar.{IsIpv4Text};
 ghost use Rattle.zst_zone.specs.dnw_codes.declared.record_type.RecordType.TheVariants as types;
 ghost use Rattle.zst_zone.specs.dnw_name.NameText.{NameText};
 ghost use Rattle.zst_zone.specs.drd_rdata.Types.{type_of};
-ghost use Rattle.authority_load.specs.ZoneText.{IsDataText, IsOwnerText, ReadsText, words_of};
+ghost use Rattle.authority_load.specs.ZoneText.{IsDataText, IsOwnerText, IsTtlField, ReadsText, type_of_text, words_of};
 
 use crate::words::first_word;
-use dnw_codes::ParseError;
+use dnw_lexer::{ParseError, parse_ttl};
 use std::alloc::Global;
+use std::mem;
 use std::net::Ipv4Addr;
 use zst_zone::{Name, ProtoError, RData, RecordType};
 
 /// Why a text was not read.
 #[derive(Clone, Copy, Debug)]
 pub enum TextError {
-    /// It is no text of such a value.
+    /// The text has no such value.
     Malformed,
-    /// Want of memory.
+    /// An allocation failed.
     OutOfMemory,
 }
 
@@ -43,7 +44,7 @@ fn parse_name(alloc: Global, word: &[u8]) -> Result<Name, TextError>
     Ok(name)
 }
 
-/// The name of a word, where it ends at the root.
+/// The fully qualified name of a word.
 pub fn parse_owner(alloc: Global, word: &[u8]) -> Result<Name, TextError>
     ensures { ReadsText (IsOwnerText word.now) result }
 {
@@ -55,7 +56,59 @@ pub fn parse_owner(alloc: Global, word: &[u8]) -> Result<Name, TextError>
     }
 }
 
-/// The data of a type, names as they are written.
+/// The seconds of a TTL.
+pub fn ttl_seconds(word: &str) -> Result<u32, TextError>
+    ensures { ReadsText (IsTtlField word.now) result }
+{
+    match parse_ttl(word) {
+        Ok(seconds) => Ok(seconds),
+        Err(_) => Err(TextError::Malformed),
+    }
+}
+
+/// The type of a word: a name in any case, or `TYPE` and its number.
+pub fn parse_type(alloc: Global, word: &str) -> Result<RecordType, TextError>
+    ensures { ReadsText (λ record_type. type_of_text word.now ≡ Some record_type) result }
+{
+    if let Some(record_type) = usual_type(word) {
+        return Ok(record_type);
+    }
+    let Ok(mut name) = String::from_str(alloc, word) else {
+        return Err(TextError::OutOfMemory);
+    };
+    name.make_ascii_uppercase();
+    let read = name.as_str().parse();
+    mem::drop(name);
+    match read {
+        Ok(record_type) => Ok(record_type),
+        Err(_) => Err(TextError::Malformed),
+    }
+}
+
+// The type of the words that most lines have. It allocates nothing.
+fn usual_type(word: &str) -> Option<RecordType>
+    ensures { IfSome result (λ record_type. type_of_text word.now ≡ Some record_type) }
+{
+    if word == "A" {
+        Some(RecordType::A)
+    } else if word == "AAAA" {
+        Some(RecordType::AAAA)
+    } else if word == "NS" {
+        Some(RecordType::NS)
+    } else if word == "CNAME" {
+        Some(RecordType::CNAME)
+    } else if word == "MX" {
+        Some(RecordType::MX)
+    } else if word == "TXT" {
+        Some(RecordType::TXT)
+    } else if word == "SOA" {
+        Some(RecordType::SOA)
+    } else {
+        None
+    }
+}
+
+/// The data of a type. Names stay as they are written.
 pub fn parse_rdata(alloc: Global, record_type: RecordType, text: &str) -> Result<RData, TextError>
     ensures value { ReadsText (IsDataText record_type text.now) result }
     ensures kind { IfOk result (λ value. type_of value ≡ record_type) }
@@ -66,7 +119,7 @@ pub fn parse_rdata(alloc: Global, record_type: RecordType, text: &str) -> Result
     }
 }
 
-/// The data of an address. One that stands alone, as nearly all do, is read without a lexer.
+/// The data of an address. A single word, as nearly all are, needs no lexer.
 fn parse_address(alloc: Global, text: &str) -> Result<RData, TextError>
     ensures value { ReadsText (IsDataText types.A text.now) result }
     ensures kind { IfOk result (λ value. type_of value ≡ types.A) }
@@ -77,7 +130,7 @@ fn parse_address(alloc: Global, text: &str) -> Result<RData, TextError>
     }
 }
 
-/// The address that is the only word of a text between spaces and tabs, if it is one.
+/// The address of a text of a single word.
 fn lone_address(text: &str) -> Option<Ipv4Addr>
     ensures { MatchOption result ((word : List ℕ) (address : Ipv4Addr) → words_of text.now ≡ word ∷ [] → IsIpv4Text word address → ⊥)
         (λ address. (word : List ℕ) × (words_of text.now ≡ word ∷ []) × IsIpv4Text word address) }
@@ -92,7 +145,7 @@ fn lone_address(text: &str) -> Option<Ipv4Addr>
     }
 }
 
-/// The data that the words of a text write, names as they are.
+/// The data of the words of a text. Names stay as they are written.
 fn parse_words(alloc: Global, record_type: RecordType, text: &str) -> Result<RData, TextError>
     ensures value { ReadsText (IsDataText record_type text.now) result }
     ensures kind { IfOk result (λ value. type_of value ≡ record_type) }

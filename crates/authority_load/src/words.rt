@@ -2,10 +2,10 @@
 
 ghost use Rattle.std.specs.Prelude.{◌≡◌, ◌<◌, not, [], ◌∷◌, length, position, MatchOption, IfSome};
 ghost use Rattle.std.specs.List.{list_all};
-ghost use Rattle.dnw_codes.specs.Ascii.{is_blank};
+ghost use Rattle.dnw_lexer.specs.dnw_codes.Ascii.{is_blank};
 ghost use Rattle.authority_load.specs.ZoneText.{behind_word, is_skipped_line, words_of};
 
-/// The first word, and what stands behind it.
+/// The first word, and the text after it.
 pub fn first_word(text: &str) -> Option<(&str, &str)>
     ensures { MatchOption result (words_of text.now ≡ []) (λ p. (words_of text.now ≡ p.0.now ∷ words_of p.1.now) × (p.1.now ≡ behind_word text.now)) }
 {
@@ -14,7 +14,7 @@ pub fn first_word(text: &str) -> Option<(&str, &str)>
     Some(from_word.split_at(len))
 }
 
-/// Where the first octet stands that is no space and no tab.
+/// The offset of the first octet that isn't a space or a tab.
 fn first_plain(text: &[u8]) -> Option<usize>
     ensures place { result ≡ position (λ octet. not (is_blank octet)) text.now }
     ensures bound { IfSome result (λ place. place < length text.now) }
@@ -22,7 +22,7 @@ fn first_plain(text: &[u8]) -> Option<usize>
     text.iter().position(|octet| !is_blank_octet(*octet))
 }
 
-/// Where the first space or tab stands.
+/// The offset of the first space or tab.
 fn first_blank(text: &[u8]) -> Option<usize>
     ensures place { result ≡ position is_blank text.now }
     ensures bound { IfSome result (λ place. place < length text.now) }

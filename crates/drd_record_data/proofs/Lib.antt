@@ -1,1 +1,2 @@
 pub mod OnceLaws
+pub mod OtherNumbers

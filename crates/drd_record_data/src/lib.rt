@@ -3,7 +3,9 @@
 #![tactic(auto)]
 
 mod back;
+mod numbers;
 mod record_data;
 
 pub use back::is_read_back;
+pub use numbers::numbers_fit;
 pub use record_data::RecordData;

@@ -21,3 +21,4 @@ pub use Rattle.zst_handler.proofs.zst_record_lemmas.PutRecords
 pub use Rattle.zst_handler.proofs.zst_record_lemmas.dnw_name_lemmas
 pub use Rattle.zst_handler.proofs.zst_record_lemmas.drd_words_lemmas
 pub use Rattle.zst_handler.proofs.zst_record_lemmas.drd_rdata_lemmas
+pub use Rattle.zst_handler.proofs.zst_record_lemmas.OwnCodes

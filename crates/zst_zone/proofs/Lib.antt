@@ -10,3 +10,4 @@ pub mod Told
 pub use Rattle.zst_map.proofs.dnw_name_lemmas
 pub use Rattle.zst_map.proofs.drd_words_lemmas
 pub use Rattle.zst_map.proofs.drd_rdata_lemmas
+pub use Rattle.zst_map.proofs.OwnCodes

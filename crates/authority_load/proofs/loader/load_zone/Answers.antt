@@ -1,8 +1,8 @@
-use Rattle.std.proofs.Common.{inl, subst}
+use Rattle.std.proofs.Common.{inl, refl, subst}
 use Rattle.std.specs.Str.Lines.{lines}
 use Rattle.zst_zone.specs.zst_handler.Zones.{empty_zone}
 use Rattle.authority_load.specs.ZoneText.{IsRefusedAt, Loads}
-use Rattle.authority_load.proofs.Loads.{loads_keep, loads_read_back}
+use Rattle.authority_load.proofs.Loads.{loads_keep, loads_loaded, loads_read_back}
 use Rattle.authority_load.proofs.loader.load_zone.Goals as goal
 
 pub returns-in-Err-load_lines-clause-answers : goal.returns-in-Err-load_lines-clause-answers
@@ -22,3 +22,9 @@ pub returns-in-Ok-load_lines-clause-reads_back : goal.returns-in-Ok-load_lines-c
 returns-in-Ok-load_lines-clause-reads_back g c =
     loads_read_back (empty_zone c.args.origin c.args.settings) (lines c.args.text.now) c.load_lines.new.zone
     (subst (λ z. Loads z (lines c.args.text.now) c.load_lines.new.zone) c.in-Ok.ensures c.in-Ok-load_lines.ensures.loads) tt
+
+pub returns-in-Ok-load_lines-clause-loaded : goal.returns-in-Ok-load_lines-clause-loaded
+returns-in-Ok-load_lines-clause-loaded g c =
+    loads_loaded (empty_zone c.args.origin c.args.settings) (lines c.args.text.now) c.load_lines.new.zone refl
+    (subst (λ z. Loads z (lines c.args.text.now) c.load_lines.new.zone) c.in-Ok.ensures c.in-Ok-load_lines.ensures.loads)
+    c.origin-origin.ensures.ordered c.origin-origin.ensures.stored

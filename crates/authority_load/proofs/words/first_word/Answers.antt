@@ -1,6 +1,6 @@
 use Rattle.std.proofs.Common.{◌≡◌, sym, ◌∙◌, ap, subst, ◌∷◌, take, drop, length, not, position, unwrap_or}
 use Rattle.std.specs.Str.{IsCharBoundary}
-use Rattle.dnw_codes.specs.Ascii.{is_blank}
+use Rattle.dnw_lexer.specs.dnw_codes.Ascii.{is_blank}
 use Rattle.authority_load.specs.ZoneText.{words_of}
 use Rattle.authority_load.proofs.WordPlaces.{words_none, words_from, word_first, behind_first, plain_boundary, blank_boundary}
 use Rattle.authority_load.proofs.words.first_word.Goals as goal

@@ -1,0 +1,1 @@
+pub use Rattle.drd_rdata.specs.OrderLaws
