@@ -96,6 +96,41 @@ above_the_cut = refl
 glued : additionals sets cut ≡ glue ∷ []
 glued = refl
 
+-- ---- additional data: the addresses of the target of each record, A before AAAA
+abbrev server_at : List ℕ → RData
+server_at host = rdata.NS (record { 0 = below host })
+
+abbrev host_address : List ℕ → ℕ → RRset
+host_address host last = one (below host) 3600 (address last)
+
+abbrev host_address6 : List ℕ → RRset
+host_address6 host = one (below host) 3600 (rdata.AAAA (record { 0 = record { octets = 32 ∷ 1 ∷ 13 ∷ 184 ∷ 0 ∷ 0 ∷ 0 ∷ 0 ∷ 0 ∷ 0 ∷ 0 ∷ 0 ∷ 0 ∷ 0 ∷ 0 ∷ 1 ∷ [] } }))
+
+abbrev two_servers : RRset
+two_servers = record own_servers { records = entry example 3600 (server_at (codes "ns1")) ∷ entry example 3600 (server_at (codes "ns2")) ∷ [] }
+
+each_target : additionals (two_servers ∷ host_address (codes "ns1") 1 ∷ host_address (codes "ns2") 2 ∷ host_address6 (codes "ns2") ∷ []) two_servers
+    ≡ host_address (codes "ns1") 1 ∷ host_address (codes "ns2") 2 ∷ host_address6 (codes "ns2") ∷ []
+each_target = refl
+
+-- A target without addresses doesn't end the list; one with AAAA alone is there.
+later_target : additionals (two_servers ∷ host_address6 (codes "ns2") ∷ []) two_servers ≡ host_address6 (codes "ns2") ∷ []
+later_target = refl
+
+-- Two mail servers of one name, whatever its case, have its addresses once.
+abbrev mail_at : ℕ → List ℕ → Record
+mail_at preference host = entry example 3600 (rdata.MX (record { preference = preference; exchange = below host }))
+
+abbrev two_mails : RRset
+two_mails = record (set_of (mail_at 10 (codes "www"))) { records = mail_at 10 (codes "www") ∷ mail_at 20 (codes "WWW") ∷ [] }
+
+one_target : additionals (two_mails ∷ www ∷ []) two_mails ≡ www ∷ []
+one_target = refl
+
+-- An alias has no additional data.
+no_additionals : additionals sets c1 ≡ []
+no_additionals = refl
+
 -- A wildcard answers under the name asked for, however deep, and not for another type.
 covered : found (any_name ∷ sets) (two_below (codes "a") (codes "B")) types.A ≡ Some (renamed (two_below (codes "a") (codes "b")) any_name)
 covered = refl

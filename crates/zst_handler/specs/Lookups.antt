@@ -1,13 +1,13 @@
 -- What a stored zone answers to a name and a type: RFC 1034, section 4.3.2; RFC 2308, section 2.
-use Rattle.std.specs.Prelude.{◌≡◌, ℕ, Bool, true, false, ◌&&◌, List, [], ◌∷◌, ◌++◌, Option, Some, None, if◌then◌else◌}
-use Rattle.std.specs.List.{filter}
+use Rattle.std.specs.Prelude.{◌≡◌, ℕ, Bool, true, false, not, ◌&&◌, List, [], ◌∷◌, ◌++◌, Option, Some, None, if◌then◌else◌}
+use Rattle.std.specs.List.{filter, filter_map, flat_map}
 use Rattle.zst_record.specs.dnw_codes.declared.record_type.RecordType.{RecordType}
 use Rattle.zst_record.specs.dnw_codes.declared.record_type.RecordType.TheVariants as kind
 use Rattle.zst_record.specs.dnw_codes.RecordType.{same_record_type}
 use Rattle.zst_record.specs.dnw_name.DomainName.{DomainName, is_at_or_below, lowercase_name, name_eq}
 use Rattle.zst_record.specs.declared.records.Record.{Record}
 use Rattle.zst_record.specs.RecordSets.{RRset, flattened_set}
-use Rattle.zst_handler.specs.Chains.{first_target, IsAliasChain}
+use Rattle.zst_handler.specs.Chains.{first_target, target_of, IsAliasChain}
 use Rattle.zst_handler.specs.Found.{found, is_address}
 use Rattle.zst_handler.specs.Zones.{Zone, exists_in, rrset_at}
 
@@ -38,16 +38,29 @@ addresses sets None = []
 addresses sets (Some name) =
     listed (rrset_at sets name kind.A) ++ listed (rrset_at sets name kind.AAAA)
 
--- Of these types the first record's target has its addresses beside the answer.
+-- These types have the addresses of their targets as additional data (RFC 1035, sections 3.3.9 and
+-- 3.3.11; RFC 2782; RFC 3596, section 3).
 abbrev pub has_additionals : RecordType → Bool
 has_additionals record_type =
     if same_record_type record_type kind.NS then true
     else if same_record_type record_type kind.MX then true
     else same_record_type record_type kind.SRV
 
+-- Names without those that equal an earlier one.
+abbrev pub once : List DomainName → List DomainName
+once [] = []
+once (name ∷ names) = name ∷ filter (λ other. not (name_eq name other)) (once names)
+
+-- The targets of records.
+abbrev pub targets : List Record → List DomainName
+targets rs = filter_map (λ r. target_of r.rdata) rs
+
+-- The additional data of the set that was found first: the addresses of the target of each record,
+-- in order, each target once (RFC 1034, section 4.3.2, step 6).
 abbrev pub additionals : List RRset → RRset → List RRset
 additionals sets first =
-    if has_additionals first.record_type then addresses sets (first_target first.records) else []
+    if has_additionals first.record_type
+    then flat_map (λ name. addresses sets (Some name)) (once (targets first.records)) else []
 
 -- The time to live of an alias.
 abbrev pub alias_ttl : List Record → ℕ

@@ -1,5 +1,5 @@
 //! The nearest of a name and the names above it that a map has.
-ghost use Rattle.std.specs.Prelude.{◌≡◌, IfOk, IfSome, None, Some, option_map};
+ghost use Rattle.std.specs.Prelude.{◌≡◌, IfOk, option_map};
 ghost use Rattle.std.specs.BTreeMap.{get};
 ghost use Rattle.dnw_name.specs.DomainName.{name_cmp};
 ghost use Rattle.zst_key.specs.Ancestors.{nearest_in, parent, IsLastUpTo};
@@ -20,17 +20,6 @@ fn last_up_to<'m, V>(names: &'m BTreeMap<NameKey, V>, key: &NameKey) -> Option<(
     }
 }
 
-/// The entry of a map for a name, or else for the nearest name above it, and one beside it.
-#[derive(Drop)]
-pub struct Near<'m, V> {
-    /// The name.
-    pub owner: &'m NameKey,
-    /// What the map has for it.
-    pub value: &'m V,
-    /// What the map has for another name, between this one and the one asked for, if that was met on the way.
-    pub beside: Option<(&'m NameKey, &'m V)>,
-}
-
 /// The entry of a map for a name, or else for the nearest name above it. It takes memory only where the two entries before
 /// the name in canonical order are of none of these, and the nearest name above them has more than 39 octets.
 ///
@@ -43,42 +32,18 @@ pub fn nearest<'m, V>(
 ) -> Result<Option<(&'m NameKey, &'m V)>, AllocError>
     ensures { IfOk result (λ found. option_map (λ p. (p.0.now, p.1.now)) found ≡ nearest_in (get name_cmp names.now) key.now) }
 {
-    match nearest_beside(names, key)? {
-        Some(near) => Ok(Some((near.owner, near.value))),
-        None => Ok(None),
-    }
-}
-
-/// What `nearest` gives, and the entry behind it, where that was met on the way.
-#[inline(always)]
-pub fn nearest_beside<'m, V>(
-    names: &'m BTreeMap<NameKey, V>,
-    key: &NameKey,
-) -> Result<Option<Near<'m, V>>, AllocError>
-    ensures nearest { IfOk result (λ found. option_map (λ near. (near.owner.now, near.value.now)) found ≡ nearest_in (get name_cmp names.now) key.now) }
-    ensures beside { IfOk result (λ found. IfSome found (λ near. IfSome near.beside (λ p. get name_cmp names.now p.0.now ≡ Some p.1.now))) }
-{
     let mut before = names.range(..=key);
     let Some((last, value)) = before.next_back() else {
         return Ok(None);
     };
     if key.is_below(last) {
-        return Ok(Some(Near {
-            owner: last,
-            value,
-            beside: None,
-        }));
+        return Ok(Some((last, value)));
     }
-    let beside = Some((last, value));
     let Some((owner, value)) = before.next_back() else {
         return Ok(None);
     };
     if key.is_below(owner) {
-        return Ok(Some(Near {
-            owner,
-            value,
-            beside,
-        }));
+        return Ok(Some((owner, value)));
     }
     match key.shared_with(owner)? {
         Some(above) => Ok(nearest_from(names, above)),
@@ -87,18 +52,16 @@ pub fn nearest_beside<'m, V>(
 }
 
 // The same, from a name up, by a search for each: each turn of the loop goes up at least one label.
-fn nearest_from<'m, V>(names: &'m BTreeMap<NameKey, V>, from: NameKey) -> Option<Near<'m, V>>
-    ensures nearest { option_map (λ near. (near.owner.now, near.value.now)) result ≡ nearest_in (get name_cmp names.now) from }
-    ensures alone { IfSome result (λ near. near.beside ≡ None) }
+fn nearest_from<'m, V>(
+    names: &'m BTreeMap<NameKey, V>,
+    from: NameKey,
+) -> Option<(&'m NameKey, &'m V)>
+    ensures { option_map (λ p. (p.0.now, p.1.now)) result ≡ nearest_in (get name_cmp names.now) from }
 {
     let mut above = from;
     'levels: while let Some((owner, value)) = last_up_to(names, &above) {
         if above.is_below(owner) {
-            return Some(Near {
-                owner,
-                value,
-                beside: None,
-            });
+            return Some((owner, value));
         }
         if !above.to_shared(owner) {
             return None;

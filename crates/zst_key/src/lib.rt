@@ -8,5 +8,5 @@ mod above;
 mod key;
 mod octets;
 
-pub use above::{Near, nearest, nearest_above, nearest_beside};
+pub use above::{nearest, nearest_above};
 pub use key::NameKey;

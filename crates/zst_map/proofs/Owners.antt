@@ -1,6 +1,6 @@
 -- The nearest owner from a name up: what is at a cut is at an owner, and nothing at the names passed.
 use Rattle.std.proofs.Common.{◌≡◌, ℕ, ◌-◌, ◌<◌, drop, length, refl, ap, sym, ◌∙◌, arith, subst}
-use Rattle.std.specs.Prelude.{Bool, true, false, ◌&&◌, ◌||◌, ◌==◌, List, [], ◌∷◌, Option, Some, None, cond, filter, find, is_some, IsSome, option_map, slice_get}
+use Rattle.std.specs.Prelude.{Bool, true, false, ◌&&◌, ◌||◌, ◌==◌, List, [], ◌∷◌, Option, Some, None, cond, find, is_some, IsSome, option_map}
 use Rattle.std.specs.Bool.{beq}
 use Rattle.std.specs.List.{AllByRecursion}
 use Rattle.std.specs.BTreeMap.{is_at}
@@ -14,17 +14,16 @@ use Rattle.zst_handler.specs.zst_record.RecordSets.{RRset}
 use Rattle.zst_key.specs.Ancestors.{nearest_from, nearest_in, or_else, parent, up}
 use Rattle.zst_key.specs.NameKeys.{name_key}
 use Rattle.zst_key.specs.declared.key.NameKey.{NameKey}
-use Rattle.zst_key.proofs.KeyLemmas.{eq-below, one-lower}
+use Rattle.zst_key.proofs.KeyLemmas.{eq-below}
 use Rattle.zst_key.proofs.NamesAbove.{above-shorter, below-up, is-above}
 use Rattle.zst_handler.specs.Found.{above, cut_at, cut_found, delegation, here, is_address}
 use Rattle.zst_handler.specs.Lookups.{sets_of_name}
 use Rattle.zst_handler.specs.Zones.{rrset_at}
-use Rattle.zst_map.specs.ZoneMaps.{AreOwned, IsNode, exists_alike, owned, some_sets}
+use Rattle.zst_map.specs.ZoneMaps.{IsNode, exists_alike, owned, some_sets}
 use Rattle.zst_map.proofs.Entries.{IsZone, sets_of}
 use Rattle.zst_map.proofs.NamedSets.{type_among}
 use Rattle.zst_map.proofs.NearestOf.{above_parent, leads_to, nearest_above_it, nearest_here}
 use Rattle.zst_map.proofs.Searched.{address_here}
-use Rattle.zst_map.proofs.Upserted.{sets_named}
 use Rattle.zst_map.proofs.ZoneEntries.{node_sets}
 use Rattle.zst_map.proofs.ZoneMapsBy.{Entries, Node, named_by, sets}
 use Rattle.zst_map.proofs.ZoneNodes.{is_of_type}
@@ -198,26 +197,3 @@ owner_exists (set ∷ zone) name own e = by (name_eq name set.name) refl e (λ r
         → (some_sets (sets_of_name zone name) ≡ Some own → true ≡ exists_alike zone name) → true ≡ exists_alike (set ∷ zone) name
     by true same there rest = sym (exists_one (beq set.name.fqdn name.fqdn && is_at_or_below set.name name) (exists_alike zone name) (alike name set.name same))
     by false other there rest = sym (exists_more (beq set.name.fqdn name.fqdn && is_at_or_below set.name name) (exists_alike zone name) (sym (rest there)))
-
--- ---- all sets of an owner
-first_passes : {X : Type 0} (p : X → Bool) (xs : List X) (x : X) (more : List X) → x ∷ more ≡ filter p xs → p x ≡ true
-first_passes p [] x more e = let h : ⊥ = cc in absurd h
-first_passes {X} p (y ∷ xs) x more e = by (p y) refl e (λ rest. first_passes p xs x more rest)
-  where
-    by : (b : Bool) → p y ≡ b → x ∷ more ≡ cond b (y ∷ filter p xs) (filter p xs) → (x ∷ more ≡ filter p xs → p x ≡ true) → p x ≡ true
-    by true passes same rest = let one : x ≡ y = cc in ap p one ∙ passes
-    by false fails same rest = rest same
-
-same_sets : (zone : List RRset) (a b : DomainName) → name_eq a b ≡ true → sets_of_name zone a ≡ sets_of_name zone b
-same_sets zone a b e = sym (sets_named zone a) ∙ ap (sets_of_name zone) (one-lower a b e) ∙ sets_named zone b
-
-pub are_owned : (zone own : List RRset) (name : DomainName) → own ≡ sets_of_name zone name → AreOwned zone own
-are_owned zone [] name e = tt
-are_owned zone (set ∷ sets) name e =
-    e ∙ same_sets zone name set.name (first_passes (λ (s : RRset). name_eq name s.name) zone set sets e)
-
-pub owned_as : (zone own : List RRset) (set : RRset) (name : DomainName) → AreOwned zone own → slice_get own 0 ≡ Some set → name_eq set.name name ≡ true → own ≡ sets_of_name zone name
-owned_as zone [] set name all is e = let h : ⊥ = cc in absurd h
-owned_as zone (first ∷ sets) set name all is e =
-    let one : first ≡ set = cc in
-    all ∙ same_sets zone first.name name (ap (λ (s : RRset). name_eq s.name name) one ∙ e)

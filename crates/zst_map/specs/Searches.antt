@@ -8,7 +8,6 @@ use Rattle.zst_key.specs.Ancestors.{star}
 use Rattle.zst_handler.specs.Found.{cut_at, found, here}
 use Rattle.zst_handler.specs.Zones.{exists_in}
 use Rattle.zst_handler.specs.dnw_codes.declared.record_type.RecordType.{RecordType}
-use Rattle.zst_map.specs.ZoneMaps.{AreOwned}
 use Rattle.zst_map.specs.declared.zone_sets.Match.{Match}
 use Rattle.zst_map.specs.declared.zone_sets.Search.{Search}
 use Rattle.zst_map.specs.declared.zone_sets.Search.TheVariants as searches
@@ -20,11 +19,10 @@ abbrev pub match_set : DomainName → Match → RRset
 match_set name found =
     if found.is_wildcard then renamed (lowercase_name name) found.set.now else found.set.now
 
--- What is found for a name and a type, and the sets of an owner beside it; where nothing is,
--- whether the name exists.
+-- What is found for a name and a type; where nothing is, whether the name exists.
 abbrev pub IsSearch : List RRset → DomainName → RecordType → Search → Type 0
-IsSearch sets name record_type (searches.Found match beside) =
-    (found sets name record_type ≡ Some (match_set name match)) × AreOwned sets beside.now
+IsSearch sets name record_type (searches.Found match) =
+    found sets name record_type ≡ Some (match_set name match)
 IsSearch sets name record_type (searches.Absent exists) =
     (found sets name record_type ≡ None) × (exists ≡ exists_in sets name)
 

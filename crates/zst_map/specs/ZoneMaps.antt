@@ -39,11 +39,6 @@ some_sets (set ∷ sets) = Some (set ∷ sets)
 abbrev pub owned : List RRset → DomainName → Option (List RRset)
 owned sets name = some_sets (sets_of_name sets name)
 
--- These are all sets of an owner, or none.
-abbrev pub AreOwned : List RRset → List RRset → Type 0
-AreOwned zone [] = Unit {0}
-AreOwned zone (set ∷ sets) = set ∷ sets ≡ sets_of_name zone set.name
-
 -- Each type is above those before it.
 abbrev pub TypesRise : List RRset → Type 0
 TypesRise [] = Unit {0}

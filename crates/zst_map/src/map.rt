@@ -1,6 +1,6 @@
 //! The sets of a zone, in the canonical order of their owners.
 
-ghost use Rattle.std.specs.Prelude.{◌≡◌, ◌<◌, [], None, Some, IfOk, IfSome, OnOk, OnErr, if◌then◌else◌, option_map};
+ghost use Rattle.std.specs.Prelude.{◌≡◌, ◌<◌, [], None, Some, IfOk, OnOk, OnErr, if◌then◌else◌, option_map};
 ghost use Rattle.std.specs.BTreeMap.{get};
 ghost use Rattle.std.specs.HashMap.{spare};
 ghost use Rattle.std.specs.HashMap.{get as hashed};
@@ -12,7 +12,7 @@ ghost use Rattle.zst_handler.specs.Updates.{Replaces};
 ghost use Rattle.zst_handler.specs.Zones.{AreInOrder, rrset_at};
 ghost use Rattle.zst_map.specs.Changes.{alters, made, owner_of, type_in};
 ghost use Rattle.zst_key.specs.Ancestors.{nearest_in};
-ghost use Rattle.zst_map.specs.ZoneMaps.{AreOwned, IsPlace, exists_alike, held, owned};
+ghost use Rattle.zst_map.specs.ZoneMaps.{IsPlace, exists_alike, held, owned};
 
 use crate::change::Change;
 use crate::index::insert_key;
@@ -23,7 +23,7 @@ use std::hash::Hash;
 use std::marker::Model;
 use std::mem;
 use zst_handler::{OneOrMany, RecordSet, RecordType};
-use zst_key::{NameKey, nearest_beside};
+use zst_key::{NameKey, nearest};
 
 /// What stands at the name of a key.
 #[derive(Clone, Copy)]
@@ -41,8 +41,6 @@ pub(crate) struct Nearest<'z> {
     pub(crate) owner: &'z NameKey,
     /// All its sets, by rising type.
     pub(crate) sets: &'z [RecordSet],
-    /// Those of another owner between it and the name, if one was met on the way.
-    pub(crate) beside: &'z [RecordSet],
 }
 
 /// The sets of a zone, by owner in canonical order (RFC 4034 section 6.1), then by type. What a name owns is found by a
@@ -115,24 +113,13 @@ impl ZoneMap {
 
     /// The nearest owner, from the name of a key up.
     pub(crate) fn nearest(&self, key: &NameKey) -> Result<Option<Nearest<'_>>, AllocError>
-        ensures nearest { IfOk result (λ found. option_map (λ near. (near.owner.now, near.sets.now)) found ≡ nearest_in (owned self.now) key.now) }
-        ensures beside { IfOk result (λ found. IfSome found (λ near. AreOwned self.now near.beside.now)) }
+        ensures { IfOk result (λ found. option_map (λ near. (near.owner.now, near.sets.now)) found ≡ nearest_in (owned self.now) key.now) }
     {
-        let Some(near) = nearest_beside(&self.owners, key)? else {
+        let Some((owner, _)) = nearest(&self.owners, key)? else {
             return Ok(None);
         };
-        match near.beside {
-            Some((beside, _)) => Ok(Some(Nearest {
-                owner: near.owner,
-                sets: self.sets_at(near.owner),
-                beside: self.sets_at(beside),
-            })),
-            None => Ok(Some(Nearest {
-                owner: near.owner,
-                sets: self.sets_at(near.owner),
-                beside: &[],
-            })),
-        }
+        let sets = self.sets_at(owner);
+        Ok(Some(Nearest { owner, sets }))
     }
 
     /// Changes the set of an owner, which has this key, and a type, and tells whether that changed it; where there is no

@@ -14,7 +14,7 @@ ghost use Rattle.zst_handler.specs.Updates.{Replaces, upsert_changes, upserted};
 ghost use Rattle.zst_handler.specs.Zones.{Adds, AreInOrder, exists_in, rrset_at};
 ghost use Rattle.zst_map.specs.Changes.{alters, made, owner_of, type_in};
 ghost use Rattle.zst_map.specs.Searches.{IsSearch, lent, looked_for, match_set, sought_in};
-ghost use Rattle.zst_map.specs.ZoneMaps.{AreOwned, IsPlace, exists_alike, owned};
+ghost use Rattle.zst_map.specs.ZoneMaps.{IsPlace, exists_alike, owned};
 
 use crate::apart::is_kept_out;
 use crate::change::Change;
@@ -65,9 +65,8 @@ impl<'z> Match<'z> {
 /// What a search finds for a name and a type.
 #[derive(Clone, Copy)]
 pub enum Search<'z> {
-    /// The set that answers, and all sets of an owner that was met on the way: below a cut it is often the host of a name
-    /// server.
-    Found(Match<'z>, &'z [RecordSet]),
+    /// The set that answers.
+    Found(Match<'z>),
     /// No set does.
     Absent {
         /// Whether the name exists: whether an owner equals it or lies below it (RFC 4592 section 2.2.2).
@@ -131,29 +130,6 @@ impl ZoneSets {
             find_set(sets, RecordType::A),
             find_set(sets, RecordType::AAAA),
         )
-    }
-
-    /// The IPv4 addresses and the IPv6 addresses of a name, beside all sets of an owner, which may be the name.
-    pub fn addresses_beside<'z>(
-        &'z self,
-        alloc: Global,
-        beside: &'z [RecordSet],
-        name: &Name,
-    ) -> Result<(Option<&'z RecordSet>, Option<&'z RecordSet>), AllocError>
-        requires { AreOwned self.now beside.now }
-        ensures first { IfOk result (λ found. option_copied found.0 ≡ rrset_at self.now name.now kind.A) }
-        ensures second { IfOk result (λ found. option_copied found.1 ≡ rrset_at self.now name.now kind.AAAA) }
-    {
-        match beside.first() {
-            Some(first) if first.name() == name => Ok((
-                find_set(beside, RecordType::A),
-                find_set(beside, RecordType::AAAA),
-            )),
-            _ => {
-                let key = NameKey::of(alloc, name)?;
-                Ok(self.addresses(&key))
-            }
-        }
     }
 
     /// All sets at the name of a key, by rising type.
@@ -299,7 +275,7 @@ impl ZoneSets {
             return Ok(Some(Match::own(set)));
         }
         match self.find(key, record_type)? {
-            Search::Found(set, _) => Ok(Some(set)),
+            Search::Found(set) => Ok(Some(set)),
             Search::Absent { .. } => Ok(None),
         }
     }
@@ -360,7 +336,7 @@ impl ZoneSets {
             above.to_parent();
             let sets = self.sets.sets_at(&above);
             if !sets.is_empty() {
-                return self.find_below(key, &above, sets, &[], record_type);
+                return self.find_below(key, &above, sets, record_type);
             }
         }
         self.find_far(key, record_type)
@@ -380,26 +356,23 @@ impl ZoneSets {
             };
             return self.find_at(key, place, record_type);
         }
-        self.find_below(key, near.owner, near.sets, near.beside, record_type)
+        self.find_below(key, near.owner, near.sets, record_type)
     }
 
-    // What `find` answers to a name that owns nothing, by the nearest owner above it with all its sets, and by those of
-    // some owner that was met on the way.
+    // What `find` answers to a name that owns nothing, by the nearest owner above it with all its sets.
     fn find_below<'z>(
         &'z self,
         key: &NameKey,
         owner: &NameKey,
         sets: &'z [RecordSet],
-        beside: &'z [RecordSet],
         record_type: RecordType,
     ) -> Result<Search<'z>, AllocError>
         requires none { owned self.now key.now ≡ None }
         requires nearest { nearest_in (owned self.now) key.now ≡ Some (owner.now, sets.now) }
-        requires beside { AreOwned self.now beside.now }
         ensures { IfOk result (IsSearch self.now key.now record_type) }
     {
         match self.cut_from(owner, sets)? {
-            Some(set) => Ok(Search::Found(Match::own(set), beside)),
+            Some(set) => Ok(Search::Found(Match::own(set))),
             None => self.find_unowned(key, record_type, None),
         }
     }
@@ -419,7 +392,7 @@ impl ZoneSets {
             return self.find_uncut(key, place, record_type);
         }
         match self.delegation_at(key, place.sets, record_type)? {
-            Some(set) => Ok(Search::Found(Match::own(set), &[])),
+            Some(set) => Ok(Search::Found(Match::own(set))),
             None => self.find_uncut(key, place, record_type),
         }
     }
@@ -458,7 +431,7 @@ impl ZoneSets {
     {
         let place = self.sets.place_at(key);
         match self.delegation_near(key, above, place.sets, record_type)? {
-            Some(set) => Ok(Search::Found(Match::own(set), &[])),
+            Some(set) => Ok(Search::Found(Match::own(set))),
             None => self.find_uncut(key, place, record_type),
         }
     }
@@ -476,7 +449,7 @@ impl ZoneSets {
         ensures { IfOk result (IsSearch self.now key.now record_type) }
     {
         if let Some(set) = here(place.sets, record_type) {
-            return Ok(Search::Found(Match::own(set), &[]));
+            return Ok(Search::Found(Match::own(set)));
         }
         self.find_unowned(key, record_type, Some(place.exists))
     }
@@ -499,7 +472,7 @@ impl ZoneSets {
                 set,
                 is_wildcard: true,
             };
-            return Ok(Search::Found(wildcard, &[]));
+            return Ok(Search::Found(wildcard));
         }
         match is_alike {
             Some(is_alike) => Ok(Search::Absent {

@@ -1,6 +1,7 @@
 -- What the records of an answer are, and that they meet what a lookup answers.
 use Rattle.std.proofs.Common.{◌≡◌, ◌++◌, Bool, true, false, ◌&&◌, not, cond, List, [], ◌∷◌, map, length, ℕ, eqb, refl, ap, sym, subst, ◌∙◌, append-nil, true≢false, eqb-true}
 use Rattle.std.specs.Prelude.{Option, Some, None}
+use Rattle.std.specs.List.{flat_map}
 use Rattle.zst_map.specs.dnw_codes.declared.record_type.RecordType.{RecordType}
 use Rattle.zst_map.specs.dnw_codes.declared.record_type.RecordType.TheVariants as kind
 use Rattle.zst_map.specs.dnw_codes.RecordType.{record_type_number, same_record_type}
@@ -15,13 +16,13 @@ use Rattle.zst_map.specs.zst_handler.declared.lookup_records.LookupRecords.{Look
 use Rattle.zst_map.specs.zst_handler.Answers.{ShowsAnswer, all_shown, records_if, records_in, set_in, sets_shown, shown}
 use Rattle.zst_map.specs.zst_handler.Chains.{IsAliasChain, first_target, leads}
 use Rattle.zst_map.specs.zst_handler.Found.{found, is_address}
-use Rattle.zst_map.specs.zst_handler.Zones.{rrset_at}
-use Rattle.zst_map.specs.zst_handler.Lookups.{Answer, additionals, addresses, alias_answer, alias_ttl, behind_alias, flattened, has_additionals, is_flattened, listed, of_type}
+use Rattle.zst_map.specs.zst_handler.Lookups.{Answer, additionals, addresses, alias_answer, alias_ttl, behind_alias, flattened, has_additionals, is_flattened, of_type, once}
 use Rattle.zst_map.specs.declared.zone_sets.Match.{Match}
 use Rattle.zst_map.specs.Searches.{match_set}
-use Rattle.zst_zone.specs.Answering.{AnswersAll, AnswersSet, IsBehind}
+use Rattle.zst_zone.specs.Answering.{AnswersAll, AnswersSet, IsBehind, target_addresses}
 use Rattle.zst_zone.proofs.ChainLinks.{one-set}
-use Rattle.zst_zone.proofs.Matches.{match-flattened, match-leads, match-target, match-ttl, match-type}
+use Rattle.zst_zone.proofs.Matches.{match-flattened, match-leads, match-targets, match-ttl, match-type}
+use Rattle.zst_zone.proofs.Targets.{additionals-none}
 
 -- ---- records that are shown
 all_shown-sets : (b : Bool) (xs : List AnswerSet) → all_shown b xs ≡ sets_shown b (map set_in xs)
@@ -84,14 +85,7 @@ module _ (options : LookupOptions) (name : DomainName) (m : Match) (x : AnswerSe
       (shows-one options.dnssec_ok (match_set name m) x (records_in more) later own)
 
 -- ---- what the first set answers
--- The addresses of its target, where its type has them beside the answer.
-pub more-addresses : (sets : List RRset) (first : RRset) (target : DomainName) (v4 v6 : Option RRset) → has_additionals first.record_type ≡ true → Some target ≡ first_target first.records
-    → v4 ≡ rrset_at sets target kind.A → v6 ≡ rrset_at sets target kind.AAAA → listed v4 ++ listed v6 ≡ additionals sets first
-more-addresses sets first target v4 v6 has leads-to e f =
-    ap (λ (o : Option RRset). listed o ++ listed v6) e ∙ ap (λ (o : Option RRset). listed (rrset_at sets target kind.A) ++ listed o) f
-    ∙ ap (addresses sets) leads-to ∙ ap (λ (b : Bool). cond b (addresses sets (first_target first.records)) []) (sym has)
-
--- Beside an alias that leads on stands nothing.
+-- An alias that is followed has no additional data.
 no_additionals : (n : ℕ) → eqb n 5 ≡ true → cond (eqb n 2) true (cond (eqb n 15) true (eqb n 33)) ≡ false
 no_additionals n e = ap (λ (k : ℕ). cond (eqb k 2) true (cond (eqb k 15) true (eqb k 33))) (eqb-true n 5 e)
 
@@ -101,7 +95,7 @@ leading false c x to e = let h : ⊥ = cc in absurd h
 
 leads-alone : (sets : List RRset) (t : RecordType) (first : RRset) (to : DomainName) → leads t first ≡ Some to → additionals sets first ≡ []
 leads-alone sets t first to e =
-    ap (λ (b : Bool). cond b (addresses sets (first_target first.records)) [])
+    additionals-none sets first
     (no_additionals (record_type_number first.record_type)
     (leading (same_record_type first.record_type kind.CNAME) (not (same_record_type t kind.CNAME)) (first_target first.records) to e))
 
@@ -125,8 +119,8 @@ module _ (options : LookupOptions) (sets : List RRset) (name : DomainName) (t : 
 
   more-match : additionals sets m.set.now ≡ additionals sets (match_set name m)
   more-match =
-      ap (λ (k : RecordType). cond (has_additionals k) (addresses sets (first_target m.set.now.records)) []) (sym (match-type name m))
-      ∙ ap (λ (to : Option DomainName). cond (has_additionals (match_set name m).record_type) (addresses sets to) []) (sym (match-target name m))
+      ap (λ (k : RecordType). cond (has_additionals k) (target_addresses sets m.set.now.records) []) (sym (match-type name m))
+      ∙ ap (λ (names : List DomainName). cond (has_additionals (match_set name m).record_type) (flat_map (λ target. addresses sets (Some target)) (once names)) []) (sym (match-targets name m))
 
   pub answers-one : is_flattened t m.set.now ≡ false → None ≡ leads t m.set.now → (x : AnswerSet) → set_in x ≡ match_set name m → (answers : LookupRecords) (more : Option LookupRecords)
       → records_in answers ≡ shown options.dnssec_ok (set_in x) → records_if more ≡ sets_shown options.dnssec_ok (additionals sets m.set.now)
@@ -141,5 +135,4 @@ module _ (options : LookupOptions) (sets : List RRset) (name : DomainName) (t : 
 
 -- Nothing goes beside a set whose type has nothing beside it.
 pub nothing-beside : (sets : List RRset) (first : RRset) (b : Bool) → has_additionals first.record_type ≡ false → records_if None ≡ sets_shown b (additionals sets first)
-nothing-beside sets first b none =
-    ap (λ (has : Bool). sets_shown b (cond has (addresses sets (first_target first.records)) [])) (sym none)
+nothing-beside sets first b none = ap (sets_shown b) (sym (additionals-none sets first none))

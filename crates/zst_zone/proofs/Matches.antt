@@ -1,15 +1,16 @@
 -- What a set that was found by the key of a name is under the name asked for.
 use Rattle.std.proofs.Common.{◌≡◌, ℕ, Bool, true, false, ◌&&◌, not, cond, List, [], ◌∷◌, map, refl, ap, sym, ◌∙◌}
 use Rattle.std.specs.Prelude.{Option, Some, None, option_map}
+use Rattle.std.specs.List.{cons_option}
 use Rattle.zst_map.specs.dnw_codes.declared.record_type.RecordType.{RecordType}
 use Rattle.zst_map.specs.dnw_codes.declared.record_type.RecordType.TheVariants as kind
 use Rattle.zst_map.specs.dnw_codes.RecordType.{same_record_type}
 use Rattle.zst_map.specs.dnw_name.DomainName.{DomainName, lowercase_name}
 use Rattle.zst_map.specs.zst_record.RecordSets.{RRset, flattened_record, flattened_set, renamed, renamed_record}
 use Rattle.zst_map.specs.zst_record.declared.records.Record.{Record}
-use Rattle.zst_map.specs.zst_handler.Chains.{first_target, leads}
+use Rattle.zst_map.specs.zst_handler.Chains.{first_target, leads, target_of}
 use Rattle.zst_map.specs.zst_handler.Found.{found}
-use Rattle.zst_map.specs.zst_handler.Lookups.{alias_ttl}
+use Rattle.zst_map.specs.zst_handler.Lookups.{alias_ttl, targets}
 use Rattle.zst_map.specs.declared.zone_sets.Match.{Match}
 use Rattle.zst_map.specs.Searches.{match_set}
 use Rattle.zst_key.proofs.KeyLemmas.{lower-twice}
@@ -40,6 +41,10 @@ target-renamed : (owner : DomainName) (rs : List Record) → first_target (map (
 target-renamed owner [] = refl
 target-renamed owner (r ∷ rs) = refl
 
+targets-renamed : (owner : DomainName) (rs : List Record) → targets (map (renamed_record owner) rs) ≡ targets rs
+targets-renamed owner [] = refl
+targets-renamed owner (r ∷ rs) = ap (cons_option (target_of r.rdata)) (targets-renamed owner rs)
+
 ttl-renamed : (owner : DomainName) (rs : List Record) → alias_ttl (map (renamed_record owner) rs) ≡ alias_ttl rs
 ttl-renamed owner [] = refl
 ttl-renamed owner (r ∷ rs) = refl
@@ -53,6 +58,9 @@ match-type name m = of_match (λ set. set.record_type) (λ owner set. refl) name
 
 pub match-target : (name : DomainName) (m : Match) → first_target (match_set name m).records ≡ first_target m.set.now.records
 match-target name m = of_match (λ set. first_target set.records) (λ owner set. target-renamed owner set.records) name m
+
+pub match-targets : (name : DomainName) (m : Match) → targets (match_set name m).records ≡ targets m.set.now.records
+match-targets name m = of_match (λ set. targets set.records) (λ owner set. targets-renamed owner set.records) name m
 
 pub match-ttl : (name : DomainName) (m : Match) → alias_ttl (match_set name m).records ≡ alias_ttl m.set.now.records
 match-ttl name m = of_match (λ set. alias_ttl set.records) (λ owner set. ttl-renamed owner set.records) name m

@@ -1,13 +1,17 @@
 -- What the sets of a zone answer, as a lookup gives it.
-use Rattle.std.specs.Prelude.{◌≡◌, ℕ, List, [], ◌∷◌, map, length, Option, Some, None, IsSomeAnd}
+use Rattle.std.specs.Prelude.{◌≡◌, ℕ, List, [], ◌∷◌, map, length, Option, Some, None, IsSomeAnd, is_some, if◌then◌else◌}
+use Rattle.std.specs.HashMap.{HashMap}
+use Rattle.std.specs.HashMap.{get as hashed}
+use Rattle.std.specs.List.{flat_map}
 use Rattle.zst_map.specs.dnw_codes.declared.record_type.RecordType.{RecordType}
-use Rattle.zst_map.specs.dnw_name.DomainName.{DomainName, lowercase_name}
+use Rattle.zst_map.specs.dnw_name.DomainName.{DomainName, lowercase_name, name_eq}
 use Rattle.zst_map.specs.zst_record.RecordSets.{RRset}
+use Rattle.zst_map.specs.zst_record.declared.records.Record.{Record}
 use Rattle.zst_map.specs.zst_handler.declared.auth_lookup.AuthLookup.{AuthLookup}
 use Rattle.zst_map.specs.zst_handler.declared.lookup_options.LookupOptions.{LookupOptions}
 use Rattle.zst_map.specs.zst_handler.Answers.{ShowsAnswer}
 use Rattle.zst_map.specs.zst_handler.Chains.{IsAliasChain, Links, NoneTwice, asked_names, end_of}
-use Rattle.zst_map.specs.zst_handler.Lookups.{Answer, AnswersFrom, flattened}
+use Rattle.zst_map.specs.zst_handler.Lookups.{Answer, AnswersFrom, addresses, flattened, once, targets}
 use Rattle.zst_map.specs.zst_handler.Zones.{AreInOrder, AreStored}
 
 -- A set, or its records under another name: both are the same where they stand in for an alias.
@@ -30,6 +34,21 @@ abbrev pub AnswersOne : LookupOptions → List RRset → DomainName → RecordTy
 AnswersOne options sets name record_type None found = found ≡ None
 AnswersOne options sets name record_type (Some first) found =
     IsSomeAnd found (AnswersSet options sets name record_type first)
+
+-- The addresses of the targets of records, each target once.
+abbrev pub target_addresses : List RRset → List Record → List RRset
+target_addresses sets rs = flat_map (λ name. addresses sets (Some name)) (once (targets rs))
+
+module _ {S : Type 0} where
+  -- The addresses of a name that was not seen before.
+  abbrev pub unseen : List RRset → HashMap DomainName (Unit {0}) S → DomainName → List RRset
+  unseen sets seen name =
+      if is_some (hashed name_eq seen name) then [] else addresses sets (Some name)
+
+  -- What is left to list from a record on: the addresses of targets that were not seen before.
+  abbrev pub left_to_list : List RRset → HashMap DomainName (Unit {0}) S → List Record
+      → List RRset
+  left_to_list sets seen rs = flat_map (unseen sets seen) (once (targets rs))
 
 -- What answers a question for any type: all sets, if there is one.
 abbrev pub AnswersAll : LookupOptions → List RRset → Option AuthLookup → Type 0

@@ -15,8 +15,8 @@ use zst_map::{AnswerSet, Match, Name, NameKey, RData, RecordSet, RecordType, Zon
 /// How many sets an alias chain has at most.
 const LONGEST_CHAIN: u8 = 8;
 
-// The name to which data lead.
-fn target_of(rdata: &RData) -> Option<&Name>
+/// The target of data.
+pub(crate) fn target_of(rdata: &RData) -> Option<&Name>
     ensures { option_copied result ≡ target_of rdata.now }
 {
     match rdata {

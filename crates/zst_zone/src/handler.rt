@@ -198,8 +198,8 @@ impl<K> InMemoryZoneHandler<K> {
 
     /// What the zone answers to a name and a type, or why it answers nothing (RFC 1034 section 4.3.2): the name servers of
     /// a cut at or above the name; else the set of the name and the type, an alias and the sets to which it leads, or what
-    /// the nearest wildcard has. A question for any type is answered by all sets of the name. Beside name servers, mail
-    /// servers and services stand the addresses of the first one.
+    /// the nearest wildcard has. A question for any type is answered by all sets of the name. The additional data of name
+    /// servers, mail servers and services are the addresses of each of their targets.
     pub fn lookup(
         &self,
         alloc: Global,
@@ -238,7 +238,7 @@ impl<K> InMemoryZoneHandler<K> {
     {
         let (name, key) = (&self.origin, &self.origin_key);
         match self.sets.find_start(key, RecordType::SOA)? {
-            Search::Found(first, _) if first.set.record_type() == RecordType::SOA => {
+            Search::Found(first) if first.set.record_type() == RecordType::SOA => {
                 let found = answer_alone(&self.sets, alloc, name, RecordType::SOA, options, first)?;
                 Ok(LookupControlFlow::Continue(Ok(found)))
             }
@@ -263,16 +263,8 @@ impl<K> InMemoryZoneHandler<K> {
             return self.lookup_any(alloc, name, key, record_type, options);
         }
         match self.sets.find(key, record_type)? {
-            Search::Found(first, beside) => {
-                let found = answer_from(
-                    &self.sets,
-                    alloc,
-                    name,
-                    record_type,
-                    options,
-                    first,
-                    beside,
-                )?;
+            Search::Found(first) => {
+                let found = answer_from(&self.sets, alloc, name, record_type, options, first)?;
                 Ok(LookupControlFlow::Continue(Ok(found)))
             }
             Search::Absent { exists } => {

@@ -15,6 +15,7 @@ pub use zst_request::{
     ZoneHandler, ZoneRequest, ZoneTransfer, ZoneTransferIter,
 };
 
+mod additional;
 mod back;
 mod chain;
 mod handler;

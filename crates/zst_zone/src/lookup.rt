@@ -1,14 +1,14 @@
 //! What the sets of a zone answer to a name and a type (RFC 1034 section 4.3.2).
 
-ghost use Rattle.std.specs.Prelude.{◌≡◌, ◌++◌, false, None, Some, IfOk, option_copied};
-ghost use Rattle.zst_map.specs.zst_handler.Answers.{ShowsAnswer, records_if, sets_shown};
+ghost use Rattle.std.specs.Prelude.{◌≡◌, false, None, Some, IfOk, option_copied};
+ghost use Rattle.zst_map.specs.zst_handler.Answers.{ShowsAnswer};
 ghost use Rattle.zst_map.specs.zst_handler.Chains.{first_target, leads};
 ghost use Rattle.zst_map.specs.zst_handler.Found.{found, is_address};
-ghost use Rattle.zst_map.specs.zst_handler.Lookups.{additionals, alias_answer, alias_ttl, behind_alias, has_additionals, is_flattened, listed};
+ghost use Rattle.zst_map.specs.zst_handler.Lookups.{alias_answer, alias_ttl, behind_alias, has_additionals, is_flattened};
 ghost use Rattle.zst_map.specs.Searches.{match_set};
-ghost use Rattle.zst_map.specs.ZoneMaps.{AreOwned};
 ghost use Rattle.zst_zone.specs.Answering.{AnswersAll, AnswersSet, IsBehind};
 
+use crate::additional::additionals;
 use crate::chain::{alias_chain, first_target, leads};
 use std::alloc::{AllocError, Global};
 use zst_map::{
@@ -59,8 +59,7 @@ pub(crate) fn answer_alone<'z>(
     })
 }
 
-/// What the set that was found first answers: its alias chain, and what goes with it. The sets beside it may be those of a
-/// name that it leads to.
+/// What the set that was found first answers: its alias chain, and the additional data.
 pub(crate) fn answer_from<'z>(
     sets: &'z ZoneSets,
     alloc: Global,
@@ -68,10 +67,8 @@ pub(crate) fn answer_from<'z>(
     record_type: RecordType,
     options: LookupOptions,
     first: Match<'z>,
-    beside: &'z [RecordSet],
 ) -> Result<AuthLookup<'z>, AllocError>
-    requires found { found sets.now name.now record_type ≡ Some (match_set name.now first) }
-    requires beside { AreOwned sets.now beside.now }
+    requires { found sets.now name.now record_type ≡ Some (match_set name.now first) }
     ensures { IfOk result (AnswersSet options sets.now name.now record_type (match_set name.now first.entry)) }
 {
     if is_flattened(record_type, first.set) {
@@ -85,7 +82,7 @@ pub(crate) fn answer_from<'z>(
         });
     }
     let answers = LookupRecords::new(options, first.answer(alloc, name)?);
-    let additionals = additionals(sets, alloc, options, first.set, beside)?;
+    let additionals = additionals(sets, alloc, options, first.set)?;
     Ok(AuthLookup::Records {
         answers,
         additionals,
@@ -160,57 +157,5 @@ fn set_behind<'z>(
     match sets.search(&key, record_type)? {
         Some(found) if found.set.record_type() == record_type => Ok(Some(found.set)),
         _ => Ok(None),
-    }
-}
-
-// The addresses of the first record's target, where the set's type has them beside the answer.
-fn additionals<'z>(
-    sets: &'z ZoneSets,
-    alloc: Global,
-    options: LookupOptions,
-    first: &'z RecordSet,
-    beside: &'z [RecordSet],
-) -> Result<Option<LookupRecords<'z>>, AllocError>
-    requires { AreOwned sets.now beside.now }
-    ensures { IfOk result (λ found. records_if found ≡ sets_shown options.dnssec_ok (additionals sets.now first.now)) }
-{
-    if !has_additionals(first.record_type()) {
-        return Ok(None);
-    }
-    let Some(target) = first_target(first) else {
-        return Ok(None);
-    };
-    let (v4, v6) = sets.addresses_beside(alloc, beside, target)?;
-    both(alloc, options, v4, v6)
-}
-
-// Whether addresses go beside an answer of this type.
-fn has_additionals(record_type: RecordType) -> bool
-    ensures { result ≡ has_additionals record_type }
-{
-    record_type == RecordType::NS || record_type == RecordType::MX || record_type == RecordType::SRV
-}
-
-// The records of two sets, as far as they are there.
-fn both<'z>(
-    alloc: Global,
-    options: LookupOptions,
-    first: Option<&'z RecordSet>,
-    second: Option<&'z RecordSet>,
-) -> Result<Option<LookupRecords<'z>>, AllocError>
-    ensures { IfOk result (λ found. records_if found
-        ≡ sets_shown options.dnssec_ok (listed (option_copied first.entry) ++ listed (option_copied second.entry))) }
-{
-    match (first, second) {
-        (None, None) => Ok(None),
-        (Some(set), None) | (None, Some(set)) => {
-            Ok(Some(LookupRecords::new(options, AnswerSet::own(set))))
-        }
-        (Some(first), Some(second)) => {
-            let mut sets = Vec::with_capacity(alloc, 2)?;
-            sets.push_reserved(AnswerSet::own(first));
-            sets.push_reserved(AnswerSet::own(second));
-            Ok(Some(LookupRecords::many(options, sets)))
-        }
     }
 }

@@ -7,14 +7,14 @@ use Rattle.zst_key.proofs.above.nearest_from.Goals as goal
 pub levels-init : goal.levels-init
 levels-init g c = passed-none (get name_cmp c.args.names.now) c.args.from
 
-pub returns-then-is_below-clause-nearest : goal.returns-then-is_below-clause-nearest
-returns-then-is_below-clause-nearest g c =
+pub returns-then-is_below : goal.returns-then-is_below
+returns-then-is_below g c =
     let at = get name_cmp c.args.names.now in
     sym (found-last at c.args.from c.levels.above c.in-Some.owner.now c.in-Some.value.now c.levels.invariant (last-above at c.levels.above c.in-Some.owner.now c.in-Some.value.now c.in-Some.ensures)
     c.is_below.ensures.lower c.is_below.ensures.lower_other (sym c.is_below.ensures.below ∙ c.if-is_below.true))
 
-pub returns-then-not-to_shared-clause-nearest : goal.returns-then-not-to_shared-clause-nearest
-returns-then-not-to_shared-clause-nearest g c =
+pub returns-then-not-to_shared : goal.returns-then-not-to_shared
+returns-then-not-to_shared g c =
     let at = get name_cmp c.args.names.now in
     sym (found-apart at c.args.from c.levels.above c.in-Some.owner.now c.in-Some.value.now c.levels.invariant
     (last-above at c.levels.above c.in-Some.owner.now c.in-Some.value.now c.in-Some.ensures) (sym c.to_shared.ensures.flags ∙ c.if-not-to_shared.true))
@@ -31,6 +31,6 @@ levels-preserved g c =
     passed-more at c.args.from c.levels.above c.in-Some.owner.now c.to_shared.new.self c.in-Some.value.now c.levels.invariant
     (last-above at c.levels.above c.in-Some.owner.now c.in-Some.value.now c.in-Some.ensures) (c.to_shared.ensures.shared c.if-not-to_shared.false)
 
-pub returns-clause-nearest : goal.returns-clause-nearest
-returns-clause-nearest g c =
+pub returns : goal.returns
+returns g c =
     sym (found-none (get name_cmp c.args.names.now) c.args.from c.levels.above c.levels.invariant c.in_default.ensures)

@@ -25,10 +25,8 @@ cut_first : (zone : List RRset) (key : DomainName) (t : RecordType) (set : RRset
 cut_first zone key t set e = ap (λ (o : Option RRset). or_else o (or_else (here zone t key) (wildcard_answer zone key t))) e
 
 pub returns-in-Some : goal.returns-in-Some
-returns-in-Some c = (
-  cut_first c.args.self.now c.args.key.now c.args.record_type c.in-Some.set.now
-      (sym (delegation_from c.args.self.now c.args.key.now c.args.owner.now c.args.sets.now c.requires.nearest c.args.record_type c.requires.none)
-      ∙ sym c.in_ok-set.ensures ∙ ap option_copied c.in-Some.is)
-      ∙ ap Some (sym (c.own.ensures c.args.key.now)),
-  c.requires.beside,
-)
+returns-in-Some c =
+    cut_first c.args.self.now c.args.key.now c.args.record_type c.in-Some.set.now
+    (sym (delegation_from c.args.self.now c.args.key.now c.args.owner.now c.args.sets.now c.requires.nearest c.args.record_type c.requires.none)
+    ∙ sym c.in_ok-set.ensures ∙ ap option_copied c.in-Some.is)
+    ∙ ap Some (sym (c.own.ensures c.args.key.now))

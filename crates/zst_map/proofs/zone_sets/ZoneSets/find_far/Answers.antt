@@ -10,7 +10,7 @@ use Rattle.zst_map.proofs.zone_sets.ZoneSets.find_far.Goals as goal
 pub find_at-requires : goal.find_at-requires
 find_at-requires c =
     let nearest : nearest_in (owned c.self.inside.sets) c.args.key.now ≡ Some (c.in-Some.near.owner.now, c.in-Some.near.sets.now)
-    = sym c.in_ok-near.ensures.nearest ∙ ap (option_map (λ near. (near.owner.now, near.sets.now))) c.in-Some.is in
+    = sym c.in_ok-near.ensures ∙ ap (option_map (λ near. (near.owner.now, near.sets.now))) c.in-Some.is in
     let one = owner_is c.self.inside.sets c.args.key.now c.in-Some.near.owner.now c.in-Some.near.sets.now nearest c.is_below.ensures.lower c.is_below.ensures.lower_other
     (sym c.is_below.ensures.below ∙ c.if-is_below.true) in
     record {
@@ -26,6 +26,6 @@ find_at-requires c =
 pub find_below-requires-clause-none : goal.find_below-requires-clause-none
 find_below-requires-clause-none c =
     let nearest : nearest_in (owned c.self.inside.sets) c.args.key.now ≡ Some (c.in-Some.near.owner.now, c.in-Some.near.sets.now)
-    = sym c.in_ok-near.ensures.nearest ∙ ap (option_map (λ near. (near.owner.now, near.sets.now))) c.in-Some.is in
+    = sym c.in_ok-near.ensures ∙ ap (option_map (λ near. (near.owner.now, near.sets.now))) c.in-Some.is in
     ap (λ (z : List RRset). owned z c.args.key.now) (sym c.self.view_is)
     ∙ unowned c.self.inside.sets c.args.key.now c.in-Some.near.owner.now c.in-Some.near.sets.now nearest (sym c.is_below.ensures.below ∙ c.if-is_below.false)

@@ -8,11 +8,9 @@ use Rattle.zst_map.proofs.zone_sets.ZoneSets.find_unowned.Goals as goal
 
 pub returns-in-Some : goal.returns-in-Some
 returns-in-Some c =
-    let zone = c.args.self.now in (
-      sym (ap (option_map (renamed (lowercase_name c.args.key.now))) (sym (ap option_copied c.in-Some.is) ∙ c.in_ok-set.ensures)
-          ∙ wildcard_found zone c.args.key.now c.args.record_type ∙ sym (third_found zone c.args.key.now c.args.record_type c.requires.uncut c.requires.own)),
-      tt,
-    )
+    let zone = c.args.self.now in
+    sym (ap (option_map (renamed (lowercase_name c.args.key.now))) (sym (ap option_copied c.in-Some.is) ∙ c.in_ok-set.ensures)
+    ∙ wildcard_found zone c.args.key.now c.args.record_type ∙ sym (third_found zone c.args.key.now c.args.record_type c.requires.uncut c.requires.own))
 
 -- No wildcard answers.
 pub returns-in_ok-exists_given-in-Some-is_alike : goal.returns-in_ok-exists_given-in-Some-is_alike

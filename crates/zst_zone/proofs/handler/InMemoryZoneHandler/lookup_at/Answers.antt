@@ -14,15 +14,11 @@ use Rattle.zst_zone.proofs.handler.InMemoryZoneHandler.lookup_at.Goals as goal
 
 pub answer_from-requires : goal.answer_from-requires
 answer_from-requires g c =
-    let search = rw c.in-Found.is at c.in_ok-first.ensures in
-    record {
-      found = found-match c.self.inside.sets c.args.key.now c.args.name.now c.args.record_type c.in-Found.first c.requires (sym search.0);
-      beside = search.1;
-    }
+    found-match c.self.inside.sets c.args.key.now c.args.name.now c.args.record_type c.in-Found.first c.requires (sym (rw c.in-Found.is at c.in_ok-first.ensures))
 
 pub returns-in_ok-found-in-Found : goal.returns-in_ok-found-in-Found
 returns-in_ok-found-in-Found g c =
-    let there = found-match c.self.inside.sets c.args.key.now c.args.name.now c.args.record_type c.in-Found.first c.requires (sym (rw c.in-Found.is at c.in_ok-first.ensures).0) in
+    let there = found-match c.self.inside.sets c.args.key.now c.args.name.now c.args.record_type c.in-Found.first c.requires (sym (rw c.in-Found.is at c.in_ok-first.ensures)) in
     tells c.args.self.now c.args.name.now c.args.record_type c.args.options (Some c.in_ok-found-in-Found.found) (flows.Continue (Ok c.in_ok-found-in-Found.found))
     (λ any. absurd (true≢false (sym any ∙ sym c.eq.ensures ∙ c.if-eq.false)))
     (λ one. subst (λ (ss : List RRset). AnswersOne c.args.options ss c.args.name.now c.args.record_type (found ss c.args.name.now c.args.record_type) (Some c.in_ok-found-in-Found.found)) (ap (λ (z : Zone). z.sets) c.self.view_is)

@@ -12,12 +12,12 @@ use Rattle.zst_zone.proofs.handler.InMemoryZoneHandler.lookup_start.Goals as goa
 
 pub answer_alone-requires-clause-found : goal.answer_alone-requires-clause-found
 answer_alone-requires-clause-found g c =
-    found-match c.self.inside.sets c.self.inside.origin_key c.self.inside.origin kind.SOA c.in-Found.first c.self.invariant.at (sym (rw c.in-Found.is at c.in_ok-first.ensures).0)
+    found-match c.self.inside.sets c.self.inside.origin_key c.self.inside.origin kind.SOA c.in-Found.first c.self.invariant.at (sym (rw c.in-Found.is at c.in_ok-first.ensures))
 
 pub returns-in_ok-found-in-Found : goal.returns-in_ok-found-in-Found
 returns-in_ok-found-in-Found g c =
     let name = c.self.inside.origin in
-    let there = found-match c.self.inside.sets c.self.inside.origin_key name kind.SOA c.in-Found.first c.self.invariant.at (sym (rw c.in-Found.is at c.in_ok-first.ensures).0) in
+    let there = found-match c.self.inside.sets c.self.inside.origin_key name kind.SOA c.in-Found.first c.self.invariant.at (sym (rw c.in-Found.is at c.in_ok-first.ensures)) in
     let told = Some c.in_ok-found-in-Found.found in
     subst (λ (zone : Zone). LookupAnswers zone zone.origin kind.SOA c.args.options (flows.Continue (Ok c.in_ok-found-in-Found.found))) c.self.view_is
     (tells _ name kind.SOA c.args.options told (flows.Continue (Ok c.in_ok-found-in-Found.found))
