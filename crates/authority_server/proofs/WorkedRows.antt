@@ -287,7 +287,7 @@ outside_parts = gives _ _ refl (record { no_chain = λ _. refl; transfer = λ he
 no_question_parts : Gives [] (record { metadata = answer_metadata false responses.FormErr; answers = []; authorities = []; additionals = []; edns = None; signature = None })
 no_question_parts = gives _ _ refl refl
 
--- A referral's name servers are authority, with the address of the first one.
+-- A referral's name servers are authority, with their addresses as additional data.
 referral_parts : Gives (one (two_below (codes "www") (codes "sub")) ∷ []) (record { metadata = answer_metadata true responses.NoError; answers = []; authorities = server ∷ []; additionals = glue ∷ []; edns = None; signature = None })
 referral_parts = gives _ _ refl (looked_up (two_below (codes "www") (codes "sub")) _ (one_set set_of_servers (set_of_glue ∷ [])) refl below_a_cut ([], (λ e. absurd (false≢true e), λ _. refl), refl))
 

@@ -98,13 +98,13 @@ glued = refl
 
 -- ---- additional data: the addresses of the target of each record, A before AAAA
 abbrev server_at : List ℕ → RData
-server_at host = rdata.NS (record { 0 = below host })
+server_at label = rdata.NS (record { 0 = below label })
 
 abbrev host_address : List ℕ → ℕ → RRset
-host_address host last = one (below host) 3600 (address last)
+host_address label last = one (below label) 3600 (address last)
 
 abbrev host_address6 : List ℕ → RRset
-host_address6 host = one (below host) 3600 (rdata.AAAA (record { 0 = record { octets = 32 ∷ 1 ∷ 13 ∷ 184 ∷ 0 ∷ 0 ∷ 0 ∷ 0 ∷ 0 ∷ 0 ∷ 0 ∷ 0 ∷ 0 ∷ 0 ∷ 0 ∷ 1 ∷ [] } }))
+host_address6 label = one (below label) 3600 (rdata.AAAA (record { 0 = record { segments = 8193 ∷ 3512 ∷ 0 ∷ 0 ∷ 0 ∷ 0 ∷ 0 ∷ 1 ∷ [] } }))
 
 abbrev two_servers : RRset
 two_servers = record own_servers { records = entry example 3600 (server_at (codes "ns1")) ∷ entry example 3600 (server_at (codes "ns2")) ∷ [] }
@@ -119,7 +119,7 @@ later_target = refl
 
 -- Two mail servers of one name, whatever its case, have its addresses once.
 abbrev mail_at : ℕ → List ℕ → Record
-mail_at preference host = entry example 3600 (rdata.MX (record { preference = preference; exchange = below host }))
+mail_at preference label = entry example 3600 (rdata.MX (record { preference = preference; exchange = below label }))
 
 abbrev two_mails : RRset
 two_mails = record (set_of (mail_at 10 (codes "www"))) { records = mail_at 10 (codes "www") ∷ mail_at 20 (codes "WWW") ∷ [] }

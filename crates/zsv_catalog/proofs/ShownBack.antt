@@ -2,7 +2,7 @@
 use Rattle.std.proofs.Common.{◌≡◌, ◌∙◌, ap, refl, subst, sym}
 use Rattle.std.specs.Prelude.{ℕ, Bool, true, false, ◌&&◌, List, [], ◌∷◌, ◌++◌, map, min, Option, Some, None, IfSome, cond, is_some, option_map}
 use Rattle.std.specs.Bool.{beq}
-use Rattle.std.specs.List.{AllByRecursion, filter}
+use Rattle.std.specs.List.{AllByRecursion, filter, flat_map}
 use Rattle.std.proofs.lemmas.Bool.{true≢false}
 use Rattle.zsv_answer.specs.zst_request.dnw_codes.declared.record_type.RecordType.{RecordType}
 use Rattle.zsv_answer.specs.zst_request.dnw_codes.declared.record_type.RecordType.TheVariants as kind
@@ -15,7 +15,7 @@ use Rattle.zsv_answer.specs.zsv_reply.zst_record.RecordSets.{RRset, flattened_re
 use Rattle.zsv_answer.specs.zst_request.zst_handler.Answers.{shown, sets_shown}
 use Rattle.zsv_answer.specs.zst_request.zst_handler.Chains.{Links, first_target, leads}
 use Rattle.zsv_answer.specs.zst_request.zst_handler.Found.{above, cut_at, cut_found, delegation, found, found_set, here, is_address, wildcard_answer}
-use Rattle.zsv_answer.specs.zst_request.zst_handler.Lookups.{Answer, AnswersFrom, IsLookup, LookupFrom, Outcome, additionals, addresses, alias_answer, alias_ttl, all_outcome, answered, behind_alias, denial, has_additionals, is_flattened, listed, name_error, name_exists, of_type, out_of_zone, sets_of_name}
+use Rattle.zsv_answer.specs.zst_request.zst_handler.Lookups.{Answer, AnswersFrom, IsLookup, LookupFrom, Outcome, additionals, addresses, alias_answer, alias_ttl, all_outcome, answered, behind_alias, denial, has_additionals, is_flattened, listed, name_error, name_exists, of_type, once, out_of_zone, sets_of_name, targets}
 use Rattle.zsv_answer.specs.zst_request.zst_handler.Zones.{AreStored, IsStored, SetReadsBack, Zone, ZoneReadsBack, exists_in, rrset_at}
 
 -- A set whose records read back, and whose owner, which is theirs, is fully qualified.
@@ -182,11 +182,20 @@ addresses_back sets (Some name) back =
     one None at = tt
     one (Some set) at = (at.back, tt)
 
+sound_both : (sets more : List RRset) → AllByRecursion SetIsSound sets → AllByRecursion SetIsSound more → AllByRecursion SetIsSound (sets ++ more)
+sound_both [] more first later = later
+sound_both (set ∷ sets) more first later = (first.0, sound_both sets more first.1 later)
+
+targets_back : (sets : List RRset) (names : List DomainName) → AllByRecursion SetIsSound sets → AllByRecursion SetIsSound (flat_map (λ name. addresses sets (Some name)) names)
+targets_back sets [] back = tt
+targets_back sets (name ∷ names) back =
+    sound_both (addresses sets (Some name)) (flat_map (λ other. addresses sets (Some other)) names) (addresses_back sets (Some name) back) (targets_back sets names back)
+
 additionals_back : (sets : List RRset) (first : RRset) → AllByRecursion SetIsSound sets → AllByRecursion SetIsSound (additionals sets first)
 additionals_back sets first back = by (has_additionals first.record_type)
   where
-    by : (b : Bool) → AllByRecursion SetIsSound (cond b (addresses sets (first_target first.records)) [])
-    by true = addresses_back sets (first_target first.records) back
+    by : (b : Bool) → AllByRecursion SetIsSound (cond b (flat_map (λ name. addresses sets (Some name)) (once (targets first.records))) [])
+    by true = targets_back sets (once (targets first.records)) back
     by false = tt
 
 of_type_back : (t : RecordType) (o : Option RRset) → IfSome o SetIsSound → IfSome (of_type t o) SetIsSound
