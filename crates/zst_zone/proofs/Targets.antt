@@ -1,11 +1,9 @@
 -- What the targets of records add, one record after the other.
 use Rattle.std.proofs.Common.{◌≡◌, ◌++◌, ◌≤◌, ℕ, drop, length, refl, ap, sym, ◌∙◌, append_assoc, append-nil}
-use Rattle.std.specs.Prelude.{Bool, true, false, not, cond, is_some, List, [], ◌∷◌, Option, Some, None}
+use Rattle.std.specs.Prelude.{Bool, true, false, not, cond, ◌||◌, List, [], ◌∷◌, Option, Some, None}
 use Rattle.std.proofs.lemmas.List.{drop_all}
-use Rattle.std.specs.HashMap.{HashMap}
-use Rattle.std.specs.HashMap.{get as hashed}
-use Rattle.std.specs.List.{cons_option, filter, flat_map}
-use Rattle.std.specs.Map.{lookup}
+use Rattle.std.specs.HashSet.{HashSet, contains}
+use Rattle.std.specs.List.{cons_option, filter, flat_map, list_any}
 use Rattle.zst_map.specs.dnw_codes.declared.record_type.RecordType.TheVariants as kind
 use Rattle.zst_map.specs.dnw_name.DomainName.{DomainName, lowercase_name, name_eq}
 use Rattle.zst_map.specs.zst_record.RecordSets.{RRset}
@@ -51,20 +49,20 @@ pub addresses-found : (sets : List RRset) (key name : DomainName) → key ≡ lo
 addresses-found sets key name at v4 v6 is4 is6 =
     ap (λ (o : Option RRset). listed o ++ listed v6) is4 ∙ ap (λ (o : Option RRset). listed (rrset_at sets key kind.A) ++ listed o) is6 ∙ addresses-keyed sets key name at
 
-looked-lower : (entries : List (DomainName × Unit {0})) (name : DomainName) → lookup (name_eq (lowercase_name name)) entries ≡ lookup (name_eq name) entries
-looked-lower [] name = refl
-looked-lower (entry ∷ entries) name =
-    ap (λ (b : Bool). cond b (Some entry.1) (lookup (name_eq (lowercase_name name)) entries)) (eq-lower-first name entry.0)
-    ∙ ap (cond (name_eq name entry.0) (Some entry.1)) (looked-lower entries name)
+any-lower : (keys : List DomainName) (name : DomainName) → list_any (name_eq (lowercase_name name)) keys ≡ list_any (name_eq name) keys
+any-lower [] name = refl
+any-lower (key ∷ keys) name =
+    ap (λ (b : Bool). b || list_any (name_eq (lowercase_name name)) keys) (eq-lower-first name key)
+    ∙ ap (λ (b : Bool). name_eq name key || b) (any-lower keys name)
 
-module _ {S : Type 0} (sets : List RRset) (seen : HashMap DomainName (Unit {0}) S) where
-  seen-keyed : (key name : DomainName) → key ≡ lowercase_name name → hashed name_eq seen key ≡ hashed name_eq seen name
-  seen-keyed key name at = ap (hashed name_eq seen) at ∙ looked-lower seen.entries name
+module _ {S : Type 0} (sets : List RRset) (seen : HashSet DomainName S) where
+  seen-keyed : (key name : DomainName) → key ≡ lowercase_name name → contains name_eq seen key ≡ contains name_eq seen name
+  seen-keyed key name at = ap (contains name_eq seen) at ∙ any-lower seen.keys name
 
   unseen-lower : (name : DomainName) → unseen sets seen (lowercase_name name) ≡ unseen sets seen name
   unseen-lower name =
-      ap (λ (o : Option (Unit {0})). cond (is_some o) [] (addresses sets (Some (lowercase_name name)))) (seen-keyed (lowercase_name name) name refl)
-      ∙ ap (λ (more : List RRset). cond (is_some (hashed name_eq seen name)) [] more) (addresses-keyed sets (lowercase_name name) name refl)
+      ap (λ (b : Bool). cond b [] (addresses sets (Some (lowercase_name name)))) (seen-keyed (lowercase_name name) name refl)
+      ∙ ap (λ (more : List RRset). cond (contains name_eq seen name) [] more) (addresses-keyed sets (lowercase_name name) name refl)
 
   -- A target that adds nothing is passed over, and so are those equal to it.
   adds-nothing : (name : DomainName) → unseen sets seen name ≡ [] → (other : DomainName) → cond (name_eq name other) [] (unseen sets seen other) ≡ unseen sets seen other
@@ -84,35 +82,35 @@ module _ {S : Type 0} (sets : List RRset) (seen : HashMap DomainName (Unit {0}) 
     pub left-without : None ≡ rrset_at sets key kind.A → None ≡ rrset_at sets key kind.AAAA → (later : List Record) → before ++ left_to_list sets seen later ≡ before ++ left_to_list sets seen (r ∷ later)
     left-without v4 v6 later =
         let none : unseen sets seen name ≡ []
-        = either-none (is_some (hashed name_eq seen name)) (addresses sets (Some name))
+        = either-none (contains name_eq seen name) (addresses sets (Some name))
         (sym (addresses-keyed sets key name at) ∙ ap (λ (o : Option RRset). listed o ++ listed (rrset_at sets key kind.AAAA)) (sym v4) ∙ ap listed (sym v6)) in
         ap (λ (more : List RRset). before ++ more) (one-more (unseen sets seen) (unseen sets seen) name (adds-nothing name none) [] r later none to)
 
     -- The target is seen then.
-    module _ (new : HashMap DomainName (Unit {0}) S) (puts : (k : DomainName) → hashed name_eq new k ≡ cond (name_eq key k) (Some tt) (hashed name_eq seen k)) where
+    module _ (new : HashSet DomainName S) (puts : (k : DomainName) → contains name_eq new k ≡ cond (name_eq key k) true (contains name_eq seen k)) where
       seen-now : (other : DomainName) → cond (name_eq name other) [] (unseen sets seen other) ≡ unseen sets new other
       seen-now other =
           by (name_eq name other)
-          ∙ ap (λ (o : Option (Unit {0})). cond (is_some o) [] (addresses sets (Some other)))
-          (sym (puts other ∙ ap (λ (b : Bool). cond b (Some tt) (hashed name_eq seen other)) (ap (λ (k : DomainName). name_eq k other) at ∙ eq-lower-first name other)))
+          ∙ ap (λ (b : Bool). cond b [] (addresses sets (Some other)))
+          (sym (puts other ∙ ap (λ (b : Bool). cond b true (contains name_eq seen other)) (ap (λ (k : DomainName). name_eq k other) at ∙ eq-lower-first name other)))
         where
-          by : (b : Bool) → cond b [] (unseen sets seen other) ≡ cond (is_some (cond b (Some tt) (hashed name_eq seen other))) [] (addresses sets (Some other))
+          by : (b : Bool) → cond b [] (unseen sets seen other) ≡ cond (cond b true (contains name_eq seen other)) [] (addresses sets (Some other))
           by true = refl
           by false = refl
 
       -- It was seen before.
-      pub left-seen : is_some (hashed name_eq seen key) ≡ true → (later : List Record) → before ++ left_to_list sets new later ≡ before ++ left_to_list sets seen (r ∷ later)
+      pub left-seen : contains name_eq seen key ≡ true → (later : List Record) → before ++ left_to_list sets new later ≡ before ++ left_to_list sets seen (r ∷ later)
       left-seen there later =
-          let none : unseen sets seen name ≡ [] = ap (λ (b : Bool). cond b [] (addresses sets (Some name))) (ap is_some (sym (seen-keyed key name at)) ∙ there) in
+          let none : unseen sets seen name ≡ [] = ap (λ (b : Bool). cond b [] (addresses sets (Some name))) (sym (seen-keyed key name at) ∙ there) in
           ap (λ (more : List RRset). before ++ more) (one-more (unseen sets seen) (unseen sets new) name seen-now [] r later none to)
 
       -- It was not.
-      pub left-new : is_some (hashed name_eq seen key) ≡ false → (v4 v6 : Option RRset) → v4 ≡ rrset_at sets key kind.A → v6 ≡ rrset_at sets key kind.AAAA
+      pub left-new : contains name_eq seen key ≡ false → (v4 v6 : Option RRset) → v4 ≡ rrset_at sets key kind.A → v6 ≡ rrset_at sets key kind.AAAA
           → (first after : List RRset) → first ≡ before ++ listed v4 → after ≡ first ++ listed v6
           → (later : List Record) → after ++ left_to_list sets new later ≡ before ++ left_to_list sets seen (r ∷ later)
       left-new absent v4 v6 is4 is6 first after one two later =
           let adds : unseen sets seen name ≡ listed v4 ++ listed v6
-          = ap (λ (b : Bool). cond b [] (addresses sets (Some name))) (ap is_some (sym (seen-keyed key name at)) ∙ absent)
+          = ap (λ (b : Bool). cond b [] (addresses sets (Some name))) (sym (seen-keyed key name at) ∙ absent)
           ∙ sym (addresses-found sets key name at v4 v6 is4 is6) in
           ap (λ (all : List RRset). all ++ left_to_list sets new later)
           (two ∙ ap (λ (some : List RRset). some ++ listed v6) one ∙ append_assoc before (listed v4) (listed v6))
@@ -121,19 +119,19 @@ module _ {S : Type 0} (sets : List RRset) (seen : HashMap DomainName (Unit {0}) 
 
 -- ---- all targets
 -- Nothing was seen before the first.
-none-seen : {S : Type 0} (sets : List RRset) (seen : HashMap DomainName (Unit {0}) S) → seen.entries ≡ [] → (names : List DomainName)
+none-seen : {S : Type 0} (sets : List RRset) (seen : HashSet DomainName S) → seen.keys ≡ [] → (names : List DomainName)
     → flat_map (unseen sets seen) names ≡ flat_map (λ name. addresses sets (Some name)) names
 none-seen sets seen empty [] = refl
 none-seen sets seen empty (name ∷ names) =
-    ap (λ (entries : List (DomainName × Unit {0})). cond (is_some (lookup (name_eq name) entries)) [] (addresses sets (Some name)) ++ flat_map (unseen sets seen) names) empty
+    ap (λ (keys : List DomainName). cond (list_any (name_eq name) keys) [] (addresses sets (Some name)) ++ flat_map (unseen sets seen) names) empty
     ∙ ap (λ (more : List RRset). addresses sets (Some name) ++ more) (none-seen sets seen empty names)
 
-pub left-last : {S : Type 0} (sets : List RRset) (seen : HashMap DomainName (Unit {0}) S) (before all : List RRset) (rs : List Record) (n : ℕ) → length rs ≤ n
+pub left-last : {S : Type 0} (sets : List RRset) (seen : HashSet DomainName S) (before all : List RRset) (rs : List Record) (n : ℕ) → length rs ≤ n
     → before ++ left_to_list sets seen (drop n rs) ≡ all → before ≡ all
 left-last sets seen before all rs n end e =
     sym (append-nil before) ∙ ap (λ (more : List Record). before ++ left_to_list sets seen more) (sym (drop_all n rs end)) ∙ e
 
-pub left-first : {S : Type 0} (sets : List RRset) (seen : HashMap DomainName (Unit {0}) S) → seen.entries ≡ [] → (rs : List Record) → left_to_list sets seen rs ≡ target_addresses sets rs
+pub left-first : {S : Type 0} (sets : List RRset) (seen : HashSet DomainName S) → seen.keys ≡ [] → (rs : List Record) → left_to_list sets seen rs ≡ target_addresses sets rs
 left-first sets seen empty rs = none-seen sets seen empty (once (targets rs))
 
 -- ---- the additional data of a set

@@ -1,7 +1,6 @@
 -- What the sets of a zone answer, as a lookup gives it.
-use Rattle.std.specs.Prelude.{◌≡◌, ℕ, List, [], ◌∷◌, map, length, Option, Some, None, IsSomeAnd, is_some, if◌then◌else◌}
-use Rattle.std.specs.HashMap.{HashMap}
-use Rattle.std.specs.HashMap.{get as hashed}
+use Rattle.std.specs.Prelude.{◌≡◌, ℕ, List, [], ◌∷◌, map, length, Option, Some, None, IsSomeAnd, if◌then◌else◌}
+use Rattle.std.specs.HashSet.{HashSet, contains}
 use Rattle.std.specs.List.{flat_map}
 use Rattle.zst_map.specs.dnw_codes.declared.record_type.RecordType.{RecordType}
 use Rattle.zst_map.specs.dnw_name.DomainName.{DomainName, lowercase_name, name_eq}
@@ -41,13 +40,12 @@ target_addresses sets rs = flat_map (λ name. addresses sets (Some name)) (once 
 
 module _ {S : Type 0} where
   -- The addresses of a name that was not seen before.
-  abbrev pub unseen : List RRset → HashMap DomainName (Unit {0}) S → DomainName → List RRset
+  abbrev pub unseen : List RRset → HashSet DomainName S → DomainName → List RRset
   unseen sets seen name =
-      if is_some (hashed name_eq seen name) then [] else addresses sets (Some name)
+      if contains name_eq seen name then [] else addresses sets (Some name)
 
   -- What is left to list from a record on: the addresses of targets that were not seen before.
-  abbrev pub left_to_list : List RRset → HashMap DomainName (Unit {0}) S → List Record
-      → List RRset
+  abbrev pub left_to_list : List RRset → HashSet DomainName S → List Record → List RRset
   left_to_list sets seen rs = flat_map (unseen sets seen) (once (targets rs))
 
 -- What answers a question for any type: all sets, if there is one.

@@ -1,7 +1,7 @@
 //! The additional data of an answer (RFC 1034 section 4.3.2 step 6).
 
-ghost use Rattle.std.specs.Prelude.{◌≡◌, ◌∷◌, ◌++◌, not, is_some, IfOk, OnOk, List, Some, if◌then◌else◌, map, option_copied};
-ghost use Rattle.std.specs.HashMap.{get};
+ghost use Rattle.std.specs.Prelude.{◌≡◌, ◌∷◌, ◌++◌, not, true, IfOk, OnOk, List, Some, if◌then◌else◌, map, option_copied};
+ghost use Rattle.std.specs.HashSet.{contains};
 ghost use Rattle.zst_map.specs.zst_handler.Answers.{records_if, set_in, sets_shown};
 ghost use Rattle.zst_map.specs.zst_handler.Chains.{target_of};
 ghost use Rattle.zst_map.specs.zst_handler.Lookups.{additionals, addresses, has_additionals, listed};
@@ -10,7 +10,7 @@ ghost use Rattle.zst_zone.specs.Answering.{left_to_list, target_addresses};
 
 use crate::chain::target_of;
 use std::alloc::{AllocError, Global};
-use std::collections::HashMap;
+use std::collections::HashSet;
 use std::hash::Hash;
 use zst_map::{
     AnswerSet, LookupOptions, LookupRecords, NameKey, Record, RecordSet, RecordType, ZoneSets, push,
@@ -92,7 +92,7 @@ fn all_addresses<'z>(
     ensures { IfOk result (λ found. records_if found ≡ sets_shown options.dnssec_ok (target_addresses sets.now records.now)) }
 {
     let mut found = Vec::new(alloc);
-    let mut seen = HashMap::new(alloc);
+    let mut seen = HashSet::new(alloc);
     'targets: for next in records {
         list_target(sets, alloc, next, &mut found, &mut seen)?;
     }
@@ -109,7 +109,7 @@ fn list_target<'z>(
     alloc: Global,
     next: &Record,
     found: &mut Vec<AnswerSet<'z>>,
-    seen: &mut HashMap<NameKey, ()>,
+    seen: &mut HashSet<NameKey>,
 ) -> Result<(), AllocError>
     ensures { OnOk result ((later : List Stored) → map set_in found.new.items ++ left_to_list sets.now seen.new later
         ≡ map set_in found.old.items ++ left_to_list sets.now seen.old (next.now ∷ later)) }
@@ -130,12 +130,12 @@ fn list_target<'z>(
 }
 
 // Puts a key among those that were seen; false where it is there.
-fn insert_new<K: Eq + Hash + Drop>(seen: &mut HashMap<K, ()>, key: K) -> Result<bool, AllocError>
-    ensures new { IfOk result (λ new. new ≡ not (is_some (get K.eq seen.old key))) }
-    ensures after { OnOk result ((k : K) → get K.eq seen.new k ≡ (if K.eq key k then Some tt else get K.eq seen.old k)) }
+fn insert_new<K: Eq + Hash + Drop>(seen: &mut HashSet<K>, key: K) -> Result<bool, AllocError>
+    ensures new { IfOk result (λ new. new ≡ not (contains K.eq seen.old key)) }
+    ensures after { OnOk result ((k : K) → contains K.eq seen.new k ≡ (if K.eq key k then true else contains K.eq seen.old k)) }
 {
-    match seen.insert(key, ()) {
-        Ok(before) => Ok(before.is_none()),
+    match seen.insert(key) {
+        Ok(is_new) => Ok(is_new),
         Err(_) => Err(AllocError),
     }
 }
