@@ -127,7 +127,7 @@ class NamedLookup:
         return Reply(*header(request, code, aa), answers, authorities, more)
 
     def addresses(self, host, is_referral):
-        """Of all hosts, not of the first alone: in a referral glue, else what a question for them would find."""
+        """In a referral glue, else what a question for the host would find."""
         if not is_at_or_below(host, self.origin):
             return []
         is_below_cut = any(set_of(self.zone, it, NS) for it in suffixes(host) if len(it) > len(self.origin))

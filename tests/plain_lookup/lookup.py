@@ -172,11 +172,17 @@ def target_of(record):
 
 
 def additionals(zone, first):
-    """The stored addresses, glue too, of the host that the first record names (RFC 1034, section 4.3.2, step 6)."""
+    """The stored addresses, glue too, of the host that each record names, in order, of each host once (RFC 1034, section
+    4.3.2, step 6)."""
     if first[0].type not in (NS, MX, SRV):
         return []
-    host = target_of(first[0])
-    return set_of(zone, host, A) + set_of(zone, host, AAAA)
+    hosts = [target_of(record) for record in first]
+    return [
+        address
+        for at, host in enumerate(hosts)
+        if not any(same(host, earlier) for earlier in hosts[:at])
+        for address in set_of(zone, host, A) + set_of(zone, host, AAAA)
+    ]
 
 
 def all_sets(zone, name):
