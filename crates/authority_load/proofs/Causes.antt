@@ -194,11 +194,11 @@ data_given zone line h r (Err e) known inside reads kinds is =
     field_refused (IsDataText h.record_type h.rdata) zone line causes.Data r e reads (sym is) (data_none line h known) (none_8 zone line h known inside)
 
 -- A value that is refused: its cause stands, and none before the value.
-pub value_refused : (zone : Zone) (line : List ℕ) (h : Heading) (value : RData) (cause : LoadCause) → IsInside zone line h → AreData line value → RefusesValue zone (record_at h value) cause → Stands zone line cause
-value_refused zone line h value causes.NotReadBack inside is why = ((h, inside, value, is, why), none_9 zone line value (none_8 zone line h inside.heading inside.inside) is)
-value_refused zone line h value causes.BesideCname inside is why = ((h, inside, value, is, why), none_9 zone line value (none_8 zone line h inside.heading inside.inside) is)
-value_refused zone line h value causes.SecondSoa inside is why = ((h, inside, value, is, why), none_9 zone line value (none_8 zone line h inside.heading inside.inside) is)
-value_refused zone line h value other inside is why = absurd why
+pub value_refused : (zone : Zone) (line : List ℕ) (h : Heading) (value : RData) (cause : LoadCause) → IsInside zone line h → AreData line value → NumbersFit value → RefusesValue zone (record_at h value) cause → Stands zone line cause
+value_refused zone line h value causes.NotReadBack inside is fits why = ((h, inside, value, is, fits, why), none_9 zone line value (none_8 zone line h inside.heading inside.inside) is)
+value_refused zone line h value causes.BesideCname inside is fits why = ((h, inside, value, is, fits, why), none_9 zone line value (none_8 zone line h inside.heading inside.inside) is)
+value_refused zone line h value causes.SecondSoa inside is fits why = ((h, inside, value, is, fits, why), none_9 zone line value (none_8 zone line h inside.heading inside.inside) is)
+value_refused zone line h value other inside is fits why = absurd why
 
 pub value_taken : (zone : Zone) (line : List ℕ) (h : Heading) (value : RData) → IsInside zone line h → AreData line value → MayJoin zone (record_at h value) → NumbersFit value → IsTaken zone line (record_at h value)
 value_taken zone line h value inside is joins fits =

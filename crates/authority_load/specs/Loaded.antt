@@ -29,8 +29,8 @@ AreDifferent [] = Unit {0}
 AreDifferent (r ∷ rs) =
     AllByRecursion (λ later. rdata_eq r.rdata later.rdata ≡ false) rs × AreDifferent rs
 
--- A record is of class IN, of its set's type and inside the zone, decodes to itself, and its
--- numbers fit their fields.
+-- A record is of class IN, of its set's type and inside the zone, decodes to itself, its numbers
+-- fit their fields, and the types of a CSYNC rise.
 pub record IsLoadedRecord (origin : DomainName) (set : RRset) (r : Record) : Type 0 where
   pub of_class : same_class r.dns_class IN ≡ true
   pub of_type : type_of r.rdata ≡ set.record_type

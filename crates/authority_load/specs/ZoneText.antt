@@ -142,11 +142,11 @@ RefusesValue zone r causes.SecondSoa =
     × (is_second_start zone.sets r ≡ true)
 RefusesValue zone r other = ⊥
 
--- The line has data, and the record with these is refused.
+-- The line has data, whose numbers fit their fields, and the record with these is refused.
 abbrev pub RefusesData : Zone → List ℕ → LoadCause → Type 0
 RefusesData zone line cause =
     (h : Heading) × IsInside zone line h × (value : RData) × AreData line value
-    × RefusesValue zone (record_at h value) cause
+    × NumbersFit value × RefusesValue zone (record_at h value) cause
 
 -- The cause applies to a line, in the zone as it is before the line.
 abbrev pub StandsAt : Zone → List ℕ → LoadCause → Type 0
@@ -187,7 +187,7 @@ NoneBefore zone line n =
     (earlier : LoadCause) → 0 < cause_order earlier → cause_order earlier < n
     → StandsAt zone line earlier → ⊥
 
--- The last three causes are about the data that were read, and exclude each other by definition.
+-- The last three causes are about the data that were read, of which they exclude each other.
 abbrev pub line_turn : LoadCause → ℕ
 line_turn causes.BesideCname = 9
 line_turn causes.SecondSoa = 9

@@ -55,6 +55,7 @@ pub fn record_of<K>(
         Err(_) => return Err(LoadCause::OutOfMemory),
     };
     let rdata = data_at(alloc, zone, &key, &header)?;
+    numbers_fit(&rdata);
     let next = Record {
         name: header.name,
         dns_class: DNSClass::IN,
@@ -67,10 +68,7 @@ pub fn record_of<K>(
             mem::drop(key);
             Err(cause)
         }
-        None => {
-            numbers_fit(&next.rdata);
-            Ok(KeyedRecord { key, next })
-        }
+        None => Ok(KeyedRecord { key, next }),
     }
 }
 

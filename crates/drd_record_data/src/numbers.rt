@@ -19,8 +19,8 @@ fn long(number: u32)
     let _ = number;
 }
 
-/// Each number of these data fits the octets of its field. To a contract a number behind a reference is any number until
-/// it is read; this reads them all and does nothing else.
+/// Each number of these data fits the octets of its field, and the types of a CSYNC rise. To a contract a number behind a
+/// reference is any number until it is read; this reads them all and does nothing else.
 pub fn numbers_fit(rdata: &RData)
     ensures { NumbersFit rdata.now }
 {
@@ -44,6 +44,7 @@ pub fn numbers_fit(rdata: &RData)
         RData::CSYNC(csync) => {
             long(csync.soa_serial);
             short(csync.flags());
+            let _ = csync.type_bit_maps.is_empty();
         }
         RData::HTTPS(https) => short(https.0.svc_priority),
         RData::MX(mx) => short(mx.preference),

@@ -15,7 +15,7 @@ returns-in_err-rdata-clause-gives g c =
 pub returns-in-Some-clause-gives : goal.returns-in-Some-clause-gives
 returns-in-Some-clause-gives g c =
     let known = c.in_ok-rdata.ensures c.args.line.now c.in_ok-header.ensures in
-    value_refused c.args.zone.now c.args.line.now _ c.in_ok-rdata.rdata c.in-Some.cause known.0 known.1 c.in-Some.ensures
+    value_refused c.args.zone.now c.args.line.now _ c.in_ok-rdata.rdata c.in-Some.cause known.0 known.1 c.numbers_fit.ensures c.in-Some.ensures
 
 pub returns-in-None-clause-gives : goal.returns-in-None-clause-gives
 returns-in-None-clause-gives g c =
