@@ -185,7 +185,7 @@ data_none line h known none value is =
 pub none_9 : (zone : Zone) (line : List ℕ) (value : RData) → NoneBefore zone line 8 → AreData line value → NoneBefore zone line 9
 none_9 zone line value before is = none_next zone line causes.Data before (λ none. none value is)
 
--- What was read behind a heading, by its reader's answer.
+-- The result of reading the data.
 pub data_given : (zone : Zone) (line : List ℕ) (h : Heading) (r : Result RData TextError) (o : Result RData LoadCause) → IsHeading line h → is_at_or_below h.name zone.origin ≡ true → ReadsText (IsDataText h.record_type h.rdata) r
     → IfOk r (λ v. type_of v ≡ h.record_type) → o ≡ with_cause causes.Data r → DataGives zone line h o
 data_given zone line h r (Ok value) known inside reads kinds is =

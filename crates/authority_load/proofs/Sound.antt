@@ -233,7 +233,7 @@ out_none : (name : DomainName) (t : RecordType) (sets : List RRset) → is_kept_
 out_none name t [] e = tt
 out_none name t (u ∷ sets) e = let p = out_step name t u sets (name_eq name u.name) refl e in (p.0, out_none name t sets p.1)
 
--- What stands at an owner isn't apart from a record that is taken there.
+-- A record that joins may be owned beside every set of its owner.
 beside_taken : (zone : Zone) (r : Record) → IsAccepted zone r → (name : DomainName) (t : RecordType) → name_eq name r.name ≡ true → IsSome (rrset_at zone.sets name t) → are_apart t (type_of r.rdata) ≡ false
 beside_taken zone r is name t named there = by (rrset_at zone.sets name t) refl there
   where

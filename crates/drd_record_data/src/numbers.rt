@@ -19,8 +19,8 @@ fn long(number: u32)
     let _ = number;
 }
 
-/// Each number of these data fits the octets of its field, and the types of a CSYNC rise. To a contract a number behind a
-/// reference is any number until it is read; this reads them all and does nothing else.
+/// Each number of these data fits the octets of its field, and the types of a CSYNC rise. To a contract a number that is
+/// borrowed is any number until it is read; this reads them all and does nothing else.
 pub fn numbers_fit(rdata: &RData)
     ensures { NumbersFit rdata.now }
 {

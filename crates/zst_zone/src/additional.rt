@@ -82,7 +82,8 @@ fn both<'z>(
     }
 }
 
-// The addresses of the targets of records, each target once. Until a target has addresses it takes no memory.
+// The addresses of the targets of records, each target once. Until a target has addresses it allocates only the key of a
+// long name.
 fn all_addresses<'z>(
     sets: &'z ZoneSets,
     alloc: Global,
