@@ -27,15 +27,7 @@ pub fn numbers_fit(rdata: &RData)
     match rdata {
         RData::A(a) => long(u32::from(a.0)),
         RData::AAAA(aaaa) => {
-            let groups = aaaa.0.segments();
-            short(groups[0]);
-            short(groups[1]);
-            short(groups[2]);
-            short(groups[3]);
-            short(groups[4]);
-            short(groups[5]);
-            short(groups[6]);
-            short(groups[7]);
+            let _ = aaaa.0.segments();
         }
         RData::CERT(cert) => {
             short(u16::from(cert.cert_type));
@@ -43,7 +35,6 @@ pub fn numbers_fit(rdata: &RData)
         }
         RData::CSYNC(csync) => {
             long(csync.soa_serial);
-            short(csync.flags());
             let _ = csync.type_bit_maps.is_empty();
         }
         RData::HTTPS(https) => short(https.0.svc_priority),
