@@ -14,14 +14,13 @@ ghost use Rattle.authority_server.specs.Serving.{Serves, WorldReadsBack};
 ghost use Rattle.authority_server.specs.Servers.{SendsReply, ZonesSend, chains_of, no_zones, with_zones, without_zones, world_of};
 ghost use Rattle.authority_server.specs.Runs.{octets_of, received_of, ServesNext, ServesFront};
 
-use drd_types::NSIDPayload;
 use std::alloc::{AllocError, Global};
 use std::net::SocketAddr;
 use thiserror::Error;
 use zsv_access::AccessControl;
 use zsv_catalog::{
-    BareRequest, Chains, DecodeError, MessageRequest, Name, Protocol, ResponseCode, ResponseInfo,
-    ZoneHandler, encode_error, encode_refusal, reply_by,
+    BareRequest, Chains, DecodeError, MessageRequest, NSIDPayload, Name, Protocol, ResponseCode,
+    ResponseInfo, ZoneHandler, encode_error, encode_refusal, reply_by,
 };
 
 /// A message as it came.

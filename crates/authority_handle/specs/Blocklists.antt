@@ -1,0 +1,72 @@
+-- Lists of blocked names, as another language gives them.
+use Rattle.std.specs.Prelude.{◌≡◌, ◌<◌, ◌≤◌, ◌^◌, ◌⊎◌, ℕ, List, [], ◌∷◌, length, Option, Some, None, IsSome}
+use Rattle.std.specs.Str.{IsUtf8}
+use Rattle.std.specs.Net.Addr.{ipv4_octets, ipv6_segments, segments_of}
+use Rattle.std.specs.declared.net.ipv4_addr.Ipv4Addr.{Ipv4Addr}
+use Rattle.std.specs.declared.net.ipv6_addr.Ipv6Addr.{Ipv6Addr}
+use Rattle.authority_handle.specs.declared.blocklists.BlocklistSettings.{BlocklistSettings}
+use Rattle.authority_handle.specs.declared.refusal.Refusal.{Refusal}
+use Rattle.authority_handle.specs.declared.refusal.Refusal.TheVariants as refusals
+use Rattle.authority_load.specs.ZoneText.{IsOwnerText}
+use Rattle.authority_server.specs.zsv_catalog.zsv_answer.zst_request.Views.{Blocklist}
+use Rattle.authority_server.specs.zsv_catalog.zsv_answer.zst_request.declared.blocklist.BlocklistConsultAction.{BlocklistConsultAction}
+use Rattle.authority_server.specs.zsv_catalog.zsv_answer.zst_request.declared.blocklist.BlocklistConsultAction.TheVariants as actions
+use Rattle.authority_server.specs.zsv_catalog.zsv_answer.zst_request.dnw_name.DomainName.{DomainName}
+use Rattle.zsv_blocklist.specs.Blocklists.{blocklist_of}
+use Rattle.zsv_blocklist.specs.declared.config.BlocklistConfig.{BlocklistConfig}
+use Rattle.zsv_blocklist.specs.zsv_blocked.BlockedNames.{AddsListed}
+
+-- What is done where another handler has answered: 0 nothing, 1 the list's answer replaces the
+-- other's, 2 a log is told.
+abbrev pub action_of : ℕ → Option BlocklistConsultAction
+action_of 0 = Some actions.Disabled
+action_of 1 = Some actions.Enforce
+action_of 2 = Some actions.Log
+action_of other = None
+
+-- No message where there are no octets.
+abbrev pub message_of : List ℕ → Option (List ℕ)
+message_of [] = None
+message_of (octet ∷ octets) = Some (octet ∷ octets)
+
+-- A list has these settings.
+pub record HasSettings (settings : BlocklistSettings) (message : List ℕ) (list : Blocklist)
+    : Type 0 where
+  pub wildcard_match : list.wildcard_match ≡ settings.wildcard_match
+  pub min_wildcard_depth : list.min_wildcard_depth ≡ settings.min_wildcard_depth
+  pub ipv4 : (address : Ipv4Addr) × (list.sinkhole_ipv4 ≡ Some address)
+      × (ipv4_octets address ≡ settings.sinkhole_ipv4)
+  pub ipv6 : (address : Ipv6Addr) × (list.sinkhole_ipv6 ≡ Some address)
+      × (ipv6_segments address ≡ segments_of settings.sinkhole_ipv6)
+  pub ttl : list.ttl ≡ settings.ttl
+  pub block_message : list.block_message ≡ message_of message
+  pub consult_action : action_of settings.action ≡ Some list.consult_action
+
+-- The list of the names in a text.
+abbrev pub IsListOf : DomainName → BlocklistConfig → List ℕ → Blocklist → Type 0
+IsListOf origin config text list =
+    (names : List DomainName) × AddsListed [] text names × (list ≡ blocklist_of origin names config)
+
+-- The list of a text, under a name, with these settings.
+pub record IsBlocklist (settings : BlocklistSettings) (name text message : List ℕ)
+    (list : Blocklist) : Type 0 where
+  pub named : IsOwnerText name list.origin
+  pub utf8 : IsUtf8 text
+  pub names : AddsListed [] text list.names
+  pub fits : length message ≤ 255
+  pub has : HasSettings settings message list
+
+-- Why a list isn't made: its action is none, its message or its text too long, its text or its
+-- message no UTF-8, its name no fully qualified name. These are tested in this order.
+abbrev pub RefusesBlocklist : BlocklistSettings → List ℕ → List ℕ → List ℕ → Refusal → Type 0
+RefusesBlocklist settings name text message refusals.OutOfMemory = Unit {0}
+RefusesBlocklist settings name text message refusals.WrongSetting = action_of settings.action ≡ None
+RefusesBlocklist settings name text message refusals.TooLong =
+    IsSome (action_of settings.action) × ((255 < length message) ⊎ (2 ^ 32 ≤ length text))
+RefusesBlocklist settings name text message refusals.WrongText =
+    IsSome (action_of settings.action) × (length message ≤ 255) × (length text < 2 ^ 32)
+    × ((IsUtf8 text × IsUtf8 message) → ⊥)
+RefusesBlocklist settings name text message refusals.WrongName =
+    IsSome (action_of settings.action) × (length message ≤ 255) × (length text < 2 ^ 32)
+    × IsUtf8 text × IsUtf8 message × ((origin : DomainName) → IsOwnerText name origin → ⊥)
+RefusesBlocklist settings name text message other = ⊥

@@ -1,0 +1,202 @@
+-- What the calls of another language do: octets and numbers in, octets and numbers out.
+use Rattle.std.specs.Prelude.{◌≡◌, ◌<◌, ◌≤◌, ◌≢◌, ◌⊎◌, ℕ, suc, zero, ℤ, pos, Bool, true, false, List, [], ◌∷◌, length, take, Option, Some, None, IsSome}
+use Rattle.std.specs.Str.{IsUtf8}
+use Rattle.std.specs.declared.net.SocketAddr.{SocketAddr}
+use Rattle.authority_handle.specs.Blocklists.{IsBlocklist, RefusesBlocklist}
+use Rattle.authority_handle.specs.Refusals.{Changes, code_of}
+use Rattle.authority_handle.specs.Sources.{AddsNetworks, IsNoAddress, IsSource, RefusesNetworks}
+use Rattle.authority_handle.specs.declared.blocklists.BlocklistSettings.{BlocklistSettings}
+use Rattle.authority_handle.specs.declared.refusal.Refusal.{Refusal}
+use Rattle.authority_handle.specs.declared.refusal.Refusal.TheVariants as refusals
+use Rattle.authority_handle.specs.declared.sources.Network.{Network}
+use Rattle.authority_load.specs.ZoneText.{IsLoadFault, IsOwnerText, IsZoneText}
+use Rattle.authority_load.specs.declared.loader.LoadCause.TheVariants as causes
+use Rattle.authority_load.specs.zst_zone.zst_codes.declared.settings.AxfrPolicy.TheVariants as policies
+use Rattle.authority_load.specs.zst_zone.zst_codes.declared.settings.ZoneType.{ZoneType}
+use Rattle.authority_load.specs.zst_zone.zst_codes.declared.settings.ZoneType.TheVariants as kinds
+use Rattle.authority_load.specs.zst_zone.zst_handler.Zones.{Zone}
+use Rattle.authority_server.specs.Servers.{with_zones, without_zones}
+use Rattle.authority_server.specs.Serving.{Serves, World}
+use Rattle.authority_server.specs.zsv_access.Access.{no_networks}
+use Rattle.authority_server.specs.zsv_access.declared.access.AccessControl.{AccessControl}
+use Rattle.authority_server.specs.zsv_catalog.Chains.{chain_at}
+use Rattle.authority_server.specs.zsv_catalog.ReadingBack.{ViewReadsBack}
+use Rattle.authority_server.specs.zsv_catalog.zsv_answer.zst_request.Views.{Blocked, Blocklist, Stored}
+use Rattle.authority_server.specs.zsv_catalog.zsv_answer.zst_request.dnw_name.DomainName.{DomainName, lowercase_name}
+use Rattle.authority_server.specs.zsv_catalog.zsv_answer.zsv_request.declared.protocol.Protocol.{Protocol}
+use Rattle.authority_server.specs.zsv_catalog.zsv_answer.zsv_request.declared.protocol.Protocol.TheVariants as transports
+
+-- ---- names
+-- Why a text is read as no fully qualified name.
+abbrev pub RefusesName : List ℕ → Refusal → Type 0
+RefusesName text refusals.OutOfMemory = Unit {0}
+RefusesName text refusals.WrongName = (name : DomainName) → IsOwnerText text name → ⊥
+RefusesName text other = ⊥
+
+-- ---- zones
+-- What a server is to a zone: 0 the zone's data are kept here, 1 they come by transfer, 2 the zone
+-- is another server's.
+abbrev pub kind_of : ℕ → Option ZoneType
+kind_of 0 = Some kinds.Primary
+kind_of 1 = Some kinds.Secondary
+kind_of 2 = Some kinds.External
+kind_of other = None
+
+-- A zone without records, as each begins: transferred to nobody, without proofs of absence.
+abbrev pub bare_zone : DomainName → ZoneType → Zone
+bare_zone name kind =
+    record {
+      origin = name;
+      zone_type = kind;
+      axfr_policy = policies.Deny;
+      nx_proof_kind = None;
+      sets = [];
+    }
+
+-- The zone of a text, of a kind, under a name that is spelled out.
+pub record IsZoneOf (kind : ℕ) (origin text : List ℕ) (zone : Zone) : Type 0 where
+  pub name : DomainName
+  pub zone_type : ZoneType
+  pub of_kind : kind_of kind ≡ Some zone_type
+  pub named : IsOwnerText origin name
+  pub utf8 : IsUtf8 text
+  pub loaded : IsZoneText (bare_zone name zone_type) text zone
+
+-- Why a text of a kind gives no zone under a name: a line is refused.
+abbrev pub RefusesLoad : DomainName → ZoneType → List ℕ → Refusal → Type 0
+RefusesLoad name kind text refusals.OutOfMemory = Unit {0}
+RefusesLoad name kind text (refusals.Line error) =
+    (error.cause ≢ causes.OutOfMemory) × IsLoadFault (bare_zone name kind) text error
+RefusesLoad name kind text other = ⊥
+
+-- Why a text gives no zone: its kind is none, it isn't UTF-8, its origin is no fully qualified name,
+-- or a line is refused. These are tested in this order.
+abbrev pub RefusesZone : ℕ → List ℕ → List ℕ → Refusal → Type 0
+RefusesZone kind origin text refusals.OutOfMemory = Unit {0}
+RefusesZone kind origin text refusals.WrongSetting = kind_of kind ≡ None
+RefusesZone kind origin text refusals.WrongText =
+    IsSome (kind_of kind) × (IsUtf8 text → ⊥)
+RefusesZone kind origin text refusals.WrongName =
+    IsSome (kind_of kind) × IsUtf8 text × ((name : DomainName) → IsOwnerText origin name → ⊥)
+RefusesZone kind origin text (refusals.Line error) =
+    (name : DomainName) × (zone_type : ZoneType) × (kind_of kind ≡ Some zone_type)
+    × IsUtf8 text × IsOwnerText origin name × RefusesLoad name zone_type text (refusals.Line error)
+RefusesZone kind origin text other = ⊥
+
+-- The zone of a text stands alone under its own name.
+abbrev pub PutsZone : World → ℕ → List ℕ → List ℕ → World → Type 0
+PutsZone old kind origin text new =
+    (zone : Zone) × IsZoneOf kind origin text zone × ViewReadsBack (Stored zone)
+    × (new ≡ with_zones old zone.origin (Stored zone ∷ []))
+
+abbrev pub AddsZone : World → ℕ → List ℕ → List ℕ → ℤ → World → Type 0
+AddsZone old kind origin text result new =
+    Changes old new result (PutsZone old kind origin text new) (RefusesZone kind origin text)
+
+-- ---- lists of blocked names
+-- The list of a text stands alone under its name.
+abbrev pub PutsBlocklist : World → BlocklistSettings → List ℕ → List ℕ → List ℕ → World → Type 0
+PutsBlocklist old settings name text message new =
+    (list : Blocklist) × IsBlocklist settings name text message list
+    × (new ≡ with_zones old list.origin (Blocked list ∷ []))
+
+abbrev pub AddsBlocklist : World → BlocklistSettings → List ℕ → List ℕ → List ℕ → ℤ → World → Type 0
+AddsBlocklist old settings name text message result new =
+    Changes old new result (PutsBlocklist old settings name text message new)
+    (RefusesBlocklist settings name text message)
+
+-- ---- what is taken out
+-- All that stands under a name is taken out.
+abbrev pub TakesOut : World → List ℕ → World → Type 0
+TakesOut old text new =
+    (name : DomainName) × IsOwnerText text name
+    × IsSome (chain_at old.chains (lowercase_name name))
+    × (new ≡ without_zones old name)
+
+-- Why nothing is taken out: the text is no name, or nothing stands under it.
+abbrev pub RefusesRemoval : World → List ℕ → Refusal → Type 0
+RefusesRemoval old text refusals.NotFound =
+    (name : DomainName) × IsOwnerText text name
+    × (chain_at old.chains (lowercase_name name) ≡ None)
+RefusesRemoval old text other = RefusesName text other
+
+abbrev pub Removes : World → List ℕ → ℤ → World → Type 0
+Removes old text result new =
+    Changes old new result (TakesOut old text new) (RefusesRemoval old text)
+
+-- ---- who may ask
+-- Who may ask is said by these networks alone.
+abbrev pub TellsAccess : World → List Network → World → Type 0
+TellsAccess old networks new =
+    (access : AccessControl) × AddsNetworks no_networks networks access
+    × (new ≡ record old { access = access })
+
+abbrev pub SetsAccess : World → List Network → ℤ → World → Type 0
+SetsAccess old networks result new =
+    Changes old new result (TellsAccess old networks new) (RefusesNetworks networks)
+
+-- ---- the server's identifier
+-- None of no octets (RFC 5001).
+abbrev pub nsid_of : List ℕ → Option (List ℕ)
+nsid_of [] = None
+nsid_of (octet ∷ octets) = Some (octet ∷ octets)
+
+-- Why an identifier is refused: the data of an OPT record, of 65,535 octets, don't hold it behind its
+-- code and its length.
+abbrev pub RefusesNsid : List ℕ → Refusal → Type 0
+RefusesNsid octets refusals.OutOfMemory = Unit {0}
+RefusesNsid octets refusals.TooLong = 65531 < length octets
+RefusesNsid octets other = ⊥
+
+abbrev pub SetsNsid : World → List ℕ → ℤ → World → Type 0
+SetsNsid old octets result new =
+    Changes old new result (new ≡ record old { nsid = nsid_of octets }) (RefusesNsid octets)
+
+-- ---- a message
+-- How a message came.
+abbrev pub transport_of : Bool → Protocol
+transport_of true = transports.Tcp
+transport_of false = transports.Udp
+
+-- Octets that don't go into so much room: there are more of them, or none.
+abbrev pub IsUnfit : List ℕ → ℕ → Type 0
+IsUnfit octets room = (octets ≡ []) ⊎ (room < length octets)
+
+-- Octets that stand at the front of a buffer, and their count.
+pub record StandsIn (octets : List ℕ) (buffer : List ℕ) (count : ℤ) : Type 0 where
+  pub some : octets ≡ [] → ⊥
+  pub counted : count ≡ pos (length octets)
+  pub front : take (length octets) buffer ≡ octets
+
+-- A reply of so many octets at the front of a buffer; none where there are none.
+abbrev pub reply_of : ℕ → List ℕ → Option (List ℕ)
+reply_of zero buffer = None
+reply_of (suc n) buffer = Some (take (suc n) buffer)
+
+-- A message is served from a source of these octets and this port. It changes nothing.
+abbrev pub ServesFrom : World → List ℕ → List ℕ → ℕ → Bool → ℕ → Option (List ℕ) → Type 0
+ServesFrom world message address port stream now reply =
+    (source : SocketAddr) × IsSource address port source
+    × Serves world
+    (record { message = message; source = source; transport = transport_of stream; now = now })
+    reply world
+
+-- Why a message isn't served: for want of memory, of room for its reply, or of a source's address.
+abbrev pub RefusesMessage : World → List ℕ → List ℕ → ℕ → Bool → ℕ → ℕ → Refusal → Type 0
+RefusesMessage world message address port stream now room refusals.OutOfMemory =
+    12 ≤ length message
+RefusesMessage world message address port stream now room refusals.NoRoom =
+    (reply : List ℕ) × ServesFrom world message address port stream now (Some reply)
+    × IsUnfit reply room
+RefusesMessage world message address port stream now room refusals.WrongAddress =
+    IsNoAddress address
+RefusesMessage world message address port stream now room other = ⊥
+
+-- A message is served, and the result counts the octets of its reply, at the front of the buffer; or
+-- it is refused.
+abbrev pub ServesInto : World → List ℕ → List ℕ → ℕ → Bool → ℕ → ℤ → List ℕ → Type 0
+ServesInto world message address port stream now result buffer =
+    ((n : ℕ) × (result ≡ pos n)
+    × ServesFrom world message address port stream now (reply_of n buffer))
+    ⊎ ((refusal : Refusal) × (result ≡ code_of refusal)
+    × RefusesMessage world message address port stream now (length buffer) refusal)

@@ -1,0 +1,5 @@
+pub mod Blocklists
+pub mod Calls
+pub mod Refusals
+pub mod Sources
+pub mod Worlds

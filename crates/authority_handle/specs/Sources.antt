@@ -1,0 +1,69 @@
+-- Addresses and networks, as another language says them.
+use Rattle.std.specs.Prelude.{◌≡◌, ◌<◌, ◌≤◌, ◌*◌, ◌⊎◌, ℕ, if◌then◌else◌, List, [], ◌∷◌, length, take}
+use Rattle.std.specs.Net.Addr.{ipv4_octets, ipv6_segments, segments_of}
+use Rattle.std.specs.Net.Socket.{socket_ip, socket_port}
+use Rattle.std.specs.declared.net.SocketAddr.{SocketAddr}
+use Rattle.std.specs.declared.net.ip_addr.IpAddr.{IpAddr}
+use Rattle.std.specs.declared.net.ip_addr.IpAddr.TheVariants as addresses
+use Rattle.authority_handle.specs.declared.refusal.Refusal.{Refusal}
+use Rattle.authority_handle.specs.declared.refusal.Refusal.TheVariants as refusals
+use Rattle.authority_handle.specs.declared.sources.Network.{Network}
+use Rattle.authority_server.specs.zsv_access.Access.{no_networks, with_allowed, with_denied}
+use Rattle.authority_server.specs.zsv_access.declared.access.AccessControl.{AccessControl}
+
+-- An address of these octets: four, or sixteen.
+abbrev pub IsAddress : List ℕ → IpAddr → Type 0
+IsAddress octets (addresses.V4 address) = ipv4_octets address ≡ octets
+IsAddress octets (addresses.V6 address) =
+    (length octets ≡ 16) × (ipv6_segments address ≡ segments_of octets)
+
+-- Octets that are no address: neither four nor sixteen.
+abbrev pub IsNoAddress : List ℕ → Type 0
+IsNoAddress octets = (length octets ≡ 4 → ⊥) × (length octets ≡ 16 → ⊥)
+
+-- A source of these octets and this port.
+pub record IsSource (octets : List ℕ) (port : ℕ) (source : SocketAddr) : Type 0 where
+  pub address : IsAddress octets (socket_ip source)
+  pub from_port : socket_port source ≡ port
+
+-- ---- networks
+-- The octets of a network's address.
+abbrev pub octets_in : Network → List ℕ
+octets_in network = take network.address_len network.address
+
+-- A network: an address, and a prefix that isn't longer (RFC 4632, section 3.1; RFC 4291, section
+-- 2.3).
+pub record IsNetwork (network : Network) (address : IpAddr) : Type 0 where
+  pub octets : IsAddress (octets_in network) address
+  pub whole : network.address_len ≤ 16
+  pub prefix : network.prefix_len ≤ 8 * length (octets_in network)
+
+-- The networks and one more, which is denied or allowed.
+abbrev pub with_network : AccessControl → Network → IpAddr → AccessControl
+with_network access network address =
+    if network.denied then with_denied access address network.prefix_len
+    else with_allowed access address network.prefix_len
+
+-- Who may ask by these networks, one after the other.
+abbrev pub AddsNetworks : AccessControl → List Network → AccessControl → Type 0
+AddsNetworks access [] end = end ≡ access
+AddsNetworks access (network ∷ later) end =
+    (address : IpAddr) × IsNetwork network address
+    × AddsNetworks (with_network access network address) later end
+
+-- Why a network is none: its address has neither 4 octets nor 16, or its prefix is longer.
+abbrev pub RefusesNetwork : Network → Refusal → Type 0
+RefusesNetwork network refusals.OutOfMemory = Unit {0}
+RefusesNetwork network refusals.WrongAddress =
+    (network.address_len ≡ 4 → ⊥) × (network.address_len ≡ 16 → ⊥)
+RefusesNetwork network refusals.WrongSetting =
+    ((network.address_len ≡ 4) ⊎ (network.address_len ≡ 16))
+    × (8 * network.address_len < network.prefix_len)
+RefusesNetwork network other = ⊥
+
+-- Why networks are refused: by the first that is none.
+abbrev pub RefusesNetworks : List Network → Refusal → Type 0
+RefusesNetworks [] refusal = refusal ≡ refusals.OutOfMemory
+RefusesNetworks (network ∷ later) refusal =
+    RefusesNetwork network refusal
+    ⊎ ((address : IpAddr) × IsNetwork network address × RefusesNetworks later refusal)

@@ -1,0 +1,16 @@
+-- What a server of zones and lists means.
+use Rattle.authority_handle.specs.declared.handler.Handler.{Handler}
+use Rattle.authority_handle.specs.declared.handler.Handler.TheVariants as handlers
+use Rattle.authority_handle.specs.declared.server.Server.{Server}
+use Rattle.authority_server.specs.Servers.{world_of}
+use Rattle.authority_server.specs.Serving.{World}
+use Rattle.authority_server.specs.zsv_catalog.zsv_answer.zst_request.Views.{Blocked, Stored, View}
+
+-- What a zone or a list means.
+abbrev pub view_of : Handler → View
+view_of (handlers.Zone zone) = Stored zone
+view_of (handlers.Blocklist list) = Blocked list
+
+-- What a server is.
+abbrev pub world_in : Server → World
+world_in server = world_of view_of server.authority

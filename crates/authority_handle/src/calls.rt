@@ -1,0 +1,137 @@
+//! The calls of another language.
+
+ghost use Rattle.std.specs.Prelude.{◌≡◌, length, MatchOption};
+ghost use Rattle.authority_handle.specs.Calls.{AddsBlocklist, AddsZone, IsUnfit, Removes, ServesInto, SetsAccess, SetsNsid, StandsIn, transport_of};
+ghost use Rattle.authority_handle.specs.Worlds.{world_in};
+ghost use Rattle.authority_server.specs.Servers.{no_zones};
+
+use crate::blocklists::BlocklistSettings;
+use crate::refusal::{Refusal, number};
+use crate::server::Server;
+use crate::sources::{Network, source_of};
+use authority_load::LoadError;
+use authority_server::Protocol;
+use std::alloc::Global;
+use std::io::Write;
+
+/// A server without zones, which every address may ask.
+pub fn empty(alloc: Global) -> Server
+    ensures { world_in result ≡ no_zones }
+{
+    Server::new(alloc)
+}
+
+/// Adds the zone of a text, of the kind of a number, in place of what stands under its name. Where a line is refused, the
+/// line and its cause are told in `refusal`, as far as there is room, with zeros behind.
+pub fn add_zone(
+    server: &mut Server,
+    kind: u8,
+    origin: &[u8],
+    text: &[u8],
+    refusal: &mut [u8],
+) -> i64
+    ensures { AddsZone (world_in server.old) kind origin.now text.now result (world_in server.new) }
+{
+    let added = server.add_zone(kind, origin, text);
+    if let Err(Refusal::Line(error)) = &added {
+        tell(error, refusal);
+    }
+    number(added)
+}
+
+// Puts a line and its cause into a buffer, as far as there is room, and zeros behind.
+fn tell(error: &LoadError, buffer: &mut [u8]) {
+    buffer.fill(0);
+    let mut room = buffer;
+    // (what has no room is left out)
+    let _ = write!(room, "{error}");
+}
+
+/// Adds the list of a text, in place of what stands under its name.
+pub fn add_blocklist(
+    server: &mut Server,
+    settings: &BlocklistSettings,
+    name: &[u8],
+    text: &[u8],
+    message: &[u8],
+) -> i64
+    ensures { AddsBlocklist (world_in server.old) settings.now name.now text.now message.now result (world_in server.new) }
+{
+    number(server.add_blocklist(settings, name, text, message))
+}
+
+/// Takes out what stands under a name.
+pub fn remove(server: &mut Server, name: &[u8]) -> i64
+    ensures { Removes (world_in server.old) name.now result (world_in server.new) }
+{
+    number(server.remove(name))
+}
+
+/// Says who may ask, by these networks alone.
+pub fn set_access(server: &mut Server, networks: &[Network]) -> i64
+    ensures { SetsAccess (world_in server.old) networks.now result (world_in server.new) }
+{
+    number(server.set_access(networks))
+}
+
+/// Sets the identifier that is told to those who ask for it (RFC 5001); no octets are none.
+pub fn set_nsid(server: &mut Server, octets: &[u8]) -> i64
+    ensures { SetsNsid (world_in server.old) octets.now result (world_in server.new) }
+{
+    number(server.set_nsid(octets))
+}
+
+// How a message came.
+fn transport(stream: bool) -> Protocol
+    ensures { result ≡ transport_of stream }
+{
+    if stream { Protocol::Tcp } else { Protocol::Udp }
+}
+
+// Puts octets at the front of a buffer, and counts them; None where there are none or too many.
+fn put(octets: &[u8], buffer: &mut [u8]) -> Option<i64>
+    ensures put { MatchOption result (IsUnfit octets.now (length buffer.old)) (StandsIn octets.now buffer.new) }
+    ensures len { length buffer.new ≡ length buffer.old }
+{
+    let count = octets.len();
+    if count == 0 || buffer.len() < count {
+        return None;
+    }
+    buffer[..count].copy_from_slice(octets);
+    Some(count as i64)
+}
+
+/// Serves a message. The result is the count of the octets of its reply, which go to the front of `reply`; 0 where it gets
+/// none; or the number of a refusal.
+pub fn serve(
+    server: &mut Server,
+    message: &[u8],
+    address: &[u8],
+    port: u16,
+    stream: bool,
+    now: u64,
+    reply: &mut [u8],
+) -> i64
+    ensures unchanged { server.new ≡ server.old }
+    ensures served { ServesInto (world_in server.old) message.now address.now port stream now result reply.new }
+{
+    let Some(source) = source_of(address, port) else {
+        return Refusal::WrongAddress.code();
+    };
+    match server
+        .authority
+        .serve(message, source, transport(stream), now)
+    {
+        Ok(None) => 0,
+        Ok(Some(octets)) => match put(&octets, reply) {
+            Some(count) => count,
+            None => Refusal::NoRoom.code(),
+        },
+        Err(_) => Refusal::OutOfMemory.code(),
+    }
+}
+
+/// Drops a server.
+pub fn close(server: Server) {
+    drop(server);
+}

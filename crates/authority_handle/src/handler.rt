@@ -1,0 +1,122 @@
+//! What answers for the names from one on down.
+
+use authority_load::{
+    AuthLookup, AxfrPolicy, InMemoryZoneHandler, LookupControlFlow, LookupOptions, NxProofKind,
+    ZoneType,
+};
+use authority_server::{Name, RecordType, ZoneHandler};
+use std::alloc::{AllocError, Global};
+use zsv_blocklist::{BlocklistZoneHandler, NameKey, TSigResponseContext, ZoneRequest};
+
+/// What answers for the names from one on down: a zone that is kept here, or a list of blocked names.
+#[derive(Drop)]
+pub enum Handler {
+    /// A zone.
+    Zone(InMemoryZoneHandler<()>),
+    /// A list of blocked names.
+    Blocklist(BlocklistZoneHandler),
+}
+
+impl ZoneHandler for Handler {
+    ghost use Rattle.authority_handle.specs.Worlds.{view_of};
+
+    ghost view = { λ handler. view_of handler };
+
+    fn zone_type(&self) -> ZoneType {
+        match self {
+            Handler::Zone(zone) => zone.zone_type(),
+            Handler::Blocklist(list) => list.zone_type(),
+        }
+    }
+
+    fn axfr_policy(&self) -> AxfrPolicy {
+        match self {
+            Handler::Zone(zone) => zone.axfr_policy(),
+            Handler::Blocklist(list) => list.axfr_policy(),
+        }
+    }
+
+    fn origin(&self) -> &Name {
+        match self {
+            Handler::Zone(zone) => zone.origin(),
+            Handler::Blocklist(list) => list.origin(),
+        }
+    }
+
+    fn nx_proof_kind(&self) -> Option<&NxProofKind> {
+        match self {
+            Handler::Zone(zone) => zone.nx_proof_kind(),
+            Handler::Blocklist(list) => list.nx_proof_kind(),
+        }
+    }
+
+    fn search<'z>(
+        &'z self,
+        alloc: Global,
+        request: &ZoneRequest<'_>,
+        options: LookupOptions,
+    ) -> Result<
+        (
+            LookupControlFlow<AuthLookup<'z>>,
+            Option<TSigResponseContext>,
+        ),
+        AllocError,
+    > {
+        match self {
+            Handler::Zone(zone) => zone.search(alloc, request, options),
+            Handler::Blocklist(list) => list.search(alloc, request, options),
+        }
+    }
+
+    fn search_at<'z>(
+        &'z self,
+        alloc: Global,
+        key: &NameKey,
+        request: &ZoneRequest<'_>,
+        options: LookupOptions,
+    ) -> Result<
+        (
+            LookupControlFlow<AuthLookup<'z>>,
+            Option<TSigResponseContext>,
+        ),
+        AllocError,
+    > {
+        match self {
+            Handler::Zone(zone) => zone.search_at(alloc, key, request, options),
+            Handler::Blocklist(list) => list.search_at(alloc, key, request, options),
+        }
+    }
+
+    fn lookup<'z>(
+        &'z self,
+        alloc: Global,
+        name: &Name,
+        record_type: RecordType,
+        options: LookupOptions,
+    ) -> Result<LookupControlFlow<AuthLookup<'z>>, AllocError> {
+        match self {
+            Handler::Zone(zone) => zone.lookup(alloc, name, record_type, options),
+            Handler::Blocklist(list) => list.lookup(alloc, name, record_type, options),
+        }
+    }
+
+    fn consult<'z>(
+        &'z self,
+        alloc: Global,
+        name: &Name,
+        record_type: RecordType,
+        options: LookupOptions,
+        last: LookupControlFlow<AuthLookup<'z>>,
+    ) -> Result<
+        (
+            LookupControlFlow<AuthLookup<'z>>,
+            Option<TSigResponseContext>,
+        ),
+        AllocError,
+    > {
+        match self {
+            Handler::Zone(zone) => zone.consult(alloc, name, record_type, options, last),
+            Handler::Blocklist(list) => list.consult(alloc, name, record_type, options, last),
+        }
+    }
+}

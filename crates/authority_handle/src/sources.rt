@@ -1,0 +1,102 @@
+//! Addresses and networks, from octets.
+
+ghost use Rattle.std.specs.Prelude.{◌≡◌, ◌≤◌, ◌∷◌, [], length, drop, IfErr, IfOk, MatchOption, OnOk};
+ghost use Rattle.authority_handle.specs.Sources.{AddsNetworks, IsAddress, IsNetwork, IsNoAddress, IsSource, RefusesNetwork, RefusesNetworks, octets_in, with_network};
+ghost use Rattle.authority_handle.specs.declared.sources.Network.{Network as Written};
+ghost use Rattle.authority_server.specs.zsv_access.Access.{no_networks};
+
+use crate::refusal::Refusal;
+use authority_server::{AccessControl, IpNet};
+use std::alloc::Global;
+use std::mem;
+use std::net::{IpAddr, Ipv4Addr, Ipv6Addr, SocketAddr};
+
+/// A network whose addresses may ask, or may not.
+#[repr(C)]
+#[derive(Clone, Copy)]
+pub struct Network {
+    /// The octets of its address; an IPv4 address has the first four.
+    pub address: [u8; 16],
+    /// How many octets the address has: 4 or 16.
+    pub address_len: u8,
+    /// How many of the first bits the network's addresses share.
+    pub prefix_len: u8,
+    /// Whether its addresses may not ask.
+    pub denied: bool,
+}
+
+/// The address of these octets; None where they aren't 4 or 16.
+fn address_of(octets: &[u8]) -> Option<IpAddr>
+    ensures { MatchOption result (IsNoAddress octets.now) (IsAddress octets.now) }
+{
+    if let Ok(octets) = <[u8; 4]>::try_from(octets) {
+        return Some(IpAddr::V4(Ipv4Addr::from_octets(octets)));
+    }
+    match <[u8; 16]>::try_from(octets) {
+        Ok(octets) => Some(IpAddr::V6(Ipv6Addr::from_octets(octets))),
+        Err(_) => None,
+    }
+}
+
+/// The source of these octets and this port; None where they aren't 4 or 16.
+pub(crate) fn source_of(address: &[u8], port: u16) -> Option<SocketAddr>
+    ensures { MatchOption result (IsNoAddress address.now) (IsSource address.now port) }
+{
+    let ip = address_of(address)?;
+    Some(SocketAddr::new(ip, port))
+}
+
+// The network of a network's octets.
+fn net_of(network: &Network) -> Result<IpNet, Refusal>
+    ensures ok { IfOk result (λ net. IsNetwork network.now net.addr) }
+    ensures prefix { IfOk result (λ net. net.prefix_len ≡ network.now.prefix_len) }
+    ensures err { IfErr result (RefusesNetwork network.now) }
+{
+    let len = usize::from(network.address_len);
+    if len > 16 {
+        return Err(Refusal::WrongAddress);
+    }
+    let Some(address) = address_of(&network.address[..len]) else {
+        return Err(Refusal::WrongAddress);
+    };
+    let made = match address {
+        IpAddr::V4(address) => IpNet::v4(address, network.prefix_len),
+        IpAddr::V6(address) => IpNet::v6(address, network.prefix_len),
+    };
+    match made {
+        Ok(net) => Ok(net),
+        Err(_) => Err(Refusal::WrongSetting),
+    }
+}
+
+// Adds a network.
+fn add_network(access: &mut AccessControl, network: &Network) -> Result<(), Refusal>
+    ensures ok { OnOk result ((later : List Written) (end : Access) → AddsNetworks access.new later end → AddsNetworks access.old (network.now ∷ later) end) }
+    ensures err { IfErr result (RefusesNetwork network.now) }
+{
+    let net = net_of(network)?;
+    if network.denied {
+        access.insert_deny(net)?;
+    } else {
+        access.insert_allow(net)?;
+    }
+    Ok(())
+}
+
+/// Who may ask by these networks.
+pub(crate) fn access_of(alloc: Global, networks: &[Network]) -> Result<AccessControl, Refusal>
+    ensures ok { IfOk result (AddsNetworks no_networks networks.now) }
+    ensures err { IfErr result (RefusesNetworks networks.now) }
+{
+    let mut access = AccessControl::new(alloc);
+    'networks: for network in networks {
+        match add_network(&mut access, network) {
+            Ok(()) => {}
+            Err(refusal) => {
+                mem::drop(access);
+                return Err(refusal);
+            }
+        }
+    }
+    Ok(access)
+}

@@ -1,0 +1,2 @@
+pub use Rattle.zsv_access.specs.Access
+pub use Rattle.zsv_access.specs.declared
