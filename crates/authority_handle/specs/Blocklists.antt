@@ -59,7 +59,9 @@ pub record IsBlocklist (settings : BlocklistSettings) (name text message : List 
 -- Why a list isn't made: its action is none, its message or its text too long, its text or its
 -- message no UTF-8, its name no fully qualified name. These are tested in this order.
 abbrev pub RefusesBlocklist : BlocklistSettings → List ℕ → List ℕ → List ℕ → Refusal → Type 0
-RefusesBlocklist settings name text message refusals.OutOfMemory = Unit {0}
+RefusesBlocklist settings name text message refusals.OutOfMemory =
+    IsSome (action_of settings.action) × (length message ≤ 255) × (length text < 2 ^ 32)
+    × IsUtf8 text × IsUtf8 message
 RefusesBlocklist settings name text message refusals.WrongSetting = action_of settings.action ≡ None
 RefusesBlocklist settings name text message refusals.TooLong =
     IsSome (action_of settings.action) × ((255 < length message) ⊎ (2 ^ 32 ≤ length text))

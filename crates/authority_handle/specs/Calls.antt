@@ -72,7 +72,7 @@ RefusesLoad name kind text other = ⊥
 -- Why a text gives no zone: its kind is none, it isn't UTF-8, its origin is no fully qualified name,
 -- or a line is refused. These are tested in this order.
 abbrev pub RefusesZone : ℕ → List ℕ → List ℕ → Refusal → Type 0
-RefusesZone kind origin text refusals.OutOfMemory = Unit {0}
+RefusesZone kind origin text refusals.OutOfMemory = IsSome (kind_of kind) × IsUtf8 text
 RefusesZone kind origin text refusals.WrongSetting = kind_of kind ≡ None
 RefusesZone kind origin text refusals.WrongText =
     IsSome (kind_of kind) × (IsUtf8 text → ⊥)
@@ -144,7 +144,7 @@ nsid_of (octet ∷ octets) = Some (octet ∷ octets)
 -- Why an identifier is refused: the data of an OPT record, of 65,535 octets, don't hold it behind its
 -- code and its length.
 abbrev pub RefusesNsid : List ℕ → Refusal → Type 0
-RefusesNsid octets refusals.OutOfMemory = Unit {0}
+RefusesNsid octets refusals.OutOfMemory = length octets ≤ 65531
 RefusesNsid octets refusals.TooLong = 65531 < length octets
 RefusesNsid octets other = ⊥
 
@@ -184,7 +184,7 @@ ServesFrom world message address port stream now reply =
 -- Why a message isn't served: for want of memory, of room for its reply, or of a source's address.
 abbrev pub RefusesMessage : World → List ℕ → List ℕ → ℕ → Bool → ℕ → ℕ → Refusal → Type 0
 RefusesMessage world message address port stream now room refusals.OutOfMemory =
-    12 ≤ length message
+    (source : SocketAddr) × IsSource address port source × (12 ≤ length message)
 RefusesMessage world message address port stream now room refusals.NoRoom =
     (reply : List ℕ) × ServesFrom world message address port stream now (Some reply)
     × IsUnfit reply room

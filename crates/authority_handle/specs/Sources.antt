@@ -51,9 +51,14 @@ AddsNetworks access (network ∷ later) end =
     (address : IpAddr) × IsNetwork network address
     × AddsNetworks (with_network access network address) later end
 
--- Why a network is none: its address has neither 4 octets nor 16, or its prefix is longer.
+-- Each of them is a network.
+abbrev pub AreNetworks : List Network → Type 0
+AreNetworks [] = Unit {0}
+AreNetworks (network ∷ later) =
+    ((address : IpAddr) × IsNetwork network address) × AreNetworks later
+
+-- Why one is no network: its address has neither 4 octets nor 16, or its prefix is longer.
 abbrev pub RefusesNetwork : Network → Refusal → Type 0
-RefusesNetwork network refusals.OutOfMemory = Unit {0}
 RefusesNetwork network refusals.WrongAddress =
     (network.address_len ≡ 4 → ⊥) × (network.address_len ≡ 16 → ⊥)
 RefusesNetwork network refusals.WrongSetting =
@@ -61,9 +66,14 @@ RefusesNetwork network refusals.WrongSetting =
     × (8 * network.address_len < network.prefix_len)
 RefusesNetwork network other = ⊥
 
--- Why networks are refused: by the first that is none.
-abbrev pub RefusesNetworks : List Network → Refusal → Type 0
-RefusesNetworks [] refusal = refusal ≡ refusals.OutOfMemory
-RefusesNetworks (network ∷ later) refusal =
+-- The first that is no network is refused.
+abbrev pub RefusesFirst : List Network → Refusal → Type 0
+RefusesFirst [] refusal = ⊥
+RefusesFirst (network ∷ later) refusal =
     RefusesNetwork network refusal
-    ⊎ ((address : IpAddr) × IsNetwork network address × RefusesNetworks later refusal)
+    ⊎ (((address : IpAddr) × IsNetwork network address) × RefusesFirst later refusal)
+
+-- Why networks are refused: one is none; else for want of memory.
+abbrev pub RefusesNetworks : List Network → Refusal → Type 0
+RefusesNetworks networks refusals.OutOfMemory = AreNetworks networks
+RefusesNetworks networks other = RefusesFirst networks other

@@ -1,9 +1,10 @@
 //! Addresses and networks, from octets.
 
-ghost use Rattle.std.specs.Prelude.{◌≡◌, ◌≤◌, ◌∷◌, [], length, drop, IfErr, IfOk, MatchOption, OnOk};
-ghost use Rattle.authority_handle.specs.Sources.{AddsNetworks, IsAddress, IsNetwork, IsNoAddress, IsSource, RefusesNetwork, RefusesNetworks, octets_in, with_network};
+ghost use Rattle.std.specs.Prelude.{◌≡◌, ◌∷◌, List, IfErr, IfOk, MatchOption, OnOk};
+ghost use Rattle.authority_handle.specs.Sources.{AddsNetworks, AreNetworks, IsAddress, IsNetwork, IsNoAddress, IsSource, RefusesFirst, RefusesNetwork, RefusesNetworks};
 ghost use Rattle.authority_handle.specs.declared.sources.Network.{Network as Written};
 ghost use Rattle.authority_server.specs.zsv_access.Access.{no_networks};
+ghost use Rattle.authority_server.specs.zsv_access.declared.access.AccessControl.{AccessControl as Access};
 
 use crate::refusal::Refusal;
 use authority_server::{AccessControl, IpNet};
@@ -69,10 +70,20 @@ fn net_of(network: &Network) -> Result<IpNet, Refusal>
     }
 }
 
+// Whether these are networks; else the first that is none is refused.
+fn test(networks: &[Network]) -> Result<(), Refusal>
+    ensures ok { OnOk result (AreNetworks networks.now) }
+    ensures err { IfErr result (RefusesFirst networks.now) }
+{
+    'networks: for network in networks {
+        net_of(network)?;
+    }
+    Ok(())
+}
+
 // Adds a network.
 fn add_network(access: &mut AccessControl, network: &Network) -> Result<(), Refusal>
-    ensures ok { OnOk result ((later : List Written) (end : Access) → AddsNetworks access.new later end → AddsNetworks access.old (network.now ∷ later) end) }
-    ensures err { IfErr result (RefusesNetwork network.now) }
+    ensures { OnOk result ((later : List Written) (end : Access) → AddsNetworks access.new later end → AddsNetworks access.old (network.now ∷ later) end) }
 {
     let net = net_of(network)?;
     if network.denied {
@@ -84,18 +95,17 @@ fn add_network(access: &mut AccessControl, network: &Network) -> Result<(), Refu
 }
 
 /// Who may ask by these networks.
+#[tactic(auto, using(crate::proofs::Networks::refuses))]
 pub(crate) fn access_of(alloc: Global, networks: &[Network]) -> Result<AccessControl, Refusal>
     ensures ok { IfOk result (AddsNetworks no_networks networks.now) }
     ensures err { IfErr result (RefusesNetworks networks.now) }
 {
+    test(networks)?;
     let mut access = AccessControl::new(alloc);
     'networks: for network in networks {
-        match add_network(&mut access, network) {
-            Ok(()) => {}
-            Err(refusal) => {
-                mem::drop(access);
-                return Err(refusal);
-            }
+        if add_network(&mut access, network).is_err() {
+            mem::drop(access);
+            return Err(Refusal::OutOfMemory);
         }
     }
     Ok(access)
