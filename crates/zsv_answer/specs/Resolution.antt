@@ -31,6 +31,7 @@ abbrev pub answering : List View → DomainName → Option View
 answering chain name = find (answers_name name) chain
 
 -- ---- what a list that is enforced answers in place of a zone
+-- What a handler answers so: a list that is enforced its own, a stored zone nothing.
 abbrev pub enforced_by : View → DomainName → RecordType → Option BlockedAnswer
 enforced_by (Stored zone) name record_type = None
 enforced_by (Blocked blocklist) name record_type = enforced_answer blocklist name record_type
