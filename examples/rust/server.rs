@@ -1,6 +1,7 @@
 //! One question a datagram, on one socket: `server ADDRESS:PORT ORIGIN ZONEFILE`.
 //!
-//!   rustc -O -C link-args="$(./authority --library)" examples/rust/server.rs
+//!   rustc -O --edition 2021 -C link-args="$(./authority --library)" examples/rust/server.rs
+#[allow(dead_code)]
 mod soarnef;
 
 use soarnef::{Kind, Server};

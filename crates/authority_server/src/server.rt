@@ -1,6 +1,6 @@
 //! The server: one message in, one reply out.
 
-ghost use Rattle.std.specs.Prelude.{◌≡◌, ◌+◌, ◌<◌, ◌≤◌, ℕ, vec_len, vec_capacity, length, map, IfOk, IfErr, OnErr, OnOk, Ok, Err, None, Some, false};
+ghost use Rattle.std.specs.Prelude.{◌≡◌, ◌+◌, ◌<◌, ◌≤◌, ℕ, vec_len, vec_capacity, length, map, IfOk, IfErr, OnErr, OnOk, Ok, Err, None, Some, false, option_map};
 ghost use Rattle.std.specs.Net.Socket.{socket_ip};
 ghost use Rattle.zsv_access.specs.Access.{is_allowed};
 ghost use Rattle.zsv_catalog.specs.Chains.{chain_at};
@@ -112,6 +112,8 @@ impl<S, H: ZoneHandler> Authority<S, H> {
     /// Takes out the chain under a name, and hands it back.
     pub fn remove(&mut self, name: &Name) -> Result<Option<Vec<H>>, AllocError>
         ensures value { IfOk result (λ chain. chain ≡ chain_at (chains_of self.old) (lowercase_name name.now)) }
+        ensures views { IfOk result (λ chain. chain_at (world_of H.view self.old).chains (lowercase_name name.now)
+            ≡ option_map (λ handlers. map H.view handlers.items) chain) }
         ensures ok { OnOk result (world_of H.view self.new ≡ without_zones (world_of H.view self.old) name.now) }
         ensures err { OnErr result (world_of H.view self.new ≡ world_of H.view self.old) }
         ensures back { WorldReadsBack (world_of H.view self.old) → WorldReadsBack (world_of H.view self.new) }

@@ -29,7 +29,7 @@ map_twice f h None = refl
 abbrev pub views : {H : Type 0} → (H → View) → Vec H Global → List View
 views view chain = map view chain.items
 
-at_views : {H : Type 0} (view : H → View) (chains : List (DomainName × Vec H Global)) (name : DomainName) → chain_at (views_of view chains) name ≡ option_map (views view) (chain_at chains name)
+pub at_views : {H : Type 0} (view : H → View) (chains : List (DomainName × Vec H Global)) (name : DomainName) → chain_at (views_of view chains) name ≡ option_map (views view) (chain_at chains name)
 at_views view [] name = refl
 at_views view (e ∷ chains) name = map_cond (views view) (is_eq (name_cmp name e.0)) e.1 (chain_at chains name) (chain_at (views_of view chains) name) (at_views view chains name)
 
