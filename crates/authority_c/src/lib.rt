@@ -1,7 +1,7 @@
-//! The border to C: a server that lies in memory of the caller's.
+//! The C interface: a server in memory that the caller owns.
 //!
-//! C holds a server by a pointer to `soarnef_size()` octets, aligned as `malloc` aligns them. Each call takes that memory for its
-//! time, and gives it back.
+//! C refers to a server by a pointer to `soarnef_size()` octets, aligned as `malloc` aligns them. Each call borrows that memory
+//! and returns it.
 #![tactic(auto)]
 
 ghost use Rattle.std.specs.Prelude.{◌≡◌};
@@ -16,13 +16,13 @@ ghost use Rattle.authority_server.specs.Servers.{no_zones};
 use authority_handle::{BlocklistSettings, Network, Server};
 use std::alloc::Global;
 
-/// How many octets a server takes.
+/// The size of a server in octets.
 #[unsafe(no_mangle)]
 pub extern "C" fn soarnef_size() -> usize {
     std::mem::size_of::<Server>()
 }
 
-/// Makes a server without zones in room for one.
+/// Makes a server without zones.
 #[unsafe(no_mangle)]
 pub unsafe extern "C" fn soarnef_open(alloc: Global, at: *mut u8)
     requires* { sem 𝓛 (room_at the_row at) }
@@ -32,7 +32,7 @@ pub unsafe extern "C" fn soarnef_open(alloc: Global, at: *mut u8)
     at.write(authority_handle::empty(alloc));
 }
 
-/// Adds the zone of a text, as `authority_handle::add_zone`.
+/// Loads a zone, as `authority_handle::add_zone`.
 #[unsafe(no_mangle)]
 pub unsafe extern "C" fn soarnef_add_zone(
     at: *mut u8,
@@ -50,7 +50,7 @@ pub unsafe extern "C" fn soarnef_add_zone(
     authority_handle::add_zone(&mut *at, kind, origin, text, refusal)
 }
 
-/// Adds the list of a text, as `authority_handle::add_blocklist`.
+/// Reads a blocklist, as `authority_handle::add_blocklist`.
 #[unsafe(no_mangle)]
 pub unsafe extern "C" fn soarnef_add_blocklist(
     at: *mut u8,
@@ -68,7 +68,7 @@ pub unsafe extern "C" fn soarnef_add_blocklist(
     authority_handle::add_blocklist(&mut *at, settings, name, text, message)
 }
 
-/// Takes out what stands under a name, as `authority_handle::remove`.
+/// Removes the chain of a name, as `authority_handle::remove`.
 #[unsafe(no_mangle)]
 pub unsafe extern "C" fn soarnef_remove(at: *mut u8, name: &[u8]) -> i64
     ghost held: { Server }
@@ -80,7 +80,7 @@ pub unsafe extern "C" fn soarnef_remove(at: *mut u8, name: &[u8]) -> i64
     authority_handle::remove(&mut *at, name)
 }
 
-/// Says who may ask, as `authority_handle::set_access`.
+/// Replaces the access list, as `authority_handle::set_access`.
 #[unsafe(no_mangle)]
 pub unsafe extern "C" fn soarnef_set_access(at: *mut u8, networks: &[Network]) -> i64
     ghost held: { Server }
@@ -92,7 +92,7 @@ pub unsafe extern "C" fn soarnef_set_access(at: *mut u8, networks: &[Network]) -
     authority_handle::set_access(&mut *at, networks)
 }
 
-/// Sets the server's identifier, as `authority_handle::set_nsid`.
+/// Sets the NSID, as `authority_handle::set_nsid`.
 #[unsafe(no_mangle)]
 pub unsafe extern "C" fn soarnef_set_nsid(at: *mut u8, octets: &[u8]) -> i64
     ghost held: { Server }
@@ -124,7 +124,7 @@ pub unsafe extern "C" fn soarnef_serve(
     authority_handle::serve(&mut *at, message, address, port, stream, now, reply)
 }
 
-/// Drops a server, and leaves its room.
+/// Drops a server.
 #[unsafe(no_mangle)]
 pub unsafe extern "C" fn soarnef_close(at: *mut u8)
     ghost held: { Server }

@@ -1,4 +1,4 @@
--- What a call's number says of what it did.
+-- A call that changes the server, from the clauses of its body.
 use Rattle.std.proofs.Common.{◌≡◌, Result, Ok, Err, inl, inr}
 use Rattle.std.specs.Prelude.{ℤ, IfErr, OnErr, OnOk}
 use Rattle.authority_handle.specs.Refusals.{Changes, number_of}

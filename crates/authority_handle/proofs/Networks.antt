@@ -5,7 +5,7 @@ use Rattle.authority_handle.specs.declared.refusal.Refusal.{Refusal}
 use Rattle.authority_handle.specs.declared.refusal.Refusal.TheVariants as refusals
 use Rattle.authority_handle.specs.declared.sources.Network.{Network}
 
--- None is refused for want of memory.
+-- No network is refused for being out of memory.
 not_memory : (networks : List Network) → RefusesFirst networks refusals.OutOfMemory → ⊥
 not_memory [] refused = refused
 not_memory (network ∷ later) (inl refused) = refused

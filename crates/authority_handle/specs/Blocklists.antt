@@ -1,4 +1,4 @@
--- Lists of blocked names, as another language gives them.
+-- Blocklists as octets and numbers.
 use Rattle.std.specs.Prelude.{◌≡◌, ◌<◌, ◌≤◌, ◌^◌, ◌⊎◌, ℕ, List, [], ◌∷◌, length, Option, Some, None, IsSome}
 use Rattle.std.specs.Str.{IsUtf8}
 use Rattle.std.specs.Net.Addr.{ipv4_octets, ipv6_segments, segments_of}
@@ -16,20 +16,19 @@ use Rattle.zsv_blocklist.specs.Blocklists.{blocklist_of}
 use Rattle.zsv_blocklist.specs.declared.config.BlocklistConfig.{BlocklistConfig}
 use Rattle.zsv_blocklist.specs.zsv_blocked.BlockedNames.{AddsListed}
 
--- What is done where another handler has answered: 0 nothing, 1 the list's answer replaces the
--- other's, 2 a log is told.
+-- The consult actions by number.
 abbrev pub action_of : ℕ → Option BlocklistConsultAction
 action_of 0 = Some actions.Disabled
 action_of 1 = Some actions.Enforce
 action_of 2 = Some actions.Log
 action_of other = None
 
--- No message where there are no octets.
+-- The message; none if it is empty.
 abbrev pub message_of : List ℕ → Option (List ℕ)
 message_of [] = None
 message_of (octet ∷ octets) = Some (octet ∷ octets)
 
--- A list has these settings.
+-- A blocklist has these settings.
 pub record HasSettings (settings : BlocklistSettings) (message : List ℕ) (list : Blocklist)
     : Type 0 where
   pub wildcard_match : list.wildcard_match ≡ settings.wildcard_match
@@ -42,12 +41,12 @@ pub record HasSettings (settings : BlocklistSettings) (message : List ℕ) (list
   pub block_message : list.block_message ≡ message_of message
   pub consult_action : action_of settings.action ≡ Some list.consult_action
 
--- The list of the names in a text.
+-- A blocklist of the names in a text.
 abbrev pub IsListOf : DomainName → BlocklistConfig → List ℕ → Blocklist → Type 0
 IsListOf origin config text list =
     (names : List DomainName) × AddsListed [] text names × (list ≡ blocklist_of origin names config)
 
--- The list of a text, under a name, with these settings.
+-- A blocklist of this origin, text, message and settings.
 pub record IsBlocklist (settings : BlocklistSettings) (name text message : List ℕ)
     (list : Blocklist) : Type 0 where
   pub named : IsOwnerText name list.origin
@@ -56,8 +55,9 @@ pub record IsBlocklist (settings : BlocklistSettings) (name text message : List 
   pub fits : length message ≤ 255
   pub has : HasSettings settings message list
 
--- Why a list isn't made: its action is none, its message or its text too long, its text or its
--- message no UTF-8, its name no fully qualified name. These are tested in this order.
+-- Why a blocklist is refused: an unknown action; a message or text that is too long; a text or
+-- message that isn't UTF-8; an origin that isn't a fully qualified name. The first of these is
+-- returned.
 abbrev pub RefusesBlocklist : BlocklistSettings → List ℕ → List ℕ → List ℕ → Refusal → Type 0
 RefusesBlocklist settings name text message refusals.OutOfMemory =
     IsSome (action_of settings.action) × (length message ≤ 255) × (length text < 2 ^ 32)

@@ -1,4 +1,4 @@
--- What the calls of another language do: octets and numbers in, octets and numbers out.
+-- The calls from other languages: octets and numbers in, octets and numbers out.
 use Rattle.std.specs.Prelude.{◌≡◌, ◌<◌, ◌≤◌, ◌≢◌, ◌⊎◌, ℕ, suc, zero, ℤ, pos, Bool, true, false, List, [], ◌∷◌, length, take, Option, Some, None, IsSome}
 use Rattle.std.specs.Str.{IsUtf8}
 use Rattle.std.specs.declared.net.SocketAddr.{SocketAddr}
@@ -27,22 +27,21 @@ use Rattle.authority_server.specs.zsv_catalog.zsv_answer.zsv_request.declared.pr
 use Rattle.authority_server.specs.zsv_catalog.zsv_answer.zsv_request.declared.protocol.Protocol.TheVariants as transports
 
 -- ---- names
--- Why a text is read as no fully qualified name.
+-- Why a text isn't read as a fully qualified name.
 abbrev pub RefusesName : List ℕ → Refusal → Type 0
 RefusesName text refusals.OutOfMemory = Unit {0}
 RefusesName text refusals.WrongName = (name : DomainName) → IsOwnerText text name → ⊥
 RefusesName text other = ⊥
 
 -- ---- zones
--- What a server is to a zone: 0 the zone's data are kept here, 1 they come by transfer, 2 the zone
--- is another server's.
+-- The zone types by number.
 abbrev pub kind_of : ℕ → Option ZoneType
 kind_of 0 = Some kinds.Primary
 kind_of 1 = Some kinds.Secondary
 kind_of 2 = Some kinds.External
 kind_of other = None
 
--- A zone without records, as each begins: transferred to nobody, without proofs of absence.
+-- An empty zone. It is not transferred, and has no proofs of nonexistence.
 abbrev pub bare_zone : DomainName → ZoneType → Zone
 bare_zone name kind =
     record {
@@ -53,7 +52,7 @@ bare_zone name kind =
       sets = [];
     }
 
--- The zone of a text, of a kind, under a name that is spelled out.
+-- A zone of this type, origin and text.
 pub record IsZoneOf (kind : ℕ) (origin text : List ℕ) (zone : Zone) : Type 0 where
   pub name : DomainName
   pub zone_type : ZoneType
@@ -62,15 +61,15 @@ pub record IsZoneOf (kind : ℕ) (origin text : List ℕ) (zone : Zone) : Type 0
   pub utf8 : IsUtf8 text
   pub loaded : IsZoneText (bare_zone name zone_type) text zone
 
--- Why a text of a kind gives no zone under a name: a line is refused.
+-- Why a zone text is refused: at a line.
 abbrev pub RefusesLoad : DomainName → ZoneType → List ℕ → Refusal → Type 0
 RefusesLoad name kind text refusals.OutOfMemory = Unit {0}
 RefusesLoad name kind text (refusals.Line error) =
     (error.cause ≢ causes.OutOfMemory) × IsLoadFault (bare_zone name kind) text error
 RefusesLoad name kind text other = ⊥
 
--- Why a text gives no zone: its kind is none, it isn't UTF-8, its origin is no fully qualified name,
--- or a line is refused. These are tested in this order.
+-- Why a zone is refused: an unknown type; a text that isn't UTF-8; an origin that isn't a fully
+-- qualified name; a line of the text. The first of these is returned.
 abbrev pub RefusesZone : ℕ → List ℕ → List ℕ → Refusal → Type 0
 RefusesZone kind origin text refusals.OutOfMemory = IsSome (kind_of kind) × IsUtf8 text
 RefusesZone kind origin text refusals.WrongSetting = kind_of kind ≡ None
@@ -83,7 +82,7 @@ RefusesZone kind origin text (refusals.Line error) =
     × IsUtf8 text × IsOwnerText origin name × RefusesLoad name zone_type text (refusals.Line error)
 RefusesZone kind origin text other = ⊥
 
--- The zone of a text stands alone under its own name.
+-- The zone replaces the chain of its name.
 abbrev pub PutsZone : World → ℕ → List ℕ → List ℕ → World → Type 0
 PutsZone old kind origin text new =
     (zone : Zone) × IsZoneOf kind origin text zone × ViewReadsBack (Stored zone)
@@ -93,8 +92,8 @@ abbrev pub AddsZone : World → ℕ → List ℕ → List ℕ → ℤ → World 
 AddsZone old kind origin text result new =
     Changes old new result (PutsZone old kind origin text new) (RefusesZone kind origin text)
 
--- ---- lists of blocked names
--- The list of a text stands alone under its name.
+-- ---- blocklists
+-- The blocklist replaces the chain of its name.
 abbrev pub PutsBlocklist : World → BlocklistSettings → List ℕ → List ℕ → List ℕ → World → Type 0
 PutsBlocklist old settings name text message new =
     (list : Blocklist) × IsBlocklist settings name text message list
@@ -105,15 +104,15 @@ AddsBlocklist old settings name text message result new =
     Changes old new result (PutsBlocklist old settings name text message new)
     (RefusesBlocklist settings name text message)
 
--- ---- what is taken out
--- All that stands under a name is taken out.
+-- ---- removing
+-- The chain of a name is removed.
 abbrev pub TakesOut : World → List ℕ → World → Type 0
 TakesOut old text new =
     (name : DomainName) × IsOwnerText text name
     × IsSome (chain_at old.chains (lowercase_name name))
     × (new ≡ without_zones old name)
 
--- Why nothing is taken out: the text is no name, or nothing stands under it.
+-- Why a removal is refused: the text isn't a fully qualified name, or the name has no chain.
 abbrev pub RefusesRemoval : World → List ℕ → Refusal → Type 0
 RefusesRemoval old text refusals.NotFound =
     (name : DomainName) × IsOwnerText text name
@@ -124,8 +123,8 @@ abbrev pub Removes : World → List ℕ → ℤ → World → Type 0
 Removes old text result new =
     Changes old new result (TakesOut old text new) (RefusesRemoval old text)
 
--- ---- who may ask
--- Who may ask is said by these networks alone.
+-- ---- the access list
+-- These networks replace the access list.
 abbrev pub TellsAccess : World → List Network → World → Type 0
 TellsAccess old networks new =
     (access : AccessControl) × AddsNetworks no_networks networks access
@@ -135,14 +134,14 @@ abbrev pub SetsAccess : World → List Network → ℤ → World → Type 0
 SetsAccess old networks result new =
     Changes old new result (TellsAccess old networks new) (RefusesNetworks networks)
 
--- ---- the server's identifier
--- None of no octets (RFC 5001).
+-- ---- the NSID (RFC 5001)
+-- The NSID; none if there are no octets.
 abbrev pub nsid_of : List ℕ → Option (List ℕ)
 nsid_of [] = None
 nsid_of (octet ∷ octets) = Some (octet ∷ octets)
 
--- Why an identifier is refused: the data of an OPT record, of 65,535 octets, don't hold it behind its
--- code and its length.
+-- Why an NSID is refused: OPT RDATA has at most 65,535 octets, and the option's code and length
+-- take four of them.
 abbrev pub RefusesNsid : List ℕ → Refusal → Type 0
 RefusesNsid octets refusals.OutOfMemory = length octets ≤ 65531
 RefusesNsid octets refusals.TooLong = 65531 < length octets
@@ -153,27 +152,27 @@ SetsNsid old octets result new =
     Changes old new result (new ≡ record old { nsid = nsid_of octets }) (RefusesNsid octets)
 
 -- ---- a message
--- How a message came.
+-- The transport.
 abbrev pub transport_of : Bool → Protocol
 transport_of true = transports.Tcp
 transport_of false = transports.Udp
 
--- Octets that don't go into so much room: there are more of them, or none.
+-- Octets that don't fit a buffer: there are more of them, or none.
 abbrev pub IsUnfit : List ℕ → ℕ → Type 0
 IsUnfit octets room = (octets ≡ []) ⊎ (room < length octets)
 
--- Octets that stand at the front of a buffer, and their count.
+-- Octets at the start of a buffer, and their count.
 pub record StandsIn (octets : List ℕ) (buffer : List ℕ) (count : ℤ) : Type 0 where
   pub some : octets ≡ [] → ⊥
   pub counted : count ≡ pos (length octets)
   pub front : take (length octets) buffer ≡ octets
 
--- A reply of so many octets at the front of a buffer; none where there are none.
+-- The reply at the start of a buffer, by its length; none if that is 0.
 abbrev pub reply_of : ℕ → List ℕ → Option (List ℕ)
 reply_of zero buffer = None
 reply_of (suc n) buffer = Some (take (suc n) buffer)
 
--- A message is served from a source of these octets and this port. It changes nothing.
+-- A message from this address and port is served. The server doesn't change.
 abbrev pub ServesFrom : World → List ℕ → List ℕ → ℕ → Bool → ℕ → Option (List ℕ) → Type 0
 ServesFrom world message address port stream now reply =
     (source : SocketAddr) × IsSource address port source
@@ -181,7 +180,8 @@ ServesFrom world message address port stream now reply =
     (record { message = message; source = source; transport = transport_of stream; now = now })
     reply world
 
--- Why a message isn't served: for want of memory, of room for its reply, or of a source's address.
+-- Why a message isn't served: out of memory, a reply that doesn't fit the buffer, or an address of
+-- neither 4 nor 16 octets.
 abbrev pub RefusesMessage : World → List ℕ → List ℕ → ℕ → Bool → ℕ → ℕ → Refusal → Type 0
 RefusesMessage world message address port stream now room refusals.OutOfMemory =
     (source : SocketAddr) × IsSource address port source × (12 ≤ length message)
@@ -192,8 +192,8 @@ RefusesMessage world message address port stream now room refusals.WrongAddress 
     IsNoAddress address
 RefusesMessage world message address port stream now room other = ⊥
 
--- A message is served, and the result counts the octets of its reply, at the front of the buffer; or
--- it is refused.
+-- A message is served, and the result is the length of the reply at the start of the buffer; or it
+-- is refused.
 abbrev pub ServesInto : World → List ℕ → List ℕ → ℕ → Bool → ℕ → ℤ → List ℕ → Type 0
 ServesInto world message address port stream now result buffer =
     ((n : ℕ) × (result ≡ pos n)

@@ -1,4 +1,4 @@
--- What a server of zones and lists means.
+-- The server's state, as the serving theorem sees it.
 use Rattle.authority_handle.specs.declared.handler.Handler.{Handler}
 use Rattle.authority_handle.specs.declared.handler.Handler.TheVariants as handlers
 use Rattle.authority_handle.specs.declared.server.Server.{Server}
@@ -6,11 +6,11 @@ use Rattle.authority_server.specs.Servers.{world_of}
 use Rattle.authority_server.specs.Serving.{World}
 use Rattle.authority_server.specs.zsv_catalog.zsv_answer.zst_request.Views.{Blocked, Stored, View}
 
--- What a zone or a list means.
+-- The view of a handler.
 abbrev pub view_of : Handler → View
 view_of (handlers.Zone zone) = Stored zone
 view_of (handlers.Blocklist list) = Blocked list
 
--- What a server is.
+-- The state of a server.
 abbrev pub world_in : Server → World
 world_in server = world_of view_of server.authority

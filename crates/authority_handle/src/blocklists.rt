@@ -1,4 +1,4 @@
-//! Lists of blocked names, from octets and numbers.
+//! Blocklists from octets and numbers.
 
 ghost use Rattle.std.specs.Prelude.{◌≡◌, ◌<◌, ◌≤◌, ◌^◌, [], List, length, IfErr, IfOk, Some, option_map, string_bytes};
 ghost use Rattle.std.specs.Str.{IsUtf8};
@@ -16,21 +16,21 @@ use std::net::{Ipv4Addr, Ipv6Addr};
 use std::str;
 use zsv_blocklist::{BlocklistConfig, BlocklistConsultAction, BlocklistZoneHandler};
 
-/// The settings of a list of blocked names.
+/// The settings of a blocklist.
 #[repr(C)]
 #[derive(Clone, Copy)]
 pub struct BlocklistSettings {
-    /// How long an answer may be kept, in seconds.
+    /// The TTL of its answers.
     pub ttl: u32,
-    /// What is done where another handler has answered: 0 nothing, 1 the list's answer replaces the other's, 2 nothing.
+    /// The consult action: 0 disabled, 1 enforce, 2 log.
     pub action: u8,
-    /// Over how many labels a wildcard is looked for at least.
+    /// The least number of labels after the asterisk of a wildcard.
     pub min_wildcard_depth: u8,
-    /// Whether a wildcard among the names blocks those below it.
+    /// Wildcards match.
     pub wildcard_match: bool,
-    /// The address that is answered in place of a blocked host's.
+    /// The address in answers of type A.
     pub sinkhole_ipv4: [u8; 4],
-    /// The address that is answered in place of a blocked host's IPv6 address.
+    /// The address in answers of type AAAA.
     pub sinkhole_ipv6: [u8; 16],
 }
 
@@ -46,7 +46,7 @@ fn action_of(number: u8) -> Option<BlocklistConsultAction>
     }
 }
 
-// The message of a text; None where there are no octets.
+// The message; None if it is empty.
 fn message_of(alloc: Global, message: &str) -> Result<Option<String>, AllocError>
     ensures { IfOk result (λ kept. option_map string_bytes kept ≡ message_of message.now) }
 {
@@ -56,7 +56,7 @@ fn message_of(alloc: Global, message: &str) -> Result<Option<String>, AllocError
     Ok(Some(String::from_str(alloc, message)?))
 }
 
-// The settings as a list has them.
+// The configuration of a blocklist.
 fn config_of(
     alloc: Global,
     settings: &BlocklistSettings,
@@ -79,7 +79,7 @@ fn config_of(
     })
 }
 
-// The list of the names in a text.
+// Reads the names of a blocklist.
 fn list_of(
     alloc: Global,
     origin: Name,
@@ -103,7 +103,7 @@ fn list_of(
     }
 }
 
-// The list of a text and a message that are UTF-8 and not too long, by its action.
+// Reads a blocklist whose texts are UTF-8 and not too long.
 fn list_under(
     alloc: Global,
     settings: &BlocklistSettings,
@@ -123,7 +123,7 @@ fn list_under(
     list_of(alloc, origin, config, text.as_bytes())
 }
 
-/// The list of a text, under a name, with a message.
+/// Reads a blocklist.
 pub(crate) fn blocklist_of(
     alloc: Global,
     settings: &BlocklistSettings,
@@ -146,5 +146,5 @@ pub(crate) fn blocklist_of(
     }
 }
 
-// The greatest number of octets that the text of a list may have.
+// The most octets that are read of a blocklist.
 const MOST: usize = 0xffff_ffff;

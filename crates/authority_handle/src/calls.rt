@@ -1,4 +1,4 @@
-//! The calls of another language.
+//! The calls as other languages make them.
 
 ghost use Rattle.std.specs.Prelude.{◌≡◌, length, MatchOption};
 ghost use Rattle.authority_handle.specs.Calls.{AddsBlocklist, AddsZone, IsUnfit, Removes, ServesInto, SetsAccess, SetsNsid, StandsIn, transport_of};
@@ -21,8 +21,8 @@ pub fn empty(alloc: Global) -> Server
     Server::new(alloc)
 }
 
-/// Adds the zone of a text, of the kind of a number, in place of what stands under its name. Where a line is refused, the
-/// line and its cause are told in `refusal`, as far as there is room, with zeros behind.
+/// Loads a zone, which replaces the chain of its name. If a line is refused, `refusal` gets its number and cause as text,
+/// cut to the buffer and padded with zeros.
 pub fn add_zone(
     server: &mut Server,
     kind: u8,
@@ -34,20 +34,20 @@ pub fn add_zone(
 {
     let added = server.add_zone(kind, origin, text);
     if let Err(Refusal::Line(error)) = &added {
-        tell(error, refusal);
+        write_cause(error, refusal);
     }
     number(added)
 }
 
-// Puts a line and its cause into a buffer, as far as there is room, and zeros behind.
-fn tell(error: &LoadError, buffer: &mut [u8]) {
+// Writes the line number and the cause, cut to the buffer and padded with zeros.
+fn write_cause(error: &LoadError, buffer: &mut [u8]) {
     buffer.fill(0);
     let mut room = buffer;
-    // (what has no room is left out)
+    // (an error means that the text was cut)
     let _ = write!(room, "{error}");
 }
 
-/// Adds the list of a text, in place of what stands under its name.
+/// Reads a blocklist, which replaces the chain of its name.
 pub fn add_blocklist(
     server: &mut Server,
     settings: &BlocklistSettings,
@@ -60,35 +60,35 @@ pub fn add_blocklist(
     number(server.add_blocklist(settings, name, text, message))
 }
 
-/// Takes out what stands under a name.
+/// Removes the chain of a name.
 pub fn remove(server: &mut Server, name: &[u8]) -> i64
     ensures { Removes (world_in server.old) name.now result (world_in server.new) }
 {
     number(server.remove(name))
 }
 
-/// Says who may ask, by these networks alone.
+/// Replaces the access list.
 pub fn set_access(server: &mut Server, networks: &[Network]) -> i64
     ensures { SetsAccess (world_in server.old) networks.now result (world_in server.new) }
 {
     number(server.set_access(networks))
 }
 
-/// Sets the identifier that is told to those who ask for it (RFC 5001); no octets are none.
+/// Sets the NSID (RFC 5001); no octets unset it.
 pub fn set_nsid(server: &mut Server, octets: &[u8]) -> i64
     ensures { SetsNsid (world_in server.old) octets.now result (world_in server.new) }
 {
     number(server.set_nsid(octets))
 }
 
-// How a message came.
+// The transport of a message.
 fn transport(stream: bool) -> Protocol
     ensures { result ≡ transport_of stream }
 {
     if stream { Protocol::Tcp } else { Protocol::Udp }
 }
 
-// Puts octets at the front of a buffer, and counts them; None where there are none or too many.
+// Copies octets to the start of a buffer, and counts them; None if there are none, or too many.
 fn put(octets: &[u8], buffer: &mut [u8]) -> Option<i64>
     ensures put { MatchOption result (IsUnfit octets.now (length buffer.old)) (StandsIn octets.now buffer.new) }
     ensures len { length buffer.new ≡ length buffer.old }
@@ -101,8 +101,8 @@ fn put(octets: &[u8], buffer: &mut [u8]) -> Option<i64>
     Some(count as i64)
 }
 
-/// Serves a message. The result is the count of the octets of its reply, which go to the front of `reply`; 0 where it gets
-/// none; or the number of a refusal.
+/// Serves a message, and writes its reply to the start of `reply`. Returns the length of the reply, 0 if there is none, or the
+/// code of a refusal.
 pub fn serve(
     server: &mut Server,
     message: &[u8],

@@ -1,4 +1,4 @@
-//! What answers for the names from one on down.
+//! The two kinds of handlers of a linked server.
 
 use authority_load::{
     AuthLookup, AxfrPolicy, InMemoryZoneHandler, LookupControlFlow, LookupOptions, NxProofKind,
@@ -8,12 +8,12 @@ use authority_server::{Name, RecordType, ZoneHandler};
 use std::alloc::{AllocError, Global};
 use zsv_blocklist::{BlocklistZoneHandler, NameKey, TSigResponseContext, ZoneRequest};
 
-/// What answers for the names from one on down: a zone that is kept here, or a list of blocked names.
+/// A zone or a blocklist.
 #[derive(Drop)]
 pub enum Handler {
     /// A zone.
     Zone(InMemoryZoneHandler<()>),
-    /// A list of blocked names.
+    /// A blocklist.
     Blocklist(BlocklistZoneHandler),
 }
 

@@ -1,7 +1,7 @@
-//! A server for programs of other languages: octets and numbers in, octets and numbers out.
+//! A server for programs in other languages: octets and numbers in, octets and numbers out.
 //!
-//! Each call answers 0 or more where it did what it says, and the negative number of a `Refusal` where it did nothing; a zone's
-//! text that is refused is told by the number of its line. The contract of each says which, and what the server is after it.
+//! A call returns 0 or a count, or the code of a `Refusal`: negative, or the number of a refused line of zone text. Its contract
+//! says which, and what the server is afterwards.
 #![tactic(auto)]
 
 mod blocklists;

@@ -1,4 +1,4 @@
-//! Why a call did nothing, and the numbers that say so.
+//! Causes of refused calls, and their codes.
 
 ghost use Rattle.std.specs.Prelude.{◌≡◌};
 ghost use Rattle.authority_handle.specs.Refusals.{code_of, line_code, number_of};
@@ -6,31 +6,31 @@ ghost use Rattle.authority_handle.specs.Refusals.{code_of, line_code, number_of}
 use authority_load::LoadError;
 use std::alloc::{AllocError, AllocFailed};
 
-/// Why a call did nothing.
+/// Why a call was refused.
 #[derive(Clone, Copy, Debug, PartialEq, Eq)]
 pub enum Refusal {
-    /// An allocation failed.
+    /// Allocation failed.
     OutOfMemory,
-    /// The buffer is too small for the reply.
+    /// The reply does not fit the buffer.
     NoRoom,
-    /// An address has neither 4 octets nor 16.
+    /// An address has neither 4 nor 16 octets.
     WrongAddress,
-    /// The text isn't a fully qualified name.
+    /// The text is not a fully qualified name.
     WrongName,
-    /// The text isn't UTF-8.
+    /// The text is not UTF-8.
     WrongText,
-    /// A number stands for no setting, or a prefix is longer than its address.
+    /// A setting has an unknown value, or a prefix is longer than its address.
     WrongSetting,
-    /// There are more octets than a message can hold, or than are read.
+    /// More octets than a message can hold, or than are read.
     TooLong,
-    /// Nothing stands under the name.
+    /// Neither a zone nor a blocklist has this name.
     NotFound,
-    /// A line of the zone's text is refused.
+    /// A line of the zone text is refused.
     Line(LoadError),
 }
 
 impl Refusal {
-    /// The number by which a call of another language says so: negative, or of a line its number.
+    /// The number returned to other languages: negative, or the number of the line.
     pub fn code(self) -> i64
         ensures { result ≡ code_of self }
     {
@@ -48,7 +48,7 @@ impl Refusal {
     }
 }
 
-// The number of a line; a text of more lines than numbers has none.
+// The number of a line, at most `i64::MAX`.
 fn line_number(line: usize) -> i64
     ensures { result ≡ line_code line }
 {
@@ -58,7 +58,7 @@ fn line_number(line: usize) -> i64
     }
 }
 
-/// What a call answers: 0, or the number of a refusal.
+/// The number that a call returns: 0, or the code of its refusal.
 pub(crate) fn number(done: Result<(), Refusal>) -> i64
     ensures { result ≡ number_of done }
 {

@@ -1,4 +1,4 @@
-//! A server, and what is put into it.
+//! The server, and the calls that change it.
 
 ghost use Rattle.std.specs.Prelude.{◌≡◌, ◌≤◌, ◌∷◌, [], length, IfErr, IfOk, OnErr, OnOk, Some};
 ghost use Rattle.std.specs.Str.{IsUtf8};
@@ -26,14 +26,14 @@ use std::alloc::Global;
 use std::str;
 use zsv_blocklist::BlocklistZoneHandler;
 
-/// A server of zones and lists that are kept here.
+/// A server of zones and blocklists.
 #[derive(Drop)]
 pub struct Server {
     pub(crate) authority: Authority<NoSuite, Handler>,
     pub(crate) alloc: Global,
 }
 
-// The kind of a number.
+// The zone type of a number.
 fn kind_of(number: u8) -> Option<ZoneType>
     ensures { result ≡ kind_of number }
 {
@@ -57,7 +57,7 @@ pub(crate) fn name_of(alloc: Global, text: &[u8]) -> Result<Name, Refusal>
     }
 }
 
-// The zone of a text, of a kind, under a name.
+// Loads a zone of this type and origin.
 fn load(
     alloc: Global,
     zone_type: ZoneType,
@@ -80,7 +80,7 @@ fn load(
     }
 }
 
-// The zone of a text, of the kind of a number, under a name that is spelled out.
+// Loads a zone, from the number of its type and the text of its origin.
 fn zone_of(
     alloc: Global,
     kind: u8,
@@ -112,7 +112,7 @@ impl Server {
         }
     }
 
-    // Puts a handler under a name, alone.
+    // Replaces the chain of a name by one handler.
     fn put(&mut self, name: &Name, handler: Handler) -> Result<(), Refusal>
         requires { ViewReadsBack (view_of handler) }
         ensures ok { OnOk result (world_in self.new ≡ with_zones (world_in self.old) name.now (view_of handler ∷ [])) }
@@ -126,7 +126,7 @@ impl Server {
         Ok(())
     }
 
-    /// Adds the zone of a text, of the kind of a number, in place of what stands under its name.
+    /// Loads a zone, which replaces the chain of its name.
     pub(crate) fn add_zone(&mut self, kind: u8, origin: &[u8], text: &[u8]) -> Result<(), Refusal>
         ensures ok { OnOk result (PutsZone (world_in self.old) kind origin.now text.now (world_in self.new)) }
         ensures err { IfErr result (RefusesZone kind origin.now text.now) }
@@ -138,7 +138,7 @@ impl Server {
         self.put(&name, Handler::Zone(zone))
     }
 
-    /// Adds the list of a text, in place of what stands under its name.
+    /// Reads a blocklist, which replaces the chain of its name.
     pub(crate) fn add_blocklist(
         &mut self,
         settings: &BlocklistSettings,
@@ -156,7 +156,7 @@ impl Server {
         self.put(&name, Handler::Blocklist(list))
     }
 
-    /// Takes out what stands under a name.
+    /// Removes the chain of a name.
     pub(crate) fn remove(&mut self, name: &[u8]) -> Result<(), Refusal>
         ensures ok { OnOk result (TakesOut (world_in self.old) name.now (world_in self.new)) }
         ensures err { IfErr result (RefusesRemoval (world_in self.old) name.now) }
@@ -170,7 +170,7 @@ impl Server {
         }
     }
 
-    /// Says who may ask, by these networks alone.
+    /// Replaces the access list.
     pub(crate) fn set_access(&mut self, networks: &[Network]) -> Result<(), Refusal>
         ensures ok { OnOk result (TellsAccess (world_in self.old) networks.now (world_in self.new)) }
         ensures err { IfErr result (RefusesNetworks networks.now) }
@@ -182,7 +182,7 @@ impl Server {
         Ok(())
     }
 
-    /// Sets the identifier that is told to those who ask for it; no octets are none.
+    /// Sets the NSID; no octets unset it.
     pub(crate) fn set_nsid(&mut self, octets: &[u8]) -> Result<(), Refusal>
         ensures ok { OnOk result (world_in self.new ≡ record (world_in self.old) { nsid = nsid_of octets.now }) }
         ensures err { IfErr result (RefusesNsid octets.now) }
@@ -195,7 +195,7 @@ impl Server {
     }
 }
 
-// The identifier of octets, which fits an option; None where there are no octets.
+// The NSID of these octets; None if there are none.
 fn nsid_of(alloc: Global, octets: &[u8]) -> Result<Option<NSIDPayload>, Refusal>
     ensures ok { IfOk result (λ nsid. nsid ≡ nsid_of octets.now) }
     ensures fits { OnOk result (length octets.now ≤ 65531) }

@@ -1,4 +1,4 @@
-//! Addresses and networks, from octets.
+//! Addresses and networks from octets.
 
 ghost use Rattle.std.specs.Prelude.{◌≡◌, ◌∷◌, List, IfErr, IfOk, MatchOption, OnOk};
 ghost use Rattle.authority_handle.specs.Sources.{AddsNetworks, AreNetworks, IsAddress, IsNetwork, IsNoAddress, IsSource, RefusesFirst, RefusesNetwork, RefusesNetworks};
@@ -12,21 +12,21 @@ use std::alloc::Global;
 use std::mem;
 use std::net::{IpAddr, Ipv4Addr, Ipv6Addr, SocketAddr};
 
-/// A network whose addresses may ask, or may not.
+/// A network that is allowed or denied to query.
 #[repr(C)]
 #[derive(Clone, Copy)]
 pub struct Network {
-    /// The octets of its address; an IPv4 address has the first four.
+    /// The address; an IPv4 address has the first four octets.
     pub address: [u8; 16],
-    /// How many octets the address has: 4 or 16.
+    /// 4 or 16.
     pub address_len: u8,
-    /// How many of the first bits the network's addresses share.
+    /// The length of the prefix in bits.
     pub prefix_len: u8,
-    /// Whether its addresses may not ask.
+    /// Denied, not allowed.
     pub denied: bool,
 }
 
-/// The address of these octets; None where they aren't 4 or 16.
+/// The address of 4 or 16 octets.
 fn address_of(octets: &[u8]) -> Option<IpAddr>
     ensures { MatchOption result (IsNoAddress octets.now) (IsAddress octets.now) }
 {
@@ -39,7 +39,7 @@ fn address_of(octets: &[u8]) -> Option<IpAddr>
     }
 }
 
-/// The source of these octets and this port; None where they aren't 4 or 16.
+/// The source of an address of 4 or 16 octets, and a port.
 pub(crate) fn source_of(address: &[u8], port: u16) -> Option<SocketAddr>
     ensures { MatchOption result (IsNoAddress address.now) (IsSource address.now port) }
 {
@@ -47,7 +47,7 @@ pub(crate) fn source_of(address: &[u8], port: u16) -> Option<SocketAddr>
     Some(SocketAddr::new(ip, port))
 }
 
-// The network of a network's octets.
+// Converts a network.
 fn net_of(network: &Network) -> Result<IpNet, Refusal>
     ensures ok { IfOk result (λ net. IsNetwork network.now net.addr) }
     ensures prefix { IfOk result (λ net. net.prefix_len ≡ network.now.prefix_len) }
@@ -70,8 +70,8 @@ fn net_of(network: &Network) -> Result<IpNet, Refusal>
     }
 }
 
-// Whether these are networks; else the first that is none is refused.
-fn test(networks: &[Network]) -> Result<(), Refusal>
+// Refuses the first invalid network.
+fn check(networks: &[Network]) -> Result<(), Refusal>
     ensures ok { OnOk result (AreNetworks networks.now) }
     ensures err { IfErr result (RefusesFirst networks.now) }
 {
@@ -94,13 +94,13 @@ fn add_network(access: &mut AccessControl, network: &Network) -> Result<(), Refu
     Ok(())
 }
 
-/// Who may ask by these networks.
+/// The access list of these networks.
 #[tactic(auto, using(crate::proofs::Networks::refuses))]
 pub(crate) fn access_of(alloc: Global, networks: &[Network]) -> Result<AccessControl, Refusal>
     ensures ok { IfOk result (AddsNetworks no_networks networks.now) }
     ensures err { IfErr result (RefusesNetworks networks.now) }
 {
-    test(networks)?;
+    check(networks)?;
     let mut access = AccessControl::new(alloc);
     'networks: for network in networks {
         if add_network(&mut access, network).is_err() {

@@ -1,7 +1,7 @@
 use Rattle.std.proofs.Common.{drop}
 use Rattle.authority_handle.specs.Sources.{AreNetworks, RefusesFirst}
 use Rattle.authority_handle.specs.declared.refusal.Refusal.{Refusal}
-use Rattle.authority_handle.proofs.sources.test.Given as goal
+use Rattle.authority_handle.proofs.sources.check.Given as goal
 
 -- What holds of the networks from here on holds of all.
 abbrev pub invariant-networks : goal.invariant-networks
