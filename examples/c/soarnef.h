@@ -1,18 +1,16 @@
-/* Soarnef's proved core from C: the octets of a message in, those of its reply out. It reads and writes
- * no file, no socket and no clock, and allocates by malloc alone.
+/* The C interface of Soarnef, a proved authoritative DNS server core: the octets of a query in, those of its reply out.
+ * It uses no files, no sockets and no clock, and allocates with malloc alone.
  *
- * A server lies in memory of the caller's: soarnef_size() octets from malloc. Nothing checks what a
- * caller owes:
- *   - each pointer is not NULL and has as many octets, or structs, behind it as are said, 0 of them too;
- *   - `refusal` and `reply` overlap nothing else that the call is given;
+ * A server is kept in memory of the caller: soarnef_size() octets from malloc. The caller guarantees, and nothing checks:
+ *   - each pointer is not NULL, and has as many octets or structs as its length says, also if that is 0;
+ *   - `refusal` and `reply` do not overlap any other argument;
  *   - each bool is 0 or 1;
- *   - a server was opened and isn't closed, its octets are left alone, and it is in one call at a time,
- *     in the thread that opened it. A process that was forked from one of a single thread may go on with
- *     its copy.
+ *   - a server is opened before use and not used after it is closed, its memory is not touched, and it is in one call at a
+ *     time, on the thread that opened it. A process forked by a single-threaded one may use its copy.
  *
- * A call that changes a server answers 0, or a number below and leaves the server as it was. Where
- * several of them apply, the first that the call's comment names comes; SOARNEF_OUT_OF_MEMORY may come
- * at any time. */
+ * A call that changes a server returns 0, or a code below, and then the server is unchanged. Where several apply, the first
+ * that the call's comment lists is returned; SOARNEF_OUT_OF_MEMORY is possible for every call.
+ */
 #ifndef SOARNEF_H
 #define SOARNEF_H
 #include <stdbool.h>
@@ -23,76 +21,71 @@ typedef struct soarnef soarnef;
 
 enum {
     SOARNEF_OUT_OF_MEMORY = -1,
-    SOARNEF_NO_ROOM = -2,       /* the reply is longer than the buffer */
-    SOARNEF_WRONG_ADDRESS = -3, /* an address has neither 4 octets nor 16 */
-    SOARNEF_WRONG_NAME = -4,    /* the text isn't a name with its last dot */
-    SOARNEF_WRONG_TEXT = -5,    /* the text isn't UTF-8 */
-    SOARNEF_WRONG_SETTING = -6, /* a number stands for no setting */
-    SOARNEF_TOO_LONG = -7,      /* more octets than a message can hold, or than are read */
-    SOARNEF_NOT_FOUND = -8,     /* nothing stands under the name */
+    SOARNEF_NO_ROOM = -2,       /* the reply does not fit the buffer */
+    SOARNEF_WRONG_ADDRESS = -3, /* an address has neither 4 nor 16 octets */
+    SOARNEF_WRONG_NAME = -4,    /* not a domain name with its final dot */
+    SOARNEF_WRONG_TEXT = -5,    /* not UTF-8 */
+    SOARNEF_WRONG_SETTING = -6, /* an unknown value, or a prefix longer than its address */
+    SOARNEF_TOO_LONG = -7,      /* longer than a message can hold, or than is read */
+    SOARNEF_NOT_FOUND = -8,     /* neither a zone nor a blocklist has this name */
 };
 
+/* The size of a server in octets. */
 size_t soarnef_size(void);
 
-/* Makes a server without zones, which every address may ask, in soarnef_size() octets. */
+/* Makes a server without zones, which every address may query. */
 void soarnef_open(soarnef *server);
 
-/* Adds the zone of a text, in place of what stands under its name: a record a line, as OWNER TTL IN TYPE
- * DATA with names in full (RFC 1035, section 5.1, without directives). The kind: SOARNEF_PRIMARY, or
- * another below. Refused by SOARNEF_WRONG_SETTING (the kind), SOARNEF_WRONG_TEXT, SOARNEF_WRONG_NAME (the
- * origin), or the number of the line that is refused, at least 1, with "line N: CAUSE" and zeros in
- * `refusal`, as far as there is room; 48 octets hold each. */
+/* Frees what a server holds. Its memory is the caller's to free. */
+void soarnef_close(soarnef *server);
+
+/* Loads a zone from the text of a zone file, and replaces the zone or blocklist of this name: one record a line, OWNER TTL IN
+ * TYPE RDATA, names fully qualified, no directives (RFC 1035, section 5.1). Refused: SOARNEF_WRONG_SETTING (the type),
+ * SOARNEF_WRONG_TEXT, SOARNEF_WRONG_NAME (the origin), or a line, whose number, at least 1, is returned; then `refusal` holds
+ * "line N: CAUSE", padded with zeros or cut. 48 octets hold every cause. */
 enum { SOARNEF_PRIMARY = 0, SOARNEF_SECONDARY = 1, SOARNEF_EXTERNAL = 2 };
-int64_t soarnef_add_zone(soarnef *server, uint8_t kind, const uint8_t *origin, size_t origin_len,
-                         const uint8_t *text, size_t text_len, uint8_t *refusal, size_t refusal_len);
+int64_t soarnef_add_zone(soarnef *server, uint8_t zone_type, const uint8_t *origin, size_t origin_len, const uint8_t *text,
+                         size_t text_len, uint8_t *refusal, size_t refusal_len);
 
-/* Adds a list of blocked names, in place of what stands under its name: a name a line, alone or behind
- * 0.0.0.0. The names from `name` on down that it blocks, and that no zone below is for, are answered by
- * the sinkhole addresses, with a message of at most 255 octets; 0 octets are none. Refused by
- * SOARNEF_WRONG_SETTING (the action), SOARNEF_TOO_LONG (the message, or a text of 2^32 octets),
- * SOARNEF_WRONG_TEXT (the text or the message), SOARNEF_WRONG_NAME. */
+/* Reads a blocklist from a text, and replaces the zone or blocklist of this name: one domain name a line, alone or after
+ * 0.0.0.0. It answers queries at or below `name`, where no zone is closer, for the names it blocks: with the sinkhole
+ * addresses, and with a TXT message of at most 255 octets unless that is empty. Refused: SOARNEF_WRONG_SETTING (the action),
+ * SOARNEF_TOO_LONG (the message, or a text of 2^32 octets), SOARNEF_WRONG_TEXT (the text or the message), SOARNEF_WRONG_NAME. */
+enum { SOARNEF_DISABLED = 0, SOARNEF_ENFORCE = 1, SOARNEF_LOG = 2 };
 typedef struct soarnef_blocklist {
-    uint32_t ttl;              /* how long an answer may be kept, in seconds */
-    uint8_t action;            /* where another handler of the name answers: 0 and 2 nothing, 1 replaces its answer */
-    uint8_t min_wildcard_depth; /* over how many labels a wildcard is looked for at least: 2 where in doubt */
-    bool wildcard_match;       /* whether `*.NAME` in the list blocks all below NAME */
-    uint8_t sinkhole_ipv4[4];  /* answered to A, and to all other types but AAAA */
-    uint8_t sinkhole_ipv6[16]; /* answered to AAAA */
+    uint32_t ttl;               /* of its answers, in seconds */
+    uint8_t action;             /* SOARNEF_ENFORCE replaces another handler's answer; the other two keep it */
+    uint8_t min_wildcard_depth; /* the least number of labels after the asterisk of a wildcard */
+    bool wildcard_match;        /* *.NAME blocks all names below NAME */
+    uint8_t sinkhole_ipv4[4];   /* the A record of an answer */
+    uint8_t sinkhole_ipv6[16];  /* the AAAA record of an answer to a query of that type */
 } soarnef_blocklist;
-int64_t soarnef_add_blocklist(soarnef *server, const soarnef_blocklist *settings, const uint8_t *name,
-                              size_t name_len, const uint8_t *text, size_t text_len, const uint8_t *message,
-                              size_t message_len);
+int64_t soarnef_add_blocklist(soarnef *server, const soarnef_blocklist *settings, const uint8_t *name, size_t name_len,
+                              const uint8_t *text, size_t text_len, const uint8_t *message, size_t message_len);
 
-/* Takes out the zone or the list under a name. Refused by SOARNEF_WRONG_NAME, SOARNEF_NOT_FOUND. */
+/* Removes the zone or blocklist of a name. Refused: SOARNEF_WRONG_NAME, SOARNEF_NOT_FOUND. */
 int64_t soarnef_remove(soarnef *server, const uint8_t *name, size_t name_len);
 
-/* Says who may ask, in place of what was said before; who may not is answered REFUSED. Where networks of
- * both kinds hold an address, the longest prefix decides, and a denied one where both are as long; an
- * address in none is refused only where networks of its kind are allowed, and none denied. Without
- * networks everybody may ask. Refused by the first network that is none: SOARNEF_WRONG_ADDRESS,
- * SOARNEF_WRONG_SETTING (a prefix longer than the address). */
+/* Replaces the access list. A query from a denied address is answered REFUSED. The longest prefix that matches an address
+ * decides, the denied one of two as long; an address that none matches is denied only if networks of its family are allowed
+ * and none are denied. An empty list allows all. Refused, for the first invalid network: SOARNEF_WRONG_ADDRESS,
+ * SOARNEF_WRONG_SETTING (the prefix). */
 typedef struct soarnef_network {
-    uint8_t address[16]; /* an IPv4 address has the first four octets */
+    uint8_t address[16]; /* in network order; an IPv4 address has the first 4 octets */
     uint8_t address_len; /* 4 or 16 */
-    uint8_t prefix_len;
+    uint8_t prefix_len;  /* in bits */
     bool denied;
 } soarnef_network;
 int64_t soarnef_set_access(soarnef *server, const soarnef_network *networks, size_t count);
 
-/* Sets the identifier that is told to those who ask for it (RFC 5001); 0 octets are none. Refused by
- * SOARNEF_TOO_LONG (more than 65,531 octets). */
+/* Sets the NSID (RFC 5001), or unsets it if `len` is 0. Refused: SOARNEF_TOO_LONG (more than 65,531 octets). */
 int64_t soarnef_set_nsid(soarnef *server, const uint8_t *octets, size_t len);
 
-/* Serves a message that came from an address of 4 or 16 octets (network order) and a port, by a stream
- * or as a datagram, at a moment in seconds since 1970. The count of the reply's octets, at the front of
- * `reply`; 0 where it gets none; or SOARNEF_WRONG_ADDRESS, SOARNEF_NO_ROOM, SOARNEF_OUT_OF_MEMORY. The
- * server is as before. A datagram's reply has at most 512 octets, or what the message's EDNS offers; a
- * stream's at most 65,535. Drop datagrams with QR set (message[2] & 0x80) before, lest two servers answer
- * each other without end. */
-int64_t soarnef_serve(soarnef *server, const uint8_t *message, size_t message_len, const uint8_t *address,
-                      size_t address_len, uint16_t port, bool stream, uint64_t now, uint8_t *reply,
-                      size_t reply_len);
-
-/* Drops what a server has. Its octets are the caller's to free. */
-void soarnef_close(soarnef *server);
+/* Serves a message from an address of 4 or 16 octets (network order) and a port, over TCP (`stream`) or UDP, at a time in
+ * seconds since 1970. Returns the length of the reply at the start of `reply`; 0 if there is no reply; or
+ * SOARNEF_WRONG_ADDRESS, SOARNEF_NO_ROOM, SOARNEF_OUT_OF_MEMORY. The server is unchanged. A UDP reply has at most 512 octets,
+ * or the query's EDNS payload size if that is larger; a TCP reply has at most 65,535. Drop UDP messages with QR set
+ * (message[2] & 0x80) first: otherwise two servers can answer each other endlessly. */
+int64_t soarnef_serve(soarnef *server, const uint8_t *message, size_t message_len, const uint8_t *address, size_t address_len,
+                      uint16_t port, bool stream, uint64_t now, uint8_t *reply, size_t reply_len);
 #endif
