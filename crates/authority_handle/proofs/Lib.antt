@@ -1,2 +1,3 @@
-mod Changed
+mod Lists
 mod Networks
+mod Removed

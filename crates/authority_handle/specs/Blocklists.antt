@@ -1,5 +1,5 @@
 -- Blocklists as octets and numbers.
-use Rattle.std.specs.Prelude.{◌≡◌, ◌<◌, ◌≤◌, ◌^◌, ◌⊎◌, ℕ, List, [], ◌∷◌, length, Option, Some, None, IsSome}
+use Rattle.std.specs.Prelude.{◌≡◌, ◌==◌, if◌then◌else◌, ◌<◌, ◌≤◌, ◌^◌, ◌⊎◌, ℕ, List, [], ◌∷◌, length, Option, Some, None, IsSome}
 use Rattle.std.specs.Str.{IsUtf8}
 use Rattle.std.specs.Net.Addr.{ipv4_octets, ipv6_segments, segments_of}
 use Rattle.std.specs.declared.net.ipv4_addr.Ipv4Addr.{Ipv4Addr}
@@ -18,10 +18,10 @@ use Rattle.zsv_blocklist.specs.zsv_blocked.BlockedNames.{AddsListed}
 
 -- The consult actions by number.
 abbrev pub action_of : ℕ → Option BlocklistConsultAction
-action_of 0 = Some actions.Disabled
-action_of 1 = Some actions.Enforce
-action_of 2 = Some actions.Log
-action_of other = None
+action_of number =
+    if number == 0 then Some actions.Disabled
+    else (if number == 1 then Some actions.Enforce
+    else (if number == 2 then Some actions.Log else None))
 
 -- The message; none if it is empty.
 abbrev pub message_of : List ℕ → Option (List ℕ)
@@ -51,7 +51,9 @@ pub record IsBlocklist (settings : BlocklistSettings) (name text message : List 
     (list : Blocklist) : Type 0 where
   pub named : IsOwnerText name list.origin
   pub utf8 : IsUtf8 text
+  pub short : length text < 2 ^ 32
   pub names : AddsListed [] text list.names
+  pub message_utf8 : IsUtf8 message
   pub fits : length message ≤ 255
   pub has : HasSettings settings message list
 

@@ -1,5 +1,5 @@
 -- The calls from other languages: octets and numbers in, octets and numbers out.
-use Rattle.std.specs.Prelude.{◌≡◌, ◌<◌, ◌≤◌, ◌≢◌, ◌⊎◌, ℕ, suc, zero, ℤ, pos, Bool, true, false, List, [], ◌∷◌, length, take, Option, Some, None, IsSome}
+use Rattle.std.specs.Prelude.{◌≡◌, ◌==◌, if◌then◌else◌, ◌<◌, ◌≤◌, ◌≢◌, ◌⊎◌, ℕ, suc, zero, ℤ, pos, Bool, true, false, List, [], ◌∷◌, length, take, Option, Some, None, IsSome}
 use Rattle.std.specs.Str.{IsUtf8}
 use Rattle.std.specs.declared.net.SocketAddr.{SocketAddr}
 use Rattle.authority_handle.specs.Blocklists.{IsBlocklist, RefusesBlocklist}
@@ -36,10 +36,10 @@ RefusesName text other = ⊥
 -- ---- zones
 -- The zone types by number.
 abbrev pub kind_of : ℕ → Option ZoneType
-kind_of 0 = Some kinds.Primary
-kind_of 1 = Some kinds.Secondary
-kind_of 2 = Some kinds.External
-kind_of other = None
+kind_of number =
+    if number == 0 then Some kinds.Primary
+    else (if number == 1 then Some kinds.Secondary
+    else (if number == 2 then Some kinds.External else None))
 
 -- An empty zone. It is not transferred, and has no proofs of nonexistence.
 abbrev pub bare_zone : DomainName → ZoneType → Zone
@@ -53,8 +53,8 @@ bare_zone name kind =
     }
 
 -- A zone of this type, origin and text.
-pub record IsZoneOf (kind : ℕ) (origin text : List ℕ) (zone : Zone) : Type 0 where
-  pub name : DomainName
+pub record IsZoneOf (kind : ℕ) (origin text : List ℕ) (name : DomainName) (zone : Zone)
+    : Type 0 where
   pub zone_type : ZoneType
   pub of_kind : kind_of kind ≡ Some zone_type
   pub named : IsOwnerText origin name
@@ -85,8 +85,8 @@ RefusesZone kind origin text other = ⊥
 -- The zone replaces the chain of its name.
 abbrev pub PutsZone : World → ℕ → List ℕ → List ℕ → World → Type 0
 PutsZone old kind origin text new =
-    (zone : Zone) × IsZoneOf kind origin text zone × ViewReadsBack (Stored zone)
-    × (new ≡ with_zones old zone.origin (Stored zone ∷ []))
+    (name : DomainName) × (zone : Zone) × IsZoneOf kind origin text name zone
+    × ViewReadsBack (Stored zone) × (new ≡ with_zones old name (Stored zone ∷ []))
 
 abbrev pub AddsZone : World → ℕ → List ℕ → List ℕ → ℤ → World → Type 0
 AddsZone old kind origin text result new =
@@ -99,7 +99,8 @@ PutsBlocklist old settings name text message new =
     (list : Blocklist) × IsBlocklist settings name text message list
     × (new ≡ with_zones old list.origin (Blocked list ∷ []))
 
-abbrev pub AddsBlocklist : World → BlocklistSettings → List ℕ → List ℕ → List ℕ → ℤ → World → Type 0
+abbrev pub AddsBlocklist : World → BlocklistSettings → List ℕ → List ℕ → List ℕ → ℤ → World
+    → Type 0
 AddsBlocklist old settings name text message result new =
     Changes old new result (PutsBlocklist old settings name text message new)
     (RefusesBlocklist settings name text message)
@@ -162,10 +163,10 @@ abbrev pub IsUnfit : List ℕ → ℕ → Type 0
 IsUnfit octets room = (octets ≡ []) ⊎ (room < length octets)
 
 -- Octets at the start of a buffer, and their count.
-pub record StandsIn (octets : List ℕ) (buffer : List ℕ) (count : ℤ) : Type 0 where
+pub record StandsIn (octets buffer : List ℕ) (count : ℕ) : Type 0 where
   pub some : octets ≡ [] → ⊥
-  pub counted : count ≡ pos (length octets)
-  pub front : take (length octets) buffer ≡ octets
+  pub counted : count ≡ length octets
+  pub front : take count buffer ≡ octets
 
 -- The reply at the start of a buffer, by its length; none if that is 0.
 abbrev pub reply_of : ℕ → List ℕ → Option (List ℕ)

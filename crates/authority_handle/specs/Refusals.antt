@@ -25,6 +25,11 @@ abbrev pub number_of : {X : Type 0} → Result X Refusal → ℤ
 number_of (Ok done) = pos 0
 number_of (Err refusal) = code_of refusal
 
+-- The number that is returned: a length, or the code of the refusal.
+abbrev pub length_or_code : Result ℕ Refusal → ℤ
+length_or_code (Ok length) = pos length
+length_or_code (Err refusal) = code_of refusal
+
 -- A call succeeds and returns 0, or it is refused for a cause that applies and changes nothing. If
 -- all that the server held could be read back, it still can.
 pub record Changes (old new : World) (result : ℤ) (Done : Type 0) (Refuses : Refusal → Type 0)

@@ -8,7 +8,7 @@ use Rattle.std.specs.declared.net.ip_addr.IpAddr.TheVariants as addresses
 use Rattle.authority_handle.specs.declared.refusal.Refusal.{Refusal}
 use Rattle.authority_handle.specs.declared.refusal.Refusal.TheVariants as refusals
 use Rattle.authority_handle.specs.declared.sources.Network.{Network}
-use Rattle.authority_server.specs.zsv_access.Access.{no_networks, with_allowed, with_denied}
+use Rattle.authority_server.specs.zsv_access.Access.{with_allowed, with_denied}
 use Rattle.authority_server.specs.zsv_access.declared.access.AccessControl.{AccessControl}
 
 -- An address of 4 or 16 octets.

@@ -11,9 +11,8 @@ use crate::refusal::Refusal;
 use crate::server::name_of;
 use authority_server::Name;
 use std::alloc::{AllocError, Global};
-use std::mem;
 use std::net::{Ipv4Addr, Ipv6Addr};
-use std::str;
+use std::{mem, str};
 use zsv_blocklist::{BlocklistConfig, BlocklistConsultAction, BlocklistZoneHandler};
 
 /// The settings of a blocklist.
@@ -111,27 +110,31 @@ fn list_under(
     name: &[u8],
     text: &str,
     message: &str,
-) -> Result<BlocklistZoneHandler, Refusal>
+) -> Result<(Name, BlocklistZoneHandler), Refusal>
     requires action { action_of settings.now.action ≡ Some action }
     requires text { length text.now < 2 ^ 32 }
     requires message { length message.now ≤ 255 }
-    ensures ok { IfOk result (IsBlocklist settings.now name.now text.now message.now) }
+    ensures ok { IfOk result (λ made. IsBlocklist settings.now name.now text.now message.now made.1) }
+    ensures name { IfOk result (λ made. made.0 ≡ made.1.origin) }
     ensures err { IfErr result (RefusesBlocklist settings.now name.now text.now message.now) }
 {
     let origin = name_of(alloc, name)?;
+    let own = origin.clone()?;
     let config = config_of(alloc, settings, action, message)?;
-    list_of(alloc, origin, config, text.as_bytes())
+    let list = list_of(alloc, own, config, text.as_bytes())?;
+    Ok((origin, list))
 }
 
-/// Reads a blocklist.
+/// Reads a blocklist. Beside it is its origin.
 pub(crate) fn blocklist_of(
     alloc: Global,
     settings: &BlocklistSettings,
     name: &[u8],
     text: &[u8],
     message: &[u8],
-) -> Result<BlocklistZoneHandler, Refusal>
-    ensures ok { IfOk result (IsBlocklist settings.now name.now text.now message.now) }
+) -> Result<(Name, BlocklistZoneHandler), Refusal>
+    ensures ok { IfOk result (λ made. IsBlocklist settings.now name.now text.now message.now made.1) }
+    ensures name { IfOk result (λ made. made.0 ≡ made.1.origin) }
     ensures err { IfErr result (RefusesBlocklist settings.now name.now text.now message.now) }
 {
     let Some(action) = action_of(settings.action) else {

@@ -1,12 +1,12 @@
 //! The calls as other languages make them.
 
-ghost use Rattle.std.specs.Prelude.{◌≡◌, length, MatchOption};
-ghost use Rattle.authority_handle.specs.Calls.{AddsBlocklist, AddsZone, IsUnfit, Removes, ServesInto, SetsAccess, SetsNsid, StandsIn, transport_of};
+ghost use Rattle.std.specs.Prelude.{◌≡◌, ◌<◌, ◌^◌, length, IfErr, IfOk, IfSome, MatchOption};
+ghost use Rattle.authority_handle.specs.Calls.{AddsBlocklist, AddsZone, IsUnfit, RefusesMessage, Removes, ServesFrom, ServesInto, SetsAccess, SetsNsid, StandsIn, reply_of, transport_of};
 ghost use Rattle.authority_handle.specs.Worlds.{world_in};
 ghost use Rattle.authority_server.specs.Servers.{no_zones};
 
 use crate::blocklists::BlocklistSettings;
-use crate::refusal::{Refusal, number};
+use crate::refusal::{Refusal, length_or_code, number};
 use crate::server::Server;
 use crate::sources::{Network, source_of};
 use authority_load::LoadError;
@@ -89,16 +89,48 @@ fn transport(stream: bool) -> Protocol
 }
 
 // Copies octets to the start of a buffer, and counts them; None if there are none, or too many.
-fn put(octets: &[u8], buffer: &mut [u8]) -> Option<i64>
+fn put(octets: &[u8], buffer: &mut [u8]) -> Option<usize>
     ensures put { MatchOption result (IsUnfit octets.now (length buffer.old)) (StandsIn octets.now buffer.new) }
     ensures len { length buffer.new ≡ length buffer.old }
+    ensures small { IfSome result (λ count. count < 2 ^ 63) }
 {
     let count = octets.len();
     if count == 0 || buffer.len() < count {
         return None;
     }
     buffer[..count].copy_from_slice(octets);
-    Some(count as i64)
+    Some(count)
+}
+
+// Serves a message, and returns the length of its reply.
+fn reply_to(
+    server: &mut Server,
+    message: &[u8],
+    address: &[u8],
+    port: u16,
+    stream: bool,
+    now: u64,
+    reply: &mut [u8],
+) -> Result<usize, Refusal>
+    ensures unchanged { server.new ≡ server.old }
+    ensures served { IfOk result (λ length. ServesFrom (world_in server.old) message.now address.now port stream now (reply_of length reply.new)) }
+    ensures small { IfOk result (λ length. length < 2 ^ 63) }
+    ensures refused { IfErr result (RefusesMessage (world_in server.old) message.now address.now port stream now (length reply.new)) }
+{
+    let Some(source) = source_of(address, port) else {
+        return Err(Refusal::WrongAddress);
+    };
+    match server
+        .authority
+        .serve(message, source, transport(stream), now)
+    {
+        Ok(None) => Ok(0),
+        Ok(Some(octets)) => match put(&octets, reply) {
+            Some(count) => Ok(count),
+            None => Err(Refusal::NoRoom),
+        },
+        Err(_) => Err(Refusal::OutOfMemory),
+    }
 }
 
 /// Serves a message, and writes its reply to the start of `reply`. Returns the length of the reply, 0 if there is none, or the
@@ -115,20 +147,7 @@ pub fn serve(
     ensures unchanged { server.new ≡ server.old }
     ensures served { ServesInto (world_in server.old) message.now address.now port stream now result reply.new }
 {
-    let Some(source) = source_of(address, port) else {
-        return Refusal::WrongAddress.code();
-    };
-    match server
-        .authority
-        .serve(message, source, transport(stream), now)
-    {
-        Ok(None) => 0,
-        Ok(Some(octets)) => match put(&octets, reply) {
-            Some(count) => count,
-            None => Refusal::NoRoom.code(),
-        },
-        Err(_) => Refusal::OutOfMemory.code(),
-    }
+    length_or_code(reply_to(server, message, address, port, stream, now, reply))
 }
 
 /// Drops a server.

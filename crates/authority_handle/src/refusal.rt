@@ -1,7 +1,7 @@
 //! Causes of refused calls, and their codes.
 
-ghost use Rattle.std.specs.Prelude.{◌≡◌};
-ghost use Rattle.authority_handle.specs.Refusals.{code_of, line_code, number_of};
+ghost use Rattle.std.specs.Prelude.{◌≡◌, ◌<◌, ◌^◌, IfOk};
+ghost use Rattle.authority_handle.specs.Refusals.{code_of, length_or_code, line_code, number_of};
 
 use authority_load::LoadError;
 use std::alloc::{AllocError, AllocFailed};
@@ -64,6 +64,17 @@ pub(crate) fn number(done: Result<(), Refusal>) -> i64
 {
     match done {
         Ok(()) => 0,
+        Err(refusal) => refusal.code(),
+    }
+}
+
+/// The number that a call returns: a length, or the code of its refusal.
+pub(crate) fn length_or_code(done: Result<usize, Refusal>) -> i64
+    requires { IfOk done (λ length. length < 2 ^ 63) }
+    ensures { result ≡ length_or_code done }
+{
+    match done {
+        Ok(length) => length as i64,
         Err(refusal) => refusal.code(),
     }
 }

@@ -21,9 +21,9 @@ use authority_load::{
     AxfrPolicy, InMemoryZoneHandler, LoadCause, TextError, ZoneSettings, ZoneType, load_zone,
     parse_owner,
 };
-use authority_server::{Authority, NSIDPayload, Name, NoSuite, ZoneHandler};
+use authority_server::{Authority, NSIDPayload, Name, NoSuite};
 use std::alloc::Global;
-use std::str;
+use std::{mem, str};
 use zsv_blocklist::BlocklistZoneHandler;
 
 /// A server of zones and blocklists.
@@ -80,15 +80,16 @@ fn load(
     }
 }
 
-// Loads a zone, from the number of its type and the text of its origin.
+// Loads a zone, from the number of its type and the text of its origin. Beside it is the origin, so that nobody copies the
+// name of a loaded zone.
 fn zone_of(
     alloc: Global,
     kind: u8,
     origin: &[u8],
     text: &[u8],
-) -> Result<InMemoryZoneHandler<()>, Refusal>
-    ensures ok { IfOk result (IsZoneOf kind origin.now text.now) }
-    ensures reads_back { IfOk result (λ zone. ViewReadsBack (Stored zone)) }
+) -> Result<(Name, InMemoryZoneHandler<()>), Refusal>
+    ensures ok { IfOk result (λ made. IsZoneOf kind origin.now text.now made.0 made.1) }
+    ensures reads_back { IfOk result (λ made. ViewReadsBack (Stored made.1)) }
     ensures err { IfErr result (RefusesZone kind origin.now text.now) }
 {
     let Some(zone_type) = kind_of(kind) else {
@@ -97,8 +98,19 @@ fn zone_of(
     let Ok(text) = str::from_utf8(text) else {
         return Err(Refusal::WrongText);
     };
-    let origin = name_of(alloc, origin)?;
-    load(alloc, zone_type, origin, text)
+    let name = name_of(alloc, origin)?;
+    let zone = load(alloc, zone_type, name.clone()?, text)?;
+    Ok((name, zone))
+}
+
+// A chain of one handler. It is generic, since the drop of a known handler takes long to prove.
+fn chain_of<H: Drop>(alloc: Global, handler: H) -> Result<Vec<H>, Refusal>
+    ensures ok { IfOk result (λ chain. chain.items ≡ handler ∷ []) }
+    ensures err { IfErr result (λ refusal. refusal ≡ OutOfMemory) }
+{
+    let mut chain = Vec::new(alloc);
+    chain.push(handler)?;
+    Ok(chain)
 }
 
 impl Server {
@@ -120,8 +132,7 @@ impl Server {
         ensures back { WorldReadsBack (world_in self.old) → WorldReadsBack (world_in self.new) }
         ensures memory { IfErr result (λ refusal. refusal ≡ OutOfMemory) }
     {
-        let mut chain = Vec::new(self.alloc);
-        chain.push(handler)?;
+        let chain = chain_of(self.alloc, handler)?;
         self.authority.upsert(name, chain)?;
         Ok(())
     }
@@ -133,8 +144,7 @@ impl Server {
         ensures unchanged { OnErr result (world_in self.new ≡ world_in self.old) }
         ensures back { WorldReadsBack (world_in self.old) → WorldReadsBack (world_in self.new) }
     {
-        let zone = zone_of(self.alloc, kind, origin, text)?;
-        let name = zone.origin().clone()?;
+        let (name, zone) = zone_of(self.alloc, kind, origin, text)?;
         self.put(&name, Handler::Zone(zone))
     }
 
@@ -151,8 +161,7 @@ impl Server {
         ensures unchanged { OnErr result (world_in self.new ≡ world_in self.old) }
         ensures back { WorldReadsBack (world_in self.old) → WorldReadsBack (world_in self.new) }
     {
-        let list = blocklist_of(self.alloc, settings, name, text, message)?;
-        let name = list.origin().clone()?;
+        let (name, list) = blocklist_of(self.alloc, settings, name, text, message)?;
         self.put(&name, Handler::Blocklist(list))
     }
 
@@ -165,7 +174,10 @@ impl Server {
     {
         let name = name_of(self.alloc, name)?;
         match self.authority.remove(&name)? {
-            Some(_) => Ok(()),
+            Some(chain) => {
+                mem::drop(chain);
+                Ok(())
+            }
             None => Err(Refusal::NotFound),
         }
     }

@@ -76,7 +76,10 @@ fn a_list_blocks(rt: HostRuntime) {
     assert!(rt; add_blocklist(&mut server, &SETTINGS, b".", names, b"") == 0);
     assert!(rt; ask(&mut server, &[127, 0, 0, 1]) == (0, 99));
     assert!(rt; remove(&mut server, b".") == 0);
-    let settings = BlocklistSettings { action: 3, ..SETTINGS };
+    let settings = BlocklistSettings {
+        action: 3,
+        ..SETTINGS
+    };
     let long = [b'a'; 256];
     assert!(rt; add_blocklist(&mut server, &settings, b"x", b"\xff", &long) == -6);
     assert!(rt; add_blocklist(&mut server, &SETTINGS, b"x", b"\xff", &long) == -7);
@@ -105,7 +108,15 @@ fn networks_are_set_whole(rt: HostRuntime) {
     };
     assert!(rt; set_access(&mut server, &[HOME, wrong, long]) == -3);
     assert!(rt; set_access(&mut server, &[long, wrong]) == -6);
-    assert!(rt; set_access(&mut server, &[Network { address_len: 255, ..HOME }]) == -3);
+    assert!(rt;
+        set_access(
+            &mut server,
+            &[Network {
+                address_len: 255,
+                ..HOME
+            }]
+        ) == -3
+    );
     assert!(rt; ask(&mut server, &[192, 0, 3, 7]) == (5, 0));
     let denied = Network {
         denied: true,
@@ -121,7 +132,8 @@ fn networks_are_set_whole(rt: HostRuntime) {
 
 // How long the reply to a question for the identifier is.
 fn ask_nsid(server: &mut Server) -> i64 {
-    let question = b"\x12\x34\0\0\0\x01\0\0\0\0\0\x01\x03www\x07example\x03com\0\0\x01\0\x01\0\0\x29\x04\xd0\0\0\0\0\0\x04\0\x03\0\0";
+    let question =
+        b"\x12\x34\0\0\0\x01\0\0\0\0\0\x01\x03www\x07example\x03com\0\0\x01\0\x01\0\0\x29\x04\xd0\0\0\0\0\0\x04\0\x03\0\0";
     let mut reply = [0u8; 512];
     serve(server, question, &[127, 0, 0, 1], 53, false, 0, &mut reply)
 }
