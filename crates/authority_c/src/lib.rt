@@ -6,19 +6,22 @@
 
 ghost use Rattle.std.specs.Prelude.{◌≡◌};
 ghost use Rattle.std.specs.Borrow.{full_share, sem};
+ghost use Rattle.std.specs.Mem.{type_size};
 ghost use Rattle.std.specs.Ptr.{lies_at, room_at};
 ghost use Rattle.authority_handle.specs.Calls.{AddsBlocklist, AddsZone, Removes, ServesInto, SetsAccess, SetsNsid};
 ghost use Rattle.authority_handle.specs.Worlds.{world_in};
 ghost use Rattle.authority_handle.specs.contracts.Server.{the_row};
 ghost use Rattle.authority_handle.specs.declared.server.Server.{Server as Held};
-ghost use Rattle.authority_server.specs.Servers.{no_zones};
+ghost use Rattle.authority_handle.specs.authority_server.Servers.{no_zones};
 
 use authority_handle::{BlocklistSettings, Network, Server};
 use std::alloc::Global;
 
 /// The size of a server in octets.
 #[unsafe(no_mangle)]
-pub extern "C" fn soarnef_size() -> usize {
+pub extern "C" fn soarnef_size() -> usize
+    ensures { result ≡ type_size the_row }
+{
     std::mem::size_of::<Server>()
 }
 
@@ -118,7 +121,7 @@ pub unsafe extern "C" fn soarnef_serve(
     ghost held: { Server }
     requires* { sem 𝓛 (lies_at the_row full_share at held) }
     ensures* { sem 𝓛 (lies_at the_row full_share at held)
-        ∗ ⌜ ServesInto (world_in held) message.now address.now port stream now result reply.new ⌝ }
+        ∗ ⌜ ServesInto (world_in held) message.now address.now port stream now reply.old result reply.new ⌝ }
 {
     let at = at as *mut Server;
     authority_handle::serve(&mut *at, message, address, port, stream, now, reply)

@@ -1,5 +1,5 @@
 -- The calls from other languages: octets and numbers in, octets and numbers out.
-use Rattle.std.specs.Prelude.{◌≡◌, ◌==◌, if◌then◌else◌, ◌<◌, ◌≤◌, ◌≢◌, ◌⊎◌, ℕ, suc, zero, ℤ, pos, Bool, true, false, List, [], ◌∷◌, length, take, Option, Some, None, IsSome}
+use Rattle.std.specs.Prelude.{◌≡◌, ◌==◌, if◌then◌else◌, ◌<◌, ◌≤◌, ◌≢◌, ◌⊎◌, ℕ, suc, zero, ℤ, pos, Bool, true, false, List, [], ◌∷◌, drop, length, take, Option, Some, None, IsSome}
 use Rattle.std.specs.Str.{IsUtf8}
 use Rattle.std.specs.declared.net.SocketAddr.{SocketAddr}
 use Rattle.authority_handle.specs.Blocklists.{IsBlocklist, RefusesBlocklist}
@@ -144,7 +144,7 @@ nsid_of (octet ∷ octets) = Some (octet ∷ octets)
 -- Why an NSID is refused: OPT RDATA has at most 65,535 octets, and the option's code and length
 -- take four of them.
 abbrev pub RefusesNsid : List ℕ → Refusal → Type 0
-RefusesNsid octets refusals.OutOfMemory = length octets ≤ 65531
+RefusesNsid octets refusals.OutOfMemory = (0 < length octets) × (length octets ≤ 65531)
 RefusesNsid octets refusals.TooLong = 65531 < length octets
 RefusesNsid octets other = ⊥
 
@@ -193,11 +193,16 @@ RefusesMessage world message address port stream now room refusals.WrongAddress 
     IsNoAddress address
 RefusesMessage world message address port stream now room other = ⊥
 
+-- A reply of a length is at the start of a buffer, whose other octets are as before.
+pub record FillsStart (n : ℕ) (before after : List ℕ) : Type 0 where
+  pub within : n ≤ length after
+  pub rest : drop n after ≡ drop n before
+
 -- A message is served, and the result is the length of the reply at the start of the buffer; or it
--- is refused.
-abbrev pub ServesInto : World → List ℕ → List ℕ → ℕ → Bool → ℕ → ℤ → List ℕ → Type 0
-ServesInto world message address port stream now result buffer =
-    ((n : ℕ) × (result ≡ pos n)
-    × ServesFrom world message address port stream now (reply_of n buffer))
-    ⊎ ((refusal : Refusal) × (result ≡ code_of refusal)
-    × RefusesMessage world message address port stream now (length buffer) refusal)
+-- is refused, and the buffer is as before.
+abbrev pub ServesInto : World → List ℕ → List ℕ → ℕ → Bool → ℕ → List ℕ → ℤ → List ℕ → Type 0
+ServesInto world message address port stream now before result after =
+    ((n : ℕ) × (result ≡ pos n) × FillsStart n before after
+    × ServesFrom world message address port stream now (reply_of n after))
+    ⊎ ((refusal : Refusal) × (result ≡ code_of refusal) × (after ≡ before)
+    × RefusesMessage world message address port stream now (length after) refusal)

@@ -74,5 +74,5 @@ RefusesFirst (network ∷ later) refusal =
 
 -- Why networks are refused: one is invalid, or else out of memory.
 abbrev pub RefusesNetworks : List Network → Refusal → Type 0
-RefusesNetworks networks refusals.OutOfMemory = AreNetworks networks
+RefusesNetworks networks refusals.OutOfMemory = (0 < length networks) × AreNetworks networks
 RefusesNetworks networks other = RefusesFirst networks other

@@ -1,7 +1,7 @@
 //! The calls as other languages make them.
 
-ghost use Rattle.std.specs.Prelude.{◌≡◌, ◌<◌, ◌^◌, length, IfErr, IfOk, IfSome, MatchOption};
-ghost use Rattle.authority_handle.specs.Calls.{AddsBlocklist, AddsZone, IsUnfit, RefusesMessage, Removes, ServesFrom, ServesInto, SetsAccess, SetsNsid, StandsIn, reply_of, transport_of};
+ghost use Rattle.std.specs.Prelude.{◌≡◌, ◌<◌, ◌^◌, length, IfErr, IfOk, IfSome, MatchOption, None, OnErr};
+ghost use Rattle.authority_handle.specs.Calls.{AddsBlocklist, AddsZone, FillsStart, IsUnfit, RefusesMessage, Removes, ServesFrom, ServesInto, SetsAccess, SetsNsid, StandsIn, reply_of, transport_of};
 ghost use Rattle.authority_handle.specs.Worlds.{world_in};
 ghost use Rattle.authority_server.specs.Servers.{no_zones};
 
@@ -93,6 +93,8 @@ fn put(octets: &[u8], buffer: &mut [u8]) -> Option<usize>
     ensures put { MatchOption result (IsUnfit octets.now (length buffer.old)) (StandsIn octets.now buffer.new) }
     ensures len { length buffer.new ≡ length buffer.old }
     ensures small { IfSome result (λ count. count < 2 ^ 63) }
+    ensures start { IfSome result (λ count. FillsStart count buffer.old buffer.new) }
+    ensures unchanged { result ≡ None → buffer.new ≡ buffer.old }
 {
     let count = octets.len();
     if count == 0 || buffer.len() < count {
@@ -115,6 +117,8 @@ fn reply_to(
     ensures unchanged { server.new ≡ server.old }
     ensures served { IfOk result (λ length. ServesFrom (world_in server.old) message.now address.now port stream now (reply_of length reply.new)) }
     ensures small { IfOk result (λ length. length < 2 ^ 63) }
+    ensures start { IfOk result (λ length. FillsStart length reply.old reply.new) }
+    ensures same { OnErr result (reply.new ≡ reply.old) }
     ensures refused { IfErr result (RefusesMessage (world_in server.old) message.now address.now port stream now (length reply.new)) }
 {
     let Some(source) = source_of(address, port) else {
@@ -145,7 +149,7 @@ pub fn serve(
     reply: &mut [u8],
 ) -> i64
     ensures unchanged { server.new ≡ server.old }
-    ensures served { ServesInto (world_in server.old) message.now address.now port stream now result reply.new }
+    ensures served { ServesInto (world_in server.old) message.now address.now port stream now reply.old result reply.new }
 {
     length_or_code(reply_to(server, message, address, port, stream, now, reply))
 }

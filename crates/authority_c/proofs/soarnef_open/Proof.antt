@@ -31,7 +31,7 @@ use Rattle.std.proofs.alloc.Global.TheLaws as heap_laws
 use Rattle.authority_handle.specs.contracts.Server as server
 use Rattle.authority_handle.proofs.Server.TheLaws as server_laws
 use Rattle.authority_handle.specs.Worlds.{world_in}
-use Rattle.authority_server.specs.Servers.{no_zones}
+use Rattle.authority_handle.specs.authority_server.Servers.{no_zones}
 use Rattle.authority_handle.specs.contracts.empty as g
 use Rattle.authority_handle.proofs.empty.Met.{met}
 use Rattle.authority_c.specs.contracts.soarnef_open as f

@@ -1,0 +1,1 @@
+pub use Rattle.authority_server.specs.Servers
