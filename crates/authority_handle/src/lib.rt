@@ -17,6 +17,3 @@ pub use handler::Handler;
 pub use refusal::Refusal;
 pub use server::Server;
 pub use sources::Network;
-
-#[cfg(test)]
-mod tests;
