@@ -95,7 +95,7 @@ fn all_addresses<'z>(
     let mut found = Vec::new(alloc);
     let mut seen = HashSet::new(alloc);
     'targets: for next in records {
-        list_target(sets, alloc, next, &mut found, &mut seen)?;
+        list_target(sets, alloc, next, &mut found, &mut seen, records.len())?;
     }
     if found.is_empty() {
         return Ok(None);
@@ -111,6 +111,7 @@ fn list_target<'z>(
     next: &Record,
     found: &mut Vec<AnswerSet<'z>>,
     seen: &mut HashSet<NameKey>,
+    room: usize,
 ) -> Result<(), AllocError>
     ensures { OnOk result ((later : List Stored) → map set_in found.new.items ++ left_to_list sets.now seen.new later
         ≡ map set_in found.old.items ++ left_to_list sets.now seen.old (next.now ∷ later)) }
@@ -123,18 +124,25 @@ fn list_target<'z>(
     if v4.is_none() && v6.is_none() {
         return Ok(());
     }
-    if !insert_new(seen, key)? {
+    if !insert_new(seen, room, key)? {
         return Ok(());
     }
     push_set(found, v4)?;
     push_set(found, v6)
 }
 
-// Puts a key among those that were seen; false where it is there.
-fn insert_new<K: Eq + Hash + Drop>(seen: &mut HashSet<K>, key: K) -> Result<bool, AllocError>
+// Puts a key among those that were seen; false where it is there. The first takes room for this many.
+fn insert_new<K: Eq + Hash + Drop>(
+    seen: &mut HashSet<K>,
+    room: usize,
+    key: K,
+) -> Result<bool, AllocError>
     ensures new { IfOk result (λ new. new ≡ not (contains K.eq seen.old key)) }
     ensures after { OnOk result ((k : K) → contains K.eq seen.new k ≡ (if K.eq key k then true else contains K.eq seen.old k)) }
 {
+    if seen.is_empty() {
+        seen.reserve(room)?;
+    }
     match seen.insert(key) {
         Ok(is_new) => Ok(is_new),
         Err(_) => Err(AllocError),
