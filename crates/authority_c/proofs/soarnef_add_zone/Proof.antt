@@ -1,4 +1,4 @@
--- The server that C holds is lent to `add_zone` for the call, and comes back as that left it.
+-- The server of the caller is borrowed by `add_zone`, and returned as that left it.
 use Rattle.std.proofs.Common.{ℕ, List, [], ◌∷◌, ◌++◌, length, refl, sym, ap, w8, w64}
 use base.Fraction.{full_share}
 use base.Logic.{SProp, sep, emp, ex, ex_i, id⊢}
@@ -47,7 +47,7 @@ use Rattle.authority_c.proofs.soarnef_add_zone.Code as code
 abbrev stayed : Stays f.ended.signature.params f.ended.kept
 stayed = (stay_dropped _ yes, (stay_dropped _ yes, (stay_dropped _ yes, (stay_dropped _ yes, (gave_slice (2 ∷ []) tt (plain (λ _. u8)), tt)))))
 
--- the machine values of the parameters behind the pointer
+-- The machine values of the parameters after the pointer.
 abbrev Four : Type 0
 Four = List Val × (List Val × (List Val × (List Val × Unit {0})))
 

@@ -1,4 +1,4 @@
--- An empty server is made in the room that C lends.
+-- An empty server is made in memory of the caller.
 use Rattle.std.proofs.Common.{◌≡◌, List, [], ◌∷◌, ◌++◌, refl, sym, ap, ◌∙◌}
 use base.Fraction.{full_share}
 use base.Logic.{SProp, sep, emp, ex, ex_i, id⊢}

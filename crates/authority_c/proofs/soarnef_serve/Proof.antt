@@ -1,4 +1,4 @@
--- The server that C holds is lent to `serve` for the call, and comes back as it was.
+-- The server of the caller is borrowed by `serve`, and returned unchanged.
 use Rattle.std.proofs.Common.{◌≡◌, ℕ, List, [], ◌∷◌, ◌++◌, length, refl, sym, ap, w16, w64}
 use base.Fraction.{full_share}
 use base.Logic.{SProp, emp, id⊢}
@@ -46,7 +46,7 @@ use Rattle.authority_c.proofs.soarnef_serve.Code as code
 abbrev stayed : Stays f.ended.signature.params f.ended.kept
 stayed = (stay_dropped _ yes, (stay_dropped _ yes, (stay_dropped _ yes, (stay_dropped _ yes, (stay_dropped _ yes, (stay_dropped _ yes, (gave_slice (2 ∷ []) tt (plain (λ _. u8)), tt)))))))
 
--- the machine values of the parameters behind the pointer
+-- The machine values of the parameters after the pointer.
 abbrev Six : Type 0
 Six = List Val × (List Val × (List Val × (List Val × (List Val × (List Val × Unit {0})))))
 

@@ -1,4 +1,4 @@
--- The server that C holds is lent to `set_access` for the call, and comes back as that left it.
+-- The server of the caller is borrowed by `set_access`, and returned as that left it.
 use Rattle.std.proofs.Common.{ℕ, List, [], ◌∷◌, ◌++◌, length, refl, sym, ap, w64}
 use base.Fraction.{full_share}
 use base.Logic.{SProp, sep, emp, ex, ex_i, id⊢}
@@ -46,7 +46,7 @@ use Rattle.authority_c.proofs.soarnef_set_access.Code as code
 abbrev stayed : Stays f.ended.signature.params f.ended.kept
 stayed = (stay_dropped _ yes, (stay_dropped _ yes, tt))
 
--- the machine values of the parameters behind the pointer
+-- The machine values of the parameters after the pointer.
 abbrev One : Type 0
 One = List Val × Unit {0}
 
