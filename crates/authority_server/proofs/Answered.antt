@@ -13,7 +13,8 @@ use Rattle.zsv_catalog.specs.zsv_answer.Responses.{Sends, error_parts}
 use Rattle.zsv_catalog.specs.zsv_answer.zst_request.zst_codes.declared.response_code.ResponseCode.{ResponseCode}
 use Rattle.zsv_catalog.specs.zsv_answer.zst_request.zst_codes.declared.response_code.ResponseCode.TheVariants as responses
 use Rattle.zsv_catalog.specs.zsv_answer.zsv_reply.Replies.{IsReply, ReplyParts}
-use Rattle.zsv_catalog.specs.zsv_answer.zsv_reply.Writing.{AllReadBack, FitsOpCode, IsEncoded}
+use Rattle.zsv_catalog.specs.zsv_answer.zsv_reply.zsv_message.zsv_parts.Headers.{FitsOpCode}
+use Rattle.zsv_catalog.specs.zsv_answer.zsv_reply.Writing.{AllReadBack, IsEncoded}
 use Rattle.zsv_catalog.specs.zsv_answer.zsv_reply.zsv_message.Messages.{IsMessage, Message}
 use Rattle.zsv_catalog.specs.zsv_answer.zsv_reply.zsv_message.zst_edns.declared.edns.Edns.{Edns}
 use Rattle.zsv_catalog.specs.zsv_answer.zsv_reply.zsv_message.zsv_parts.Questions.{Asked}

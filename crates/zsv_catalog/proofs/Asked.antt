@@ -4,7 +4,7 @@ use Rattle.std.specs.Prelude.{get_or}
 use Rattle.zsv_answer.specs.zsv_reply.zsv_message.zsv_parts.dnw_decoder.Octets.{number_16}
 use Rattle.zsv_answer.specs.zsv_reply.zsv_message.zsv_parts.Headers.{header_of, metadata_of, op_code_of, op_code_number}
 use Rattle.zsv_answer.specs.zsv_reply.zsv_message.zsv_parts.declared.header.Metadata.{Metadata}
-use Rattle.zsv_answer.specs.zsv_reply.Writing.{FitsOpCode}
+use Rattle.zsv_answer.specs.zsv_reply.zsv_message.zsv_parts.Headers.{FitsOpCode}
 use Rattle.zsv_answer.specs.zsv_reply.zsv_message.Messages.{IsMessage, Message, RefusesMessage, joined_metadata, no_additionals, no_answers, no_authorities, no_header, no_questions}
 use Rattle.zsv_answer.specs.zsv_reply.zsv_message.zsv_parts.dnw_decoder.Reading.{IsWantOfMemory}
 use Rattle.zsv_answer.specs.zst_request.dnw_codes.declared.error.DecodeError.{DecodeError}

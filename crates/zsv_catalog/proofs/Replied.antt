@@ -34,13 +34,13 @@ authoritative_id : (view : View) (m : Metadata) (d : Bool) (t : RecordType) (res
 authoritative_id view m d t (resolved answers additionals) parts is = ap id_of is.2
 authoritative_id view m d t no_such_type parts is = ap id_of is.2
 authoritative_id view m d t no_such_name parts is = ap id_of is.2
-authoritative_id view m d t not_here parts is = ap id_of is
+authoritative_id view m d t (not_here code) parts is = ap id_of is
 
 resolved_id : (m : Metadata) (d : Bool) (t : RecordType) (resolution : Resolution) (parts : ReplyParts) → parts ≡ resolved_parts m d t resolution → id_of parts ≡ m.id
 resolved_id m d t (resolved answers additionals) parts is = ap id_of is
 resolved_id m d t no_such_type parts is = ap id_of is
 resolved_id m d t no_such_name parts is = ap id_of is
-resolved_id m d t not_here parts is = ap id_of is
+resolved_id m d t (not_here code) parts is = ap id_of is
 
 forwarded_id : (m : Metadata) (d : Bool) (t : RecordType) (resolution : Resolution) (parts : ReplyParts) → ForwardedParts m d t resolution parts → id_of parts ≡ m.id
 forwarded_id m d t resolution parts is = by m.recursion_desired refl

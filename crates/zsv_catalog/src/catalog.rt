@@ -2,7 +2,7 @@
 
 ghost use Rattle.std.specs.Prelude.{◌≡◌, ◌≤◌, ℕ, false, List, [], IfErr, IfOk, None, OnErr, OnOk, is_some, length, option_copied, option_map};
 ghost use Rattle.zst_key.specs.dnw_name.DomainName.{lowercase_name};
-ghost use Rattle.zsv_answer.specs.zsv_reply.Writing.{FitsOpCode};
+ghost use Rattle.zsv_answer.specs.zsv_reply.zsv_message.zsv_parts.Headers.{FitsOpCode};
 ghost use Rattle.zsv_answer.specs.zsv_reply.zsv_message.zsv_parts.declared.header.Header.{Header};
 ghost use Rattle.zsv_catalog.specs.Catalogs.{AnswersQuery, RepliesBy};
 ghost use Rattle.zsv_catalog.specs.Chains.{chain_at, chain_for, views_of, with_chain, without_chain};

@@ -1,7 +1,7 @@
 //! What answers requests.
 
 ghost use Rattle.std.specs.Prelude.{◌≡◌, ℕ, List, IfErr, IfOk, OnErr};
-ghost use Rattle.zsv_answer.specs.zsv_reply.Writing.{FitsOpCode};
+ghost use Rattle.zsv_answer.specs.zsv_reply.zsv_message.zsv_parts.Headers.{FitsOpCode};
 ghost use Rattle.zsv_answer.specs.zsv_reply.zsv_message.zsv_parts.declared.header.Header.{Header};
 ghost use Rattle.zsv_answer.specs.zsv_request.Requests.{Requested};
 ghost use Rattle.zsv_catalog.specs.Sinks.{HandsOver};

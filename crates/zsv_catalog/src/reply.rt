@@ -2,7 +2,7 @@
 
 ghost use Rattle.std.specs.Prelude.{◌≡◌, [], IfOk, OnOk, option_copied};
 ghost use Rattle.zsv_answer.specs.Responses.{parts_of};
-ghost use Rattle.zsv_answer.specs.zsv_reply.Writing.{FitsOpCode};
+ghost use Rattle.zsv_answer.specs.zsv_reply.zsv_message.zsv_parts.Headers.{FitsOpCode};
 ghost use Rattle.zsv_catalog.specs.Catalogs.{AnswersEdns, AnswersQuery, IsReplyEdns, KindParts, PlainParts, QueryParts, QuestionParts, RepliesBy, SendsWith, has_other_version, identifier, nsid_for};
 ghost use Rattle.zsv_catalog.specs.Chains.{views_of};
 

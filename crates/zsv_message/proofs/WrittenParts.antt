@@ -19,7 +19,8 @@ use Rattle.zsv_sections.specs.zst_record.dnw_encoder.State.{State, is_lower}
 use Rattle.zsv_sections.specs.zst_record.drd_rdata.Reading.{RDataAt}
 use Rattle.zsv_sections.specs.zst_record.drd_rdata.Writing.{WritesInFull}
 use Rattle.zsv_sections.specs.zst_record.drd_rdata.declared.rdata.RData.TheVariants as rdata
-use Rattle.zsv_sections.specs.zst_record.Records.{RecordAt, ReadsBackAlone, plain}
+use Rattle.zsv_sections.proofs.zst_record_lemmas.BackLaws.{servable_back}
+use Rattle.zsv_sections.specs.zst_record.Records.{RecordAt, IsServable, plain}
 use Rattle.zsv_sections.specs.zst_record.Writing.{EmitsRecord, RefusesRecord}
 use Rattle.zst_edns.specs.Edns.{IsEdnsOf, edns_ttl}
 use Rattle.zst_edns.specs.Writing.{EdnsReadsBack, EmitsEdns, FitsFields, RefusesEdns, edns_data, opt_head, opt_octets}
@@ -45,13 +46,13 @@ set_then old new f w = record {
   small = omega (arith, w.modes.maximum, f.small);
 }
 
-pub records_stand : Standing IsSet RecordAt plain ReadsBackAlone EmitsRecord RefusesRecord
+pub records_stand : Standing IsSet RecordAt plain IsServable EmitsRecord RefusesRecord
 records_stand = record {
   goes_on = set_then;
-  stays = λ r old new one alone f. one.stays alone f.in_full f.small;
-  size = λ r old new one alone. one.size alone;
+  stays = λ r old new one alone f. one.stays (servable_back r alone) f.in_full f.small;
+  size = λ r old new one alone. one.size (servable_back r alone);
   fits = λ r old new one. one.fits;
-  refused = λ r old e refused alone small. refused alone small;
+  refused = λ r old e refused alone small. refused.whole (servable_back r alone) small;
 }
 
 -- The number of the class of a number is that number.

@@ -9,7 +9,7 @@ use Rattle.zsv_request.specs.zsv_message.zsv_parts.zst_codes.declared.response_c
 use Rattle.zsv_request.specs.zsv_message.zsv_parts.zst_codes.declared.response_code.ResponseCode.TheVariants.{Unknown}
 use Rattle.zsv_request.proofs.zsv_message_lemmas.zsv_parts_lemmas.Flags.{octets_back}
 use Rattle.zsv_reply.specs.Replies.{header_of_reply}
-use Rattle.zsv_reply.specs.Writing.{FitsOpCode}
+use Rattle.zsv_request.specs.zsv_message.zsv_parts.Headers.{FitsOpCode}
 
 -- The number of the code of a number is that number.
 number_by : (b : Bool) (named : ResponseCode) (n : ℕ) (found : Option ResponseCode) → (b ≡ true → response_code_number named ≡ n) → response_code_number (unwrap_or found (Unknown n)) ≡ n → response_code_number (unwrap_or (if b then Some named else found) (Unknown n)) ≡ n

@@ -12,7 +12,7 @@ use Rattle.zsv_request.specs.zsv_message.zst_record.dnw_encoder.Effects.{StaysTr
 use Rattle.zsv_request.proofs.zsv_message_lemmas.zst_record_lemmas.dnw_encoder_lemmas.Laws.{holds_more, holds_now, holds_same, holds_written, writes_same, writes_then}
 use Rattle.zsv_request.specs.zsv_message.zst_record.dnw_encoder.Members.{In}
 use Rattle.zsv_request.specs.zsv_message.zst_record.dnw_encoder.State.{State, at_offset}
-use Rattle.zsv_request.specs.zsv_message.zst_record.Records.{ReadsBackAlone, plain}
+use Rattle.zsv_request.specs.zsv_message.zst_record.Records.{IsServable, plain}
 use Rattle.zsv_request.specs.zsv_message.zst_record.Writing.{EmitsRecord, RefusesRecord}
 use Rattle.zsv_request.specs.zsv_message.Messages.{OptAt}
 use Rattle.zsv_request.specs.zsv_message.zst_edns.Writing.{EdnsReadsBack, EmitsEdns, RefusesEdns}
@@ -52,7 +52,7 @@ reserved_at_last h last filled sound f =
 
 -- So many items together, of which each takes eleven octets, are counted by 16 bits.
 pub records_few : (points : Bool) (first : ℕ) (xs : List Record) (written : Kept) (old new : State) → EmitsFront (ReplyRecordAt points first) plain xs written old new → 11 * written.count ≤ old.maximum
-records_few points first xs written old new f = emits_few (LeadsRecords points first) (ReplyRecordAt points first) plain ReadsBackAlone EmitsRecord RefusesRecord (records_stand points first) xs written old new f
+records_few points first xs written old new f = emits_few (LeadsRecords points first) (ReplyRecordAt points first) plain IsServable EmitsRecord RefusesRecord (records_stand points first) xs written old new f
 
 pub options_few : (xs : List Edns) (written : Kept) (old new : State) → EmitsFront OptAt opt_plain xs written old new → 11 * written.count ≤ old.maximum
 options_few xs written old new f = emits_few IsSet OptAt opt_plain EdnsReadsBack EmitsEdns RefusesEdns options_stand xs written old new f
@@ -114,11 +114,11 @@ if_passed_on Q (Ok x) e is q = tt
 if_passed_on Q (Err other) e is q = subst Q (sym is) q
 
 -- What holds of the records of two lists holds of those of each.
-pub first_back : (xs ys : List Record) → AllByRecursion ReadsBackAlone (xs ++ ys) → AllByRecursion ReadsBackAlone xs
+pub first_back : (xs ys : List Record) → AllByRecursion IsServable (xs ++ ys) → AllByRecursion IsServable xs
 first_back [] ys all = tt
 first_back (x ∷ xs) ys all = (all.0, first_back xs ys all.1)
 
-pub later_back : (xs ys : List Record) → AllByRecursion ReadsBackAlone (xs ++ ys) → AllByRecursion ReadsBackAlone ys
+pub later_back : (xs ys : List Record) → AllByRecursion IsServable (xs ++ ys) → AllByRecursion IsServable ys
 later_back [] ys all = all
 later_back (x ∷ xs) ys all = later_back xs ys all.1
 

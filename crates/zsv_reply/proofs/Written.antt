@@ -2,7 +2,7 @@
 use Rattle.std.proofs.Common.{ℕ, Bool, ◌+◌, ◌≤◌, ◌∙◌, List, length, refl, subst, sym, arith}
 use Rattle.std.specs.Prelude.{option_to_list}
 use Rattle.zsv_request.specs.zsv_message.zst_record.dnw_decoder.Octets.{Stands}
-use Rattle.zsv_request.specs.zsv_message.zst_record.Records.{ReadsBackAlone, plain}
+use Rattle.zsv_request.specs.zsv_message.zst_record.Records.{IsServable, plain}
 use Rattle.zsv_request.specs.zsv_message.zst_record.Writing.{EmitsRecord, RefusesRecord}
 use Rattle.zsv_request.specs.zsv_message.Messages.{OptAt}
 use Rattle.zsv_request.specs.zsv_message.zst_edns.Writing.{EdnsReadsBack, EmitsEdns, RefusesEdns}
@@ -21,9 +21,9 @@ pub fronts_forward : (points : Bool) (reply : List ℕ) (limit place : ℕ) (par
 fronts_forward points reply limit place parts kept f =
     omega (
       arith,
-      front_forward (LeadsRecords points place) (ReplyRecordAt points place) plain ReadsBackAlone EmitsRecord RefusesRecord (records_stand points place) reply limit place parts.answers kept.answers f.answers_end f.answers,
-      front_forward (LeadsRecords points place) (ReplyRecordAt points place) plain ReadsBackAlone EmitsRecord RefusesRecord (records_stand points place) reply limit f.answers_end parts.authorities kept.authorities f.authorities_end f.authorities,
-      front_forward (LeadsRecords points place) (ReplyRecordAt points place) plain ReadsBackAlone EmitsRecord RefusesRecord (records_stand points place) reply limit f.authorities_end parts.additionals kept.additionals f.additionals_end f.additionals,
+      front_forward (LeadsRecords points place) (ReplyRecordAt points place) plain IsServable EmitsRecord RefusesRecord (records_stand points place) reply limit place parts.answers kept.answers f.answers_end f.answers,
+      front_forward (LeadsRecords points place) (ReplyRecordAt points place) plain IsServable EmitsRecord RefusesRecord (records_stand points place) reply limit f.answers_end parts.authorities kept.authorities f.authorities_end f.authorities,
+      front_forward (LeadsRecords points place) (ReplyRecordAt points place) plain IsServable EmitsRecord RefusesRecord (records_stand points place) reply limit f.authorities_end parts.additionals kept.additionals f.additionals_end f.additionals,
       front_forward IsSet OptAt opt_plain EdnsReadsBack EmitsEdns RefusesEdns options_stand reply limit f.additionals_end (option_to_list parts.edns) kept.edns f.edns_end f.edns,
       front_forward IsSet TsigRecordAt tsig_plain TsigReadsBack EmitsTsigRecord RefusesTsigRecord signature_stands reply limit f.edns_end (option_to_list parts.signature) kept.signature (length reply) f.signature,
     )

@@ -8,7 +8,7 @@ use Rattle.zsv_request.specs.zsv_message.Messages.{OptAt}
 use Rattle.zsv_request.specs.zsv_message.zst_edns.Writing.{EdnsReadsBack, FitsFields, opt_octets}
 use Rattle.zsv_request.specs.zsv_message.zst_edns.declared.edns.Edns.{Edns}
 use Rattle.zst_pointing.specs.Pointing.{ArePointing}
-use Rattle.zsv_request.specs.zsv_message.zst_record.Records.{ReadsBackAlone, plain}
+use Rattle.zsv_request.specs.zsv_message.zst_record.Records.{IsServable, plain}
 use Rattle.zsv_request.specs.zsv_message.zst_record.declared.records.Record.{Record}
 use Rattle.zsv_request.specs.zsv_message.zst_record.dnw_decoder.Octets.{Stands}
 use Rattle.zsv_request.specs.zsv_message.zst_record.dnw_name.DomainName.{DomainName, name_octets}
@@ -43,7 +43,7 @@ name_before : (asked : Asked) (reply : List ℕ) (name : DomainName) (first : �
 name_before asked reply name first b there = omega (arith, there.behind, ap length b.whole, length-append (name_octets name) b.rest)
 
 -- Records that point to it are a front of their list, all of them.
-records_stand : (points : Bool) (limit first : ℕ) (asked : Asked) (reply : List ℕ) (name : DomainName) → HasWholeName asked name → Stands reply 12 asked.octets first → (place end : ℕ) (records : List Record) (octets : List ℕ) → first ≤ place → ArePointing name records octets → AllByRecursion ReadsBackAlone records → Stands reply place octets end → Front (ReplyRecordAt points first) plain reply limit place records records end
+records_stand : (points : Bool) (limit first : ℕ) (asked : Asked) (reply : List ℕ) (name : DomainName) → HasWholeName asked name → Stands reply 12 asked.octets first → (place end : ℕ) (records : List Record) (octets : List ℕ) → first ≤ place → ArePointing name records octets → AllByRecursion IsServable records → Stands reply place octets end → Front (ReplyRecordAt points first) plain reply limit place records records end
 records_stand points limit first asked reply name begins questions place end [] octets behind none alone there = omega (arith, there.behind, ap length none)
 records_stand points limit first asked reply name begins questions place end (r ∷ rs) octets behind (one, rest, is, same, later) alone there =
     let both = stands_split reply place one rest end (subst (λ (o : List ℕ). Stands reply place o end) same there) in
@@ -51,7 +51,7 @@ records_stand points limit first asked reply name begins questions place end (r 
       place + length one,
       refl,
       record {
-        there = is.there alone.0 reply (12 + length (name_octets name)) place (place + length one) (name_stands asked reply name first begins questions) (omega (arith, before, behind)) both.0;
+        there = is.there alone.0.alone reply (12 + length (name_octets name)) place (place + length one) (name_stands asked reply name first begins questions) (omega (arith, before, behind)) both.0;
         owner = λ pointing later_place some owner_end owner_at. omega (arith, is.owner);
       },
       omega (arith, is.size),

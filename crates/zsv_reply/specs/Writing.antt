@@ -11,14 +11,14 @@ use Rattle.zsv_request.specs.zsv_message.zst_record.dnw_decoder.Spelling.{NameAt
 use Rattle.zsv_request.specs.zsv_message.zst_record.dnw_name.DomainName.{DomainName, name_octets}
 use Rattle.zsv_request.specs.zsv_message.zst_record.drd_rdata.Writing.{WritesInFull}
 use Rattle.zsv_request.specs.zsv_message.zst_record.declared.records.Record.{Record}
-use Rattle.zsv_request.specs.zsv_message.zst_record.Records.{ReadsBackAlone, plain}
+use Rattle.zsv_request.specs.zsv_message.zst_record.Records.{IsServable, plain}
 use Rattle.zsv_request.specs.zsv_message.Messages.{OptAt}
 use Rattle.zsv_request.specs.zsv_message.zst_edns.Writing.{EdnsReadsBack, opt_octets}
 use Rattle.zsv_request.specs.zsv_message.zst_edns.declared.edns.Edns.{Edns}
 use Rattle.zsv_request.specs.zsv_message.zsv_parts.declared.header.Metadata.{Metadata}
 use Rattle.zsv_request.specs.zsv_message.zsv_parts.declared.header.Header.{Header}
 use Rattle.zsv_request.specs.zsv_message.zsv_parts.declared.tsig.TsigRecord.{TsigRecord}
-use Rattle.zsv_request.specs.zsv_message.zsv_parts.Headers.{header_of, op_code_number, op_code_of, reserved_bit}
+use Rattle.zsv_request.specs.zsv_message.zsv_parts.Headers.{header_of, reserved_bit}
 use Rattle.zsv_request.specs.zsv_message.zsv_parts.Questions.{Asked}
 use Rattle.zsv_request.specs.zsv_message.zsv_parts.SignatureRecords.{TsigReadsBack, TsigRecordAt}
 use Rattle.zst_pointing.specs.Pointing.{ArePointing}
@@ -63,16 +63,11 @@ NeedsEncoder (Some edns) asked octets limit =
     (0 < length edns.options.options.items)
     ⊎ (limit < 12 + length asked.octets + length octets + length (opt_octets edns))
 
--- An operation that four bits hold.
-pub record FitsOpCode (m : Metadata) : Type 0 where
-  pub op_code : op_code_of (op_code_number m.op_code) ≡ m.op_code
-  pub small : op_code_number m.op_code < 16
-
 -- Each record of a reply reads back alone, and its options and its signature read back.
 pub record AllReadBack (parts : ReplyParts) : Type 0 where
-  pub answers : AllByRecursion ReadsBackAlone parts.answers
-  pub authorities : AllByRecursion ReadsBackAlone parts.authorities
-  pub additionals : AllByRecursion ReadsBackAlone parts.additionals
+  pub answers : AllByRecursion IsServable parts.answers
+  pub authorities : AllByRecursion IsServable parts.authorities
+  pub additionals : AllByRecursion IsServable parts.additionals
   pub edns : AllByRecursion EdnsReadsBack (option_to_list parts.edns)
   pub signature : AllByRecursion TsigReadsBack (option_to_list parts.signature)
 

@@ -3,7 +3,8 @@
 ghost use Rattle.std.specs.Prelude.{◌≡◌, length, IfOk, None};
 ghost use Rattle.zsv_request.specs.Requests.{limit_of};
 ghost use Rattle.zsv_request.specs.zsv_message.zsv_parts.Questions.{Asked};
-ghost use Rattle.zsv_reply.specs.Writing.{FitsOpCode, IsEncoded, bare_parts};
+ghost use Rattle.zsv_request.specs.zsv_message.zsv_parts.Headers.{FitsOpCode};
+ghost use Rattle.zsv_reply.specs.Writing.{IsEncoded, bare_parts};
 
 use crate::fronts::Kept;
 use crate::header::{encode_failure, header_over};

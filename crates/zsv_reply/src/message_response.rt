@@ -8,7 +8,8 @@ ghost use Rattle.zsv_request.specs.zsv_message.zst_record.dnw_encoder.Encoders.{
 ghost use Rattle.zsv_request.specs.zsv_message.zst_record.drd_rdata.Writing.{WritesInFull};
 ghost use Rattle.zsv_reply.specs.Lending.{Holds};
 ghost use Rattle.zsv_reply.specs.Replies.{ReplyParts};
-ghost use Rattle.zsv_reply.specs.Writing.{AllReadBack, FitsOpCode, IsEmitted, IsEncoded, lets_point};
+ghost use Rattle.zsv_request.specs.zsv_message.zsv_parts.Headers.{FitsOpCode};
+ghost use Rattle.zsv_reply.specs.Writing.{AllReadBack, IsEmitted, IsEncoded, lets_point};
 
 use crate::fronts::{emit_additionals, emit_front, emit_section};
 use crate::header::{encode_failure, header_over};

@@ -7,7 +7,8 @@ ghost use Rattle.zsv_request.specs.zsv_message.zst_record.dnw_name.DomainName.{D
 ghost use Rattle.zsv_request.specs.zsv_message.zsv_parts.Headers.{header_of, header_octets};
 ghost use Rattle.zsv_request.specs.zsv_message.zsv_parts.Questions.{HasWholeName};
 ghost use Rattle.zsv_reply.specs.Replies.{header_of_reply};
-ghost use Rattle.zsv_reply.specs.Writing.{AllReadBack, AreWritten, FitsOpCode, IsEncoded, NeedsEncoder, written_parts};
+ghost use Rattle.zsv_request.specs.zsv_message.zsv_parts.Headers.{FitsOpCode};
+ghost use Rattle.zsv_reply.specs.Writing.{AllReadBack, AreWritten, IsEncoded, NeedsEncoder, written_parts};
 
 use crate::fronts::Kept;
 use crate::header::header_over;

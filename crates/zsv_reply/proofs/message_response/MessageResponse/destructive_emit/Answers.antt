@@ -3,7 +3,7 @@ use Rattle.std.specs.List.{AllByRecursion}
 use Rattle.std.specs.Prelude.{Option, option_copied, option_to_list}
 use Rattle.zsv_request.specs.zsv_message.zst_record.dnw_encoder.Encoders.{state}
 use Rattle.zsv_request.proofs.zsv_message_lemmas.zst_record_lemmas.dnw_encoder_lemmas.PlaceLaws.{opens_open}
-use Rattle.zsv_request.specs.zsv_message.zst_record.Records.{ReadsBackAlone}
+use Rattle.zsv_request.specs.zsv_message.zst_record.Records.{IsServable}
 use Rattle.zsv_request.specs.zsv_message.zst_record.declared.records.Record.{Record}
 use Rattle.zsv_request.specs.zsv_message.zst_record.dnw_encoder.Effects.{Fills}
 use Rattle.zsv_request.specs.zsv_message.zst_edns.declared.edns.Edns.{Edns}
@@ -42,7 +42,7 @@ returns-in_err-answers-clause-cause g c = if_passed_on _ c.from_residual-in_err-
 
 pub returns-in_err-authorities-clause-cause : goal.returns-in_err-authorities-clause-cause
 returns-in_err-authorities-clause-cause g c = if_passed_on _ c.from_residual-in_err-authorities.result c.in_err-authorities.field-0.0 c.from_residual-in_err-authorities.ensures.1 (λ parts holds alone.
-    let both = subst (λ (rs : List Record). AllByRecursion ReadsBackAlone rs) holds.section alone.authorities in
+    let both = subst (λ (rs : List Record). AllByRecursion IsServable rs) holds.section alone.authorities in
     inl (c.in_err-authorities.ensures.cause holds.above holds.behind holds.authorities holds.soa (first_back holds.above holds.behind both) (later_back holds.above holds.behind both)))
 
 pub returns-in_err-replace-clause-cause : goal.returns-in_err-replace-clause-cause
@@ -68,7 +68,7 @@ returns-clause-ok g c parts holds alone =
     let answers = c.in_ok-answers.answers in
     let authorities = c.in_ok-authorities.authorities in
     let additionals = c.in_ok-additionals.additionals in
-    let both = subst (λ (rs : List Record). AllByRecursion ReadsBackAlone rs) holds.section alone.authorities in
+    let both = subst (λ (rs : List Record). AllByRecursion IsServable rs) holds.section alone.authorities in
     let options_back = subst (λ (e : Option Edns). AllByRecursion EdnsReadsBack (option_to_list e)) holds.edns alone.edns in
     let signature_back = subst (λ (s : Option TsigRecord). AllByRecursion TsigReadsBack (option_to_list s)) holds.signature alone.signature in
     let points = lets_point (state c.args.encoder.now) questions in
