@@ -1,9 +1,10 @@
 -- Lists read to their end, and why they are refused.
-use Rattle.std.specs.Prelude.{ℕ, ◌≡◌, ◌<◌, ◌≤◌, ◌^◌, ◌⊎◌, Bool, true, List, Option, length}
+use Rattle.std.specs.Prelude.{ℕ, ◌≡◌, ◌<◌, ◌≤◌, ◌^◌, ◌⊎◌, true, false, List, Option, length}
 use Rattle.std.specs.Io.KnownBytes.{Consumes, IsAtEnd}
 use Rattle.std.specs.Str.{IsUtf8}
 use Rattle.dnw_name.specs.DomainName.{DomainName}
 use Rattle.zsv_blocked.specs.BlockedNames.{AddsListed}
+use Rattle.zsv_blocked.specs.declared.faults.ReadFaults.{ReadFaults}
 use Rattle.zsv_blocked.specs.declared.read.BlocklistError.{BlocklistError}
 use Rattle.zsv_blocked.specs.declared.read.BlocklistError.TheVariants as causes
 
@@ -11,12 +12,20 @@ use Rattle.zsv_blocked.specs.declared.read.BlocklistError.TheVariants as causes
 abbrev pub GivesTooMany : Option (List ℕ) → Option (List ℕ) → Type 0
 GivesTooMany old new = (octets : List ℕ) × Consumes old new octets × (2 ^ 32 ≤ length octets)
 
--- Why a list's octets aren't read: the reader answered a fault, or gave too many; or for want of
--- memory.
-abbrev pub IsReadFault : Bool → Option (List ℕ) → Option (List ℕ) → BlocklistError → Type 0
-IsReadFault failed old new causes.Read = (failed ≡ true) ⊎ GivesTooMany old new
-IsReadFault failed old new causes.OutOfMemory = Unit {0}
-IsReadFault failed old new other = ⊥
+-- What was read when memory was refused: these octets, not too many, and no fault.
+pub record IsShortOfMemory (faults : ReadFaults) (old new : Option (List ℕ)) (octets : List ℕ) :
+    Type 0 where
+  pub well : faults.failed ≡ false
+  pub consumed : Consumes old new octets
+  pub few : length octets < 2 ^ 32
+
+-- Why a list's octets aren't read: the reader answered a fault, or gave too many; or memory was
+-- refused before the reader's end was seen.
+abbrev pub IsReadFault : ReadFaults → Option (List ℕ) → Option (List ℕ) → BlocklistError → Type 0
+IsReadFault faults old new causes.Read = (faults.failed ≡ true) ⊎ GivesTooMany old new
+IsReadFault faults old new causes.OutOfMemory =
+    (octets : List ℕ) × IsShortOfMemory faults old new octets × (faults.ended ≡ false)
+IsReadFault faults old new other = ⊥
 
 -- All octets of a reader, which are these, and not too many.
 pub record IsRead (old new : Option (List ℕ)) (octets : List ℕ) : Type 0 where
@@ -32,8 +41,16 @@ pub record AddsRead (names : List DomainName) (old new : Option (List ℕ))
   pub text : IsUtf8 octets
   pub added : AddsListed names octets end
 
--- Why a list is refused: its octets aren't read, or are no UTF-8.
-abbrev pub IsListFault : Bool → Option (List ℕ) → Option (List ℕ) → BlocklistError → Type 0
-IsListFault failed old new causes.NotUtf8 =
+-- Why a list is refused: its octets aren't read, or are no UTF-8; or memory was refused, before the
+-- reader's end was seen or for octets that are UTF-8.
+abbrev pub IsListFault : ReadFaults → Option (List ℕ) → Option (List ℕ) → BlocklistError → Type 0
+IsListFault faults old new causes.NotUtf8 =
     (octets : List ℕ) × IsRead old new octets × (IsUtf8 octets → ⊥)
-IsListFault failed old new other = IsReadFault failed old new other
+IsListFault faults old new causes.OutOfMemory =
+    (octets : List ℕ) × IsShortOfMemory faults old new octets
+    × (faults.ended ≡ true → IsAtEnd new × IsUtf8 octets)
+IsListFault faults old new other = IsReadFault faults old new other
+
+-- The same of a reader of which nothing says whether it answered a fault.
+abbrev pub IsUnrecordedFault : Option (List ℕ) → Option (List ℕ) → BlocklistError → Type 0
+IsUnrecordedFault old new e = (faults : ReadFaults) × IsListFault faults old new e

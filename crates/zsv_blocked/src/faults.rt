@@ -1,26 +1,31 @@
-//! The calls of a reader, whose fault is recorded.
+//! The calls of a reader: its fault and its end are recorded.
 //!
-//! std's `Read` has nothing by which a contract can tell that a call failed. So the one call stands here, and records a
-//! fault as it is answered; the contracts of who reads speak of the record.
-ghost use Rattle.std.specs.Prelude.{◌≡◌, ◌<◌, ◌≤◌, true, MatchOption, length, take};
+//! std's `Read` has nothing by which a contract can tell that a call failed, or that one gave no octets. So the one call
+//! is here, and records both as they are answered; the contracts of who reads speak of the record.
+ghost use Rattle.std.specs.Prelude.{◌≡◌, ◌<◌, ◌≤◌, ◌==◌, true, MatchOption, length, take};
 ghost use Rattle.std.specs.Io.KnownBytes.{Consumes, IsAtEnd, Keeps};
 
 use std::io::Read;
 
-/// Whether a reader answered a fault. Only the call below changes it.
+/// Whether a reader answered a fault, and whether its last call gave no octets. Only the call below changes it.
 #[derive(Debug, Drop)]
 pub struct ReadFaults {
     failed: bool,
+    ended: bool,
 }
 
 impl ReadFaults {
     ghost use Rattle.std.specs.Prelude.{false};
 
-    /// Nothing has failed.
+    /// Nothing has failed, and nothing was read.
     pub fn none() -> ReadFaults
-        ensures { result.failed ≡ false }
+        ensures failed { result.failed ≡ false }
+        ensures ended { result.ended ≡ false }
     {
-        ReadFaults { failed: false }
+        ReadFaults {
+            failed: false,
+            ended: false,
+        }
     }
 
     /// Whether the reader answered a fault.
@@ -30,17 +35,34 @@ impl ReadFaults {
         self.failed
     }
 
+    /// Whether the reader's last call gave no octets: it is at its end.
+    pub fn ended(&self) -> bool
+        ensures { result ≡ self.now.ended }
+    {
+        self.ended
+    }
+
     // Reads once; None where the reader answered a fault.
     pub(crate) fn read<R: Read>(&mut self, reader: &mut R, buffer: &mut [u8]) -> Option<usize>
         ensures bytes { MatchOption result (Keeps (R.remaining reader.old) (R.remaining reader.new))
             (λ count. (count ≤ length buffer.new) × Consumes (R.remaining reader.old) (R.remaining reader.new) (take count buffer.new)
             × (count ≡ 0 → 0 < length buffer.new → IsAtEnd (R.remaining reader.new))) }
-        ensures fault { MatchOption result (self.new.failed ≡ true) (λ count. self.new ≡ self.old) }
+        ensures fault { MatchOption result (self.new.failed ≡ true)
+            (λ count. (self.new.failed ≡ self.old.failed) × (self.new.ended ≡ (count == 0))) }
     {
         match reader.read(buffer) {
-            Ok(count) => Some(count),
+            Ok(count) => {
+                *self = ReadFaults {
+                    ended: count == 0,
+                    ..*self
+                };
+                Some(count)
+            }
             Err(_) => {
-                *self = ReadFaults { failed: true };
+                *self = ReadFaults {
+                    failed: true,
+                    ..*self
+                };
                 None
             }
         }

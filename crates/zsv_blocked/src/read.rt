@@ -1,5 +1,5 @@
 //! A list's octets.
-ghost use Rattle.std.specs.Prelude.{◌≡◌, ◌<◌, ◌^◌, length, false, IfOk, IfErr, OnOk, OnErr};
+ghost use Rattle.std.specs.Prelude.{◌≡◌, ◌<◌, ◌^◌, length, true, false, IfOk, IfErr, OnOk, OnErr};
 ghost use Rattle.std.specs.Io.KnownBytes.{Consumes, IsAtEnd};
 ghost use Rattle.zsv_blocked.specs.Reading.{AddsRead, IsListFault, IsReadFault};
 
@@ -14,16 +14,16 @@ use thiserror::Error;
 pub enum BlocklistError {
     /// The message that goes with an answer has more than 255 octets.
     #[error("MessageTooLong")]
-    MessageTooLong,
+    MessageTooLong = 1,
     /// The reader answered a fault, or gave more than 2^32 - 1 octets.
     #[error("Read")]
-    Read,
+    Read = 2,
     /// The octets are no UTF-8.
     #[error("NotUtf8")]
-    NotUtf8,
-    /// Want of memory.
+    NotUtf8 = 3,
+    /// Out of memory.
     #[error("OutOfMemory")]
-    OutOfMemory,
+    OutOfMemory = 4,
 }
 
 impl From<AllocError> for BlocklistError {
@@ -50,7 +50,8 @@ pub fn read_list<R: Read>(
     ensures whole { IfOk result (λ octets. IsAtEnd (R.remaining reader.new)) }
     ensures few { IfOk result (λ octets. length octets.items < 2 ^ 32) }
     ensures well { OnOk result (faults.new.failed ≡ false) }
-    ensures cause { IfErr result (IsReadFault faults.new.failed (R.remaining reader.old) (R.remaining reader.new)) }
+    ensures ended { OnOk result (faults.new.ended ≡ true) }
+    ensures cause { IfErr result (IsReadFault faults.new (R.remaining reader.old) (R.remaining reader.new)) }
 {
     let mut octets = Vec::new(alloc);
     let mut chunk = [0u8; 4096];
@@ -80,7 +81,7 @@ pub fn add_list<R: Read>(
     requires { faults.old.failed ≡ false }
     ensures ok { OnOk result (AddsRead names.old (R.remaining reader.old) (R.remaining reader.new) names.new) }
     ensures err { OnErr result (names.new ≡ names.old) }
-    ensures cause { IfErr result (IsListFault faults.new.failed (R.remaining reader.old) (R.remaining reader.new)) }
+    ensures cause { IfErr result (IsListFault faults.new (R.remaining reader.old) (R.remaining reader.new)) }
 {
     let octets = read_list(alloc, reader, faults)?;
     let Ok(text) = str::from_utf8(&octets) else {

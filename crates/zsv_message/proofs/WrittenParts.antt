@@ -131,7 +131,7 @@ options_stand = record {
 
 -- A signature that reads back is refused for room or for want of memory.
 sign_wanted : (r : TsigRecord) (old : State) (e : ProtoError) → RefusesTsigRecord r old e → TsigReadsBack r → IsRefusal old (length (tsig_record_octets r)) e
-sign_wanted r old e (inl refused) back = refused
+sign_wanted r old e (inl refused) back = refused.1
 sign_wanted r old e (inr long) back = absurd (omega (arith, long.0, back.counted))
 
 pub signature_stands : Standing IsSet TsigRecordAt (λ r. length (tsig_record_octets r)) TsigReadsBack EmitsTsigRecord RefusesTsigRecord
