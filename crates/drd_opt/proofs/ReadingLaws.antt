@@ -1,7 +1,7 @@
 -- One place holds the same options, however they are read.
-use Rattle.std.proofs.Common.{◌≡◌, ℕ, ◌+◌, ◌/◌, ◌%◌, ◌<◌, ◌≤◌, List, [], ◌∷◌, ◌++◌, inl, inr, length, take, drop, get_or, refl, sym, ap, subst, ◌∙◌, arith, append_assoc, append-nil}
+use Rattle.std.proofs.Common.{◌≡◌, ℕ, ◌+◌, ◌/◌, ◌%◌, ◌<◌, List, [], ◌∷◌, ◌++◌, inl, inr, length, take, drop, get_or, refl, sym, ap, subst, ◌∙◌, arith, append_assoc, append-nil}
 use Rattle.std.proofs.lemmas.Grind.{flat_map-append}
-use Rattle.std.proofs.lemmas.List.{take_at, drop_at, length-append, length-drop}
+use Rattle.std.proofs.lemmas.List.{take_at, drop_at, length-append}
 use Rattle.std.proofs.lemmas.List.Elements.{All-head, All-tail, All-push}
 use Rattle.std.specs.List.{All}
 use Rattle.drd_fields.specs.dnw_decoder.Octets.{number_16, Stands}
@@ -103,8 +103,3 @@ one_more octets index entries r behind entry h fit there is = record {
   there = subst (λ (o : List ℕ). Stands octets 0 o behind) (sym (joined_more h.raws r)) (stands_joined octets 0 (options_octets h.raws) index (raw_octets r) behind h.there there);
   entries_of = entries_more h.raws entries r entry h.entries_of is;
 }
-
--- Code and length, 4 octets, come before the octets of an option.
-pub short_option : (octets : List ℕ) (place code : ℕ) (found : List ℕ) (end : ℕ) → Stands octets place (raw_octets (raw_option code found)) end → length octets ≤ 65535 → length found ≤ 65531
-short_option octets place code found end there few =
-    omega (arith, ap length there.there, length-drop place octets, size_of (raw_option code found) (drop end octets), few)

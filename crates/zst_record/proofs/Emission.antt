@@ -60,10 +60,10 @@ head_emitted r a b c name ab numbers bc small = record {
       let behind = puts_stands (head_numbers r) b c (ab.sound sound) numbers in
       record {
         of = λ later agrees. record {
-            owner_end = b.offset;
-            owner = named.of later agrees;
-            numbers = behind.of later agrees;
-          };
+          owner_end = b.offset;
+          owner = named.of later agrees;
+          numbers = behind.of later agrees;
+        };
       };
   stays = λ full_name own_type own_class full.
       let kind = octets_16 (record_type_number (type_of r.rdata)) in
@@ -147,12 +147,12 @@ data_filled v n a b c d opens ab emits bc fills long small reads full =
     let counted = holds_more (a.offset + 2) d.offset d (λ m. Stands m a.offset (octets_16 n) (a.offset + 2)) (omega (arith, fills.offset, long)) (fills.stays (bc.sound (ab.sound full.sound))) in
     record {
       of = λ later agrees. record {
-            len = n;
-            number = counted.of later agrees;
-            small = small;
-            data_there = subst (λ (p : ℕ). ReadsAs (type_of v) later p n v) from (stays.of later agrees);
-            filled = omega (arith, fills.offset, long);
-          };
+        len = n;
+        number = counted.of later agrees;
+        small = small;
+        data_there = subst (λ (p : ℕ). ReadsAs (type_of v) later p n v) from (stays.of later agrees);
+        filled = omega (arith, fills.offset, long);
+      };
     }
 
 -- Whatever the RDATA are, they are where they were written, in the encoder's form.
@@ -166,12 +166,12 @@ data_written v n a b c d opens ab emits bc fills long small sound =
       form,
       record {
         of = λ later agrees. record {
-            len = n;
-            count = counted.of later agrees;
-            small = small;
-            rdata = subst (λ (q : ℕ). StandsWritten v form later (a.offset + 2) q) (sym long) (subst (λ (p : ℕ). StandsWritten v form later p c.offset) from (stays.of later agrees));
-            filled = omega (arith, fills.offset, long);
-          };
+          len = n;
+          count = counted.of later agrees;
+          small = small;
+          rdata = subst (λ (q : ℕ). StandsWritten v form later (a.offset + 2) q) (sym long) (subst (λ (p : ℕ). StandsWritten v form later p c.offset) from (stays.of later agrees));
+          filled = omega (arith, fills.offset, long);
+        };
       },
     )
 
@@ -219,10 +219,10 @@ record_emitted r a b c head ab behind bc = record {
         second.0,
         record {
           of = λ later agrees. record {
-              head_end = b.offset;
-              head = first.of later agrees;
-              rdata = second.1.of later agrees;
-            };
+            head_end = b.offset;
+            head = first.of later agrees;
+            rdata = second.1.of later agrees;
+          };
         },
       );
   stays = λ back full small.

@@ -2,7 +2,7 @@ use Rattle.std.proofs.Common.{◌≡◌, ℕ, List, [], ◌∷◌, ◌++◌, sub
 use Rattle.drd_fields.specs.dnw_decoder.Octets.{Stands}
 use Rattle.drd_opt.specs.Entries.{FitsLengths, raw_option, raw_octets}
 use Rattle.drd_opt.specs.Reading.{HasRead}
-use Rattle.drd_opt.proofs.ReadingLaws.{one_more, short_option}
+use Rattle.drd_opt.proofs.ReadingLaws.{one_more}
 use Rattle.drd_opt.proofs.read.entries_of.Goals as goal
 
 pub options-preserved : goal.options-preserved
