@@ -11,4 +11,4 @@ mod sorted;
 
 pub use above::{nearest, nearest_above};
 pub use key::NameKey;
-pub use sorted::{KeyRef, WholeKey, nearest_sorted};
+pub use sorted::{KeyRef, NameList, WholeKey};

@@ -1,4 +1,4 @@
-use Rattle.std.proofs.Common.{◌≡◌, ◌<◌, ◌==◌, ℕ, Bool, true, false, cond, length, ◌∙◌, ap, arith}
+use Rattle.std.proofs.Common.{◌<◌, ◌==◌, Bool, true, false, cond, length, ◌∙◌, ap, arith}
 use Rattle.dnw_name.specs.DomainName.{IsDomainName, labels_len, name_len}
 use Rattle.dnw_name.specs.DomainName.{DomainName}
 use Rattle.zst_key.specs.NameKeys.{name_of_key}

@@ -1,7 +1,7 @@
 use Rattle.std.proofs.Common.{length}
 use Rattle.zst_key.specs.Sorted.{entry_at}
 use Rattle.zst_key.proofs.NamesAbove.{HasPassed}
-use Rattle.zst_key.proofs.sorted.nearest_sorted.Given as goal
+use Rattle.zst_key.proofs.sorted.nearest_entry.Given as goal
 
 abbrev pub invariant-levels : goal.invariant-levels
 invariant-levels g l = HasPassed (entry_at l.entries) l.fn.key l.above

@@ -1,7 +1,7 @@
 use Rattle.std.proofs.Common.{◌∙◌, sym}
 use Rattle.zst_key.specs.Sorted.{entry_at}
 use Rattle.zst_key.proofs.NamesAbove.{passed-none, found-last, passed-more, found-none, found-apart, goes-up, last-above}
-use Rattle.zst_key.proofs.sorted.nearest_sorted.Goals as goal
+use Rattle.zst_key.proofs.sorted.nearest_entry.Goals as goal
 
 pub levels-init : goal.levels-init
 levels-init g c = passed-none (entry_at c.args.entries.now) c.args.key
