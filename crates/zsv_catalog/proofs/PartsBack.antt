@@ -138,7 +138,7 @@ question_back chains m dnssec q parts full all is = by (chain_for chains q.name)
     by None e = error_back m responses.Refused parts (is.no_chain e)
     by (Some chain) e = inside chain (same_record_type q.query_type types.AXFR) e refl
 
-query_back : (chains : List (DomainName × List View)) (m : Metadata) (dnssec : Bool) (qs : List Query) (parts : ReplyParts) → AllByRecursion IsFull qs → ChainsReadBack chains → QueryParts chains m dnssec qs parts → AllReadBack parts
+pub query_back : (chains : List (DomainName × List View)) (m : Metadata) (dnssec : Bool) (qs : List Query) (parts : ReplyParts) → AllByRecursion IsFull qs → ChainsReadBack chains → QueryParts chains m dnssec qs parts → AllReadBack parts
 query_back chains m dnssec [] parts full all is = error_back m responses.FormErr parts is
 query_back chains m dnssec (q ∷ []) parts full all is = question_back chains m dnssec q parts full.0 all is
 query_back chains m dnssec (q ∷ r ∷ qs) parts full all is = error_back m responses.FormErr parts is
@@ -203,14 +203,14 @@ asked_full : (octets : List ℕ) (place : ℕ) (qs : List Query) (end : ℕ) →
 asked_full octets place [] end there = tt
 asked_full octets place (q ∷ qs) end there = (there.1.name.full, asked_full octets there.0 qs end there.2)
 
--- The questions of a message end at the root.
-pub questions_full : (octets : List ℕ) (request : Message) → IsMessage octets request → AllByRecursion IsFull request.asked.questions
-questions_full octets request is = asked_full octets 12 request.asked.questions is.questions_end is.questions.questions.0
+-- The names of questions that were read end at the root.
+pub section_full : (asked : Asked) → IsSection asked → AllByRecursion IsFull asked.questions
+section_full asked section = asked_full section.message section.place asked.questions section.end section.there.questions.0
 
 -- All that a full reply to a message holds reads back.
-pub parts_back : (chains : List (DomainName × List View)) (nsid : Option (List ℕ)) (octets : List ℕ) (request : Message) (parts : ReplyParts) → IsMessage octets request → ChainsReadBack chains → FitsOption nsid → PartsOf chains nsid request parts → AllReadBack parts
-parts_back chains nsid octets request parts is all fits gives =
-    let plain = plain_back chains request gives.plain (questions_full octets request is) all gives.gives in
+pub parts_back : (chains : List (DomainName × List View)) (nsid : Option (List ℕ)) (request : Message) (parts : ReplyParts) → IsSection request.asked → ChainsReadBack chains → FitsOption nsid → PartsOf chains nsid request parts → AllReadBack parts
+parts_back chains nsid request parts section all fits gives =
+    let plain = plain_back chains request gives.plain (section_full request.asked section) all gives.gives in
     let options = edns_back request.edns (nsid_for request.edns nsid) gives.plain.metadata.response_code parts.edns (fits_for request.edns nsid fits) gives.edns in
     subst AllReadBack (sym gives.whole) (record {
       answers = plain.answers;

@@ -21,6 +21,6 @@ returns g c =
     let request = c.args.message.now in
     let plain = parts_of c.in_ok-response.response in
     let dnssec = c.from_edns-options.ensures ∙ ap by_flag c.edns.ensures ∙ same_flag request.edns in
-    let parts = subst (λ (dnssec_ok : Bool). QueryParts (views_of g.H.ZoneHandler.view c.args.chains.now.chains.entries) request.metadata dnssec_ok request.asked.questions plain) dnssec c.in_ok-response.ensures.parts in
+    let parts = subst (λ (dnssec_ok : Bool). QueryParts (views_of g.H.ZoneHandler.view c.args.chains.now.chains) request.metadata dnssec_ok request.asked.questions plain) dnssec c.in_ok-response.ensures.parts in
     IfOk-weaker c.encode.result _ _ (λ sent told.
-    (plain, parts, subst (λ (asked : Asked). Sends plain (option_copied c.args.edns) asked c.args.protocol sent.0 sent.1.items) c.queries.ensures told)) c.encode.ensures
+    (plain, parts, subst (λ (asked : Asked). Sends plain (option_copied c.args.edns) asked c.args.protocol sent.0 sent.1.items) c.queries.ensures told, λ back. ?)) c.encode.ensures

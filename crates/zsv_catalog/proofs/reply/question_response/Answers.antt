@@ -18,7 +18,7 @@ use Rattle.zsv_catalog.proofs.reply.question_response.Goals as goal
 pub returns-in-None-clause-parts : goal.returns-in-None-clause-parts
 returns-in-None-clause-parts g c =
     let view = g.H.ZoneHandler.view in
-    let chains = c.args.chains.now.chains.entries in
+    let chains = c.args.chains.now.chains in
     let name = c.args.question.now.name in
     let found = subst (λ (o : Option _). option_map (λ chain. chain.now) o ≡ option_map (λ chain. chain.items) (chain_for chains name)) c.in-None.is (subst (λ (n : DomainName). option_map (λ chain. chain.now) c.in_ok-handlers.field-0 ≡ option_map (λ chain. chain.items) (option_map (λ entry. entry.1) (nearest_in (chain_at chains) n))) c.in_ok-key.ensures.key c.in_ok-handlers.ensures) in
     let none = found_views view chains name None found in
@@ -31,7 +31,7 @@ returns-in-None-clause-parts g c =
 pub returns-then-eq-clause-parts : goal.returns-then-eq-clause-parts
 returns-then-eq-clause-parts g c =
     let view = g.H.ZoneHandler.view in
-    let chains = c.args.chains.now.chains.entries in
+    let chains = c.args.chains.now.chains in
     let name = c.args.question.now.name in
     let found = subst (λ (o : Option _). option_map (λ chain. chain.now) o ≡ option_map (λ chain. chain.items) (chain_for chains name)) c.in-Some.is (subst (λ (n : DomainName). option_map (λ chain. chain.now) c.in_ok-handlers.field-0 ≡ option_map (λ chain. chain.items) (option_map (λ entry. entry.1) (nearest_in (chain_at chains) n))) c.in_ok-key.ensures.key c.in_ok-handlers.ensures) in
     let some = found_views view chains name (Some c.in-Some.handlers.now) found in
@@ -44,7 +44,7 @@ returns-then-eq-clause-parts g c =
 pub returns-clause-parts : goal.returns-clause-parts
 returns-clause-parts g c =
     let view = g.H.ZoneHandler.view in
-    let chains = c.args.chains.now.chains.entries in
+    let chains = c.args.chains.now.chains in
     let question = c.args.question.now in
     let name = question.name in
     let d = c.args.options.dnssec_ok in

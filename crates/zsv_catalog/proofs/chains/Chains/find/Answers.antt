@@ -7,5 +7,5 @@ use Rattle.zsv_catalog.proofs.chains.Chains.find.Goals as goal
 
 pub returns : goal.returns
 returns g c =
-    let chains = c.args.self.now.chains.entries in
+    let chains = c.args.self.now.chains in
     subst (λ (name : DomainName). IfOk c.find_at.result (λ found. option_map (λ chain. chain.now) found ≡ option_map (λ chain. chain.items) (option_map (λ entry. entry.1) (nearest_in (chain_at chains) name)))) c.in_ok-key.ensures.key c.find_at.ensures
