@@ -7,7 +7,7 @@ use Rattle.std.specs.declared.net.SocketAddr.{SocketAddr}
 use Rattle.zsv_access.specs.Access.{is_allowed}
 use Rattle.zsv_catalog.specs.Catalogs.{RepliesBy}
 use Rattle.zsv_catalog.proofs.PartsBack.{error_back}
-use Rattle.zsv_catalog.proofs.Asked.{fits_request}
+use Rattle.zsv_catalog.proofs.zsv_answer_lemmas.zsv_reply_lemmas.Fits.{fits_request}
 use Rattle.zsv_catalog.proofs.Replied.{Repeated, own, plain_id, repeated_of}
 use Rattle.zsv_catalog.proofs.zsv_answer_lemmas.zsv_reply_lemmas.HeaderLaws.{fits_same}
 use Rattle.zsv_catalog.proofs.zsv_answer_lemmas.zsv_reply_lemmas.Written.{reply_of_encoded}

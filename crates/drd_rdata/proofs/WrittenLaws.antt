@@ -152,7 +152,7 @@ written_reads t source start (rdata.OPT opt) stop held some old new n at full e 
     (λ message. FieldsAt message old.offset (rest (entries_octets opt.options.items) ∷ []) new.offset)
     (λ message. ReadsAs kind.OPT message old.offset n (rdata.OPT opt))
     (λ message there. options_read held.1.octets opt message old.offset n held.1.holds
-        (subst (λ (q : ℕ). FieldsAt message old.offset (rest (entries_octets opt.options.items) ∷ []) q) (sym at) there))
+    (subst (λ (q : ℕ). FieldsAt message old.offset (rest (entries_octets opt.options.items) ∷ []) q) (sym at) there))
     (e.0.stays full.sound))
 written_reads t source start (rdata.Update0 code) stop held some old new n at full e =
     absurd held.1.1
