@@ -1,7 +1,7 @@
 //! A list of blocked names.
 
 ghost use Rattle.std.specs.Prelude.{◌≡◌, ◌&&◌, [], true, false, length, IfOk, IfErr, None, OnOk, OnErr, Some, if◌then◌else◌, option_copied};
-ghost use Rattle.zsv_blocked.specs.Reading.{AddsRead, IsListFault};
+ghost use Rattle.zsv_blocked.specs.Reading.{AddsRead, IsListFault, IsUnrecordedFault};
 ghost use Rattle.zst_request.specs.Blocking.{has_listed_wildcard, is_blocked, is_listed};
 ghost use Rattle.zst_request.specs.Handling.{ShowsBlocked};
 ghost use Rattle.zst_request.specs.dnw_name.DomainName.{DomainName, lowercase_name};
@@ -135,8 +135,8 @@ impl BlocklistZoneHandler {
         ensures ok { OnOk result (AddsRead self.old.names (R.remaining reader.old) (R.remaining reader.new) self.new.names) }
         ensures kept { self.new ≡ record self.old { names = self.new.names } }
         ensures err { OnErr result (self.new ≡ self.old) }
-        // Nothing tells here whether the reader answered a fault.
-        ensures cause { IfErr result (IsListFault true (R.remaining reader.old) (R.remaining reader.new)) }
+        // Nothing says here whether the reader answered a fault.
+        ensures cause { IfErr result (IsUnrecordedFault (R.remaining reader.old) (R.remaining reader.new)) }
     {
         self.add_with(alloc, reader, &mut ReadFaults::none())
     }
@@ -153,7 +153,7 @@ impl BlocklistZoneHandler {
         ensures ok { OnOk result (AddsRead self.old.names (R.remaining reader.old) (R.remaining reader.new) self.new.names) }
         ensures kept { self.new ≡ record self.old { names = self.new.names } }
         ensures err { OnErr result (self.new ≡ self.old) }
-        ensures cause { IfErr result (IsListFault faults.new.failed (R.remaining reader.old) (R.remaining reader.new)) }
+        ensures cause { IfErr result (IsListFault faults.new (R.remaining reader.old) (R.remaining reader.new)) }
     {
         add_list(alloc, &mut self.names, reader, faults)
     }

@@ -206,7 +206,7 @@ tsig_long message place r end at =
 
 -- A signature that reads back is refused for room or for want of memory.
 sign_wanted : (r : TsigRecord) (old : State) (e : ProtoError) → RefusesTsigRecord r old e → TsigReadsBack r → IsRefusal old (tsig_plain r) e
-sign_wanted r old e (inl refused) back = refused
+sign_wanted r old e (inl refused) back = refused.1
 sign_wanted r old e (inr long) back = absurd (omega (arith, long.0, back.counted))
 
 pub signature_stands : Standing IsSet TsigRecordAt tsig_plain TsigReadsBack EmitsTsigRecord RefusesTsigRecord

@@ -18,7 +18,7 @@ use Rattle.zsv_request.specs.zsv_message.zst_edns.declared.edns.Edns.{Edns}
 use Rattle.zsv_request.specs.zsv_message.zsv_parts.declared.header.Metadata.{Metadata}
 use Rattle.zsv_request.specs.zsv_message.zsv_parts.declared.header.Header.{Header}
 use Rattle.zsv_request.specs.zsv_message.zsv_parts.declared.tsig.TsigRecord.{TsigRecord}
-use Rattle.zsv_request.specs.zsv_message.zsv_parts.Headers.{header_of, reserved_bit}
+use Rattle.zsv_request.specs.zsv_message.zsv_parts.Headers.{FitsOpCode, header_of, reserved_bit}
 use Rattle.zsv_request.specs.zsv_message.zsv_parts.Questions.{Asked}
 use Rattle.zsv_request.specs.zsv_message.zsv_parts.SignatureRecords.{TsigReadsBack, TsigRecordAt}
 use Rattle.zst_pointing.specs.Pointing.{ArePointing}
@@ -150,21 +150,21 @@ pub record EmitsAdditionals (points : Bool) (first : ℕ) (records : List Record
   pub fits : old.offset ≤ old.maximum → new.offset ≤ old.maximum
 
 -- A reply as it is written: the header, the questions as they were sent, a front of each list, and
--- nothing behind.
+-- nothing behind. An opcode that four bits hold is read back.
 pub record IsWritten (points : Bool) (reply : List ℕ) (parts : ReplyParts) (questions : ℕ)
     (question_octets : List ℕ) (limit : ℕ) : Type 0 where
   pub kept : Fronts
   pub asked : Stands reply 12 question_octets (12 + length question_octets)
   pub fronts : FrontsAt points reply limit (12 + length question_octets) parts kept
-  pub header : header_of reply ≡ header_of_fronts parts questions kept
+  pub header : FitsOpCode parts.metadata → header_of reply ≡ header_of_fronts parts questions kept
   pub reserved : reserved_bit reply ≡ false
   pub within : length reply ≤ limit
 
--- A reply that was written, and its header.
+-- A reply that was written, and its header, which says what is left out whatever the opcode.
 pub record IsEmitted (points : Bool) (info : Header) (reply : List ℕ) (parts : ReplyParts)
     (asked : Asked) (limit : ℕ) : Type 0 where
   pub written : IsWritten points reply parts (length asked.questions) asked.octets limit
-  pub header : info ≡ header_of reply
+  pub header : info ≡ header_of_fronts parts (length asked.questions) written.kept
 
 -- A header alone, which says that the server failed.
 pub record IsBare (info : Header) (reply : List ℕ) (id : ℕ) : Type 0 where

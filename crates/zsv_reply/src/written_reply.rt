@@ -1,6 +1,6 @@
 //! Replies whose records were written before, as those of most are.
 
-ghost use Rattle.std.specs.Prelude.{◌≡◌, ◌+◌, ◌<◌, ◌≤◌, ◌++◌, ℕ, List, false, length, option_copied, IfOk, MatchOption};
+ghost use Rattle.std.specs.Prelude.{◌≡◌, ◌+◌, ◌<◌, ◌≤◌, ◌++◌, ℕ, List, false, length, option_copied, IfOk, IfSome, MatchOption};
 ghost use Rattle.zsv_request.specs.Requests.{limit_of};
 ghost use Rattle.zsv_request.specs.zsv_message.zst_record.declared.records.Record.{Record};
 ghost use Rattle.zsv_request.specs.zsv_message.zst_record.dnw_name.DomainName.{DomainName};
@@ -88,8 +88,8 @@ pub fn encode_written(
     edns: Option<&Edns>,
     protocol: Protocol,
 ) -> Result<Option<(ResponseInfo, Vec<u8>)>, AllocError>
-    requires { FitsOpCode metadata }
-    ensures { IfOk result (λ found. MatchOption found
+    ensures limit { IfOk result (λ found. IfSome found (λ sent. length sent.1.items ≤ limit_of protocol (option_copied edns.entry))) }
+    ensures ok { IfOk result (λ found. MatchOption found
         (NeedsEncoder (option_copied edns.entry) queries.now records.entry.octets.now (limit_of protocol (option_copied edns.entry)))
         (λ sent. (asked : DomainName) (answers authorities : List Record) → HasWholeName queries.now asked
         → AreWritten asked records.entry answers authorities → AllReadBack (written_parts metadata answers authorities (option_copied edns.entry))

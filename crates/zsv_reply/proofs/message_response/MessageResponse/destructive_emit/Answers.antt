@@ -9,7 +9,7 @@ use Rattle.zsv_request.specs.zsv_message.zst_record.dnw_encoder.Effects.{Fills}
 use Rattle.zsv_request.specs.zsv_message.zst_edns.declared.edns.Edns.{Edns}
 use Rattle.zsv_request.specs.zsv_message.zst_edns.Writing.{EdnsReadsBack}
 use Rattle.zsv_request.specs.zsv_message.zsv_parts.declared.tsig.TsigRecord.{TsigRecord}
-use Rattle.zsv_request.specs.zsv_message.zsv_parts.Headers.{header_octets}
+use Rattle.zsv_request.specs.zsv_message.zsv_parts.Headers.{FitsOpCode, header_octets}
 use Rattle.zsv_request.specs.zsv_message.zsv_parts.SignatureRecords.{TsigReadsBack}
 use Rattle.zsv_request.specs.zsv_message.zst_record.Records.{plain}
 use Rattle.zsv_reply.specs.Replies.{ReplyRecordAt, header_of_reply}
@@ -90,7 +90,7 @@ returns-clause-ok g c parts holds alone =
           (c.in_ok-additionals.ensures.ok points asked.offset two.1 parts.additionals holds.additionals alone.additionals options_back signature_back));
       additionals_writes = c.in_ok-additionals.ensures.writes;
       header = subst (λ (p : ℕ). Fills p (header_octets header) told filled) front c.in_ok-replace.ensures.ok;
-      back = c.header_over-header.ensures.back c.requires.metadata;
+      back = λ fits. c.header_over-header.ensures.back (subst FitsOpCode holds.metadata fits);
       says = c.header_over-header.ensures.value
           ∙ (λ i. header_of_reply (sym holds.metadata i) (answers.is_cut || authorities.is_cut || additionals.is_cut) (c.len-count.ensures.value i) answers.count authorities.count additionals.count);
     } in
