@@ -107,10 +107,6 @@ field_refused IsText zone line turn cause (Err errors.OutOfMemory) e reads is st
     let same : causes.OutOfMemory ≡ e = cc in
     subst (StandsFrom turn zone line) same (tt, none_until zone line turn (turn_from turn cause) le before)
 
--- The key of a long owner was refused memory.
-pub key_refused : (zone : Zone) (line : List ℕ) (h : Heading) → IsHeading line h → Stands zone line causes.OutOfMemory
-key_refused zone line h known = (tt, none_until zone line 2 7 (omega arith) (none_7 zone line h known))
-
 -- The time to live of a line with an owner is none.
 pub ttl_refused : (zone : Zone) (line : List ℕ) (turn : ℕ) (owner ttl : List ℕ) (behind : List (List ℕ)) (name : DomainName) → words_of line ≡ owner ∷ ttl ∷ behind → 4 ≤ length (words_of line)
     → IsOwnerText owner name → ((n : ℕ) → IsTtlField ttl n → ⊥) → StandsFrom turn zone line causes.Ttl
