@@ -129,7 +129,7 @@ no_entry (entry ∷ entries) none = absurd (omega (arith, none, length-append (r
 
 options_read : (source : List ℕ) (opt : OPT) (message : List ℕ) (place n : ℕ) → HoldsEntries source opt.options.items → FieldsAt message place (rest (entries_octets opt.options.items) ∷ []) (place + n) → ReadsAs kind.OPT message place n (rdata.OPT opt)
 options_read source opt message place zero held written =
-    inl (refl, (opt, (refl, no_entry opt.options.items (omega (arith, written.1.behind, written.2)))))
+    inl (refl, (opt, refl, no_entry opt.options.items (omega (arith, written.1.behind, written.2))))
 options_read source opt message place (suc n) held written =
     inr (omega arith, (refl, options_there source message place opt.options.items (place + suc n) held written))
 
@@ -211,11 +211,11 @@ written_refused t source start (rdata.CSYNC csync) stop held old e (inr whole) =
 written_refused t source start (rdata.HTTPS https) stop held old e refused =
     refused.read held.1.1
 written_refused t source start (rdata.OPT opt) stop held old e (inl (inl refused)) = refused
-written_refused t source start (rdata.OPT opt) stop held old e (inl (inr (inl long))) = absurd long
-written_refused t source start (rdata.OPT opt) stop held old e (inl (inr (inr long))) = absurd long
-written_refused t source start (rdata.OPT opt) stop held old e (inr long) =
+written_refused t source start (rdata.OPT opt) stop held old e (inl (inr (inl far))) = absurd far
+written_refused t source start (rdata.OPT opt) stop held old e (inl (inr (inr far))) = absurd far
+written_refused t source start (rdata.OPT opt) stop held old e (inr far) =
     absurd
-    (none_long opt.options.items e (read_fit held.1.octets opt.options.items held.1.holds) long)
+    (none_long opt.options.items e (read_fit held.1.octets opt.options.items held.1.holds) far)
 written_refused t source start (rdata.SVCB svcb) stop held old e refused =
     refused.read held.1.1
 written_refused t source start (rdata.Update0 code) stop held old e refused =
