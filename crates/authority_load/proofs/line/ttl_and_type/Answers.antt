@@ -3,7 +3,7 @@ use Rattle.std.specs.Prelude.{Some}
 use Rattle.std.proofs.lemmas.Result.{err_from_is_err_and}
 use Rattle.zst_zone.specs.dnw_codes.declared.record_type.RecordType.{RecordType}
 use Rattle.authority_load.specs.declared.loader.LoadCause.TheVariants as causes
-use Rattle.authority_load.specs.ZoneText.{words_of, IsTtlField, type_of_text}
+use Rattle.authority_load.specs.ZoneText.{words_of, type_of_text}
 use Rattle.authority_load.proofs.Causes.{ttl_refused, class_refused, type_refused, not_loaded, field_read, heading_of}
 use Rattle.authority_load.proofs.line.ttl_and_type.Goals as goal
 
