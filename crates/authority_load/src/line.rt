@@ -96,7 +96,8 @@ fn data_at<K>(
 
 /// The fields of a line as values, or the first cause why they have none.
 fn header_of(alloc: Global, line: &str) -> Result<Header<'_>, LoadCause>
-    ensures { HeaderGives (cause_order causes.Owner) line.now (λ h. record { name = h.name; ttl = h.ttl; record_type = h.record_type; rdata = h.rdata.now }) result }
+    ensures { HeaderGives (cause_order causes.Owner) line.now
+        (λ h. record { name = h.name; ttl = h.ttl; record_type = h.record_type; rdata = h.rdata.now }) result }
 {
     let Some(fields) = fields_of(line) else {
         return Err(LoadCause::FieldCount);
