@@ -198,7 +198,7 @@ place_refused v a e refused = record {
 pub data_refused : (v : RData) (p : ℕ) (a b : State) (e : ProtoError) → Opens p 2 a b → RefusesRData v b e → RefusesBehindLength v a e
 data_refused v p a b e opens refused = record {
   whole = λ reads small. refused_later (length (written_octets v)) 2 a b e opens.modes (omega (arith, opens.offset)) (data_room v b e reads refused);
-  any = λ small. inr (b, (opens.modes, (opens.offset, refused)));
+  any = λ small. inr (b, opens.modes, opens.offset, refused);
 }
 
 -- No more octets than 16 bits count fit a maximum of 16 bits.
@@ -269,9 +269,9 @@ later_refused r a b e head ab (inl refused) =
 later_refused r a b e head ab (inr refused) = inr (record {
   start = refused.0;
   modes = modes_then a b refused.0 ab.modes refused.1;
-  after = omega (arith, ab.forward, refused.2.0);
-  near = omega (arith, head.size, refused.2.0);
-  refused = refused.2.1;
+  after = omega (arith, ab.forward, refused.2);
+  near = omega (arith, head.size, refused.2);
+  refused = refused.3;
 })
 
 pub rest_refused : (r : Record) (a b : State) (e : ProtoError) → EmitsHead r a b → Writes a b → RefusesBehindLength r.rdata b e → RefusesRecord r a e
