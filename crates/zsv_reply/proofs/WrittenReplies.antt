@@ -150,6 +150,6 @@ match_weaker None none some m = none m
 match_weaker (Some x) none some m = some x m
 
 -- What is put together is said of it alone.
-pub some_weaker : {X : Type 0} {P : Type 0} {R S : X → Type 0} (o : Option X) → ((x : X) → R x → S x) → MatchOption o P R → IfSome o S
-some_weaker None some m = tt
-some_weaker (Some x) some m = some x m
+pub some_weaker : {X : Type 0} (P : Type 0) {R S : X → Type 0} (o : Option X) → ((x : X) → R x → S x) → MatchOption o P R → IfSome o S
+some_weaker P None some m = tt
+some_weaker P (Some x) some m = some x m

@@ -1,5 +1,5 @@
 -- The records that a reply takes from an iterator, which may be endless.
-use Rattle.std.specs.Prelude.{◌≡◌, ℕ, ◌≤◌, ◌⊎◌, List, [], ◌∷◌, length, Option, Some, None}
+use Rattle.std.specs.Prelude.{◌≡◌, ◌≤◌, ◌⊎◌, List, [], ◌∷◌, length, Option, Some, None}
 use Rattle.std.specs.Iterator.{AlwaysYields}
 
 -- The items of an iterator begin with these, whatever follows. It takes the iterator's `next_gives`,

@@ -57,9 +57,9 @@ returns-in-Some-octets_alone-clause-ok c =
 pub returns-in-None-clause-limit : goal.returns-in-None-clause-limit
 returns-in-None-clause-limit c =
     IfOk-weaker c.joined.result _ _
-    (λ found told. some_weaker found (λ sent are. subst (λ (n : ℕ). length sent.1.items ≤ n) c.limit-limit.ensures.value are.2) told) c.joined.ensures
+    (λ found told. some_weaker _ found (λ sent are. subst (λ (n : ℕ). length sent.1.items ≤ n) c.limit-limit.ensures.value are.2) told) c.joined.ensures
 
 pub returns-in-Some-octets_alone-clause-limit : goal.returns-in-Some-octets_alone-clause-limit
 returns-in-Some-octets_alone-clause-limit c =
     IfOk-weaker c.joined-in-Some-octets_alone.result _ _
-    (λ found told. some_weaker found (λ sent are. subst (λ (n : ℕ). length sent.1.items ≤ n) c.limit-limit.ensures.value are.2) told) c.joined-in-Some-octets_alone.ensures
+    (λ found told. some_weaker _ found (λ sent are. subst (λ (n : ℕ). length sent.1.items ≤ n) c.limit-limit.ensures.value are.2) told) c.joined-in-Some-octets_alone.ensures
