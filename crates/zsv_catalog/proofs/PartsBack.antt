@@ -27,10 +27,10 @@ use Rattle.zsv_answer.specs.zsv_reply.Replies.{ReplyParts}
 use Rattle.zsv_answer.specs.zsv_reply.Writing.{AllReadBack}
 use Rattle.zsv_answer.specs.zsv_reply.zst_record.Records.{IsServable}
 use Rattle.zsv_answer.specs.zsv_reply.zst_record.declared.records.Record.{Record}
-use Rattle.zsv_answer.specs.zsv_reply.zsv_message.Messages.{IsMessage, Message}
+use Rattle.zsv_answer.specs.zsv_reply.zsv_message.Messages.{Message}
 use Rattle.zsv_answer.specs.zsv_reply.zsv_message.zst_edns.Writing.{EdnsReadsBack}
 use Rattle.zsv_answer.specs.zsv_reply.zsv_message.zst_edns.declared.edns.Edns.{Edns}
-use Rattle.zsv_answer.specs.zsv_reply.zsv_message.zsv_parts.Questions.{QuestionAt}
+use Rattle.zsv_answer.specs.zsv_reply.zsv_message.zsv_parts.Questions.{Asked, IsSection, QuestionAt}
 use Rattle.zsv_answer.specs.zsv_reply.zsv_message.zsv_parts.Wire.{Entries}
 use Rattle.zsv_answer.specs.zsv_reply.zsv_message.zsv_parts.declared.header.Metadata.{Metadata}
 use Rattle.zsv_answer.specs.zsv_reply.zsv_message.zsv_parts.declared.header.MessageType.{MessageType}
