@@ -15,12 +15,12 @@ use Rattle.zsv_catalog.specs.Chains.{chain_at, chain_for}
 use Rattle.zsv_catalog.proofs.Chained.{found_views}
 use Rattle.zsv_catalog.proofs.reply.question_response.Goals as goal
 
-pub returns-in-None-clause-parts : goal.returns-in-None-clause-parts
-returns-in-None-clause-parts g c =
+pub returns-in_default-clause-parts : goal.returns-in_default-clause-parts
+returns-in_default-clause-parts g c =
     let view = g.H.ZoneHandler.view in
     let chains = c.args.chains.now.chains in
     let name = c.args.question.now.name in
-    let found = subst (λ (o : Option _). option_map (λ chain. chain.now) o ≡ option_map (λ chain. chain.items) (chain_for chains name)) c.in-None.is (subst (λ (n : DomainName). option_map (λ chain. chain.now) c.find_at.result ≡ option_map (λ chain. chain.items) (option_map (λ entry. entry.1) (nearest_in (chain_at chains) n))) (c.borrow.ensures ∙ c.in_ok-key.ensures.key) c.find_at.ensures) in
+    let found = subst (λ (o : Option _). option_map (λ chain. chain.now) o ≡ option_map (λ chain. chain.items) (chain_for chains name)) c.in_default.is (subst (λ (n : DomainName). option_map (λ chain. chain.now) c.find_at.result ≡ option_map (λ chain. chain.items) (option_map (λ entry. entry.1) (nearest_in (chain_at chains) n))) (c.borrow.ensures ∙ c.in_ok-key.ensures.key) c.find_at.ensures) in
     let none = found_views view chains name None found in
     record {
       no_chain = λ _. subst (λ (m : Metadata). parts_of c.error_response.result ≡ error_parts m responses.Refused) c.metadata-metadata.ensures.value c.error_response.ensures;
