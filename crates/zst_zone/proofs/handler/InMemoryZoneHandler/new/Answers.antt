@@ -1,4 +1,4 @@
-use Rattle.std.proofs.Common.{◌≡◌, ◌∙◌, ◌∷◌, List, ap, sym, subst}
+use Rattle.std.proofs.Common.{◌≡◌, ◌∙◌, ◌∷◌, List, ap, sym, subst, rules}
 use Rattle.zst_key.specs.dnw_name.declared.rr_key.RrKey.{RrKey}
 use Rattle.zst_map.specs.zst_record.RecordSets.{RRset}
 use Rattle.zst_zone.specs.Makings.{PutsAll, first_refusal}
@@ -19,5 +19,5 @@ sets-preserved g c =
       none = c.sets.invariant.none;
       left = later.1;
       puts = λ made puts. c.sets.invariant.puts made
-          (subst (λ (entries : List (RrKey × RRset)). PutsAll c.sets.zone entries made) (sym pops) (c.put_filled.new.self, ?, puts));
+          (subst (λ (entries : List (RrKey × RRset)). PutsAll c.sets.zone entries made) (sym pops) (c.put_filled.new.self, search rules, puts));
     }
