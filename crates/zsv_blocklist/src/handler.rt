@@ -142,7 +142,7 @@ impl BlocklistZoneHandler {
     }
 
     /// Adds names as `add` does, and records whether the reader answered a fault: `BlocklistError::Read` comes only where
-    /// it did, or gave more than 2^32 - 1 octets.
+    /// it did, or gave more than 2^32 - 1 octets, and `BlocklistError::OutOfMemory` only where neither was so.
     pub fn add_with<R: Read>(
         &mut self,
         alloc: Global,
