@@ -173,7 +173,7 @@ impl Server {
         ensures back { WorldReadsBack (world_in self.old) → WorldReadsBack (world_in self.new) }
     {
         let name = name_of(self.alloc, name)?;
-        match self.authority.remove(&name)? {
+        match self.authority.remove(&name) {
             Some(chain) => {
                 mem::drop(chain);
                 Ok(())

@@ -16,7 +16,7 @@ use Rattle.std.specs.Prelude.{◌⊎◌, IfOk}
 use Rattle.std.proofs.Common.{inl, inr}
 use Rattle.authority_load.specs.ZoneText.{ReadsText, TellsTextCause, DataGives}
 use Rattle.zst_zone.specs.zst_handler.Zones.{Zone}
-use Rattle.authority_load.specs.ZoneText.{words_of, data_text, field, IsOwnerText, IsTtlField, is_internet, type_of_text, AreData, IsDataText, StandsAt, NoneBefore, Stands, cause_order, line_turn, with_cause, IsHeading, IsInside, IsTaken, MayJoin, RefusesValue, Heading, record_at}
+use Rattle.authority_load.specs.ZoneText.{words_of, data_text, field, IsOwnerText, IsTtlField, is_internet, type_of_text, AreData, IsDataText, StandsAt, NoneBefore, Stands, StandsFrom, cause_order, turn_from, with_cause, IsHeading, IsInside, IsTaken, MayJoin, RefusesValue, Heading, record_at}
 use Rattle.zst_zone.specs.zst_record.Records.{belongs_to_message}
 use Rattle.zst_zone.proofs.dnw_name_lemmas.TextLemmas.{name-same}
 
@@ -81,24 +81,41 @@ field_kept P cause (Err errors.Malformed) x keeps e = absurd (cc)
 field_kept P cause (Err errors.OutOfMemory) x keeps e = absurd (cc)
 
 -- ---- a field that is not: its cause stands, unless memory was refused
-stands_memory : (zone : Zone) (line : List ℕ) → Stands zone line causes.OutOfMemory
-stands_memory zone line = (tt, λ earlier above below. absurd (omega arith))
+none_until : (zone : Zone) (line : List ℕ) (n m : ℕ) → n ≤ m → NoneBefore zone line m → NoneBefore zone line n
+none_until zone line n m le before = λ earlier above below stands. before earlier above (omega (arith, le, below)) stands
 
-pub field_refused : {X : Type 0} (IsText : X → Type 0) (zone : Zone) (line : List ℕ) (cause : LoadCause) (r : Result X TextError) (e : LoadCause) → ReadsText IsText r → with_cause cause r ≡ Err e
-    → (((x : X) → IsText x → ⊥) → StandsAt zone line cause) → NoneBefore zone line (line_turn cause) → Stands zone line e
-field_refused IsText zone line cause (Ok y) e reads is stands before = absurd (cc)
-field_refused IsText zone line cause (Err errors.Malformed) e reads is stands before = let same : cause ≡ e = cc in subst (Stands zone line) same (stands reads, before)
-field_refused IsText zone line cause (Err errors.OutOfMemory) e reads is stands before = let same : causes.OutOfMemory ≡ e = cc in subst (Stands zone line) same (stands_memory zone line)
+-- Out of memory at a turn is out of memory at an earlier one or later.
+pub stands_since : (zone : Zone) (line : List ℕ) (n m : ℕ) (cause : LoadCause) → n ≤ m → StandsFrom m zone line cause → StandsFrom n zone line cause
+stands_since zone line n m causes.OutOfMemory le stands = (tt, none_until zone line n m le stands.1)
+stands_since zone line n m causes.FieldCount le stands = stands
+stands_since zone line n m causes.Owner le stands = stands
+stands_since zone line n m causes.Ttl le stands = stands
+stands_since zone line n m causes.Class le stands = stands
+stands_since zone line n m causes.UnknownType le stands = stands
+stands_since zone line n m causes.TypeNotLoaded le stands = stands
+stands_since zone line n m causes.OutsideZone le stands = stands
+stands_since zone line n m causes.Data le stands = stands
+stands_since zone line n m causes.NotReadBack le stands = stands
+stands_since zone line n m causes.BesideCname le stands = stands
+stands_since zone line n m causes.SecondSoa le stands = stands
+
+pub field_refused : {X : Type 0} (IsText : X → Type 0) (zone : Zone) (line : List ℕ) (turn : ℕ) (cause : LoadCause) (r : Result X TextError) (e : LoadCause) → ReadsText IsText r → with_cause cause r ≡ Err e
+    → (((x : X) → IsText x → ⊥) → StandsAt zone line cause) → NoneBefore zone line (turn_from turn cause) → turn ≤ turn_from turn cause → StandsFrom turn zone line e
+field_refused IsText zone line turn cause (Ok y) e reads is stands before le = absurd (cc)
+field_refused IsText zone line turn cause (Err errors.Malformed) e reads is stands before le = let same : cause ≡ e = cc in subst (StandsFrom turn zone line) same (stands reads, before)
+field_refused IsText zone line turn cause (Err errors.OutOfMemory) e reads is stands before le =
+    let same : causes.OutOfMemory ≡ e = cc in
+    subst (StandsFrom turn zone line) same (tt, none_until zone line turn (turn_from turn cause) le before)
 
 -- The time to live of a line with an owner is none.
-pub ttl_refused : (zone : Zone) (line : List ℕ) (owner ttl : List ℕ) (behind : List (List ℕ)) (name : DomainName) (r : Result ℕ TextError) (e : LoadCause) → words_of line ≡ owner ∷ ttl ∷ behind → 4 ≤ length (words_of line)
-    → IsOwnerText owner name → ReadsText (IsTtlField ttl) r → with_cause causes.Ttl r ≡ Err e → Stands zone line e
-ttl_refused zone line owner ttl behind name r e spelled counted owned reads is =
+pub ttl_refused : (zone : Zone) (line : List ℕ) (turn : ℕ) (owner ttl : List ℕ) (behind : List (List ℕ)) (name : DomainName) → words_of line ≡ owner ∷ ttl ∷ behind → 4 ≤ length (words_of line)
+    → IsOwnerText owner name → ((n : ℕ) → IsTtlField ttl n → ⊥) → StandsFrom turn zone line causes.Ttl
+ttl_refused zone line turn owner ttl behind name spelled counted owned none =
     let first : field line 0 ≡ owner = ap (λ ws. get_or ws 0 []) spelled in
     let second : field line 1 ≡ ttl = ap (λ ws. get_or ws 1 []) spelled in
     let n2 : NoneBefore zone line 2 = none_next zone line causes.FieldCount (none_first zone line) (λ few. omega arith) in
-    let n3 : NoneBefore zone line 3 = none_next zone line causes.Owner n2 (λ none. none name (subst (λ w. IsOwnerText w name) (sym first) owned)) in
-    field_refused (IsTtlField ttl) zone line causes.Ttl r e reads is (λ none. λ n known. none n (subst (λ w. IsTtlField w n) second known)) n3
+    let n3 : NoneBefore zone line 3 = none_next zone line causes.Owner n2 (λ no. no name (subst (λ w. IsOwnerText w name) (sym first) owned)) in
+    (λ n known. none n (subst (λ w. IsTtlField w n) second known), n3)
 
 -- The class of a line with an owner and a time to live is none that is known here, or its type is none.
 abbrev IsLine : List ℕ → List ℕ → List ℕ → List ℕ → List ℕ → List (List ℕ) → Type 0
@@ -114,9 +131,9 @@ none_4 zone line owner ttl class type_word behind name n spelled owned timed =
     let n3 : NoneBefore zone line 3 = none_next zone line causes.Owner n2 (λ none. none name (subst (λ w. IsOwnerText w name) (sym first) owned)) in
     none_next zone line causes.Ttl n3 (λ none. none n (subst (λ w. IsTtlField w n) (sym second) timed))
 
-pub class_refused : (zone : Zone) (line : List ℕ) (owner ttl class type_word : List ℕ) (behind : List (List ℕ)) (name : DomainName) (n : ℕ) → IsLine line owner ttl class type_word behind
-    → IsOwnerText owner name → IsTtlField ttl n → is_internet class ≡ false → Stands zone line causes.Class
-class_refused zone line owner ttl class type_word behind name n spelled owned timed other =
+pub class_refused : (zone : Zone) (line : List ℕ) (turn : ℕ) (owner ttl class type_word : List ℕ) (behind : List (List ℕ)) (name : DomainName) (n : ℕ) → IsLine line owner ttl class type_word behind
+    → IsOwnerText owner name → IsTtlField ttl n → is_internet class ≡ false → StandsFrom turn zone line causes.Class
+class_refused zone line turn owner ttl class type_word behind name n spelled owned timed other =
     let third : field line 2 ≡ class = ap (λ ws. get_or ws 2 []) spelled in
     (ap is_internet third ∙ other, none_4 zone line owner ttl class type_word behind name n spelled owned timed)
 
@@ -134,15 +151,15 @@ no_type word none = by (type_of_text word) refl
     by (Some t) e = absurd (none t e)
 
 pub type_refused : (zone : Zone) (line : List ℕ) (owner ttl class type_word : List ℕ) (behind : List (List ℕ)) (name : DomainName) (n : ℕ) (r : Result RecordType TextError) (e : LoadCause) → IsLine line owner ttl class type_word behind
-    → IsOwnerText owner name → IsTtlField ttl n → is_internet class ≡ true → ReadsText (λ (t : RecordType). type_of_text type_word ≡ Some t) r → with_cause causes.UnknownType r ≡ Err e → Stands zone line e
+    → IsOwnerText owner name → IsTtlField ttl n → is_internet class ≡ true → ReadsText (λ (t : RecordType). type_of_text type_word ≡ Some t) r → with_cause causes.UnknownType r ≡ Err e → StandsFrom 5 zone line e
 type_refused zone line owner ttl class type_word behind name n r e spelled owned timed known reads is =
     let fourth : field line 3 ≡ type_word = ap (λ ws. get_or ws 3 []) spelled in
-    field_refused (λ (t : RecordType). type_of_text type_word ≡ Some t) zone line causes.UnknownType r e reads is (λ none. ap type_of_text fourth ∙ no_type type_word none)
-    (none_5 zone line owner ttl class type_word behind name n spelled owned timed known)
+    field_refused (λ (t : RecordType). type_of_text type_word ≡ Some t) zone line 5 causes.UnknownType r e reads is (λ none. ap type_of_text fourth ∙ no_type type_word none)
+    (none_5 zone line owner ttl class type_word behind name n spelled owned timed known) (omega arith)
 
-pub not_loaded : (zone : Zone) (line : List ℕ) (owner ttl class type_word : List ℕ) (behind : List (List ℕ)) (name : DomainName) (n : ℕ) (t : RecordType) → IsLine line owner ttl class type_word behind
-    → IsOwnerText owner name → IsTtlField ttl n → is_internet class ≡ true → type_of_text type_word ≡ Some t → belongs_to_message t ≡ true → Stands zone line causes.TypeNotLoaded
-not_loaded zone line owner ttl class type_word behind name n t spelled owned timed known typed of-message =
+pub not_loaded : (zone : Zone) (line : List ℕ) (turn : ℕ) (owner ttl class type_word : List ℕ) (behind : List (List ℕ)) (name : DomainName) (n : ℕ) (t : RecordType) → IsLine line owner ttl class type_word behind
+    → IsOwnerText owner name → IsTtlField ttl n → is_internet class ≡ true → type_of_text type_word ≡ Some t → belongs_to_message t ≡ true → StandsFrom turn zone line causes.TypeNotLoaded
+not_loaded zone line turn owner ttl class type_word behind name n t spelled owned timed known typed of-message =
     let fourth : field line 3 ≡ type_word = ap (λ ws. get_or ws 3 []) spelled in
     let there : type_of_text (field line 3) ≡ Some t = ap type_of_text fourth ∙ typed in
     ((t, there, of-message), none_next zone line causes.UnknownType (none_5 zone line owner ttl class type_word behind name n spelled owned timed known) (λ unknown. cc))
@@ -191,7 +208,7 @@ pub data_given : (zone : Zone) (line : List ℕ) (h : Heading) (r : Result RData
 data_given zone line h r (Ok value) known inside reads kinds is =
     (record { heading = known; inside = inside }, data_some line h value known (field_read (IsDataText h.record_type h.rdata) causes.Data r value reads (sym is)) (field_kept (λ v. type_of v ≡ h.record_type) causes.Data r value kinds (sym is)))
 data_given zone line h r (Err e) known inside reads kinds is =
-    field_refused (IsDataText h.record_type h.rdata) zone line causes.Data r e reads (sym is) (data_none line h known) (none_8 zone line h known inside)
+    field_refused (IsDataText h.record_type h.rdata) zone line 8 causes.Data r e reads (sym is) (data_none line h known) (none_8 zone line h known inside) (omega arith)
 
 -- A value that is refused: its cause stands, and none before the value.
 pub value_refused : (zone : Zone) (line : List ℕ) (h : Heading) (value : RData) (cause : LoadCause) → IsInside zone line h → AreData line value → NumbersFit value → RefusesValue zone (record_at h value) cause → Stands zone line cause

@@ -7,7 +7,9 @@ use Rattle.std.proofs.lemmas.Bool.{eqb-false, true≢false}
 use Rattle.std.proofs.lemmas.List.{take_more, get_or_default}
 use Rattle.std.proofs.lemmas.List.Splits.{join_with_byte-slice_split}
 use Rattle.zst_zone.specs.zst_record.declared.records.Record.{Record}
+use Rattle.zst_zone.specs.zst_record.Records.{IsServable, belongs_to_message}
 use Rattle.authority_load.specs.declared.loader.LoadCause.{LoadCause}
+use Rattle.authority_load.specs.declared.loader.LoadCause.TheVariants as causes
 use Rattle.zst_zone.specs.zst_handler.Zones.{AreInOrder, AreStored, Zone, ZoneReadsBack}
 use Rattle.zst_zone.specs.dnw_codes.DNSClass.{same_class}
 use Rattle.zst_zone.specs.dnw_codes.declared.dns_class.DNSClass.TheVariants.{IN}
@@ -38,10 +40,18 @@ loads_keep zone [] end same = subst (λ z. end ≡ record z { sets = end.sets })
 loads_keep zone (x ∷ xs) end run =
     loads_keep run.0 xs end run.2 ∙ ap (λ (z : Zone). record z { sets = end.sets }) (line_keeps zone x run.0 (is_skipped_line x) run.1)
 
--- What loads can be read alone, if what was there before can.
+-- A line's record may be served: the type of a message's record is refused before.
+taken_servable : (zone : Zone) (line : List ℕ) (r : Record) → IsTaken zone line r → IsServable r
+taken_servable zone line r taken = record { alone = taken.joins.reads_back; of_zones = by (belongs_to_message (type_of r.rdata)) refl }
+  where
+    by : (b : Bool) → belongs_to_message (type_of r.rdata) ≡ b → belongs_to_message (type_of r.rdata) ≡ false
+    by false e = e
+    by true e = absurd (taken.no_cause causes.TypeNotLoaded (omega arith) (omega arith) (type_of r.rdata, taken.text.value.0, e))
+
+-- What loads may be served, if what was there before may.
 line_reads_back : (zone : Zone) (line : List ℕ) (end : Zone) (skipped : Bool) → MatchBool skipped (end ≡ zone) ((r : Record) × IsTaken zone line r × Joins zone r end) → ZoneReadsBack zone → ZoneReadsBack end
 line_reads_back zone line end true same back = subst ZoneReadsBack (sym same) back
-line_reads_back zone line end false added back = joins_reads_back zone end added.0 added.2 back added.1.joins.reads_back
+line_reads_back zone line end false added back = joins_reads_back zone end added.0 added.2 back (taken_servable zone line added.0 added.1)
 
 pub loads_read_back : (zone : Zone) (xs : List (List ℕ)) (end : Zone) → Loads zone xs end → ZoneReadsBack zone → ZoneReadsBack end
 loads_read_back zone [] end same back = subst ZoneReadsBack (sym same) back
@@ -60,7 +70,7 @@ taken_accepted zone line r taken = record {
 
 line_sound : (zone : Zone) (line : List ℕ) (end : Zone) (skipped : Bool) → MatchBool skipped (end ≡ zone) ((r : Record) × IsTaken zone line r × Joins zone r end) → IsSound zone → IsSound end
 line_sound zone line end true same sound = subst IsSound (sym same) sound
-line_sound zone line end false added sound = joins_sound zone end added.0 (taken_accepted zone line added.0 added.1) added.1.joins.reads_back added.2 sound
+line_sound zone line end false added sound = joins_sound zone end added.0 (taken_accepted zone line added.0 added.1) (taken_servable zone line added.0 added.1) added.2 sound
 
 loads_sound : (zone : Zone) (xs : List (List ℕ)) (end : Zone) → Loads zone xs end → IsSound zone → IsSound end
 loads_sound zone [] end same sound = subst IsSound (sym same) sound

@@ -16,7 +16,7 @@ use Rattle.zst_zone.specs.drd_rdata.Order.{rdata_eq}
 use Rattle.zst_zone.specs.drd_rdata.Types.{type_of}
 use Rattle.zst_zone.specs.zst_record.declared.records.Record.{Record}
 use Rattle.zst_zone.specs.zst_record.RecordLaws.{class_equiv, name_eq_equiv}
-use Rattle.zst_zone.specs.zst_record.Records.{IsOwnType, ReadsBackAlone}
+use Rattle.zst_zone.specs.zst_record.Records.{IsOwnType, IsServable}
 use Rattle.zst_zone.specs.zst_record.RecordSets.{RRset, first_of_put, is_single, put_record, set_of, set_with, with_one}
 use Rattle.zst_zone.specs.zst_handler.Lookups.{sets_of_name}
 use Rattle.zst_zone.specs.zst_handler.Updates.{are_apart, is_kept_out, may_be_beside_alias}
@@ -79,15 +79,15 @@ own_same a b of_a of_b e =
 -- ---- one set
 -- Records of this type, whatever else the set is.
 abbrev Fits : DomainName → RecordType → Record → Type 0
-Fits origin t r = (same_class r.dns_class IN ≡ true) × (type_of r.rdata ≡ t) × (is_at_or_below r.name origin ≡ true) × ReadsBackAlone r × NumbersFit r.rdata
+Fits origin t r = (same_class r.dns_class IN ≡ true) × (type_of r.rdata ≡ t) × (is_at_or_below r.name origin ≡ true) × IsServable r × NumbersFit r.rdata
 
 fits_of : (origin : DomainName) (set : RRset) (rs : List Record) → AllByRecursion (IsLoadedRecord origin set) rs → AllByRecursion (Fits origin set.record_type) rs
 fits_of origin set [] all = tt
-fits_of origin set (r ∷ rs) all = ((all.0.of_class, all.0.of_type, all.0.inside, all.0.alone, all.0.fits), fits_of origin set rs all.1)
+fits_of origin set (r ∷ rs) all = ((all.0.of_class, all.0.of_type, all.0.inside, all.0.servable, all.0.fits), fits_of origin set rs all.1)
 
 loaded_of : (origin : DomainName) (set : RRset) (rs : List Record) → AllByRecursion (Fits origin set.record_type) rs → AllByRecursion (IsLoadedRecord origin set) rs
 loaded_of origin set [] all = tt
-loaded_of origin set (r ∷ rs) all = (record { of_class = all.0.0; of_type = all.0.1; inside = all.0.2; alone = all.0.3; fits = all.0.4 }, loaded_of origin set rs all.1)
+loaded_of origin set (r ∷ rs) all = (record { of_class = all.0.0; of_type = all.0.1; inside = all.0.2; servable = all.0.3; fits = all.0.4 }, loaded_of origin set rs all.1)
 
 fits_put : (origin : DomainName) (t : RecordType) (rs : List Record) (r : Record) → AllByRecursion (Fits origin t) rs → Fits origin t r → AllByRecursion (Fits origin t) (put_record rs r)
 fits_put origin t [] r all new = (new, tt)
@@ -126,16 +126,16 @@ one_put (s ∷ []) r few none = by (rdata_eq s.rdata r.rdata) none
     by false e = absurd (true≢false e)
 one_put (s ∷ t ∷ rs) r few none = absurd (omega (arith, few))
 
-module _ (zone : Zone) (r : Record) (is : IsAccepted zone r) (alone : ReadsBackAlone r) where
+module _ (zone : Zone) (r : Record) (is : IsAccepted zone r) (servable : IsServable r) where
   of_one : IsLoadedSet zone.origin (set_of r)
   of_one = record {
-    records = (record { of_class = is.of_class; of_type = refl; inside = is.inside; alone = alone; fits = is.fits }, tt);
+    records = (record { of_class = is.of_class; of_type = refl; inside = is.inside; servable = servable; fits = is.fits }, tt);
     unsigned = refl;
     different = (tt, tt);
     single = λ e. omega arith;
     unsecured = is.unsecured;
     of_class = is.of_class;
-    own_type = alone.own_type;
+    own_type = servable.alone.own_type;
   }
 
   -- A single set joins only where it has the same data.
@@ -163,10 +163,10 @@ module _ (zone : Zone) (r : Record) (is : IsAccepted zone r) (alone : ReadsBackA
   with_put u name t there named typed plain old =
       let found = and_parts (name_eq name u.name) (same_record_type u.record_type t) (found_is name t zone.sets u there) in
       let same : same_record_type (type_of r.rdata) u.record_type ≡ true = sym (same_right t u.record_type (type_of r.rdata) (turned u.record_type t found.1)) ∙ typed in
-      let kind_is : type_of r.rdata ≡ u.record_type = own_same (type_of r.rdata) u.record_type alone.own_type old.own_type same in
+      let kind_is : type_of r.rdata ≡ u.record_type = own_same (type_of r.rdata) u.record_type servable.alone.own_type old.own_type same in
       record {
         records = loaded_of zone.origin (with_one false u r) (put_record u.records r)
-            (fits_put zone.origin u.record_type u.records r (fits_of zone.origin u u.records old.records) (is.of_class, kind_is, is.inside, alone, is.fits));
+            (fits_put zone.origin u.record_type u.records r (fits_of zone.origin u u.records old.records) (is.of_class, kind_is, is.inside, servable, is.fits));
         unsigned = refl;
         different = different_put u.records r old.different;
         single = λ e. one_put u.records r (old.single e) (none_other u name t there named typed plain (ap is_single kind_is ∙ e));
@@ -262,26 +262,26 @@ apart_step zone r is apart name first second x y true true e f h k =
     sym (apart_left (type_of r.rdata) first second one.1) ∙ sym (apart_right (type_of r.rdata) second (type_of r.rdata) two.1) ∙ apart_itself (type_of r.rdata)
 
 -- ---- the zone
-set_step : (zone : Zone) (r : Record) → IsAccepted zone r → ReadsBackAlone r → AllByRecursion (IsLoadedSet zone.origin) zone.sets → (name : DomainName) (t : RecordType) (s : RRset) (b : Bool) → is_of name t r ≡ b
+set_step : (zone : Zone) (r : Record) → IsAccepted zone r → IsServable r → AllByRecursion (IsLoadedSet zone.origin) zone.sets → (name : DomainName) (t : RecordType) (s : RRset) (b : Bool) → is_of name t r ≡ b
     → cond b (Some (joined (rrset_at zone.sets name t) r)) (rrset_at zone.sets name t) ≡ Some s → IsLoadedSet zone.origin s
-set_step zone r is alone all name t s true e f =
+set_step zone r is servable all name t s true e f =
     let key = and_parts (name_eq name r.name) (same_record_type (type_of r.rdata) t) e in
     let g : joined (rrset_at zone.sets name t) r ≡ s = cc in
-    subst (IsLoadedSet zone.origin) g (joined_loaded zone r is alone (rrset_at zone.sets name t) name t refl key.0 key.1 all)
-set_step zone r is alone all name t s false e f = found_of (IsLoadedSet zone.origin) name t zone.sets s all f
+    subst (IsLoadedSet zone.origin) g (joined_loaded zone r is servable (rrset_at zone.sets name t) name t refl key.0 key.1 all)
+set_step zone r is servable all name t s false e f = found_of (IsLoadedSet zone.origin) name t zone.sets s all f
 
 -- What a zone has but its order and that its sets are stored.
 pub record IsSound (zone : Zone) : Type 0 where
   pub sets : AllByRecursion (IsLoadedSet zone.origin) zone.sets
   pub aliases : AliasesAlone zone.sets
 
-pub joins_sound : (old new : Zone) (r : Record) → IsAccepted old r → ReadsBackAlone r → Joins old r new → IsSound old → IsSound new
-joins_sound old new r is alone joins sound =
+pub joins_sound : (old new : Zone) (r : Record) → IsAccepted old r → IsServable r → Joins old r new → IsSound old → IsSound new
+joins_sound old new r is servable joins sound =
     let origin : new.origin ≡ old.origin = ap (λ (z : Zone). z.origin) joins.rest in
     record {
       sets = subst (λ (o : DomainName). AllByRecursion (IsLoadedSet o) new.sets) (sym origin)
           (each_found (IsLoadedSet old.origin) new.sets joins.ordered
-          (λ name t s e. set_step old r is alone sound.sets name t s (is_of name t r) refl (sym (joins.joins name t) ∙ e)));
+          (λ name t s e. set_step old r is servable sound.sets name t s (is_of name t r) refl (sym (joins.joins name t) ∙ e)));
       aliases = λ name first second h k.
           apart_step old r is sound.aliases name first second (Some (joined (rrset_at old.sets name first) r)) (Some (joined (rrset_at old.sets name second) r)) (is_of name first r) (is_of name second r) refl refl
           (subst IsSome (joins.joins name first) h) (subst IsSome (joins.joins name second) k);

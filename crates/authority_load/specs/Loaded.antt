@@ -11,7 +11,7 @@ use Rattle.zst_zone.specs.dnw_name.DomainName.{DomainName, is_at_or_below}
 use Rattle.zst_zone.specs.drd_rdata.Order.{rdata_eq}
 use Rattle.zst_zone.specs.drd_rdata.Types.{type_of}
 use Rattle.zst_zone.specs.zst_record.declared.records.Record.{Record}
-use Rattle.zst_zone.specs.zst_record.Records.{IsOwnType, ReadsBackAlone}
+use Rattle.zst_zone.specs.zst_record.Records.{IsOwnType, IsServable}
 use Rattle.zst_zone.specs.zst_record.RecordSets.{RRset, is_single}
 use Rattle.zst_zone.specs.zst_handler.Updates.{are_apart}
 use Rattle.zst_zone.specs.zst_handler.Zones.{AreInOrder, AreStored, Zone, rrset_at}
@@ -29,13 +29,13 @@ AreDifferent [] = Unit {0}
 AreDifferent (r ∷ rs) =
     AllByRecursion (λ later. rdata_eq r.rdata later.rdata ≡ false) rs × AreDifferent rs
 
--- A record is of class IN, of its set's type and inside the zone, decodes to itself, its numbers
--- fit their fields, and the types of a CSYNC rise.
+-- A record is of class IN, of its set's type and inside the zone, may be served, its numbers fit
+-- their fields, and the types of a CSYNC rise.
 pub record IsLoadedRecord (origin : DomainName) (set : RRset) (r : Record) : Type 0 where
   pub of_class : same_class r.dns_class IN ≡ true
   pub of_type : type_of r.rdata ≡ set.record_type
   pub inside : is_at_or_below r.name origin ≡ true
-  pub alone : ReadsBackAlone r
+  pub servable : IsServable r
   pub fits : NumbersFit r.rdata
 
 -- A set has no signatures, each record once, and one record where there may be one alone.

@@ -166,7 +166,7 @@ StandsAt zone line causes.BesideCname = RefusesData zone line causes.BesideCname
 StandsAt zone line causes.SecondSoa = RefusesData zone line causes.SecondSoa
 StandsAt zone line causes.OutOfMemory = Unit {0}
 
--- The order in which causes are tested. Out of memory comes at any time.
+-- The order in which causes are tested. Out of memory is none of them.
 abbrev pub cause_order : LoadCause → ℕ
 cause_order causes.OutOfMemory = 0
 cause_order causes.FieldCount = 1
@@ -187,15 +187,22 @@ NoneBefore zone line n =
     (earlier : LoadCause) → 0 < cause_order earlier → cause_order earlier < n
     → StandsAt zone line earlier → ⊥
 
--- The last three causes are about the data that were read, of which they exclude each other.
-abbrev pub line_turn : LoadCause → ℕ
-line_turn causes.BesideCname = 9
-line_turn causes.SecondSoa = 9
-line_turn other = cause_order other
+-- When a cause is tested, where out of memory comes at a turn or later. The last three causes are
+-- about the data that were read, of which they exclude each other.
+abbrev pub turn_from : ℕ → LoadCause → ℕ
+turn_from turn causes.OutOfMemory = turn
+turn_from turn causes.BesideCname = 9
+turn_from turn causes.SecondSoa = 9
+turn_from turn other = cause_order other
 
--- The first cause that applies.
+-- The first cause that applies. Out of memory hides none that is tested before this turn.
+abbrev pub StandsFrom : ℕ → Zone → List ℕ → LoadCause → Type 0
+StandsFrom turn zone line cause =
+    StandsAt zone line cause × NoneBefore zone line (turn_from turn cause)
+
+-- The first cause that applies. To read the owner is the first that allocates.
 abbrev pub Stands : Zone → List ℕ → LoadCause → Type 0
-Stands zone line cause = StandsAt zone line cause × NoneBefore zone line (line_turn cause)
+Stands = StandsFrom (cause_order causes.Owner)
 
 -- A field's value, or the cause for a malformed one.
 abbrev pub with_cause : {X : Type 0} → LoadCause → Result X TextError → Result X LoadCause
@@ -203,16 +210,17 @@ with_cause cause (Ok x) = Ok x
 with_cause cause (Err errors.Malformed) = Err cause
 with_cause cause (Err errors.OutOfMemory) = Err causes.OutOfMemory
 
--- The result of reading the fields. Which cause comes first doesn't depend on the zone.
-abbrev pub HeaderGives : {H : Type 0} → List ℕ → (H → Heading) → Result H LoadCause → Type 0
-HeaderGives line heading (Ok h) = IsHeading line (heading h)
-HeaderGives line heading (Err cause) =
-    (zone : Zone) → Stands zone line cause
+-- The result of reading the fields, which allocates from this turn on. Which cause comes first
+-- doesn't depend on the zone.
+abbrev pub HeaderGives : {H : Type 0} → ℕ → List ℕ → (H → Heading) → Result H LoadCause → Type 0
+HeaderGives turn line heading (Ok h) = IsHeading line (heading h)
+HeaderGives turn line heading (Err cause) =
+    (zone : Zone) → StandsFrom turn zone line cause
 
 -- The result of reading the data.
 abbrev pub DataGives : Zone → List ℕ → Heading → Result RData LoadCause → Type 0
 DataGives zone line h (Ok value) = IsInside zone line h × AreData line value
-DataGives zone line h (Err cause) = Stands zone line cause
+DataGives zone line h (Err cause) = StandsFrom (cause_order causes.Data) zone line cause
 
 -- No cause refuses the record.
 pub record MayJoin (zone : Zone) (r : Record) : Type 0 where
@@ -243,7 +251,7 @@ LoadsLine zone line next =
 pub record RefusesLine (zone : Zone) (line : List ℕ) (cause : LoadCause) : Type 0 where
   pub not_skipped : is_skipped_line line ≡ false
   pub stands : StandsAt zone line cause
-  pub first : NoneBefore zone line (line_turn cause)
+  pub first : NoneBefore zone line (turn_from (cause_order causes.Owner) cause)
 
 -- The result of loading a line.
 abbrev pub LineLoads : {X : Type 0} → Zone → List ℕ → Zone → Result X LoadCause → Type 0

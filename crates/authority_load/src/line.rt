@@ -3,7 +3,8 @@
 ghost use Rattle.std.specs.Prelude.{◌≡◌, ◌<◌, ◌∷◌, ℕ, List, length, IfOk, MatchOption};
 ghost use Rattle.zst_zone.specs.dnw_name.DomainName.{DomainName, lowercase_name};
 ghost use Rattle.zst_zone.specs.zst_record.Records.{belongs_to_message};
-ghost use Rattle.authority_load.specs.ZoneText.{data_text, words_of, is_internet, with_cause, DataGives, HeaderGives, IsHeading, IsOwnerText, LineGives};
+ghost use Rattle.authority_load.specs.declared.loader.LoadCause.TheVariants as causes;
+ghost use Rattle.authority_load.specs.ZoneText.{cause_order, data_text, words_of, is_internet, with_cause, DataGives, HeaderGives, IsHeading, IsOwnerText, LineGives};
 
 use crate::joining::fault_of;
 use crate::loader::LoadCause;
@@ -95,7 +96,8 @@ fn data_at<K>(
 
 /// The fields of a line as values, or the first cause why they have none.
 fn header_of(alloc: Global, line: &str) -> Result<Header<'_>, LoadCause>
-    ensures { HeaderGives line.now (λ h. record { name = h.name; ttl = h.ttl; record_type = h.record_type; rdata = h.rdata.now }) result }
+    ensures { HeaderGives (cause_order causes.Owner) line.now
+        (λ h. record { name = h.name; ttl = h.ttl; record_type = h.record_type; rdata = h.rdata.now }) result }
 {
     let Some(fields) = fields_of(line) else {
         return Err(LoadCause::FieldCount);
@@ -118,9 +120,11 @@ fn ttl_and_type(alloc: Global, fields: &Fields<'_>) -> Result<(u32, RecordType),
     ensures { (line : List ℕ) (name : DomainName)
         → words_of line ≡ fields.now.owner.now ∷ fields.now.ttl.now ∷ fields.now.dns_class.now ∷ fields.now.record_type.now ∷ words_of fields.now.rdata.now
         → IsOwnerText fields.now.owner.now name
-        → HeaderGives line (λ told. record { name = name; ttl = told.0; record_type = told.1; rdata = data_text line }) result }
+        → HeaderGives (cause_order causes.UnknownType) line (λ told. record { name = name; ttl = told.0; record_type = told.1; rdata = data_text line }) result }
 {
-    let ttl = or_cause(ttl_seconds(fields.ttl), LoadCause::Ttl)?;
+    let Some(ttl) = ttl_seconds(fields.ttl) else {
+        return Err(LoadCause::Ttl);
+    };
     if !is_internet_word(fields.dns_class.as_bytes()) {
         return Err(LoadCause::Class);
     }

@@ -13,33 +13,34 @@ use std::mem;
 use thiserror::Error;
 use zst_zone::{InMemoryZoneHandler, Name, ZoneSettings};
 
-/// Why a line is refused. The causes are tested in this order; out of memory comes at any time.
+/// Why a line is refused. The numbers are stable; the causes are tested in their order, but for `TypeNotLoaded` and
+/// `OutsideZone`, which come before `Data`. `OutOfMemory` hides no cause that is tested before the step that ran out.
 #[derive(Clone, Copy, Debug, PartialEq, Eq)]
 pub enum LoadCause {
     /// The line has fewer than four words.
-    FieldCount,
+    FieldCount = 1,
     /// The owner isn't a fully qualified name.
-    Owner,
+    Owner = 2,
     /// The TTL isn't a time of at most 2^32 - 1 seconds.
-    Ttl,
+    Ttl = 3,
     /// The class is not IN.
-    Class,
+    Class = 4,
     /// The type is neither a known name nor `TYPE` and a number of 16 bits.
-    UnknownType,
-    /// The type belongs to one message: OPT, SIG, TSIG.
-    TypeNotLoaded,
-    /// The owner is outside the zone.
-    OutsideZone,
+    UnknownType = 5,
     /// The text isn't data of the type, or the type has no text.
-    Data,
+    Data = 6,
+    /// The owner is outside the zone.
+    OutsideZone = 7,
+    /// The type belongs to one message: OPT, SIG, TSIG.
+    TypeNotLoaded = 8,
     /// The record's octets wouldn't decode to it: a relative name, a TXT without strings.
-    NotReadBack,
+    NotReadBack = 9,
     /// The owner of an alias would own another type too, or a second, different alias (RFC 1034 section 3.6.2).
-    BesideCname,
+    BesideCname = 10,
     /// The owner has an SOA.
-    SecondSoa,
+    SecondSoa = 11,
     /// An allocation failed.
-    OutOfMemory,
+    OutOfMemory = 12,
 }
 
 /// Why a zone's text is refused, and at which line.

@@ -56,13 +56,13 @@ pub fn parse_owner(alloc: Global, word: &[u8]) -> Result<Name, TextError>
     }
 }
 
-/// The seconds of a TTL.
-pub fn ttl_seconds(word: &str) -> Result<u32, TextError>
-    ensures { ReadsText (IsTtlField word.now) result }
+/// The seconds of a TTL. It allocates nothing.
+pub fn ttl_seconds(word: &str) -> Option<u32>
+    ensures { MatchOption result ((n : ℕ) → IsTtlField word.now n → ⊥) (IsTtlField word.now) }
 {
     match parse_ttl(word) {
-        Ok(seconds) => Ok(seconds),
-        Err(_) => Err(TextError::Malformed),
+        Ok(seconds) => Some(seconds),
+        Err(_) => None,
     }
 }
 

@@ -5,15 +5,18 @@ use Rattle.std.specs.Prelude.{ℕ, Bool, true, false, List, Option, Some, None, 
 use Rattle.std.specs.Net.Socket.{socket_ip}
 use Rattle.std.specs.declared.net.SocketAddr.{SocketAddr}
 use Rattle.zsv_access.specs.Access.{is_allowed}
-use Rattle.zsv_catalog.specs.Catalogs.{AnswersEdns, PartsOf, RepliesBy, nsid_for}
-use Rattle.zsv_catalog.proofs.PartsBack.{error_back, parts_back}
-use Rattle.zsv_catalog.proofs.Replied.{plain_id}
+use Rattle.zsv_catalog.specs.Catalogs.{RepliesBy}
+use Rattle.zsv_catalog.proofs.PartsBack.{error_back}
+use Rattle.zsv_catalog.proofs.zsv_answer_lemmas.zsv_reply_lemmas.Fits.{fits_request}
+use Rattle.zsv_catalog.proofs.Replied.{Repeated, own, plain_id, repeated_of}
+use Rattle.zsv_catalog.proofs.zsv_answer_lemmas.zsv_reply_lemmas.HeaderLaws.{fits_same}
 use Rattle.zsv_catalog.proofs.zsv_answer_lemmas.zsv_reply_lemmas.Written.{reply_of_encoded}
 use Rattle.zsv_catalog.specs.zsv_answer.Responses.{Sends, error_parts}
 use Rattle.zsv_catalog.specs.zsv_answer.zst_request.zst_codes.declared.response_code.ResponseCode.{ResponseCode}
 use Rattle.zsv_catalog.specs.zsv_answer.zst_request.zst_codes.declared.response_code.ResponseCode.TheVariants as responses
 use Rattle.zsv_catalog.specs.zsv_answer.zsv_reply.Replies.{IsReply, ReplyParts}
-use Rattle.zsv_catalog.specs.zsv_answer.zsv_reply.Writing.{AllReadBack, FitsOpCode, IsEncoded}
+use Rattle.zsv_catalog.specs.zsv_answer.zsv_reply.zsv_message.zsv_parts.Headers.{FitsOpCode}
+use Rattle.zsv_catalog.specs.zsv_answer.zsv_reply.Writing.{AllReadBack, IsEncoded}
 use Rattle.zsv_catalog.specs.zsv_answer.zsv_reply.zsv_message.Messages.{IsMessage, Message}
 use Rattle.zsv_catalog.specs.zsv_answer.zsv_reply.zsv_message.zst_edns.declared.edns.Edns.{Edns}
 use Rattle.zsv_catalog.specs.zsv_answer.zsv_reply.zsv_message.zsv_parts.Questions.{Asked}
@@ -22,69 +25,23 @@ use Rattle.zsv_catalog.specs.zsv_answer.zsv_reply.zsv_message.zsv_parts.declared
 use Rattle.zsv_catalog.specs.zsv_answer.zsv_request.Requests.{limit_of}
 use Rattle.zsv_catalog.specs.zsv_answer.zsv_request.declared.protocol.Protocol.{Protocol}
 use Rattle.zsv_catalog.specs.zsv_answer.zsv_request.declared.protocol.Protocol.TheVariants as protocols
-use Rattle.authority_server.specs.Servers.{SendsReply, ZonesSend}
-use Rattle.authority_server.specs.Serving.{Answers, GivesParts, World, WorldReadsBack}
+use Rattle.authority_server.specs.Servers.{SendsReply}
+use Rattle.authority_server.specs.Serving.{Answers, GivesParts, World}
 
--- All that a full reply to a message holds reads back.
-world_back : (world : World) (octets : List ℕ) (request : Message) (source : SocketAddr) (parts : ReplyParts) → IsMessage octets request → WorldReadsBack world → GivesParts world request source parts → AllReadBack parts
-world_back world octets request source parts is back gives = by (is_allowed world.access (socket_ip source)) refl
+-- A reply has the identifier and the opcode of its request.
+same_repeated : (world : World) (request : Message) (source : SocketAddr) (parts : ReplyParts) → GivesParts world request source parts → repeated_of parts ≡ own request.metadata
+same_repeated world request source parts gives = by (is_allowed world.access (socket_ip source)) refl
   where
-    by : (b : Bool) → is_allowed world.access (socket_ip source) ≡ b → AllReadBack parts
-    by true e = parts_back world.chains world.nsid octets request parts is back.chains back.nsid (gives.answered e)
-    by false e = error_back request.metadata responses.Refused parts (gives.refused e)
-
-abbrev id_of : ReplyParts → ℕ
-id_of parts = parts.metadata.id
-
--- A reply has the identifier of its request.
-same_id : (world : World) (request : Message) (source : SocketAddr) (parts : ReplyParts) → GivesParts world request source parts → id_of parts ≡ request.metadata.id
-same_id world request source parts gives = by (is_allowed world.access (socket_ip source)) refl
-  where
-    by : (b : Bool) → is_allowed world.access (socket_ip source) ≡ b → id_of parts ≡ request.metadata.id
+    by : (b : Bool) → is_allowed world.access (socket_ip source) ≡ b → repeated_of parts ≡ own request.metadata
     by true e =
         let zones = gives.answered e in
-        ap id_of zones.whole ∙ plain_id world.chains request zones.plain zones.gives
-    by false e = ap id_of (gives.refused e)
-
--- ---- the limit
--- The options of a reply bound it as those of the request do.
-limit_same : (transport : Protocol) (asked : Option Edns) (nsid : Option (List ℕ)) (code : ResponseCode) (edns : Option Edns) → AnswersEdns asked nsid code edns → limit_of transport edns ≡ limit_of transport asked
-limit_same protocols.Tcp asked nsid code edns answers = refl
-limit_same protocols.Udp None nsid code None answers = refl
-limit_same protocols.Udp None nsid code (Some edns) answers = absurd answers
-limit_same protocols.Udp (Some asked) nsid code None answers = absurd answers
-limit_same protocols.Udp (Some asked) nsid code (Some edns) answers = answers.max_payload
-
-parts_limit : (world : World) (request : Message) (transport : Protocol) (parts : ReplyParts) → PartsOf world.chains world.nsid request parts → limit_of transport parts.edns ≡ limit_of transport request.edns
-parts_limit world request transport parts gives = limit_same transport request.edns (nsid_for request.edns world.nsid) gives.plain.metadata.response_code parts.edns gives.edns
-
--- A reply without options has the least limit.
-least : (transport : Protocol) (edns : Option Edns) → 512 ≤ limit_of transport edns → limit_of transport None ≤ limit_of transport edns
-least protocols.Udp edns lower = lower
-least protocols.Tcp edns lower = omega arith
+        ap repeated_of zones.whole ∙ plain_id world.chains request zones.plain zones.gives
+    by false e = ap repeated_of (gives.refused e)
 
 -- ---- what is sent
--- What was encoded within the limit.
-pub zones_send : (world : World) (request : Message) (transport : Protocol) (info : Header) (reply : List ℕ) (limit : ℕ) → limit ≡ limit_of transport request.edns → length reply ≤ limit → RepliesBy world.chains world.nsid request transport info reply → ZonesSend world request transport info reply
-zones_send world request transport info reply limit is short (parts, gives, told) =
-    let same = parts_limit world request transport parts gives in
-    (parts, gives, record { within = omega (arith, short, is, same); stands = told })
-
--- What takes the place of a reply that is too long: there is none where all records read back.
-pub failure_sent : (world : World) (request : Message) (transport : Protocol) (long failed : Header) (reply other : List ℕ) (code : ResponseCode) (limit : ℕ) → limit ≡ limit_of transport request.edns → 512 ≤ limit → limit < length reply
-    → RepliesBy world.chains world.nsid request transport long reply → IsEncoded failed other (error_parts request.metadata code) request.asked (limit_of transport None) → ZonesSend world request transport failed other
-failure_sent world request transport long failed reply other code limit is lower passes (parts, gives, told) encoded =
-    let same = parts_limit world request transport parts gives in (
-      parts,
-      gives,
-      record {
-        within = omega (arith, encoded.within, least transport request.edns (omega (arith, is, lower)), same);
-        stands = λ back. absurd (omega (arith, (told back).within, passes, is, same));
-      },
-    )
-
-pub zones_sent : (world : World) (request : Message) (source : SocketAddr) (transport : Protocol) (info : Header) (reply : List ℕ) → is_allowed world.access (socket_ip source) ≡ true → ZonesSend world request transport info reply → SendsReply world request source transport info reply
-zones_sent world request source transport info reply allowed (parts, gives, sent) = (parts, record { refused = λ no. absurd (true≢false (sym allowed ∙ no)); answered = λ _. gives }, sent)
+pub zones_sent : (world : World) (request : Message) (source : SocketAddr) (transport : Protocol) (info : Header) (reply : List ℕ) → is_allowed world.access (socket_ip source) ≡ true → RepliesBy world.chains world.nsid request transport info reply → SendsReply world request source transport info reply
+zones_sent world request source transport info reply allowed (parts, gives, sent, back) =
+    (parts, record { refused = λ no. absurd (true≢false (sym allowed ∙ no)); answered = λ _. gives }, sent, λ reads. back reads.chains)
 
 pub refusal_sent : (world : World) (request : Message) (source : SocketAddr) (transport : Protocol) (info : Header) (reply : List ℕ) → is_allowed world.access (socket_ip source) ≡ false → IsEncoded info reply (error_parts request.metadata responses.Refused) request.asked (limit_of transport None)
     → SendsReply world request source transport info reply
@@ -92,30 +49,20 @@ refusal_sent world request source transport info reply denied encoded = (
   error_parts request.metadata responses.Refused,
   record { refused = λ _. refl; answered = λ yes. absurd (true≢false (sym yes ∙ denied)) },
   record { within = encoded.within; stands = λ _. encoded },
+  λ _. error_back request.metadata responses.Refused (error_parts request.metadata responses.Refused) refl,
 )
-
--- A reply without records has the operation of its request, and reads back.
-pub error_fits : (request m : Metadata) (code : ResponseCode) (plain : ReplyParts) → plain ≡ error_parts m code → m ≡ request → FitsOpCode request → FitsOpCode plain.metadata
-error_fits request m code plain is same fits =
-    let fits_m = subst FitsOpCode (sym same) fits in
-    subst (λ (p : ReplyParts). FitsOpCode p.metadata) (sym is) (record { op_code = fits_m.op_code; small = fits_m.small })
-
-pub error_encoded : (request m : Metadata) (code : ResponseCode) (plain : ReplyParts) (asked : Asked) (transport : Protocol) (info : Header) (reply : List ℕ) → plain ≡ error_parts m code → m ≡ request → Sends plain None asked transport info reply
-    → IsEncoded info reply (error_parts request code) asked (limit_of transport None)
-error_encoded request m code plain asked transport info reply is same sends =
-    let parts : plain ≡ error_parts request code = is ∙ ap (λ (m' : Metadata). error_parts m' code) same in
-    subst (λ (p : ReplyParts). Sends p None asked transport info reply) parts sends (error_back request code (error_parts request code) refl)
 
 pub sent_answers : (world : World) (octets : List ℕ) (request : Message) (source : SocketAddr) (transport : Protocol) (moment : ℕ) (info : Header) (reply : List ℕ) → IsMessage octets request → SendsReply world request source transport info reply
     → Answers world (record { message = octets; source = source; transport = transport; now = moment }) request reply
-sent_answers world octets request source transport moment info reply is (parts, gives, sent) = (
+sent_answers world octets request source transport moment info reply is (parts, gives, sent, reads) = (
   parts,
   gives,
   sent.within,
-  λ back. world_back world octets request source parts is back gives,
+  reads,
   λ back.
-      let stands = reply_of_encoded octets reply info parts request.asked (limit_of transport parts.edns) _ _ is.questions (sent.stands back) in
-      subst (λ (id : ℕ). IsReply octets reply parts request.asked id (limit_of transport parts.edns)) (same_id world request source parts gives) stands,
+      let fits = fits_same request.metadata parts.metadata (ap (λ (r : Repeated). r.1) (same_repeated world request source parts gives)) (fits_request octets request is) in
+      let stands = reply_of_encoded octets reply info parts request.asked (limit_of transport parts.edns) _ _ is.questions fits (sent.stands back) in
+      subst (λ (id : ℕ). IsReply octets reply parts request.asked id (limit_of transport parts.edns)) (ap (λ (r : Repeated). r.0) (same_repeated world request source parts gives)) stands,
 )
 
 -- ---- what a message gets to which a reply was written

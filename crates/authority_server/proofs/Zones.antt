@@ -30,10 +30,10 @@ taken_out view access m n new old name told is =
 
 -- ---- what reads back
 with_back : (world : World) (name : DomainName) (chain : List View) → WorldReadsBack world → ChainReadsBack chain → WorldReadsBack (with_zones world name chain)
-with_back world name chain back new = record { chains = all_inserted ChainReadsBack world.chains (lowercase_name name) chain back.chains new; nsid = back.nsid }
+with_back world name chain back new = record { chains = all_inserted ChainReadsBack world.chains (lowercase_name name) chain back.chains new }
 
 without_back : (world : World) (name : DomainName) → WorldReadsBack world → WorldReadsBack (without_zones world name)
-without_back world name back = record { chains = all_removed ChainReadsBack world.chains (λ other. is_eq (name_cmp (lowercase_name name) other)) back.chains; nsid = back.nsid }
+without_back world name back = record { chains = all_removed ChainReadsBack world.chains (λ other. is_eq (name_cmp (lowercase_name name) other)) back.chains }
 
 either : {X E : Type 0} (r : Result X E) (old new changed : World) → OnOk r (new ≡ changed) → OnErr r (new ≡ old) → WorldReadsBack old → WorldReadsBack changed → WorldReadsBack new
 either (Ok x) old new changed put kept before after = subst WorldReadsBack (sym put) after
@@ -42,5 +42,5 @@ either (Err e) old new changed put kept before after = subst WorldReadsBack (sym
 pub put_back : {X E : Type 0} (r : Result X E) (old new : World) (name : DomainName) (chain : List View) → OnOk r (new ≡ with_zones old name chain) → OnErr r (new ≡ old) → ChainReadsBack chain → WorldReadsBack old → WorldReadsBack new
 put_back r old new name chain put kept fits before = either r old new (with_zones old name chain) put kept before (with_back old name chain before fits)
 
-pub taken_back : {X E : Type 0} (r : Result X E) (old new : World) (name : DomainName) → OnOk r (new ≡ without_zones old name) → OnErr r (new ≡ old) → WorldReadsBack old → WorldReadsBack new
-taken_back r old new name taken kept before = either r old new (without_zones old name) taken kept before (without_back old name before)
+pub taken_back : (old new : World) (name : DomainName) → new ≡ without_zones old name → WorldReadsBack old → WorldReadsBack new
+taken_back old new name taken before = subst WorldReadsBack (sym taken) (without_back old name before)

@@ -6,7 +6,7 @@ use Rattle.std.specs.declared.net.SocketAddr.{SocketAddr}
 use Rattle.zsv_access.specs.Access.{is_allowed}
 use Rattle.zsv_access.specs.declared.access.AccessControl.{AccessControl}
 use Rattle.zsv_catalog.specs.Catalogs.{PartsOf}
-use Rattle.zsv_catalog.specs.ReadingBack.{ChainsReadBack, FitsOption}
+use Rattle.zsv_catalog.specs.ReadingBack.{ChainsReadBack}
 use Rattle.zsv_catalog.specs.zsv_answer.Responses.{error_parts}
 use Rattle.zsv_catalog.specs.zsv_answer.zst_request.Views.{View}
 use Rattle.zsv_catalog.specs.zsv_answer.zst_request.dnw_name.DomainName.{DomainName}
@@ -31,10 +31,9 @@ pub record Received : Type 0 where
   pub transport : Protocol
   pub now : ℕ
 
--- What the replies of a server hold can be read by whom they reach.
+-- Every record that the server holds reads back, and so what its replies hold.
 pub record WorldReadsBack (world : World) : Type 0 where
   pub chains : ChainsReadBack world.chains
-  pub nsid : FitsOption world.nsid
 
 -- What a full reply to a request holds: who isn't allowed to ask is refused, without options; to
 -- all others the zones answer.

@@ -7,11 +7,11 @@ ghost use Rattle.zsv_catalog.specs.Chains.{chain_at};
 ghost use Rattle.zsv_catalog.specs.ReadingBack.{ChainReadsBack};
 ghost use Rattle.zsv_catalog.specs.zsv_answer.zst_request.dnw_name.DomainName.{lowercase_name};
 ghost use Rattle.zsv_catalog.specs.zsv_answer.Responses.{error_parts};
-ghost use Rattle.zsv_catalog.specs.zsv_answer.zsv_reply.Writing.{FitsOpCode, IsEncoded};
+ghost use Rattle.zsv_catalog.specs.zsv_answer.zsv_reply.Writing.{IsEncoded};
 ghost use Rattle.zsv_catalog.specs.zsv_answer.zsv_request.Requests.{limit_of};
 ghost use Rattle.zsv_catalog.specs.zsv_answer.zsv_reply.zsv_message.zsv_parts.dnw_decoder.Reading.{IsWantOfMemory};
 ghost use Rattle.authority_server.specs.Serving.{Serves, WorldReadsBack};
-ghost use Rattle.authority_server.specs.Servers.{SendsReply, ZonesSend, chains_of, no_zones, with_zones, without_zones, world_of};
+ghost use Rattle.authority_server.specs.Servers.{SendsReply, chains_of, no_zones, with_zones, without_zones, world_of};
 ghost use Rattle.authority_server.specs.Runs.{octets_of, received_of, ServesNext, ServesFront};
 
 use std::alloc::{AllocError, Global};
@@ -19,8 +19,8 @@ use std::net::SocketAddr;
 use thiserror::Error;
 use zsv_access::AccessControl;
 use zsv_catalog::{
-    BareRequest, Chains, DecodeError, MessageRequest, NSIDPayload, Name, Protocol, ResponseCode,
-    ResponseInfo, ZoneHandler, encode_error, encode_refusal, reply_by,
+    BareRequest, Catalog, DecodeError, MessageRequest, NSIDPayload, Name, Protocol, ResponseCode,
+    ResponseInfo, ZoneHandler, encode_error, encode_refusal,
 };
 
 /// A message as it came.
@@ -77,10 +77,7 @@ fn answer_sent(
 #[derive(Drop)]
 pub struct Authority<S, H = Box<dyn ZoneHandler>> {
     alloc: Global,
-    suite: S,
-    chains: Chains<H>,
-    // By what the server tells itself apart from others that answer under its address.
-    nsid: Option<NSIDPayload>,
+    catalog: Catalog<S, H>,
     access: AccessControl,
 }
 
@@ -91,9 +88,7 @@ impl<S, H: ZoneHandler> Authority<S, H> {
     {
         Authority {
             alloc,
-            suite,
-            chains: Chains::new(alloc),
-            nsid: None,
+            catalog: Catalog::new(alloc, suite),
             access: AccessControl::new(alloc),
         }
     }
@@ -106,19 +101,18 @@ impl<S, H: ZoneHandler> Authority<S, H> {
         ensures err { OnErr result (world_of H.view self.new ≡ world_of H.view self.old) }
         ensures back { WorldReadsBack (world_of H.view self.old) → WorldReadsBack (world_of H.view self.new) }
     {
-        self.chains.upsert(self.alloc, name, handlers)
+        self.catalog.upsert(name, handlers)
     }
 
-    /// Takes out the chain under a name, and hands it back.
-    pub fn remove(&mut self, name: &Name) -> Result<Option<Vec<H>>, AllocError>
-        ensures value { IfOk result (λ chain. chain ≡ chain_at (chains_of self.old) (lowercase_name name.now)) }
-        ensures views { IfOk result (λ chain. chain_at (world_of H.view self.old).chains (lowercase_name name.now)
-            ≡ option_map (λ handlers. map H.view handlers.items) chain) }
-        ensures ok { OnOk result (world_of H.view self.new ≡ without_zones (world_of H.view self.old) name.now) }
-        ensures err { OnErr result (world_of H.view self.new ≡ world_of H.view self.old) }
+    /// Takes out the chain under a name, and returns it. It takes no memory.
+    pub fn remove(&mut self, name: &Name) -> Option<Vec<H>>
+        ensures value { result ≡ chain_at (chains_of self.old) (lowercase_name name.now) }
+        ensures views { chain_at (world_of H.view self.old).chains (lowercase_name name.now)
+            ≡ option_map (λ handlers. map H.view handlers.items) result }
+        ensures after { world_of H.view self.new ≡ without_zones (world_of H.view self.old) name.now }
         ensures back { WorldReadsBack (world_of H.view self.old) → WorldReadsBack (world_of H.view self.new) }
     {
-        self.chains.remove(self.alloc, name)
+        self.catalog.remove(name)
     }
 
     /// Says who may ask.
@@ -128,12 +122,11 @@ impl<S, H: ZoneHandler> Authority<S, H> {
         self.access = access;
     }
 
-    /// Sets the identifier that is told to those who ask for it (RFC 5001), or none. One of more than 65,531 octets fits no
-    /// message.
+    /// Sets the NSID, which those who ask for it are sent (RFC 5001), or none.
     pub fn set_nsid(&mut self, nsid: Option<NSIDPayload>)
         ensures { world_of H.view self.new ≡ record (world_of H.view self.old) { nsid = nsid } }
     {
-        self.nsid = nsid;
+        self.catalog.set_nsid(nsid);
     }
 
     // The allocator that the server was made with.
@@ -148,7 +141,6 @@ impl<S, H: ZoneHandler> Authority<S, H> {
         protocol: Protocol,
         response_code: ResponseCode,
     ) -> Result<(ResponseInfo, Vec<u8>), AllocError>
-        requires { FitsOpCode request.now.metadata }
         ensures { IfOk result (λ sent. IsEncoded sent.0 sent.1.items (error_parts request.now.metadata response_code)
             request.now.asked (limit_of protocol None)) }
     {
@@ -161,25 +153,6 @@ impl<S, H: ZoneHandler> Authority<S, H> {
         )
     }
 
-    // The zones' reply to a request, and its header. One above its limit, as only records that can't be read back could make
-    // it, gives way to a failure of the server.
-    fn zones_reply(
-        &self,
-        request: &MessageRequest<'_>,
-        src: SocketAddr,
-        protocol: Protocol,
-    ) -> Result<(ResponseInfo, Vec<u8>), AllocError>
-        requires { FitsOpCode request.now.metadata }
-        ensures { IfOk result (λ sent. ZonesSend (world_of H.view self.now) request.now protocol sent.0 sent.1.items) }
-    {
-        let nsid = self.nsid.as_ref();
-        let sent = reply_by(&self.chains, nsid, self.alloc, request, src, protocol)?;
-        if sent.1.len() > protocol.limit(request.edns()) as usize {
-            return self.error_reply(request, protocol, ResponseCode::ServFail);
-        }
-        Ok(sent)
-    }
-
     // The reply to a request, and its header: whose source may not ask is refused, without options.
     fn reply_to(
         &self,
@@ -188,12 +161,11 @@ impl<S, H: ZoneHandler> Authority<S, H> {
         protocol: Protocol,
         may_ask: bool,
     ) -> Result<(ResponseInfo, Vec<u8>), AllocError>
-        requires { FitsOpCode request.now.metadata }
         ensures { may_ask ≡ is_allowed self.now.access (socket_ip src)
             → IfOk result (λ sent. SendsReply (world_of H.view self.now) request.now src protocol sent.0 sent.1.items) }
     {
         if may_ask {
-            return self.zones_reply(request, src, protocol);
+            return self.catalog.reply_to(request, src, protocol);
         }
         self.error_reply(request, protocol, ResponseCode::Refused)
     }

@@ -63,3 +63,9 @@ option_input option = fed.u16 (option_code option) ++ option_octets option ∷ [
 abbrev pub IsLong : List ℕ → ProtoError → Type 0
 IsLong octets (Message words) = 65535 < length octets
 IsLong octets other = ⊥
+
+-- The octets are more than an option can have in a message: code and length, 4 octets, come before
+-- them in the RDATA of the OPT record, which are at most 65,535 (RFC 6891, section 6.1.2).
+abbrev pub IsLongIdentifier : List ℕ → ProtoError → Type 0
+IsLongIdentifier octets (Message words) = 65531 < length octets
+IsLongIdentifier octets other = ⊥

@@ -10,7 +10,7 @@ ghost use Rattle.drd_fields.specs.dnw_encoder.declared.modes.RDataEncoding.TheVa
 ghost use Rattle.drd_fields.specs.Fields.{rest};
 ghost use Rattle.drd_fields.specs.Writing.{EmitsData, RefusesFields};
 ghost use Rattle.drd_opt.specs.Codes.{edns_code_number, edns_code_of};
-ghost use Rattle.drd_opt.specs.Options.{option_code, option_octets, option_input, option_cmp, counted_cmp, same_option, IsOptionOf, IsLong};
+ghost use Rattle.drd_opt.specs.Options.{option_code, option_octets, option_input, option_cmp, counted_cmp, same_option, IsOptionOf, IsLongIdentifier};
 ghost use Rattle.hex.specs.Hex.{encode_lower};
 
 use crate::code::EdnsCode;
@@ -40,12 +40,12 @@ pub enum EdnsOption {
 }
 
 impl EdnsOption {
-    /// The option of a code and its octets. A subnet that can't be read is kept as `Unknown`. Refused are more than 65,535
-    /// octets of an identifier.
+    /// The option of a code and its octets. A subnet that can't be read is kept as `Unknown`. Refused are more than 65,531
+    /// octets of an NSID.
     pub fn new(alloc: Global, code: EdnsCode, octets: &[u8]) -> Result<EdnsOption, ProtoError>
         ensures ok { IfOk result (IsOptionOf (edns_code_number code) octets.now) }
-        ensures few { OnOk result (edns_code_number code ≡ 3 → length octets.now ≤ 65535) }
-        ensures refused { IfErr result (λ e. IsMemory e ⊎ ((edns_code_number code ≡ 3) × IsLong octets.now e)) }
+        ensures few { OnOk result (edns_code_number code ≡ 3 → length octets.now ≤ 65531) }
+        ensures refused { IfErr result (λ e. IsMemory e ⊎ ((edns_code_number code ≡ 3) × IsLongIdentifier octets.now e)) }
     {
         let number = u16::from(code);
         if number == 8 {

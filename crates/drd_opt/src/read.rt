@@ -40,7 +40,7 @@ fn read_raw<'a>(decoder: &mut BinDecoder<'a>) -> Result<Option<(u16, &'a [u8])>,
 
 // The option of a code and octets, under the code.
 fn entry_of(alloc: Global, code: u16, octets: &[u8]) -> Result<(EdnsCode, EdnsOption), DecodeError>
-    requires { length octets.now < 65536 }
+    requires { length octets.now ≤ 65531 }
     ensures ok { IfOk result (IsEntryOf (raw_option code octets.now)) }
     ensures refused { IfErr result IsWantOfMemory }
 {
@@ -51,8 +51,9 @@ fn entry_of(alloc: Global, code: u16, octets: &[u8]) -> Result<(EdnsCode, EdnsOp
     }
 }
 
-// The entries that some octets hold.
+// The entries that the RDATA of an OPT record hold.
 fn entries_of(alloc: Global, octets: &[u8]) -> Result<Vec<(EdnsCode, EdnsOption)>, DecodeError>
+    requires { length octets.now ≤ 65535 }
     ensures ok { IfOk result (λ entries. HoldsEntries octets.now entries.items) }
     ensures refused { IfErr result (λ e. IsWantOfMemory e ⊎ ((e ≡ InsufficientBytes) × IsRefused octets.now)) }
 {

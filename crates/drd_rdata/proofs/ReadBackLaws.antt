@@ -23,7 +23,8 @@ use Rattle.drd_rdata.specs.declared.rdata.RData.TheVariants as rdata
 use Rattle.drd_rdata.specs.ReadingBack.{IsReadBack, ReadsBack, encoded_data}
 use Rattle.drd_rdata.proofs.BackLaws.{alike, emitted_stands}
 
-options_there : (source message : List ℕ) (place : ℕ) (ws : List Entry) (end : ℕ) → HoldsEntries source ws → FieldsAt message place (rest (entries_octets ws) ∷ []) end → EntriesAt message place ws end
+-- Options whose octets were written are there.
+pub options_there : (source message : List ℕ) (place : ℕ) (ws : List Entry) (end : ℕ) → HoldsEntries source ws → FieldsAt message place (rest (entries_octets ws) ∷ []) end → EntriesAt message place ws end
 options_there source message place ws end held written = record {
   octets = entries_octets ws;
   there = subst (λ (p : ℕ). Stands message place (entries_octets ws) p) (sym written.2) written.1;

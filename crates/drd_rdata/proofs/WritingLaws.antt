@@ -49,7 +49,7 @@ over : (octets : List ℕ) (e : ProtoError) → IsLong octets e → 65535 < leng
 over octets (Message words) big = big
 over octets other big = absurd big
 
-none_long : (entries : List Entry) (e : ProtoError) → All FitsLengths (map raw_of entries) → HasLong entries e → ⊥
+pub none_long : (entries : List Entry) (e : ProtoError) → All FitsLengths (map raw_of entries) → HasLong entries e → ⊥
 none_long [] e fit big = big
 none_long (x ∷ xs) e fit (inl big) = omega (arith, (All-head FitsLengths (raw_of x) (map raw_of xs) fit).octets, over (option_octets x.1) e big)
 none_long (x ∷ xs) e fit (inr big) = none_long xs e (All-tail FitsLengths (raw_of x) (map raw_of xs) fit) big

@@ -1,6 +1,6 @@
 -- What was read is written, names in full, as what reads back the same, in as many octets as it has, and is refused only where these
 -- don't fit. Whatever is written ends within the maximum.
-use Rattle.std.proofs.Common.{◌≡◌, ℕ, ◌+◌, ◌<◌, ◌≤◌, inl, inr, Bool, true, false, List, [], ◌∷◌, ◌++◌, length, map, cond, refl, sym, ap, subst, ◌∙◌, arith}
+use Rattle.std.proofs.Common.{◌≡◌, ℕ, zero, suc, ◌+◌, ◌<◌, ◌≤◌, inl, inr, Bool, true, false, List, [], ◌∷◌, ◌++◌, length, map, cond, refl, sym, ap, subst, ◌∙◌, arith}
 use Rattle.std.proofs.lemmas.List.{length-append}
 use Rattle.std.specs.Str.{str_to_ascii_lowercase}
 use Rattle.drd_types.specs.dnw_codes.declared.error.ProtoError.{ProtoError}
@@ -30,9 +30,14 @@ use Rattle.drd_types.specs.drd_fields.Fields.{Field, octet, short, long, name, s
 use Rattle.drd_types.specs.drd_fields.Writing.{EmitsData, EndsWithin, RefusesFields, encoded_fields, fields_octets}
 use Rattle.drd_types.proofs.drd_fields_lemmas.WritingLaws.{refused_front}
 use Rattle.drd_rdata.specs.Fields.{encoding_of, rdata_fields}
-use Rattle.drd_rdata.specs.Reading.{HoldsAs}
+use Rattle.drd_types.specs.drd_opt.Entries.{Entry, entries_octets, raw_octets, raw_of}
+use Rattle.drd_types.specs.drd_opt.Reading.{HoldsEntries}
+use Rattle.drd_types.specs.drd_opt.declared.opt.OPT.{OPT}
+use Rattle.drd_types.proofs.drd_opt_lemmas.FitLaws.{read_fit}
+use Rattle.drd_rdata.specs.Reading.{HoldsAs, ReadsAs}
 use Rattle.drd_rdata.specs.Writing.{EmitsRData, RefusesRData, WritesInFull, written_octets}
-use Rattle.drd_rdata.proofs.WritingLaws.{short_fields}
+use Rattle.drd_rdata.proofs.ReadBackLaws.{options_there}
+use Rattle.drd_rdata.proofs.WritingLaws.{none_long, short_fields}
 use Rattle.drd_rdata.specs.declared.rdata.RData.{RData}
 use Rattle.drd_rdata.specs.declared.rdata.RData.TheVariants as rdata
 
@@ -112,26 +117,52 @@ csync_some : (message : List ℕ) (place : ℕ) (csync : CSYNC) (end : ℕ) → 
 csync_some message place csync end there =
     omega (arith, something_there message place (long csync.soa_serial) there.there.0 there.there.1 refl, fields_forward message there.there.0 (short (csync_flags csync) ∷ rest there.octets ∷ []) end there.there.2)
 
--- What was read for a type and is written stands for it where it is written, in the finished message too.
-pub written_holds : (t : RecordType) (source : List ℕ) (start : ℕ) (v : RData) (stop : ℕ)
-    → HoldsAs t source start v stop → start < stop → (t ≡ kind.OPT → ⊥) → (old new : State)
-    → WritesInFull old → EmitsRData v old new
-    → StaysTrue new new.offset (λ message. HoldsSome t message old.offset v new.offset)
-written_holds t source start (rdata.CSYNC csync) stop held some options old new full e =
-    holds_map new.offset new (λ message. CsyncAt message old.offset csync new.offset)
+-- Data that take octets where they were written are read there for their type.
+some_read : (t : RecordType) (v : RData) (old new : State) (n : ℕ) → old.offset + n ≡ new.offset → StaysTrue new new.offset (λ message. HoldsSome t message old.offset v new.offset) → StaysTrue new new.offset (λ message. ReadsAs t message old.offset n v)
+some_read t v old new n at = holds_map new.offset new (λ message. HoldsSome t message old.offset v new.offset) (λ message. ReadsAs t message old.offset n v)
+    (λ message found. inr (omega (arith, found.1, at), subst (λ (q : ℕ). HoldsAs t message old.offset v q) (sym at) found.0))
+
+-- Options that were written are read where they are, also where there are none.
+no_entry : (entries : List Entry) → length (entries_octets entries) ≡ 0 → entries ≡ []
+no_entry [] none = refl
+no_entry (entry ∷ entries) none = absurd (omega (arith, none, length-append (raw_octets (raw_of entry)) (entries_octets entries)))
+
+options_read : (source : List ℕ) (opt : OPT) (message : List ℕ) (place n : ℕ) → HoldsEntries source opt.options.items → FieldsAt message place (rest (entries_octets opt.options.items) ∷ []) (place + n) → ReadsAs kind.OPT message place n (rdata.OPT opt)
+options_read source opt message place zero held written =
+    inl (refl, (opt, refl, no_entry opt.options.items (omega (arith, written.1.behind, written.2))))
+options_read source opt message place (suc n) held written =
+    inr (omega arith, (refl, options_there source message place opt.options.items (place + suc n) held written))
+
+-- What was read for a type and is written reads as itself where it is written, in the finished message too.
+pub written_reads : (t : RecordType) (source : List ℕ) (start : ℕ) (v : RData) (stop : ℕ)
+    → HoldsAs t source start v stop → start < stop → (old new : State) (n : ℕ)
+    → old.offset + n ≡ new.offset → WritesInFull old → EmitsRData v old new
+    → StaysTrue new new.offset (λ message. ReadsAs t message old.offset n v)
+written_reads t source start (rdata.CSYNC csync) stop held some old new n at full e =
+    some_read t (rdata.CSYNC csync) old new n at
+    (holds_map new.offset new (λ message. CsyncAt message old.offset csync new.offset)
     (λ message. HoldsSome t message old.offset (rdata.CSYNC csync) new.offset)
     (λ message there. ((held.0, there), csync_some message old.offset csync new.offset there))
-    (e.stays full.sound)
-written_holds t source start (rdata.OPT opt) stop held some options old new full e =
-    absurd (options (sym held.0))
-written_holds t source start (rdata.Update0 code) stop held some options old new full e =
+    (e.stays full.sound))
+written_reads t source start (rdata.OPT opt) stop held some old new n at full e =
+    subst
+    (λ (t : RecordType). StaysTrue new new.offset (λ message. ReadsAs t message old.offset n (rdata.OPT opt)))
+    held.0
+    (holds_map new.offset new
+    (λ message. FieldsAt message old.offset (rest (entries_octets opt.options.items) ∷ []) new.offset)
+    (λ message. ReadsAs kind.OPT message old.offset n (rdata.OPT opt))
+    (λ message there. options_read held.1.octets opt message old.offset n held.1.holds
+    (subst (λ (q : ℕ). FieldsAt message old.offset (rest (entries_octets opt.options.items) ∷ []) q) (sym at) there))
+    (e.0.stays full.sound))
+written_reads t source start (rdata.Update0 code) stop held some old new n at full e =
     absurd held.1.1
-written_holds t source start rdata.ZERO stop held some options old new full e = absurd held.1.1
-written_holds t source start v stop held some options old new full e =
-    holds_map new.offset new (λ message. FieldsThere (rdata_fields v) message old.offset new.offset)
+written_reads t source start rdata.ZERO stop held some old new n at full e = absurd held.1.1
+written_reads t source start v stop held some old new n at full e =
+    some_read t v old new n at
+    (holds_map new.offset new (λ message. FieldsThere (rdata_fields v) message old.offset new.offset)
     (λ message. HoldsSome t message old.offset v new.offset)
     (λ message there. ((held.0, (there.0, held.1.1)), there.1))
-    (data_holds (encoding_of v) (rdata_fields v) source start stop held.1.0 some old new full e)
+    (data_holds (encoding_of v) (rdata_fields v) source start stop held.1.0 some old new full e))
 
 -- The bit maps that were written are those of the types.
 maps_same : (source : List ℕ) (start stop : ℕ) (csync : CSYNC) (octets : List ℕ) → CsyncAt source start csync stop → AreTightMaps octets csync.type_bit_maps → octets ≡ tight_maps csync.type_bit_maps
@@ -167,26 +198,30 @@ fields_fit source start stop fs held old e (inr big) = absurd (short_fields sour
 
 -- They are refused only where those octets don't fit, or for want of memory.
 pub written_refused : (t : RecordType) (source : List ℕ) (start : ℕ) (v : RData) (stop : ℕ)
-    → HoldsAs t source start v stop → (t ≡ kind.OPT → ⊥) → (old : State) (e : ProtoError)
-    → RefusesRData v old e → IsRefusal old (length (written_octets v)) e
-written_refused t source start (rdata.CSYNC csync) stop held options old e (inl front) =
+    → HoldsAs t source start v stop → (old : State) (e : ProtoError) → RefusesRData v old e
+    → IsRefusal old (length (written_octets v)) e
+written_refused t source start (rdata.CSYNC csync) stop held old e (inl front) =
     subst (λ (n : ℕ). IsRefusal old n e)
     (sym (csync_size csync (tight_maps csync.type_bit_maps)))
     (refused_front 6 (length (tight_maps csync.type_bit_maps)) old e front)
-written_refused t source start (rdata.CSYNC csync) stop held options old e (inr whole) =
+written_refused t source start (rdata.CSYNC csync) stop held old e (inr whole) =
     subst (λ (o : List ℕ). IsRefusal old (length (fields_octets (csync_fields csync o))) e)
     (maps_same source start stop csync whole.0 held.1 whole.1)
     (subst (λ (n : ℕ). IsRefusal old n e) (sym (csync_size csync whole.0)) whole.2)
-written_refused t source start (rdata.HTTPS https) stop held options old e refused =
+written_refused t source start (rdata.HTTPS https) stop held old e refused =
     refused.read held.1.1
-written_refused t source start (rdata.OPT opt) stop held options old e refused =
-    absurd (options (sym held.0))
-written_refused t source start (rdata.SVCB svcb) stop held options old e refused =
+written_refused t source start (rdata.OPT opt) stop held old e (inl (inl refused)) = refused
+written_refused t source start (rdata.OPT opt) stop held old e (inl (inr (inl far))) = absurd far
+written_refused t source start (rdata.OPT opt) stop held old e (inl (inr (inr far))) = absurd far
+written_refused t source start (rdata.OPT opt) stop held old e (inr far) =
+    absurd
+    (none_long opt.options.items e (read_fit held.1.octets opt.options.items held.1.holds) far)
+written_refused t source start (rdata.SVCB svcb) stop held old e refused =
     refused.read held.1.1
-written_refused t source start (rdata.Update0 code) stop held options old e refused =
+written_refused t source start (rdata.Update0 code) stop held old e refused =
     absurd refused
-written_refused t source start rdata.ZERO stop held options old e refused = absurd refused
-written_refused t source start v stop held options old e refused =
+written_refused t source start rdata.ZERO stop held old e refused = absurd refused
+written_refused t source start v stop held old e refused =
     fields_fit source start stop (rdata_fields v) held.1.0 old e refused
 
 -- ---- what was written ends within the maximum

@@ -14,5 +14,4 @@ pub use zsv_catalog::{
     RecordSet, RecordType, Request, RequestHandler, RequestInfo, ResponseCode, ResponseHandler,
     ResponseInfo, SOA, SendFault, ServiceFault, SignFault, TSigResponseContext, Tsig, TsigRecord,
     TsigSuite, TsigVerdict, UpdateRequest, ZoneHandler, ZoneRequest, ZoneType, error_response,
-    lookup_by, reply_by, serve_by,
 };

@@ -14,7 +14,7 @@ use Rattle.zst_handler.specs.declared.settings.ZoneSettings.{ZoneSettings}
 use Rattle.zst_record.specs.dnw_name.DomainName.{DomainName, name_cmp, name_eq, is_at_or_below}
 use Rattle.zst_record.specs.dnw_codes.RecordType.{record_type_number, same_record_type}
 use Rattle.zst_record.specs.drd_rdata.Types.{type_of}
-use Rattle.zst_record.specs.Records.{ReadsBackAlone}
+use Rattle.zst_record.specs.Records.{IsServable}
 use Rattle.zst_record.specs.RecordSets.{IsRRset, RRset, none_left, set_with}
 
 -- The set of a type at a name.
@@ -84,8 +84,8 @@ AreStored sets = AllByRecursion IsStored sets
 -- Each record of a set and each of its signatures can be read alone: what a server's replies hold
 -- can be read by whom they reach.
 pub record SetReadsBack (set : RRset) : Type 0 where
-  pub records : AllByRecursion ReadsBackAlone set.records
-  pub signatures : AllByRecursion ReadsBackAlone set.signatures
+  pub records : AllByRecursion IsServable set.records
+  pub signatures : AllByRecursion IsServable set.signatures
 
 abbrev pub ZoneReadsBack : Zone → Type 0
 ZoneReadsBack zone = AllByRecursion SetReadsBack zone.sets

@@ -7,3 +7,4 @@ pub mod KeyOrder
 pub mod NamesAbove
 pub mod ParentEnds
 pub mod SharedEnds
+pub mod SortedNames

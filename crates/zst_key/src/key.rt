@@ -21,7 +21,7 @@ use std::marker::Model;
 /// Those of names of up to 39 octets take no memory.
 #[derive(Drop)]
 pub struct NameKey {
-    octets: SmallVec<u8, INLINE>,
+    pub(crate) octets: SmallVec<u8, INLINE>,
 }
 
 impl Model for NameKey {

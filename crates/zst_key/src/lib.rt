@@ -7,6 +7,8 @@
 mod above;
 mod key;
 mod octets;
+mod sorted;
 
 pub use above::{nearest, nearest_above};
 pub use key::NameKey;
+pub use sorted::{KeyRef, NameList, WholeKey};

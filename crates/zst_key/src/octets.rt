@@ -40,9 +40,12 @@ static RANKS: [u8; 256] = [
 
 // The octets of a name's key: the flag, then the labels from the root down, each octet by its rank, without regard to
 // case. So the octets of a suffix are a front, and plain order is the canonical order of names (RFC 4034 6.1).
-pub(crate) fn octets_of(alloc: Global, name: &Name) -> Result<SmallVec<u8, INLINE>, AllocError>
+pub(crate) fn octets_of<const N: usize>(
+    alloc: Global,
+    name: &Name,
+) -> Result<SmallVec<u8, N>, AllocError>
     ensures key { IfOk result (λ octets. octets.items ≡ name_key name.now) }
-    ensures short { name_len name.now < 40 → IsOk result }
+    ensures short { name_len name.now < N → IsOk result }
 {
     let mut octets = SmallVec::with_capacity(alloc, name.len() + 1)?;
     octets.push_reserved(u8::from(name.is_fqdn()));
@@ -55,7 +58,7 @@ pub(crate) fn octets_of(alloc: Global, name: &Name) -> Result<SmallVec<u8, INLIN
 
 // Appends a label's octets by their ranks, then 0, for which there is room. A label of one octet starts no loop, since a
 // name may have many of them.
-fn push_label(octets: &mut SmallVec<u8, INLINE>, label: &[u8])
+fn push_label<const N: usize>(octets: &mut SmallVec<u8, N>, label: &[u8])
     requires { HasRoomFor octets.old (length label.now + 1) }
     ensures items { octets.new.items ≡ octets.old.items ++ label_key label.now }
     ensures len { small_vec_len octets.new ≡ small_vec_len octets.old + (length label.now + 1) }

@@ -1,5 +1,5 @@
 -- A record that is written piece by piece.
-use Rattle.std.proofs.Common.{◌≡◌, ℕ, ◌+◌, ◌^◌, ◌<◌, ◌≤◌, inr, List, [], ◌∷◌, ◌++◌, length, length-append, slice_index_or, refl, sym, ap, subst, ◌∙◌, arith}
+use Rattle.std.proofs.Common.{◌≡◌, ℕ, ◌+◌, ◌^◌, ◌<◌, ◌≤◌, ◌⊎◌, inl, inr, List, [], ◌∷◌, ◌++◌, length, length-append, slice_index_or, refl, sym, ap, subst, ◌∙◌, arith}
 use Rattle.std.specs.Prelude.{Result, Ok, Err, OnOk}
 use Rattle.std.specs.Int.{to_be_bytes, w32}
 use Rattle.std.specs.Net.Addr.{ipv4_bits}
@@ -7,29 +7,33 @@ use Rattle.drd_fields.proofs.ReadableLaws.{own_fields}
 use Rattle.drd_rdata.specs.dnw_codes.DNSClass.{class_number}
 use Rattle.drd_rdata.specs.dnw_codes.RecordType.{record_type_number}
 use Rattle.drd_rdata.specs.dnw_codes.declared.error.ProtoError.{ProtoError}
-use Rattle.drd_rdata.specs.dnw_codes.declared.record_type.RecordType.TheVariants.{OPT}
+use Rattle.drd_rdata.specs.dnw_codes.declared.record_type.RecordType.{RecordType}
+use Rattle.drd_rdata.specs.dnw_codes.declared.record_type.RecordType.TheVariants as kind
 use Rattle.drd_rdata.specs.dnw_decoder.Octets.{octets_16, octets_32, Stands}
 use Rattle.drd_rdata.specs.dnw_decoder.Spelling.{NameAt}
 use Rattle.drd_rdata.proofs.dnw_decoder_lemmas.Standing.{length-octets_32, stands_split}
 use Rattle.drd_rdata.specs.dnw_encoder.Effects.{Has, SameModes, Sound, StaysTrue, Keeps, Writes, WritesOctets, Opens, Fills, IsRefusal, place_of, written_at}
 use Rattle.drd_rdata.proofs.dnw_encoder_lemmas.Laws.{holds_more, holds_same, holds_written, keeps_then, modes_then, puts_stands, puts_writes, writes_then, written_length}
 use Rattle.drd_fields.specs.dnw_encoder.Members.{In}
-use Rattle.drd_rdata.specs.dnw_encoder.Names.{EmitsName}
+use Rattle.drd_rdata.specs.dnw_encoder.Names.{EmitsName, encoded_name}
 use Rattle.drd_rdata.proofs.dnw_encoder_lemmas.PlaceLaws.{opens_open}
 use Rattle.drd_rdata.specs.dnw_encoder.State.{Candidate, State, is_lower}
+use Rattle.drd_rdata.specs.dnw_encoder.declared.modes.NameEncoding.{NameEncoding}
 use Rattle.drd_rdata.specs.dnw_name.DomainName.{DomainName, name_octets}
 use Rattle.drd_rdata.proofs.drd_fields_lemmas.WritingLaws.{refused_front, refused_later, within_then, written_then}
-use Rattle.drd_rdata.specs.Reading.{HoldsAs, IsReadable}
+use Rattle.drd_rdata.specs.Reading.{HoldsAs, IsEmptyOf, IsReadable, ReadsAs}
 use Rattle.drd_rdata.specs.Types.{type_of}
-use Rattle.drd_rdata.specs.Writing.{EmitsRData, RefusesRData, WritesInFull, written_octets}
-use Rattle.drd_rdata.proofs.WrittenLaws.{HoldsSome, data_within, encoded_full, written_holds, written_size, written_refused}
+use Rattle.drd_rdata.specs.Writing.{EmitsRData, RefusesRData, StandsWritten, WritesInFull, written_octets}
+use Rattle.drd_rdata.proofs.WrittenLaws.{data_within, encoded_full, written_reads, written_size, written_refused}
+use Rattle.drd_rdata.proofs.BackLaws.{emitted_stands}
 use Rattle.drd_rdata.specs.declared.rdata.RData.{RData}
 use Rattle.drd_rdata.specs.declared.rdata.RData.TheVariants as rdata
 use Rattle.drd_rdata.specs.drd_params.AddressFields.{aaaa_fields}
 use Rattle.drd_rdata.specs.drd_params.declared.a.A.{A}
 use Rattle.drd_rdata.specs.drd_params.declared.aaaa.AAAA.{AAAA}
-use Rattle.zst_record.proofs.OwnCodes.{class_read, class_small, no_options, type_read, type_small}
-use Rattle.zst_record.specs.Writing.{HeadAt, EmitsHead, DataAt, EmitsBehindLength, EmitsRecord, RefusesBehindLength, RefusesRecord, head_numbers}
+use Rattle.zst_record.proofs.OwnCodes.{class_read, class_small, type_read, type_small}
+use Rattle.zst_record.specs.Records.{IsEmpty, ReadsBack}
+use Rattle.zst_record.specs.Writing.{HeadAt, HeadWritten, DataWritten, EmitsHead, DataAt, EmitsBehindLength, EmitsRecord, RefusesBehindLength, RefusesLater, RefusesRecord, head_numbers}
 use Rattle.zst_record.specs.declared.records.Record.{Record}
 
 -- What stands behind one call stands behind a later one.
@@ -51,6 +55,16 @@ has_after a b octets w sound (c, found, is) = (c, w.keeps.candidates c found (om
 -- ---- owner, type, class and time to live
 pub head_emitted : (r : Record) (a b c : State) → EmitsName r.name a b → Writes a b → WritesOctets (head_numbers r) b c → Writes b c → r.ttl < 2 ^ 32 → EmitsHead r a c
 head_emitted r a b c name ab numbers bc small = record {
+  written = λ sound.
+      let named = later_holds b.offset b c (λ m. NameAt m a.offset (encoded_name a.encoding r.name) b.offset) bc (omega arith) (name.stays sound) in
+      let behind = puts_stands (head_numbers r) b c (ab.sound sound) numbers in
+      record {
+        of = λ later agrees. record {
+          owner_end = b.offset;
+          owner = named.of later agrees;
+          numbers = behind.of later agrees;
+        };
+      };
   stays = λ full_name own_type own_class full.
       let kind = octets_16 (record_type_number (type_of r.rdata)) in
       let class = octets_16 (class_number r.dns_class) in
@@ -99,49 +113,121 @@ filled_writes p more a b c at w f = record {
   modes = modes_then a b c w.modes f.modes;
 }
 
-data_filled : (v : RData) (n : ℕ) (a b c d : State) → Opens a.offset 2 a b → Writes a b → EmitsRData v b c → Writes b c → Fills a.offset (octets_16 n) c d → a.offset + 2 + n ≡ c.offset → n < 2 ^ 16 → IsReadable v → (type_of v ≡ OPT → ⊥) → WritesInFull a → StaysTrue d d.offset (λ message. DataAt message a.offset v d.offset)
-data_filled v n a b c d opens ab emits bc fills long small readable none full =
-    let written = written_holds (type_of v) readable.message readable.place v readable.end (refl, readable.there) readable.some none b c (full_after a b ab full) emits in
-    let stays = holds_more c.offset d.offset d (λ m. HoldsSome (type_of v) m b.offset v c.offset) (omega (arith, fills.offset)) (holds_same c.offset c.offset c d (λ m. HoldsSome (type_of v) m b.offset v c.offset) (fills.same c.offset) (omega arith) written) in
-    let counted = holds_more (a.offset + 2) d.offset d (λ m. Stands m a.offset (octets_16 n) (a.offset + 2)) (omega (arith, fills.offset, long)) (fills.stays (bc.sound (ab.sound full.sound))) in
+-- No RDATA are read as none.
+empty_of : (t : RecordType) → IsEmpty (rdata.Update0 t) → IsEmptyOf t (rdata.Update0 t)
+empty_of kind.OPT none = absurd none
+empty_of t none = refl
+
+-- RDATA that read back are read where they were written.
+data_reads : (v : RData) (b c : State) (n : ℕ) → b.offset + n ≡ c.offset → IsReadable v ⊎ IsEmpty v → WritesInFull b → EmitsRData v b c → StaysTrue c c.offset (λ message. ReadsAs (type_of v) message b.offset n v)
+data_reads v b c n at (inl readable) full emits =
+    written_reads (type_of v) readable.message readable.place v readable.end (refl, readable.there) readable.some b c n at full emits
+data_reads (rdata.Update0 t) b c n at (inr none) full emits = record {
+  of = λ later agrees. inl (omega (arith, at, ap (λ (s : State). s.offset) emits), empty_of t none);
+}
+data_reads v b c n at (inr none) full emits = absurd none
+
+data_size : (v : RData) (b c : State) → IsReadable v ⊎ IsEmpty v → EmitsRData v b c → c.offset ≤ b.offset + length (written_octets v)
+data_size v b c (inl readable) emits =
+    written_size (type_of v) readable.message readable.place v readable.end (refl, readable.there) b c emits
+data_size (rdata.Update0 t) b c (inr none) emits = omega (arith, ap (λ (s : State). s.offset) emits)
+data_size v b c (inr none) emits = absurd none
+
+data_room : (v : RData) (b : State) (e : ProtoError) → IsReadable v ⊎ IsEmpty v → RefusesRData v b e → IsRefusal b (length (written_octets v)) e
+data_room v b e (inl readable) refused =
+    written_refused (type_of v) readable.message readable.place v readable.end (refl, readable.there) b e refused
+data_room (rdata.Update0 t) b e (inr none) refused = absurd refused
+data_room v b e (inr none) refused = absurd none
+
+data_filled : (v : RData) (n : ℕ) (a b c d : State) → Opens a.offset 2 a b → Writes a b → EmitsRData v b c → Writes b c → Fills a.offset (octets_16 n) c d → a.offset + 2 + n ≡ c.offset → n < 2 ^ 16 → IsReadable v ⊎ IsEmpty v → WritesInFull a → StaysTrue d d.offset (λ message. DataAt message a.offset v d.offset)
+data_filled v n a b c d opens ab emits bc fills long small reads full =
     let from : b.offset ≡ a.offset + 2 = opens.offset in
-    let to : c.offset ≡ a.offset + 2 + n = sym long in
+    let written = data_reads v b c n (omega (arith, from, long)) reads (full_after a b ab full) emits in
+    let stays = holds_more c.offset d.offset d (λ m. ReadsAs (type_of v) m b.offset n v) (omega (arith, fills.offset)) (holds_same c.offset c.offset c d (λ m. ReadsAs (type_of v) m b.offset n v) (fills.same c.offset) (omega arith) written) in
+    let counted = holds_more (a.offset + 2) d.offset d (λ m. Stands m a.offset (octets_16 n) (a.offset + 2)) (omega (arith, fills.offset, long)) (fills.stays (bc.sound (ab.sound full.sound))) in
     record {
-      of = λ later agrees.
-          let found = stays.of later agrees in
-          record {
-            len = n;
-            number = counted.of later agrees;
-            small = small;
-            data_there = inr (omega (arith, found.1, from, to), subst (λ (q : ℕ). HoldsAs (type_of v) later (a.offset + 2) v q) to (subst (λ (p : ℕ). HoldsAs (type_of v) later p v c.offset) from found.0));
-            filled = omega (arith, fills.offset, to);
-          };
+      of = λ later agrees. record {
+        len = n;
+        number = counted.of later agrees;
+        small = small;
+        data_there = subst (λ (p : ℕ). ReadsAs (type_of v) later p n v) from (stays.of later agrees);
+        filled = omega (arith, fills.offset, long);
+      };
     }
+
+-- Whatever the RDATA are, they are where they were written, in the encoder's form.
+data_written : (v : RData) (n : ℕ) (a b c d : State) → Opens a.offset 2 a b → Writes a b → EmitsRData v b c → Writes b c → Fills a.offset (octets_16 n) c d → a.offset + 2 + n ≡ c.offset → n < 2 ^ 16 → Sound a → (form : NameEncoding) × StaysTrue d d.offset (λ message. DataWritten v form message a.offset d.offset)
+data_written v n a b c d opens ab emits bc fills long small sound =
+    let from : b.offset ≡ a.offset + 2 = opens.offset in
+    let written = emitted_stands v b c (ab.sound sound) emits in
+    let form = written.0 in
+    let stays = holds_more c.offset d.offset d (λ m. StandsWritten v form m b.offset c.offset) (omega (arith, fills.offset)) (holds_same c.offset c.offset c d (λ m. StandsWritten v form m b.offset c.offset) (fills.same c.offset) (omega arith) written.1) in
+    let counted = holds_more (a.offset + 2) d.offset d (λ m. Stands m a.offset (octets_16 n) (a.offset + 2)) (omega (arith, fills.offset, long)) (fills.stays (bc.sound (ab.sound sound))) in (
+      form,
+      record {
+        of = λ later agrees. record {
+          len = n;
+          count = counted.of later agrees;
+          small = small;
+          rdata = subst (λ (q : ℕ). StandsWritten v form later (a.offset + 2) q) (sym long) (subst (λ (p : ℕ). StandsWritten v form later p c.offset) from (stays.of later agrees));
+          filled = omega (arith, fills.offset, long);
+        };
+      },
+    )
 
 pub behind_emitted : (v : RData) (p n : ℕ) (a b c d : State) → Opens p 2 a b → Writes a b → a.offset + 2 ≤ a.maximum → EmitsRData v b c → Writes b c → Fills p (octets_16 n) c d → p + 2 + n ≡ c.offset → n < 2 ^ 16 → EmitsBehindLength v a d
 behind_emitted v p n a b c d opens ab room emits bc fills long short =
     let within = within_then a b c ab.modes.maximum bc.forward (λ more. omega (arith, opens.offset, room)) (data_within v b c emits) (omega (arith, opens.offset, bc.forward)) in
+    let opened : Opens a.offset 2 a b = subst (λ (q : ℕ). Opens q 2 a b) opens.at opens in
+    let filled : Fills a.offset (octets_16 n) c d = subst (λ (q : ℕ). Fills q (octets_16 n) c d) opens.at fills in
+    let end : a.offset + 2 + n ≡ c.offset = omega (arith, long, opens.at) in
     record {
-      stays = λ readable none full small.
-          data_filled v n a b c d (subst (λ (q : ℕ). Opens q 2 a b) opens.at opens) ab emits bc (subst (λ (q : ℕ). Fills q (octets_16 n) c d) opens.at fills) (omega (arith, long, opens.at)) short readable none full;
-      size = λ readable. omega (arith, fills.offset, opens.offset, written_size (type_of v) readable.message readable.place v readable.end (refl, readable.there) b c emits);
+      written = λ sound. data_written v n a b c d opened ab emits bc filled end short sound;
+      stays = λ reads full small. data_filled v n a b c d opened ab emits bc filled end short reads full;
+      size = λ reads. omega (arith, fills.offset, opens.offset, data_size v b c reads emits);
       fits = omega (arith, fills.offset, within);
     }
 
 -- Why they are refused.
 pub place_refused : (v : RData) (a : State) (e : ProtoError) → IsRefusal a 2 e → RefusesBehindLength v a e
-place_refused v a e refused = λ readable none small. refused_front 2 (length (written_octets v)) a e refused
+place_refused v a e refused = record {
+  whole = λ reads small. refused_front 2 (length (written_octets v)) a e refused;
+  any = λ small. inl refused;
+}
 
 pub data_refused : (v : RData) (p : ℕ) (a b : State) (e : ProtoError) → Opens p 2 a b → RefusesRData v b e → RefusesBehindLength v a e
-data_refused v p a b e opens refused = λ readable none small.
-    refused_later (length (written_octets v)) 2 a b e opens.modes (omega (arith, opens.offset)) (written_refused (type_of v) readable.message readable.place v readable.end (refl, readable.there) none b e refused)
+data_refused v p a b e opens refused = record {
+  whole = λ reads small. refused_later (length (written_octets v)) 2 a b e opens.modes (omega (arith, opens.offset)) (data_room v b e reads refused);
+  any = λ small. inr (b, opens.modes, opens.offset, refused);
+}
+
+-- No more octets than 16 bits count fit a maximum of 16 bits.
+pub count_refused : (v : RData) (p n : ℕ) (a b c : State) (e : ProtoError) → Opens p 2 a b → a.offset + 2 ≤ a.maximum → EmitsRData v b c → Writes b c → p + 2 + n ≡ c.offset → 2 ^ 16 ≤ n → RefusesBehindLength v a e
+count_refused v p n a b c e opens room emits bc long far =
+    let within = within_then a b c opens.modes.maximum bc.forward (λ more. omega (arith, opens.offset, room)) (data_within v b c emits) (omega (arith, opens.offset, bc.forward)) in
+    record {
+      whole = λ reads small. absurd (omega (arith, within, long, far, small));
+      any = λ small. absurd (omega (arith, within, long, far, small));
+    }
 
 -- ---- the record
 pub record_emitted : (r : Record) (a b c : State) → EmitsHead r a b → Writes a b → EmitsBehindLength r.rdata b c → Writes b c → EmitsRecord r a c
 record_emitted r a b c head ab behind bc = record {
-  stays = λ alone full small.
-      let first = later_holds b.offset b c (λ m. HeadAt m a.offset r b.offset) bc (omega arith) (head.stays alone.owner alone.own_type alone.own_class full) in
-      let second = behind.stays alone.rdata (no_options (type_of r.rdata) alone.of_zones) (full_after a b ab full) (omega (arith, small, ab.modes.maximum)) in
+  written = λ sound.
+      let first = later_holds b.offset b c (λ m. HeadWritten r a.encoding m a.offset b.offset) bc (omega arith) (head.written sound) in
+      let second = behind.written (ab.sound sound) in (
+        second.0,
+        record {
+          of = λ later agrees. record {
+            head_end = b.offset;
+            head = first.of later agrees;
+            rdata = second.1.of later agrees;
+          };
+        },
+      );
+  stays = λ back full small.
+      let first = later_holds b.offset b c (λ m. HeadAt m a.offset r b.offset) bc (omega arith) (head.stays back.owner back.own_type back.own_class full) in
+      let second = behind.stays back.rdata (full_after a b ab full) (omega (arith, small, ab.modes.maximum)) in
       record {
         of = λ later agrees.
             let h = first.of later agrees in
@@ -164,20 +250,37 @@ record_emitted r a b c head ab behind bc = record {
               filled = d.filled;
             };
       };
-  size = λ alone. omega (arith, head.size, behind.size alone.rdata);
+  size = λ back. omega (arith, head.size, behind.size back.rdata);
   fits = omega (arith, behind.fits, ab.modes.maximum);
-  owner_used = λ alone points some has. omega (arith, head.owner_used points some has, behind.size alone.rdata);
+  owner_used = λ back points some has. omega (arith, head.owner_used points some has, behind.size back.rdata);
   owner_kept = λ sound points some room early. has_after b c (name_octets r.name) bc (ab.sound sound) (head.owner_kept points some room early);
 }
 
 pub head_refused : (r : Record) (a : State) (e : ProtoError) → IsRefusal a (length (name_octets r.name) + 8) e → RefusesRecord r a e
-head_refused r a e refused = λ alone small.
-    subst (λ (n : ℕ). IsRefusal a n e) (omega arith) (refused_front (length (name_octets r.name) + 8) (2 + length (written_octets r.rdata)) a e refused)
+head_refused r a e refused = record {
+  whole = λ back small. subst (λ (n : ℕ). IsRefusal a n e) (omega arith) (refused_front (length (name_octets r.name) + 8) (2 + length (written_octets r.rdata)) a e refused);
+  any = λ small. inl (subst (λ (n : ℕ). IsRefusal a n e) (omega arith) (refused_front (length (name_octets r.name) + 8) 2 a e refused));
+}
+
+-- The RDATA that come after the head are refused.
+later_refused : (r : Record) (a b : State) (e : ProtoError) → EmitsHead r a b → Writes a b → IsRefusal b 2 e ⊎ ((start : State) × SameModes b start × (start.offset ≡ b.offset + 2) × RefusesRData r.rdata start e) → IsRefusal a (length (name_octets r.name) + 10) e ⊎ RefusesLater r a e
+later_refused r a b e head ab (inl refused) =
+    inl (subst (λ (n : ℕ). IsRefusal a n e) (omega arith) (refused_later 2 (length (name_octets r.name) + 8) a b e ab.modes (omega (arith, head.size)) refused))
+later_refused r a b e head ab (inr refused) = inr (record {
+  start = refused.0;
+  modes = modes_then a b refused.0 ab.modes refused.1;
+  after = omega (arith, ab.forward, refused.2);
+  near = omega (arith, head.size, refused.2);
+  refused = refused.3;
+})
 
 pub rest_refused : (r : Record) (a b : State) (e : ProtoError) → EmitsHead r a b → Writes a b → RefusesBehindLength r.rdata b e → RefusesRecord r a e
-rest_refused r a b e head ab refused = λ alone small.
-    subst (λ (n : ℕ). IsRefusal a n e) (omega arith)
-    (refused_later (2 + length (written_octets r.rdata)) (length (name_octets r.name) + 8) a b e ab.modes (omega (arith, head.size)) (refused alone.rdata (no_options (type_of r.rdata) alone.of_zones) (omega (arith, small, ab.modes.maximum))))
+rest_refused r a b e head ab refused = record {
+  whole = λ back small.
+      subst (λ (n : ℕ). IsRefusal a n e) (omega arith)
+      (refused_later (2 + length (written_octets r.rdata)) (length (name_octets r.name) + 8) a b e ab.modes (omega (arith, head.size)) (refused.whole back.rdata (omega (arith, small, ab.modes.maximum))));
+  any = λ small. later_refused r a b e head ab (refused.any (omega (arith, small, ab.modes.maximum)));
+}
 
 -- ---- an address in one piece behind its owner
 pub eight_octets : (octets : List ℕ) (r : Record) → octets ≡ head_numbers r → slice_index_or octets 0 0 ∷ slice_index_or octets 1 0 ∷ slice_index_or octets 2 0 ∷ slice_index_or octets 3 0 ∷ slice_index_or octets 4 0 ∷ slice_index_or octets 5 0 ∷ slice_index_or octets 6 0 ∷ slice_index_or octets 7 0 ∷ [] ≡ head_numbers r
@@ -198,9 +301,12 @@ pub four_written : (n : ℕ) → length (octets_32 n ++ []) ≡ 4
 unfolding octets_32
 four_written n = refl
 
--- Data whose octets are these, so many, wherever they can be read.
+-- Data whose octets are these, in this number, in every form of names.
 pub record IsOctets (v : RData) (n : ℕ) (octets : List ℕ) : Type 0 where
+  pub stands : (m : List ℕ) (p q : ℕ) (form : NameEncoding) → Stands m p octets q → StandsWritten v form m p q
   pub holds : (m : List ℕ) (p q : ℕ) → IsReadable v → Stands m p octets q → HoldsAs (type_of v) m p v q
+  pub full : IsEmpty v → ⊥
+  pub refuses : (s : State) (e : ProtoError) → IsRefusal s n e → RefusesRData v s e
   pub written : length (written_octets v) ≡ n
   pub long : length octets ≡ n
   pub some : 0 < n
@@ -209,7 +315,10 @@ pub record IsOctets (v : RData) (n : ℕ) (octets : List ℕ) : Type 0 where
 -- Those of an address of 32 bits, and of one of 128.
 pub are_address : (v : RData) (a : A) → v ≡ rdata.A a → IsOctets v 4 (octets_32 (ipv4_bits a.0))
 are_address v a is = subst (λ (v : RData). IsOctets v 4 (octets_32 (ipv4_bits a.0))) (sym is) (record {
+  stands = λ m p q form stands. (q, stands, refl);
   holds = λ m p q readable stands. (refl, ((q, stands, refl), readable.there.1));
+  full = λ none. none;
+  refuses = λ s e refused. inl (subst (λ (n : ℕ). IsRefusal s n e) (sym (four_written (ipv4_bits a.0))) refused);
   written = four_written (ipv4_bits a.0);
   long = length-octets_32 (ipv4_bits a.0);
   some = omega arith;
@@ -218,18 +327,42 @@ are_address v a is = subst (λ (v : RData). IsOctets v 4 (octets_32 (ipv4_bits a
 
 pub are_wide : (v : RData) (aaaa : AAAA) → v ≡ rdata.AAAA aaaa → IsOctets v 16 (written_octets (rdata.AAAA aaaa))
 are_wide v aaaa is = subst (λ (v : RData). IsOctets v 16 (written_octets (rdata.AAAA aaaa))) (sym is) (record {
+  stands = λ m p q form stands. own_fields m p (aaaa_fields aaaa) q (tt, (tt, (tt, (tt, (tt, (tt, (tt, (tt, tt)))))))) stands;
   holds = λ m p q readable stands. (refl, (own_fields m p (aaaa_fields aaaa) q (tt, (tt, (tt, (tt, (tt, (tt, (tt, (tt, tt)))))))) stands, readable.there.1));
+  full = λ none. none;
+  refuses = λ s e refused. inl refused;
   written = refl;
   long = refl;
   some = omega arith;
   few = omega arith;
 })
 
+-- Octets of data that read back are read.
+octets_read : (v : RData) (n : ℕ) (own : List ℕ) → IsOctets v n own → (m : List ℕ) (p q : ℕ) → p + n ≡ q → IsReadable v ⊎ IsEmpty v → Stands m p own q → ReadsAs (type_of v) m p n v
+octets_read v n own is m p q at (inl readable) stands =
+    inr (is.some, subst (λ (q : ℕ). HoldsAs (type_of v) m p v q) (sym at) (is.holds m p q readable stands))
+octets_read v n own is m p q at (inr none) stands = absurd (is.full none)
+
 octets_emitted : (v : RData) (n : ℕ) (own : List ℕ) (old new : State) → IsOctets v n own → WritesOctets (octets_16 n ++ own) old new → old.offset + (2 + n) ≤ old.maximum → EmitsBehindLength v old new
 octets_emitted v n own old new is octets room =
     let end : new.offset ≡ old.offset + 2 + n = omega (arith, octets.offset, is.long) in
     record {
-      stays = λ readable none full small.
+      written = λ sound.
+          let there = puts_stands (octets_16 n ++ own) old new sound octets in (
+            old.encoding,
+            record {
+              of = λ later agrees.
+                  let both = stands_split later old.offset (octets_16 n) own new.offset (there.of later agrees) in
+                  record {
+                    len = n;
+                    count = both.0;
+                    small = is.few;
+                    rdata = is.stands later (old.offset + 2) (old.offset + 2 + n) old.encoding (subst (λ (q : ℕ). Stands later (old.offset + 2) own q) end both.1);
+                    filled = end;
+                  };
+            },
+          );
+      stays = λ reads full small.
           let there = puts_stands (octets_16 n ++ own) old new full.sound octets in
           record {
             of = λ later agrees.
@@ -238,11 +371,11 @@ octets_emitted v n own old new is octets room =
                   len = n;
                   number = both.0;
                   small = is.few;
-                  data_there = inr (is.some, is.holds later (old.offset + 2) (old.offset + 2 + n) readable (subst (λ (q : ℕ). Stands later (old.offset + 2) own q) end both.1));
+                  data_there = octets_read v n own is later (old.offset + 2) new.offset (sym end) reads both.1;
                   filled = end;
                 };
           };
-      size = λ readable. omega (arith, end, is.written);
+      size = λ reads. omega (arith, end, is.written);
       fits = omega (arith, end, room);
     }
 
@@ -274,7 +407,28 @@ address_written r n own octets a b d (Ok done) is name ab within small same writ
     address_emitted r n own a b d is name ab within (subst (λ (o : List ℕ). WritesOctets o b d) same written) (omega (arith, fits, ap length same, length-append (head_numbers r) (octets_16 n ++ own), length-octets_32 r.ttl, is.long)) small
 address_written r n own octets a b d (Err e) is name ab within small same written fits = written
 
+-- After the head comes the length, and after it the address.
+address_start : (r : Record) (n : ℕ) (own : List ℕ) (a b : State) (e : ProtoError) → IsOctets r.rdata n own → EmitsName r.name a b → Writes a b → IsRefusal b (10 + n) e → RefusesLater r a e
+address_start r n own a b e is name ab refused =
+    let start = record b { offset = b.offset + 10 } in
+    record {
+      start = start;
+      modes = record { maximum = ab.modes.maximum; encoding = ab.modes.encoding; canonical = ab.modes.canonical; points = ab.modes.points };
+      after = omega (arith, ab.forward);
+      near = omega (arith, name.size);
+      refused = is.refuses start e (start_refused n b e refused);
+    }
+  where
+    start_refused : (n : ℕ) (b : State) (e : ProtoError) → IsRefusal b (10 + n) e → IsRefusal (record b { offset = b.offset + 10 }) n e
+    start_refused n b e (inl memory) = inl memory
+    start_refused n b e (inr room) = inr (room.0, omega (arith, room.1))
+
 pub address_refused : (r : Record) (n : ℕ) (own : List ℕ) (octets : List ℕ) (a b : State) (e : ProtoError) → IsOctets r.rdata n own → octets ≡ head_numbers r ++ (octets_16 n ++ own) → EmitsName r.name a b → Writes a b → IsRefusal b (length octets) e → RefusesRecord r a e
-address_refused r n own octets a b e is same name ab refused = λ alone small.
-    subst (λ (n : ℕ). IsRefusal a n e) (omega (arith, is.written, ap length same, length-append (head_numbers r) (octets_16 n ++ own), length-octets_32 r.ttl, is.long))
-    (refused_later (length octets) (length (name_octets r.name)) a b e ab.modes (omega (arith, name.size)) refused)
+address_refused r n own octets a b e is same name ab refused =
+    let long : length octets ≡ 10 + n = omega (arith, ap length same, length-append (head_numbers r) (octets_16 n ++ own), length-octets_32 r.ttl, is.long) in
+    record {
+      whole = λ back small.
+          subst (λ (n : ℕ). IsRefusal a n e) (omega (arith, is.written, long))
+          (refused_later (length octets) (length (name_octets r.name)) a b e ab.modes (omega (arith, name.size)) refused);
+      any = λ small. inr (address_start r n own a b e is name ab (subst (λ (n : ℕ). IsRefusal b n e) long refused));
+    }

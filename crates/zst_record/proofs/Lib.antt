@@ -2,6 +2,7 @@ pub mod PutRecords
 pub mod ReadingLaws
 pub mod OwnCodes
 pub mod Emission
+pub mod BackLaws
 pub use Rattle.drd_rdata.proofs.dnw_name_lemmas
 pub use Rattle.drd_rdata.proofs.drd_words_lemmas
 pub use Rattle.drd_rdata.proofs.dnw_decoder_lemmas

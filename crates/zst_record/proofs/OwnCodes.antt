@@ -1,12 +1,12 @@
 -- Types and classes that are those of their numbers are read as themselves.
-use Rattle.std.proofs.Common.{◌≡◌, ◌^◌, ◌<◌, true, false, refl, sym, subst, arith}
+use Rattle.std.proofs.Common.{◌≡◌, ◌^◌, ◌<◌, refl, sym, arith}
 use Rattle.drd_rdata.specs.dnw_codes.DNSClass.{class_number, class_of}
 use Rattle.drd_rdata.specs.dnw_codes.RecordType.{record_type_number, record_type_of}
 use Rattle.drd_rdata.specs.dnw_codes.declared.dns_class.DNSClass.{DNSClass}
 use Rattle.drd_rdata.specs.dnw_codes.declared.dns_class.DNSClass.TheVariants as class
 use Rattle.drd_rdata.specs.dnw_codes.declared.record_type.RecordType.{RecordType}
 use Rattle.drd_rdata.specs.dnw_codes.declared.record_type.RecordType.TheVariants as kind
-use Rattle.zst_record.specs.Records.{IsOwnClass, IsOwnType, belongs_to_message}
+use Rattle.zst_record.specs.Records.{IsOwnClass, IsOwnType}
 
 pub type_read : (t : RecordType) → IsOwnType t → t ≡ record_type_of (record_type_number t)
 type_read (kind.Unknown number) own = sym own.1
@@ -25,9 +25,3 @@ pub class_small : (c : DNSClass) → IsOwnClass c → class_number c < 2 ^ 16
 class_small (class.OPT payload) own = absurd own
 class_small (class.Unknown number) own = own.0
 class_small named own = omega arith
-
--- Options are no record of a zone.
-pub no_options : (t : RecordType) → belongs_to_message t ≡ false → t ≡ kind.OPT → ⊥
-no_options t none is =
-    let wrong : true ≡ false = subst (λ (u : RecordType). belongs_to_message u ≡ false) is none in
-    absurd (cc wrong)

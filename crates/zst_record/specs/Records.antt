@@ -1,5 +1,5 @@
 -- Resource records: RFC 1035, section 4.1.3.
-use Rattle.std.specs.Prelude.{◌≡◌, ℕ, ◌+◌, ◌^◌, ◌<◌, Bool, true, false, List, length}
+use Rattle.std.specs.Prelude.{◌≡◌, ℕ, ◌+◌, ◌^◌, ◌<◌, ◌⊎◌, Bool, true, false, List, length}
 use Rattle.std.specs.Ordering.{eq_of_both, on}
 use Rattle.drd_rdata.specs.dnw_codes.declared.record_type.RecordType.{RecordType}
 use Rattle.drd_rdata.specs.dnw_codes.declared.record_type.RecordType.TheVariants as kind
@@ -16,6 +16,7 @@ use Rattle.drd_rdata.specs.Reading.{ReadsAs, IsReadable}
 use Rattle.drd_rdata.specs.Types.{type_of}
 use Rattle.drd_rdata.specs.Writing.{written_octets}
 use Rattle.drd_rdata.specs.declared.rdata.RData.{RData}
+use Rattle.drd_rdata.specs.declared.rdata.RData.TheVariants as rdata
 use Rattle.zst_record.specs.declared.records.Record.{Record}
 
 -- A record at a place, as it is read: its owner; the numbers of its type and its class; its time to
@@ -70,11 +71,32 @@ belongs_to_message kind.SIG = true
 belongs_to_message kind.TSIG = true
 belongs_to_message other = false
 
--- Record and data can be read alone: the owner is fully qualified, type and class are those of
--- their numbers, the data stand in some message, and a zone may hold records of the type.
+-- A record reads back alone: its octets, names uncompressed, are read outside an update as this very
+-- record. The owner is fully qualified, type and class are those of their numbers, and the RDATA
+-- are read as themselves in some message.
 pub record ReadsBackAlone (r : Record) : Type 0 where
   pub owner : r.name.fqdn ≡ true
   pub own_type : IsOwnType (type_of r.rdata)
   pub own_class : IsOwnClass r.dns_class
   pub rdata : IsReadable r.rdata
+
+-- A zone may hold the record, and a server may send it: it reads back alone, and is of no type
+-- whose records belong to one message.
+pub record IsServable (r : Record) : Type 0 where
+  pub alone : ReadsBackAlone r
   pub of_zones : belongs_to_message (type_of r.rdata) ≡ false
+
+-- No RDATA, as in records of an update (RFC 2136, sections 2.4 and 2.5). Of type OPT, no RDATA are
+-- an OPT record without options.
+abbrev pub IsEmpty : RData → Type 0
+IsEmpty (rdata.Update0 kind.OPT) = ⊥
+IsEmpty (rdata.Update0 code) = Unit {0}
+IsEmpty other = ⊥
+
+-- A record reads back where it is written: as one that reads back alone, or, without RDATA, in an
+-- update.
+pub record ReadsBack (r : Record) : Type 0 where
+  pub owner : r.name.fqdn ≡ true
+  pub own_type : IsOwnType (type_of r.rdata)
+  pub own_class : IsOwnClass r.dns_class
+  pub rdata : IsReadable r.rdata ⊎ IsEmpty r.rdata

@@ -5,7 +5,7 @@ ghost use Rattle.std.specs.Cmp.{partial_equiv_from_equiv};
 ghost use Rattle.drd_rdata.specs.Types.{type_of};
 ghost use Rattle.drd_rdata.specs.dnw_codes.declared.dns_class.DNSClass.TheVariants.{IN};
 ghost use Rattle.drd_rdata.specs.declared.rdata.RData.TheVariants.{Update0};
-ghost use Rattle.zst_record.specs.Records.{IsOwnClass, IsOwnType, ReadsBackAlone, belongs_to_message, record_eq, record_with};
+ghost use Rattle.zst_record.specs.Records.{IsOwnClass, IsOwnType, IsServable, ReadsBackAlone, belongs_to_message, record_eq, record_with};
 ghost use Rattle.zst_record.specs.RecordLaws.{record_equiv};
 ghost use Rattle.zst_record.specs.Lending.{seen};
 
@@ -63,17 +63,23 @@ impl Record {
         self.rdata.record_type()
     }
 
-    /// Whether the record can be read alone, as each record of a zone is: its owner ends at the root (RFC 1035 3.1), type and
-    /// class are those of their numbers, some message holds its data (`is_readable`), and its type is none of those whose
-    /// records belong to one message: OPT (RFC 6891 6.1.1), SIG (RFC 2931 3) and TSIG (RFC 8945 4.2). It takes no memory.
+    /// Whether the record reads back alone: its owner ends at the root (RFC 1035 3.1), type and class are those of their
+    /// numbers, and some message holds its RDATA (`is_readable`). It takes no memory.
     pub fn reads_back_alone(&self) -> bool
         ensures { IsTrue result ↔ ReadsBackAlone self.now }
     {
         self.name.is_fqdn()
             && is_own_type(self.record_type())
             && is_own_class(self.dns_class)
-            && !is_of_messages(self.record_type())
             && is_readable(&self.rdata)
+    }
+
+    /// Whether a zone may hold the record, and a server may send it: it reads back alone, and its type is none of those whose
+    /// records belong to one message: OPT (RFC 6891 6.1.1), SIG (RFC 2931 3) and TSIG (RFC 8945 4.2). It takes no memory.
+    pub fn is_servable(&self) -> bool
+        ensures { IsTrue result ↔ IsServable self.now }
+    {
+        !is_of_messages(self.record_type()) && self.reads_back_alone()
     }
 }
 

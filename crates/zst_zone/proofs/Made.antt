@@ -1,51 +1,55 @@
 -- Zones that are made of sets: each set that is put, and the first that is refused.
-use Rattle.std.proofs.Common.{◌≡◌, ◌<◌, refl, ◌∙◌, ap, arith, length}
-use Rattle.std.specs.Prelude.{Bool, true, false, not, List, [], ◌∷◌, Option, Some, None, Result, Ok, Err, OnOk, IfErr, cond}
+use Rattle.std.proofs.Common.{◌≡◌, ◌<◌, refl, ◌∙◌, arith, length}
+use Rattle.std.specs.Prelude.{Bool, true, false, not, List, [], ◌∷◌, Option, Some, None, cond}
 use Rattle.zst_key.specs.Ancestors.{or_else}
 use Rattle.zst_key.specs.dnw_name.declared.rr_key.RrKey.{RrKey}
 use Rattle.zst_map.specs.zst_record.RecordSets.{RRset, none_left}
-use Rattle.zst_zone.specs.Makings.{RefusesAll, RefusesEntry, first_refusal, is_own_key, refusal}
-use Rattle.zst_zone.specs.Starts.{RefusesSet}
+use Rattle.zst_zone.specs.Makings.{RefusesAll, first_refusal, is_own_key, refusal}
 use Rattle.zst_zone.specs.declared.handler.ZoneError.{ZoneError}
 use Rattle.zst_zone.specs.declared.handler.ZoneError.TheVariants as errors
 
 abbrev told : Bool → Bool → Option ZoneError
 told own empty = cond (not own) (Some errors.WrongKey) (cond empty (Some errors.EmptySet) None)
 
-pub wrong-key : (at : RrKey) (set : RRset) → is_own_key at set ≡ false → refusal (at, set) ≡ Some errors.WrongKey
-wrong-key at set other = ap (λ (own : Bool). told own (none_left set.records)) other
+told-none : (own empty : Bool) → told own empty ≡ None → empty ≡ false
+told-none true true none = absurd (cc none)
+told-none true false none = refl
+told-none false empty none = absurd (cc none)
 
-pub empty-set : (at : RrKey) (set : RRset) → is_own_key at set ≡ true → none_left set.records ≡ true → refusal (at, set) ≡ Some errors.EmptySet
-empty-set at set own empty = ap (λ (b : Bool). told b (none_left set.records)) own ∙ ap (told true) empty
+-- A set that isn't refused has records.
+pub has-records : (at : RrKey) (set : RRset) → refusal (at, set) ≡ None → none_left set.records ≡ false
+has-records at set none = told-none (is_own_key at set) (none_left set.records) none
 
-pub not-refused : (at : RrKey) (set : RRset) → is_own_key at set ≡ true → none_left set.records ≡ false → refusal (at, set) ≡ None
-not-refused at set own filled = ap (λ (b : Bool). told b (none_left set.records)) own ∙ ap (told true) filled
+-- Where none of the sets is refused, neither is the first, nor one of the others.
+pub none-refused : (entry : RrKey × RRset) (rest : List (RrKey × RRset)) → first_refusal (entry ∷ rest) ≡ None → (refusal entry ≡ None) × (first_refusal rest ≡ None)
+none-refused entry rest none = by (refusal entry) refl none
+  where
+    by : (o : Option ZoneError) → refusal entry ≡ o → or_else o (first_refusal rest) ≡ None → (refusal entry ≡ None) × (first_refusal rest ≡ None)
+    by None e later = (e, later)
+    by (Some refused) e wrong = absurd (cc wrong)
 
--- A set under its own key is put, or refused, as it is without a key.
-pub puts-own : {T E : Type 0} (r : Result T E) (at : RrKey) (set : RRset) (Puts : Type 0) → is_own_key at set ≡ true
-    → OnOk r ((none_left set.records ≡ false) × Puts) → OnOk r ((refusal (at, set) ≡ None) × Puts)
-puts-own (Ok x) at set Puts own put = (not-refused at set own put.0, put.1)
-puts-own (Err e) at set Puts own put = tt
+-- A refusal is that of a set's key or of its records.
+refusal-is : (entry : RrKey × RRset) (e : ZoneError) → refusal entry ≡ Some e → e ≡ errors.OutOfMemory → ⊥
+refusal-is entry e some memory = by (is_own_key entry.0 entry.1) (none_left entry.1.records) some
+  where
+    by : (own empty : Bool) → told own empty ≡ Some e → ⊥
+    by true true is = cc (is, memory)
+    by true false is = cc is
+    by false empty is = cc (is, memory)
 
-refuses-entry : (at : RrKey) (set : RRset) (e : ZoneError) → is_own_key at set ≡ true → RefusesSet set e → RefusesEntry at set e
-refuses-entry at set errors.WrongKey own refused = absurd refused
-refuses-entry at set errors.EmptySet own refused = empty-set at set own refused
-refuses-entry at set errors.OutOfMemory own refused = tt
+refused-is : (entries : List (RrKey × RRset)) (e : ZoneError) → first_refusal entries ≡ Some e → e ≡ errors.OutOfMemory → ⊥
+refused-is [] e some memory = cc some
+refused-is (entry ∷ entries) e some memory = by (refusal entry) refl some (refused-is entries e)
+  where
+    by : (o : Option ZoneError) → refusal entry ≡ o → or_else o (first_refusal entries) ≡ Some e → (first_refusal entries ≡ Some e → e ≡ errors.OutOfMemory → ⊥) → ⊥
+    by None same later rest = rest later memory
+    by (Some refused) same is rest = let one : refused ≡ e = cc is in refusal-is entry refused same (one ∙ memory)
 
-pub refuses-own : {T : Type 0} (r : Result T ZoneError) (at : RrKey) (set : RRset) (Same : Type 0) → is_own_key at set ≡ true
-    → IfErr r (λ e. RefusesSet set e × Same) → IfErr r (RefusesEntry at set)
-refuses-own (Ok x) at set Same own refused = tt
-refuses-own (Err e) at set Same own refused = refuses-entry at set e own refused.0
-
--- ---- one more set
-pub first-stands : (at : RrKey) (set : RRset) (rest : List (RrKey × RRset)) → refusal (at, set) ≡ None → first_refusal ((at, set) ∷ rest) ≡ first_refusal rest
-first-stands at set rest none = ap (λ (o : Option ZoneError). or_else o (first_refusal rest)) none
-
-pub first-refused : (entries : List (RrKey × RRset)) (at : RrKey) (set : RRset) (rest : List (RrKey × RRset)) (e : ZoneError)
-    → first_refusal entries ≡ first_refusal ((at, set) ∷ rest) → RefusesEntry at set e → RefusesAll entries e
-first-refused entries at set rest errors.WrongKey same refused = same ∙ ap (λ (o : Option ZoneError). or_else o (first_refusal rest)) refused
-first-refused entries at set rest errors.EmptySet same refused = same ∙ ap (λ (o : Option ZoneError). or_else o (first_refusal rest)) refused
-first-refused entries at set rest errors.OutOfMemory same refused = tt
+-- The first refusal is why no zone is made.
+pub refuses-first : (entries : List (RrKey × RRset)) (e : ZoneError) → first_refusal entries ≡ Some e → RefusesAll entries e
+refuses-first entries errors.WrongKey some = some
+refuses-first entries errors.EmptySet some = some
+refuses-first entries errors.OutOfMemory some = absurd (refused-is entries errors.OutOfMemory some refl)
 
 pub none-left : {X : Type 0} (entries : List X) → (0 < length entries → ⊥) → entries ≡ []
 none-left [] none = refl

@@ -9,7 +9,7 @@ use Rattle.zst_map.specs.dnw_codes.RecordType.{same_record_type}
 use Rattle.zst_map.specs.dnw_name.DomainName.{DomainName, name_eq}
 use Rattle.zst_map.specs.drd_rdata.Order.{rdata_eq}
 use Rattle.zst_map.specs.drd_rdata.Types.{type_of}
-use Rattle.zst_map.specs.zst_record.Records.{ReadsBackAlone}
+use Rattle.zst_map.specs.zst_record.Records.{IsServable}
 use Rattle.zst_map.specs.zst_record.RecordSets.{RRset, put_record, set_with}
 use Rattle.zst_map.specs.zst_record.declared.records.Record.{Record}
 use Rattle.zst_map.specs.zst_handler.Zones.{AddsTo, AreInOrder, SetReadsBack, Zone, ZoneReadsBack, rrset_at}
@@ -46,31 +46,31 @@ each_found P (x ∷ xs) order all = (
 )
 
 -- ---- with a record
-put_step : (b : Bool) (s r : Record) (ss rest : List Record) → ReadsBackAlone r → ReadsBackAlone s → AllByRecursion ReadsBackAlone ss → AllByRecursion ReadsBackAlone rest
-    → AllByRecursion ReadsBackAlone (cond b (r ∷ ss) (s ∷ rest))
+put_step : (b : Bool) (s r : Record) (ss rest : List Record) → IsServable r → IsServable s → AllByRecursion IsServable ss → AllByRecursion IsServable rest
+    → AllByRecursion IsServable (cond b (r ∷ ss) (s ∷ rest))
 put_step true s r ss rest new first all more = (new, all)
 put_step false s r ss rest new first all more = (first, more)
 
-put_reads_back : (rs : List Record) (r : Record) → AllByRecursion ReadsBackAlone rs → ReadsBackAlone r → AllByRecursion ReadsBackAlone (put_record rs r)
+put_reads_back : (rs : List Record) (r : Record) → AllByRecursion IsServable rs → IsServable r → AllByRecursion IsServable (put_record rs r)
 put_reads_back [] r all new = (new, tt)
 put_reads_back (s ∷ ss) r all new = put_step (rdata_eq s.rdata r.rdata) s r ss (put_record ss r) new all.0 all.1 (put_reads_back ss r all.1 new)
 
-alone_or_put : (same : Bool) (rs : List Record) (r : Record) → AllByRecursion ReadsBackAlone rs → ReadsBackAlone r → AllByRecursion ReadsBackAlone (cond (not same) (r ∷ []) (put_record rs r))
+alone_or_put : (same : Bool) (rs : List Record) (r : Record) → AllByRecursion IsServable rs → IsServable r → AllByRecursion IsServable (cond (not same) (r ∷ []) (put_record rs r))
 alone_or_put true rs r all new = put_reads_back rs r all new
 alone_or_put false rs r all new = (new, tt)
 
-with_reads_back : (o : Option RRset) (r : Record) → ((s : RRset) → o ≡ Some s → SetReadsBack s) → ReadsBackAlone r → SetReadsBack (set_with o r)
+with_reads_back : (o : Option RRset) (r : Record) → ((s : RRset) → o ≡ Some s → SetReadsBack s) → IsServable r → SetReadsBack (set_with o r)
 with_reads_back None r old new = record { records = (new, tt); signatures = tt }
 with_reads_back (Some s) r old new = record {
   records = alone_or_put (same_class r.dns_class s.dns_class) s.records r (old s refl).records new;
   signatures = tt;
 }
 
-with_step : (b : Bool) (o : Option RRset) (r : Record) (s : RRset) → cond b (Some (set_with o r)) o ≡ Some s → ((u : RRset) → o ≡ Some u → SetReadsBack u) → ReadsBackAlone r → SetReadsBack s
+with_step : (b : Bool) (o : Option RRset) (r : Record) (s : RRset) → cond b (Some (set_with o r)) o ≡ Some s → ((u : RRset) → o ≡ Some u → SetReadsBack u) → IsServable r → SetReadsBack s
 with_step true o r s e old new = let g : set_with o r ≡ s = cc in subst SetReadsBack g (with_reads_back o r old new)
 with_step false o r s e old new = old s e
 
-pub adds_reads_back : (old new : Zone) (r : Record) → AddsTo old r new → ZoneReadsBack old → ReadsBackAlone r → ZoneReadsBack new
+pub adds_reads_back : (old new : Zone) (r : Record) → AddsTo old r new → ZoneReadsBack old → IsServable r → ZoneReadsBack new
 adds_reads_back old new r adds back alone =
     each_found SetReadsBack new.sets adds.ordered
     (λ name t s e. with_step (name_eq name r.name && same_record_type (type_of r.rdata) t) (rrset_at old.sets name t) r s (sym (adds.adds name t) ∙ e)

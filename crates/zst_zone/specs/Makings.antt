@@ -10,7 +10,7 @@ use Rattle.zst_map.specs.zst_handler.Zones.{Zone}
 use Rattle.zst_zone.specs.declared.handler.ZoneError.{ZoneError}
 use Rattle.zst_zone.specs.declared.handler.ZoneError.TheVariants as errors
 
--- A set stands under its own owner and type.
+-- A set is under its own owner and type.
 abbrev pub is_own_key : RrKey → RRset → Bool
 is_own_key at set =
     same_record_type at.record_type set.record_type && name_eq at.name set.name
@@ -33,12 +33,7 @@ PutsAll zone (entry ∷ entries) new =
     (next : Zone) × ZoneReplaces zone entry.1.name entry.1.record_type (Some entry.1) next
     × PutsAll next entries new
 
--- Why no zone is made of sets: the first one that is refused, or memory.
+-- Why no zone is made of sets: the first one that is refused; or out of memory, where none is.
 abbrev pub RefusesAll : List (RrKey × RRset) → ZoneError → Type 0
-RefusesAll entries errors.OutOfMemory = Unit {0}
+RefusesAll entries errors.OutOfMemory = first_refusal entries ≡ None
 RefusesAll entries e = first_refusal entries ≡ Some e
-
--- Why one is refused: its key, its records, or memory.
-abbrev pub RefusesEntry : RrKey → RRset → ZoneError → Type 0
-RefusesEntry at set errors.OutOfMemory = Unit {0}
-RefusesEntry at set e = refusal (at, set) ≡ Some e

@@ -10,7 +10,7 @@ ghost use Rattle.zst_map.specs.dnw_codes.declared.record_type.RecordType.TheVari
 ghost use Rattle.zst_map.specs.zst_record.RecordSets.{none_left};
 ghost use Rattle.zst_map.specs.zst_handler.Updates.{Upserts, ZoneReplaces, upsert_changes};
 ghost use Rattle.zst_map.specs.zst_handler.Zones.{exists_in, rrset_at, empty_zone, AddsTo, AreInOrder, AreStored, ZoneReadsBack};
-ghost use Rattle.zst_zone.specs.Makings.{PutsAll, RefusesAll, RefusesEntry, first_refusal, is_own_key, refusal};
+ghost use Rattle.zst_zone.specs.Makings.{PutsAll, RefusesAll, first_refusal, is_own_key, refusal};
 ghost use Rattle.zst_zone.specs.Starts.{RefusesSet, first_data, minimum_of, serial_of};
 
 use crate::back::all_read_back;
@@ -26,18 +26,18 @@ use zst_map::{
     ZoneSettings, ZoneType,
 };
 
-/// Why a zone is not changed or made.
+/// Why a zone is not changed or made. The numbers are stable; 3 is free.
 #[derive(Clone, Copy, Debug, PartialEq, Eq, Error)]
 pub enum ZoneError {
-    /// A set stands under another owner or type than its own.
+    /// A set is under another owner or type than its own.
     #[error("WrongKey")]
-    WrongKey,
+    WrongKey = 1,
     /// A set has no records.
     #[error("EmptySet")]
-    EmptySet,
+    EmptySet = 2,
     /// Memory was refused.
     #[error("OutOfMemory")]
-    OutOfMemory,
+    OutOfMemory = 4,
 }
 
 /// A zone kept in memory. `K` is to sign it.
@@ -85,8 +85,9 @@ impl<K> InMemoryZoneHandler<K> {
         })
     }
 
-    /// A zone of these sets, which are put there in the order of owners and types. None is made where a set stands under
-    /// another owner or type than its own, or has no records; the first of these says why.
+    /// A zone of these sets, which are put there in the order of owners and types. None is made where a set is under another
+    /// owner or type than its own, or has no records; the first of these says why. Sets are tested before the zone takes
+    /// memory, so that a lack of memory hides no refusal.
     pub fn new(
         alloc: Global,
         origin: Name,
@@ -96,31 +97,22 @@ impl<K> InMemoryZoneHandler<K> {
         ensures ok { IfOk result (λ zone. (first_refusal records.entries ≡ None) × PutsAll (empty_zone origin settings) records.entries zone) }
         ensures refused { IfErr result (RefusesAll records.entries) }
     {
+        if let Some(refused) = first_refusal(&records) {
+            mem::drop(records);
+            return Err(refused);
+        }
         let Ok(mut zone) = InMemoryZoneHandler::empty(alloc, origin, settings) else {
             mem::drop(records);
             return Err(ZoneError::OutOfMemory);
         };
         let mut left = records;
         'sets: while let Some((at, set)) = left.pop_first() {
-            if let Err(refused) = zone.put_at(alloc, at, set) {
-                return Err(refused);
+            mem::drop(at);
+            if zone.put_filled(alloc, set).is_err() {
+                return Err(ZoneError::OutOfMemory);
             }
         }
         Ok(zone)
-    }
-
-    // Puts a set that is to stand under this owner and type.
-    fn put_at(&mut self, alloc: Global, at: RrKey, set: RecordSet) -> Result<(), ZoneError>
-        ensures ok { OnOk result ((refusal (at, set) ≡ None) × ZoneReplaces self.old set.name set.record_type (Some set) self.new) }
-        ensures refused { IfErr result (RefusesEntry at set) }
-    {
-        let is_own = is_own_key(&at, &set);
-        mem::drop(at);
-        if !is_own {
-            mem::drop(set);
-            return Err(ZoneError::WrongKey);
-        }
-        self.put_set(alloc, set)
     }
 
     /// Where the zone begins.
@@ -315,7 +307,7 @@ impl<K> InMemoryZoneHandler<K> {
         }
     }
 
-    /// Whether each record of the zone and each signature can be read alone: a server asks it of a zone.
+    /// Whether each record of the zone and each signature may be served: it reads back alone, and no message owns its type.
     pub fn reads_back(&self) -> bool
         ensures { IsTrue result ↔ ZoneReadsBack self.now }
     {
@@ -457,7 +449,32 @@ impl<K> InMemoryZoneHandler<K> {
     }
 }
 
-// Whether a set stands under its own owner and type.
+// Why the first set is refused that is.
+fn first_refusal(records: &BTreeMap<RrKey, RecordSet>) -> Option<ZoneError>
+    ensures { result ≡ first_refusal records.now.entries }
+{
+    for (at, set) in records.iter() {
+        if let Some(refused) = refusal(at, set) {
+            return Some(refused);
+        }
+    }
+    None
+}
+
+// Why a set is refused under a key.
+fn refusal(at: &RrKey, set: &RecordSet) -> Option<ZoneError>
+    ensures { result ≡ refusal (at.now, set.now) }
+{
+    if !is_own_key(at, set) {
+        return Some(ZoneError::WrongKey);
+    }
+    if set.is_empty() {
+        return Some(ZoneError::EmptySet);
+    }
+    None
+}
+
+// Whether a set is under its own owner and type.
 fn is_own_key(at: &RrKey, set: &RecordSet) -> bool
     ensures { result ≡ is_own_key at.now set.now }
 {

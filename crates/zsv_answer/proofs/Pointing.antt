@@ -1,6 +1,6 @@
 -- Records that are written one behind the other.
 use Rattle.std.proofs.Common.{◌≡◌, ℕ, List, [], ◌∷◌, ◌++◌, length, append_assoc, refl, sym, ap, subst, ◌∙◌}
-use Rattle.std.specs.Prelude.{Option, Some, None, IfSome, MatchOption}
+use Rattle.std.specs.Prelude.{Option, Some, None, IfSome, MatchOption, Result, Ok, Err, IfOk}
 use Rattle.zsv_reply.specs.Writing.{AreWritten}
 use Rattle.zsv_reply.specs.declared.written_reply.WrittenRecords.{WrittenRecords}
 use Rattle.std.specs.List.{AllByRecursion}
@@ -37,11 +37,16 @@ list_answers asked written records counted none are = record {
 pub list_authorities : (asked : DomainName) (written : WrittenRecords) (records : List Record) → length records ≡ written.authorities → written.answers ≡ 0 → ArePointing asked records written.octets.now → AreWritten asked written [] records
 list_authorities asked written records counted none are = record { answered = sym none; authorized = counted; pointing = are }
 
--- What an option holds, if it holds something.
-pub match_some : {X : Type 0} (P : Type 0) (R S : X → Type 0) (o : Option X) → ((x : X) → R x → S x) → MatchOption o P R → IfSome o S
-match_some P R S None some m = tt
-match_some P R S (Some x) some m = some x m
-
 -- What is said of what was found.
 pub found_told : {X : Type 0} (P : Type 0) (R : X → Type 0) (o : Option X) (x : X) → o ≡ Some x → MatchOption o P R → R x
 found_told {X = X} P R o x is told = subst (λ (found : Option X). MatchOption found P R) is told
+
+-- Two clauses on what is returned, put together.
+pub both_ok : {X E : Type 0} (P Q R : X → Type 0) (r : Result X E) → ((x : X) → P x → Q x → R x) → IfOk r P → IfOk r Q → IfOk r R
+both_ok P Q R (Ok x) joined p q = joined x p q
+both_ok P Q R (Err e) joined p q = tt
+
+-- Two clauses on what was found, put together.
+pub both_found : {X : Type 0} (P : Type 0) (R Q S : X → Type 0) (o : Option X) → ((x : X) → R x → Q x → S x) → MatchOption o P R → IfSome o Q → IfSome o S
+both_found P R Q S None joined m q = tt
+both_found P R Q S (Some x) joined m q = joined x m q

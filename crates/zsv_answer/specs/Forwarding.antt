@@ -25,7 +25,7 @@ resolved_parts m dnssec_ok record_type (resolved answers additionals) =
     (shown_if (hidden_but dnssec_ok record_type) answers) [] []
 resolved_parts m dnssec_ok record_type no_such_type = forwarded_error m responses.ServFail
 resolved_parts m dnssec_ok record_type no_such_name = forwarded_error m responses.NXDomain
-resolved_parts m dnssec_ok record_type not_here = forwarded_error m responses.ServFail
+resolved_parts m dnssec_ok record_type (not_here code) = forwarded_error m responses.ServFail
 
 -- It is refused where recursion isn't desired.
 abbrev pub ForwardedParts : Metadata → Bool → RecordType → Resolution → ReplyParts → Type 0

@@ -57,7 +57,7 @@ DeniedParts view m dnssec_ok code parts =
     (start : List Record) × AtOrigin view dnssec_ok types.SOA start
     × (parts ≡ parts_with (reply_metadata m true code) false [] [] start)
 
--- What was found; or the zone's start, with or without a name error; or that the name is outside.
+-- What was found; or the origin's SOA, with or without a name error; or a response code alone.
 abbrev pub AuthoritativeParts : View → Metadata → Bool → RecordType → Resolution → ReplyParts
     → Type 0
 AuthoritativeParts view m dnssec_ok record_type (resolved answers additionals) parts =
@@ -69,8 +69,8 @@ AuthoritativeParts view m dnssec_ok record_type no_such_type parts =
     DeniedParts view m dnssec_ok responses.NoError parts
 AuthoritativeParts view m dnssec_ok record_type no_such_name parts =
     DeniedParts view m dnssec_ok responses.NXDomain parts
-AuthoritativeParts view m dnssec_ok record_type not_here parts =
-    parts ≡ parts_with (reply_metadata m true responses.Refused) false [] [] []
+AuthoritativeParts view m dnssec_ok record_type (not_here code) parts =
+    parts ≡ parts_with (reply_metadata m true code) false [] [] []
 
 -- ---- by what the server is to the zone
 -- A zone that another server answers for is forwarded.

@@ -9,16 +9,19 @@ use Rattle.zst_request.specs.dnw_codes.declared.record_type.RecordType.{RecordTy
 use Rattle.zst_request.specs.dnw_name.DomainName.{DomainName}
 use Rattle.zst_request.specs.zst_codes.declared.lookup_error.LookupError.{LookupError}
 use Rattle.zst_request.specs.zst_codes.declared.lookup_error.LookupError.TheVariants as errors
+use Rattle.zst_request.specs.zst_codes.declared.response_code.ResponseCode.{ResponseCode}
 use Rattle.zst_request.specs.zst_codes.declared.response_code.ResponseCode.TheVariants as codes
 use Rattle.zst_request.specs.zst_handler.Answers.{additionals_in, answers_in, sets_shown}
 use Rattle.zst_request.specs.zst_handler.Lookups.{IsLookup, Outcome, answered, name_error, name_exists, out_of_zone}
 use Rattle.zst_request.specs.zst_handler.Zones.{Zone}
 use Rattle.zst_request.specs.zst_handler.declared.auth_lookup.AuthLookup.{AuthLookup}
 
--- What is answered: records, and those that go with them; or why there are none.
+-- What is answered: records, and the additional ones; or why there are none: the name has no record
+-- of the type, or doesn't exist; or a response code alone.
 pub data Resolution : Type 0 where
   resolved : List Record → List Record → Resolution
-  no_such_type no_such_name not_here : Resolution
+  no_such_type no_such_name : Resolution
+  not_here : ResponseCode → Resolution
 
 -- ---- who answers
 -- A stored zone answers for every name, a list of blocked names for those that it blocks.
@@ -53,7 +56,7 @@ outcome_shown dnssec_ok (answered answer) =
     resolved (sets_shown dnssec_ok answer.answers) (sets_shown dnssec_ok answer.additionals)
 outcome_shown dnssec_ok name_exists = no_such_type
 outcome_shown dnssec_ok name_error = no_such_name
-outcome_shown dnssec_ok out_of_zone = not_here
+outcome_shown dnssec_ok out_of_zone = not_here codes.Refused
 
 abbrev pub LooksUp : Zone → DomainName → RecordType → Bool → Resolution → Type 0
 LooksUp zone name record_type dnssec_ok resolution =
@@ -85,11 +88,13 @@ Resolves chain (Blocked blocklist) name record_type dnssec_ok resolution =
     ListResolves (blocked_answer blocklist name record_type) resolution
 
 -- ---- results of handlers
--- Why there are no records.
+-- Why there are no records: Refused and NotAuth are response codes of the reply; any error but these
+-- and a name error is answered as a name without records of the type.
 abbrev pub reason_in : LookupError → Resolution
-reason_in errors.NameExists = no_such_type
 reason_in (errors.ResponseCode codes.NXDomain) = no_such_name
-reason_in other = not_here
+reason_in (errors.ResponseCode codes.Refused) = not_here codes.Refused
+reason_in (errors.ResponseCode codes.NotAuth) = not_here codes.NotAuth
+reason_in other = no_such_type
 
 -- A handler's result.
 abbrev pub resolution_in : Result AuthLookup LookupError → Resolution

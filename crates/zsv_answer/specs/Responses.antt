@@ -1,5 +1,5 @@
 -- The headers and lists of replies: RFC 1035, section 4.1.1.
-use Rattle.std.specs.Prelude.{ℕ, Bool, true, false, not, ◌&&◌, List, [], ◌++◌, Option, None, if◌then◌else◌}
+use Rattle.std.specs.Prelude.{ℕ, ◌≤◌, Bool, true, false, not, ◌&&◌, List, [], ◌++◌, length, Option, None, if◌then◌else◌}
 use Rattle.zsv_reply.specs.Replies.{ReplyParts}
 use Rattle.zsv_reply.specs.Writing.{AllReadBack, IsEncoded}
 use Rattle.zsv_reply.specs.zst_record.declared.records.Record.{Record}
@@ -59,12 +59,17 @@ parts_with m referral records additionals beside = record {
 abbrev pub with_edns : Option Edns → ReplyParts → ReplyParts
 with_edns edns parts = record parts { edns = edns }
 
--- What is sent for these parts and options, and its header: the reply to the questions, where each
--- record can be read back.
+-- The octets of a reply of these parts, and its header: within the limit of the transport whatever
+-- the records are, and the reply to the questions if each record reads back.
+pub record SendsParts (parts : ReplyParts) (asked : Asked) (transport : Protocol) (info : Header)
+    (reply : List ℕ) : Type 0 where
+  pub within : length reply ≤ limit_of transport parts.edns
+  pub stands : AllReadBack parts → IsEncoded info reply parts asked (limit_of transport parts.edns)
+
+-- The same, of these parts and options.
 abbrev pub Sends : ReplyParts → Option Edns → Asked → Protocol → Header → List ℕ → Type 0
 Sends parts edns asked transport info reply =
-    AllReadBack (with_edns edns parts)
-    → IsEncoded info reply (with_edns edns parts) asked (limit_of transport edns)
+    SendsParts (with_edns edns parts) asked transport info reply
 
 -- What a response holds: of an answer that is forwarded the records that are shown, and nothing
 -- that goes with them.

@@ -136,7 +136,7 @@ fn denial_response<'z, H: ZoneHandler>(
     })
 }
 
-// Why nothing was found: the zone's start, with or without a name error; or that the name is outside.
+// Why nothing was found: the origin's SOA, with or without a name error; or a refusal alone.
 fn denied_response<'z, H: ZoneHandler>(
     handler: &'z H,
     alloc: Global,
@@ -149,17 +149,16 @@ fn denied_response<'z, H: ZoneHandler>(
     ensures operation { IfOk result (λ r. r.metadata.op_code ≡ request.op_code) }
 {
     match why {
-        LookupError::NameExists => denial_response(
-            handler,
-            alloc,
-            request,
-            options,
-            ResponseCode::NoError,
-        ),
         LookupError::ResponseCode(ResponseCode::NXDomain) => {
             denial_response(handler, alloc, request, options, ResponseCode::NXDomain)
         }
-        _ => Ok(bare_response(reply_header(request, true, ResponseCode::Refused))),
+        LookupError::ResponseCode(ResponseCode::Refused) => {
+            Ok(bare_response(reply_header(request, true, ResponseCode::Refused)))
+        }
+        LookupError::ResponseCode(ResponseCode::NotAuth) => {
+            Ok(bare_response(reply_header(request, true, ResponseCode::NotAuth)))
+        }
+        _ => denial_response(handler, alloc, request, options, ResponseCode::NoError),
     }
 }
 

@@ -5,7 +5,7 @@ ghost use Rattle.zst_request.specs.zst_codes.declared.response_code.ResponseCode
 ghost use Rattle.zst_request.specs.zst_handler.Answers.{additionals_in, answers_in, records_in};
 ghost use Rattle.zsv_answer.specs.Responses.{Sends, error_parts, has_no_authority, lends_records, list_parts, parts_of, parts_with, reply_metadata};
 ghost use Rattle.zsv_answer.specs.Shown.{shown_if};
-ghost use Rattle.zsv_answer.specs.zsv_reply.Writing.{AreWritten, FitsOpCode, IsEncoded};
+ghost use Rattle.zsv_answer.specs.zsv_reply.Writing.{AreWritten, IsEncoded};
 ghost use Rattle.zsv_answer.specs.zsv_reply.zst_pointing.Pointing.{ArePointing};
 ghost use Rattle.zsv_answer.specs.zsv_reply.zsv_message.zsv_parts.Questions.{Asked};
 ghost use Rattle.zsv_answer.specs.zsv_reply.zst_record.declared.records.Record.{Record as Entry};
@@ -160,7 +160,6 @@ impl Response<'_> {
         queries: &Queries<'_>,
         protocol: Protocol,
     ) -> Result<Option<(ResponseInfo, Vec<u8>)>, AllocError>
-        requires { FitsOpCode self.now.metadata }
         ensures { IfOk result (λ found. IfSome found (λ sent. Sends (list_parts self.now.metadata list.entry)
             (option_copied edns.entry) queries.now protocol sent.0 sent.1.items)) }
     {
@@ -185,7 +184,6 @@ impl Response<'_> {
         queries: &Queries<'_>,
         protocol: Protocol,
     ) -> Result<(ResponseInfo, Vec<u8>), AllocError>
-        requires { FitsOpCode self.now.metadata }
         ensures { IfOk result (λ sent. Sends (parts_of self.now) (option_copied edns.entry) queries.now protocol sent.0 sent.1.items) }
     {
         MessageResponseBuilder::new(queries, edns)
@@ -200,7 +198,7 @@ impl Response<'_> {
     }
 
     /// The octets of the reply with these options to these questions, within the limit of its transport, and its header as
-    /// it was written. Where each record reads back, they are the reply of what it holds.
+    /// it was written. If each record reads back, they are the reply of what it holds.
     pub fn encode(
         &self,
         alloc: Global,
@@ -208,7 +206,6 @@ impl Response<'_> {
         queries: &Queries<'_>,
         protocol: Protocol,
     ) -> Result<(ResponseInfo, Vec<u8>), AllocError>
-        requires { FitsOpCode self.now.metadata }
         ensures { IfOk result (λ sent. Sends (parts_of self.now) (option_copied edns.entry) queries.now protocol sent.0 sent.1.items) }
     {
         if let Some(list) = self.only_list() {
@@ -264,7 +261,6 @@ pub fn encode_error(
     queries: &Queries<'_>,
     protocol: Protocol,
 ) -> Result<(ResponseInfo, Vec<u8>), AllocError>
-    requires { FitsOpCode request }
     ensures { IfOk result (λ sent. IsEncoded sent.0 sent.1.items (error_parts request response_code) queries.now (limit_of protocol None)) }
 {
     let header = reply_header(request, false, response_code);
@@ -278,7 +274,6 @@ pub fn encode_refusal(
     request: BareRequest<'_>,
     protocol: Protocol,
 ) -> Result<(ResponseInfo, Vec<u8>), AllocError>
-    requires { FitsOpCode request.metadata }
     ensures { (asked : Asked) → length asked.questions ≡ 1 → asked.octets ≡ request.entry.question.now
         → IfOk result (λ sent. IsEncoded sent.0 sent.1.items (error_parts request.entry.metadata responses.Refused) asked (limit_of protocol None)) }
 {

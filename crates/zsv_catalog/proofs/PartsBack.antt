@@ -25,12 +25,12 @@ use Rattle.zsv_answer.specs.zst_request.zst_codes.declared.settings.ZoneType.The
 use Rattle.zsv_answer.specs.zst_request.zst_handler.Lookups.{Outcome, answered, name_error, name_exists, out_of_zone}
 use Rattle.zsv_answer.specs.zsv_reply.Replies.{ReplyParts}
 use Rattle.zsv_answer.specs.zsv_reply.Writing.{AllReadBack}
-use Rattle.zsv_answer.specs.zsv_reply.zst_record.Records.{ReadsBackAlone}
+use Rattle.zsv_answer.specs.zsv_reply.zst_record.Records.{IsServable}
 use Rattle.zsv_answer.specs.zsv_reply.zst_record.declared.records.Record.{Record}
-use Rattle.zsv_answer.specs.zsv_reply.zsv_message.Messages.{IsMessage, Message}
+use Rattle.zsv_answer.specs.zsv_reply.zsv_message.Messages.{Message}
 use Rattle.zsv_answer.specs.zsv_reply.zsv_message.zst_edns.Writing.{EdnsReadsBack}
 use Rattle.zsv_answer.specs.zsv_reply.zsv_message.zst_edns.declared.edns.Edns.{Edns}
-use Rattle.zsv_answer.specs.zsv_reply.zsv_message.zsv_parts.Questions.{QuestionAt}
+use Rattle.zsv_answer.specs.zsv_reply.zsv_message.zsv_parts.Questions.{Asked, IsSection, QuestionAt}
 use Rattle.zsv_answer.specs.zsv_reply.zsv_message.zsv_parts.Wire.{Entries}
 use Rattle.zsv_answer.specs.zsv_reply.zsv_message.zsv_parts.declared.header.Metadata.{Metadata}
 use Rattle.zsv_answer.specs.zsv_reply.zsv_message.zsv_parts.declared.header.MessageType.{MessageType}
@@ -48,30 +48,30 @@ use Rattle.zsv_catalog.proofs.ShownBack.{OutcomeReadsBack, append_back, filter_b
 pub error_back : (m : Metadata) (code : ResponseCode) (parts : ReplyParts) → parts ≡ error_parts m code → AllReadBack parts
 error_back m code parts is = subst AllReadBack (sym is) (record { answers = tt; authorities = tt; additionals = tt; edns = tt; signature = tt })
 
-with_back : (m : Metadata) (referral : Bool) (records additionals beside : List Record) → AllByRecursion ReadsBackAlone records → AllByRecursion ReadsBackAlone additionals → AllByRecursion ReadsBackAlone beside
+with_back : (m : Metadata) (referral : Bool) (records additionals beside : List Record) → AllByRecursion IsServable records → AllByRecursion IsServable additionals → AllByRecursion IsServable beside
     → AllReadBack (parts_with m referral records additionals beside)
 with_back m true records additionals beside first more later =
     record { answers = tt; authorities = append_back records beside first later; additionals = more; edns = tt; signature = tt }
 with_back m false records additionals beside first more later = record { answers = first; authorities = later; additionals = more; edns = tt; signature = tt }
 
 -- ---- authoritative replies
-outcome_records : (dnssec : Bool) (outcome : Outcome) → OutcomeReadsBack outcome → AllByRecursion ReadsBackAlone (answer_records dnssec outcome)
+outcome_records : (dnssec : Bool) (outcome : Outcome) → OutcomeReadsBack outcome → AllByRecursion IsServable (answer_records dnssec outcome)
 outcome_records dnssec (answered answer) back = sets_shown_back dnssec answer.answers back.answers
 outcome_records dnssec name_exists back = tt
 outcome_records dnssec name_error back = tt
 outcome_records dnssec out_of_zone back = tt
 
-origin_back : (view : View) (dnssec : Bool) (t : RecordType) (records : List Record) → ViewReadsBack view → AtOrigin view dnssec t records → AllByRecursion ReadsBackAlone records
+origin_back : (view : View) (dnssec : Bool) (t : RecordType) (records : List Record) → ViewReadsBack view → AtOrigin view dnssec t records → AllByRecursion IsServable records
 origin_back (Stored zone) dnssec t records back (outcome, is, shown) =
-    subst (AllByRecursion ReadsBackAlone) (sym shown) (outcome_records dnssec outcome (lookup_back zone zone.origin t outcome (zone_sound zone back.0 back.1) is))
-origin_back (Blocked blocklist) dnssec t records back none = subst (AllByRecursion ReadsBackAlone) (sym none) tt
+    subst (AllByRecursion IsServable) (sym shown) (outcome_records dnssec outcome (lookup_back zone zone.origin t outcome (zone_sound zone back.0 back.1) is))
+origin_back (Blocked blocklist) dnssec t records back none = subst (AllByRecursion IsServable) (sym none) tt
 
-beside_back : (view : View) (dnssec : Bool) (t : RecordType) (beside : List Record) → ViewReadsBack view → BesideAnswer view dnssec t beside → AllByRecursion ReadsBackAlone beside
+beside_back : (view : View) (dnssec : Bool) (t : RecordType) (beside : List Record) → ViewReadsBack view → BesideAnswer view dnssec t beside → AllByRecursion IsServable beside
 beside_back view dnssec t beside back (start, other) = by (same_record_type t types.SOA) refl
   where
-    by : (b : Bool) → same_record_type t types.SOA ≡ b → AllByRecursion ReadsBackAlone beside
+    by : (b : Bool) → same_record_type t types.SOA ≡ b → AllByRecursion IsServable beside
     by true e = origin_back view dnssec types.NS beside back (start e)
-    by false e = subst (AllByRecursion ReadsBackAlone) (sym (other e)) tt
+    by false e = subst (AllByRecursion IsServable) (sym (other e)) tt
 
 denied_back : (view : View) (m : Metadata) (dnssec : Bool) (code : ResponseCode) (parts : ReplyParts) → ViewReadsBack view → DeniedParts view m dnssec code parts → AllReadBack parts
 denied_back view m dnssec code parts back (start, at, is) =
@@ -82,13 +82,13 @@ authoritative_back view m dnssec t (resolved answers additionals) parts back sho
     subst AllReadBack (sym is) (with_back (reply_metadata m true responses.NoError) (is_referral t answers) answers additionals beside shown.0 shown.1 (beside_back view dnssec t beside back at))
 authoritative_back view m dnssec t no_such_type parts back shown is = denied_back view m dnssec responses.NoError parts back is
 authoritative_back view m dnssec t no_such_name parts back shown is = denied_back view m dnssec responses.NXDomain parts back is
-authoritative_back view m dnssec t not_here parts back shown is =
-    subst AllReadBack (sym is) (with_back (reply_metadata m true responses.Refused) false [] [] [] tt tt tt)
+authoritative_back view m dnssec t (not_here code) parts back shown is =
+    subst AllReadBack (sym is) (with_back (reply_metadata m true code) false [] [] [] tt tt tt)
 
 -- ---- forwarded replies
-if_shown : (asked : Option RecordType) (rs : List Record) → AllByRecursion ReadsBackAlone rs → AllByRecursion ReadsBackAlone (shown_if asked rs)
+if_shown : (asked : Option RecordType) (rs : List Record) → AllByRecursion IsServable rs → AllByRecursion IsServable (shown_if asked rs)
 if_shown None rs all = all
-if_shown (Some t) rs all = filter_back ReadsBackAlone (is_shown t) rs all
+if_shown (Some t) rs all = filter_back IsServable (is_shown t) rs all
 
 bare_back : (m : Metadata) (code : ResponseCode) (parts : ReplyParts) → parts ≡ forwarded_error m code → AllReadBack parts
 bare_back m code parts is = subst AllReadBack (sym is) (with_back (forwarded_metadata m code) false [] [] [] tt tt tt)
@@ -98,7 +98,7 @@ resolved_back m dnssec t (resolved answers additionals) parts shown is =
     subst AllReadBack (sym is) (with_back (forwarded_metadata m responses.NoError) false (shown_if (hidden_but dnssec t) answers) [] [] (if_shown (hidden_but dnssec t) answers shown.0) tt tt)
 resolved_back m dnssec t no_such_type parts shown is = bare_back m responses.ServFail parts is
 resolved_back m dnssec t no_such_name parts shown is = bare_back m responses.NXDomain parts is
-resolved_back m dnssec t not_here parts shown is = bare_back m responses.ServFail parts is
+resolved_back m dnssec t (not_here code) parts shown is = bare_back m responses.ServFail parts is
 
 forwarded_back : (m : Metadata) (dnssec : Bool) (t : RecordType) (resolution : Resolution) (parts : ReplyParts) → ResolutionReadsBack resolution → ForwardedParts m dnssec t resolution parts → AllReadBack parts
 forwarded_back m dnssec t resolution parts shown is = by m.recursion_desired refl
@@ -138,7 +138,7 @@ question_back chains m dnssec q parts full all is = by (chain_for chains q.name)
     by None e = error_back m responses.Refused parts (is.no_chain e)
     by (Some chain) e = inside chain (same_record_type q.query_type types.AXFR) e refl
 
-query_back : (chains : List (DomainName × List View)) (m : Metadata) (dnssec : Bool) (qs : List Query) (parts : ReplyParts) → AllByRecursion IsFull qs → ChainsReadBack chains → QueryParts chains m dnssec qs parts → AllReadBack parts
+pub query_back : (chains : List (DomainName × List View)) (m : Metadata) (dnssec : Bool) (qs : List Query) (parts : ReplyParts) → AllByRecursion IsFull qs → ChainsReadBack chains → QueryParts chains m dnssec qs parts → AllReadBack parts
 query_back chains m dnssec [] parts full all is = error_back m responses.FormErr parts is
 query_back chains m dnssec (q ∷ []) parts full all is = question_back chains m dnssec q parts full.0 all is
 query_back chains m dnssec (q ∷ r ∷ qs) parts full all is = error_back m responses.FormErr parts is
@@ -203,14 +203,14 @@ asked_full : (octets : List ℕ) (place : ℕ) (qs : List Query) (end : ℕ) →
 asked_full octets place [] end there = tt
 asked_full octets place (q ∷ qs) end there = (there.1.name.full, asked_full octets there.0 qs end there.2)
 
--- The questions of a message end at the root.
-pub questions_full : (octets : List ℕ) (request : Message) → IsMessage octets request → AllByRecursion IsFull request.asked.questions
-questions_full octets request is = asked_full octets 12 request.asked.questions is.questions_end is.questions.questions.0
+-- The names of questions that were read end at the root.
+pub section_full : (asked : Asked) → IsSection asked → AllByRecursion IsFull asked.questions
+section_full asked section = asked_full section.message section.place asked.questions section.end section.there.questions.0
 
 -- All that a full reply to a message holds reads back.
-pub parts_back : (chains : List (DomainName × List View)) (nsid : Option (List ℕ)) (octets : List ℕ) (request : Message) (parts : ReplyParts) → IsMessage octets request → ChainsReadBack chains → FitsOption nsid → PartsOf chains nsid request parts → AllReadBack parts
-parts_back chains nsid octets request parts is all fits gives =
-    let plain = plain_back chains request gives.plain (questions_full octets request is) all gives.gives in
+pub parts_back : (chains : List (DomainName × List View)) (nsid : Option (List ℕ)) (request : Message) (parts : ReplyParts) → IsSection request.asked → ChainsReadBack chains → FitsOption nsid → PartsOf chains nsid request parts → AllReadBack parts
+parts_back chains nsid request parts section all fits gives =
+    let plain = plain_back chains request gives.plain (section_full request.asked section) all gives.gives in
     let options = edns_back request.edns (nsid_for request.edns nsid) gives.plain.metadata.response_code parts.edns (fits_for request.edns nsid fits) gives.edns in
     subst AllReadBack (sym gives.whole) (record {
       answers = plain.answers;

@@ -11,7 +11,7 @@ use Rattle.zsv_answer.specs.zst_request.Views.{Blocked, Stored, View}
 use Rattle.zsv_answer.specs.zst_request.dnw_codes.declared.record_type.RecordType.{RecordType}
 use Rattle.zsv_answer.specs.zst_request.zst_handler.Lookups.{Outcome, answered, name_error, name_exists, out_of_zone}
 use Rattle.zsv_answer.specs.zst_request.zst_handler.Zones.{Zone}
-use Rattle.zsv_answer.specs.zsv_reply.zst_record.Records.{ReadsBackAlone}
+use Rattle.zsv_answer.specs.zsv_reply.zst_record.Records.{IsServable}
 use Rattle.zsv_catalog.specs.Chains.{chain_at, chain_for}
 use Rattle.zsv_catalog.specs.ReadingBack.{ChainReadsBack, ChainsReadBack, ViewReadsBack}
 use Rattle.zsv_catalog.proofs.BlockedBack.{AnswerReadsBack, answer_back, records_back}
@@ -64,7 +64,7 @@ enforced_back (view ∷ views) name t full all =
 -- ---- what is answered
 -- The records of a resolution read back.
 abbrev pub ResolutionReadsBack : Resolution → Type 0
-ResolutionReadsBack (resolved answers additionals) = AllByRecursion ReadsBackAlone answers × AllByRecursion ReadsBackAlone additionals
+ResolutionReadsBack (resolved answers additionals) = AllByRecursion IsServable answers × AllByRecursion IsServable additionals
 ResolutionReadsBack other = Unit {0}
 
 shown_outcome : (dnssec : Bool) (outcome : Outcome) → OutcomeReadsBack outcome → ResolutionReadsBack (outcome_shown dnssec outcome)

@@ -10,7 +10,7 @@ use Rattle.zsv_answer.specs.zst_request.dnw_codes.RecordType.{same_record_type}
 use Rattle.zsv_answer.specs.zst_request.dnw_name.DomainName.{DomainName, domain_name, is_at_or_below, lowercase_name, name_eq}
 use Rattle.zst_key.specs.Ancestors.{nearest_from, or_else, star}
 use Rattle.zsv_answer.specs.zsv_reply.zst_record.declared.records.Record.{Record}
-use Rattle.zsv_answer.specs.zsv_reply.zst_record.Records.{ReadsBackAlone}
+use Rattle.zsv_answer.specs.zsv_reply.zst_record.Records.{IsServable}
 use Rattle.zsv_answer.specs.zsv_reply.zst_record.RecordSets.{RRset, flattened_record, flattened_set, none_left, renamed, renamed_record}
 use Rattle.zsv_answer.specs.zst_request.zst_handler.Answers.{shown, sets_shown}
 use Rattle.zsv_answer.specs.zst_request.zst_handler.Chains.{Links, first_target, leads}
@@ -21,8 +21,8 @@ use Rattle.zsv_answer.specs.zst_request.zst_handler.Zones.{AreStored, IsStored, 
 -- A set whose records read back, and whose owner, which is theirs, is fully qualified.
 pub record SetIsSound (set : RRset) : Type 0 where
   pub owner : set.name.fqdn ≡ true
-  pub records : AllByRecursion ReadsBackAlone set.records
-  pub signatures : AllByRecursion ReadsBackAlone set.signatures
+  pub records : AllByRecursion IsServable set.records
+  pub signatures : AllByRecursion IsServable set.signatures
 
 abbrev pub ZoneIsSound : Zone → Type 0
 ZoneIsSound zone = AllByRecursion SetIsSound zone.sets
@@ -34,8 +34,8 @@ set_sound set stored back = by set.records refl
     by [] e = absurd (true≢false (ap none_left (sym e) ∙ stored.filled))
     by (r ∷ rs) e =
         let named : set.name ≡ r.name = (stored.is.spelled r rs e).0 in
-        let first : ReadsBackAlone r = (subst (AllByRecursion ReadsBackAlone) e back.records).0 in
-        record { owner = ap (λ (n : DomainName). n.fqdn) named ∙ first.owner; records = back.records; signatures = back.signatures }
+        let first : IsServable r = (subst (AllByRecursion IsServable) e back.records).0 in
+        record { owner = ap (λ (n : DomainName). n.fqdn) named ∙ first.alone.owner; records = back.records; signatures = back.signatures }
 
 all_sound : (sets : List RRset) → AreStored sets → AllByRecursion SetReadsBack sets → AllByRecursion SetIsSound sets
 all_sound [] stored back = tt
@@ -127,10 +127,10 @@ delegation_back sets name t back =
     (cut_found_back name.fqdn _ (nearest_back (λ servers. IfSome servers (IsFound name.fqdn)) (cut_at sets) name.fqdn each name.labels))
 
 -- ---- under another name
-owned_back : (owner : DomainName) (ttl : ℕ) (r : Record) → owner.fqdn ≡ true → ReadsBackAlone r → ReadsBackAlone (record r { name = owner; ttl = ttl })
-owned_back owner ttl r full back = record { owner = full; own_type = back.own_type; own_class = back.own_class; rdata = back.rdata; of_zones = back.of_zones }
+owned_back : (owner : DomainName) (ttl : ℕ) (r : Record) → owner.fqdn ≡ true → IsServable r → IsServable (record r { name = owner; ttl = ttl })
+owned_back owner ttl r full back = record { alone = record { owner = full; own_type = back.alone.own_type; own_class = back.alone.own_class; rdata = back.alone.rdata }; of_zones = back.of_zones }
 
-each_back : (f : Record → Record) (rs : List Record) → ((r : Record) → ReadsBackAlone r → ReadsBackAlone (f r)) → AllByRecursion ReadsBackAlone rs → AllByRecursion ReadsBackAlone (map f rs)
+each_back : (f : Record → Record) (rs : List Record) → ((r : Record) → IsServable r → IsServable (f r)) → AllByRecursion IsServable rs → AllByRecursion IsServable (map f rs)
 each_back f [] kept all = tt
 each_back f (r ∷ rs) kept all = (kept r all.0, each_back f rs kept all.1)
 
@@ -265,14 +265,14 @@ lookup_back zone name t outcome back is = by (same_record_type t kind.ANY) refl
     by false e = from_back zone name t (found zone.sets name t) outcome back (found_back zone.sets name t back) (is.one e)
 
 -- ---- the records that are shown
-pub append_back : (rs more : List Record) → AllByRecursion ReadsBackAlone rs → AllByRecursion ReadsBackAlone more → AllByRecursion ReadsBackAlone (rs ++ more)
+pub append_back : (rs more : List Record) → AllByRecursion IsServable rs → AllByRecursion IsServable more → AllByRecursion IsServable (rs ++ more)
 append_back [] more first later = later
 append_back (r ∷ rs) more first later = (first.0, append_back rs more first.1 later)
 
-shown_back : (dnssec_ok : Bool) (set : RRset) → SetIsSound set → AllByRecursion ReadsBackAlone (shown dnssec_ok set)
+shown_back : (dnssec_ok : Bool) (set : RRset) → SetIsSound set → AllByRecursion IsServable (shown dnssec_ok set)
 shown_back true set back = append_back set.records set.signatures back.records back.signatures
 shown_back false set back = back.records
 
-pub sets_shown_back : (dnssec_ok : Bool) (sets : List RRset) → AllByRecursion SetIsSound sets → AllByRecursion ReadsBackAlone (sets_shown dnssec_ok sets)
+pub sets_shown_back : (dnssec_ok : Bool) (sets : List RRset) → AllByRecursion SetIsSound sets → AllByRecursion IsServable (sets_shown dnssec_ok sets)
 sets_shown_back dnssec_ok [] all = tt
 sets_shown_back dnssec_ok (set ∷ sets) all = append_back (shown dnssec_ok set) (sets_shown dnssec_ok sets) (shown_back dnssec_ok set all.0) (sets_shown_back dnssec_ok sets all.1)

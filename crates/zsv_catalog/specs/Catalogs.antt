@@ -6,7 +6,7 @@ use Rattle.drd_types.specs.declared.EdnsCode.TheVariants.{NSID}
 use Rattle.drd_types.specs.declared.EdnsOption.TheVariants as option_with
 use Rattle.drd_types.specs.drd_opt.Entries.{Entry, raw_of}
 use Rattle.zsv_answer.specs.Parts.{ChainParts}
-use Rattle.zsv_answer.specs.Responses.{Sends, error_parts, with_edns}
+use Rattle.zsv_answer.specs.Responses.{Sends, SendsParts, error_parts, with_edns}
 use Rattle.zsv_answer.specs.zst_request.Views.{View}
 use Rattle.zsv_answer.specs.zst_request.dnw_codes.declared.record_type.RecordType.TheVariants.{AXFR}
 use Rattle.zsv_answer.specs.zst_request.dnw_codes.RecordType.{same_record_type}
@@ -14,7 +14,7 @@ use Rattle.zsv_answer.specs.zst_request.dnw_name.DomainName.{DomainName}
 use Rattle.zsv_answer.specs.zst_request.zst_codes.declared.response_code.ResponseCode.{ResponseCode}
 use Rattle.zsv_answer.specs.zst_request.zst_codes.declared.response_code.ResponseCode.TheVariants as responses
 use Rattle.zsv_answer.specs.zsv_reply.Replies.{ReplyParts}
-use Rattle.zsv_answer.specs.zsv_reply.Writing.{AllReadBack, IsEncoded}
+use Rattle.zsv_answer.specs.zsv_reply.Writing.{AllReadBack}
 use Rattle.zsv_answer.specs.zsv_reply.zsv_message.Messages.{Message}
 use Rattle.zsv_answer.specs.zsv_reply.zsv_message.zst_edns.declared.edns.Edns.{Edns}
 use Rattle.zsv_answer.specs.zsv_reply.zsv_message.zsv_parts.declared.header.Header.{Header}
@@ -25,9 +25,9 @@ use Rattle.zsv_answer.specs.zsv_reply.zsv_message.zsv_parts.declared.header.OpCo
 use Rattle.zsv_answer.specs.zsv_reply.zsv_message.zsv_parts.declared.header.OpCode.TheVariants as operations
 use Rattle.zsv_answer.specs.zsv_reply.zsv_message.zsv_parts.declared.question.Query.{Query}
 use Rattle.zsv_answer.specs.zsv_reply.zsv_message.zsv_parts.zst_codes.ResponseCode.{high_bits}
-use Rattle.zsv_answer.specs.zsv_request.Requests.{limit_of}
 use Rattle.zsv_answer.specs.zsv_request.declared.protocol.Protocol.{Protocol}
 use Rattle.zsv_catalog.specs.Chains.{chain_for}
+use Rattle.zsv_catalog.specs.ReadingBack.{ChainsReadBack}
 
 -- One question: refused where there is no chain for the name; transfers are not served.
 pub record QuestionParts (chains : List (DomainName × List View)) (m : Metadata) (dnssec_ok : Bool)
@@ -128,17 +128,17 @@ SendsWith plain nsid request transport info reply =
     × AnswersEdns request.edns (nsid_for request.edns nsid) plain.metadata.response_code edns
     × Sends plain edns request.asked transport info reply
 
--- The octets of a reply to a request, and its header: of the parts that the chains give, where each
--- record can be read back.
+-- The octets of a reply to a request, and its header: of the parts that the chains give, which read
+-- back if the chains do.
 abbrev pub RepliesBy : List (DomainName × List View) → Option (List ℕ) → Message → Protocol
     → Header → List ℕ → Type 0
 RepliesBy chains nsid request transport info reply =
     (parts : ReplyParts) × PartsOf chains nsid request parts
-    × (AllReadBack parts
-    → IsEncoded info reply parts request.asked (limit_of transport parts.edns))
+    × SendsParts parts request.asked transport info reply
+    × (ChainsReadBack chains → AllReadBack parts)
 
 -- The octets of a reply to a query with these options, and its header: of the parts that the chains
--- give to its question, whatever its operation.
+-- give to its question, whatever its opcode.
 abbrev pub AnswersQuery : List (DomainName × List View) → Message → Option Edns → Protocol → Header
     → List ℕ → Type 0
 AnswersQuery chains request edns transport info reply =
@@ -146,3 +146,4 @@ AnswersQuery chains request edns transport info reply =
     × QueryParts chains request.metadata (asks_for_dnssec request.edns)
     request.asked.questions plain
     × Sends plain edns request.asked transport info reply
+    × (ChainsReadBack chains → AllReadBack plain)

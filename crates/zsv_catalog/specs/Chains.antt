@@ -2,16 +2,17 @@
 -- step 2.
 use Rattle.std.specs.Prelude.{List, map, Option, option_map}
 use Rattle.std.specs.BTreeMap.{insert_entry}
-use Rattle.std.specs.Map.{lookup, remove_entry}
+use Rattle.std.specs.Map.{remove_entry}
 use Rattle.std.specs.Ordering.{is_eq}
 use Rattle.std.proofs.Common.{Vec, Global}
 use Rattle.zst_key.specs.Ancestors.{nearest_in}
+use Rattle.zst_key.specs.Sorted.{entry_at}
 use Rattle.zst_key.specs.dnw_name.DomainName.{DomainName, lowercase_name, name_cmp}
 use Rattle.zsv_answer.specs.zst_request.Views.{View}
 
 -- The chain under a name, up to case.
 abbrev pub chain_at : {X : Type 0} → List (DomainName × X) → DomainName → Option X
-chain_at chains name = lookup (λ other. is_eq (name_cmp name other)) chains
+chain_at chains name = entry_at chains name
 
 -- The chain for a name: that under the name, or else under the nearest name above it.
 abbrev pub chain_for : {X : Type 0} → List (DomainName × X) → DomainName → Option X

@@ -1,6 +1,5 @@
 pub mod Catalogs
 pub mod Chains
 pub mod ReadingBack
-pub mod Serving
 pub mod Sinks
 pub mod zsv_answer

@@ -2,17 +2,14 @@
 
 ghost use Rattle.std.specs.Prelude.{◌≡◌, ◌≤◌, ℕ, false, List, [], IfErr, IfOk, None, OnErr, OnOk, is_some, length, option_copied, option_map};
 ghost use Rattle.zst_key.specs.dnw_name.DomainName.{lowercase_name};
-ghost use Rattle.zsv_answer.specs.zsv_reply.Writing.{FitsOpCode};
 ghost use Rattle.zsv_answer.specs.zsv_reply.zsv_message.zsv_parts.declared.header.Header.{Header};
 ghost use Rattle.zsv_catalog.specs.Catalogs.{AnswersQuery, RepliesBy};
 ghost use Rattle.zsv_catalog.specs.Chains.{chain_at, chain_for, views_of, with_chain, without_chain};
-ghost use Rattle.zsv_catalog.specs.Serving.{Serves};
 ghost use Rattle.zsv_catalog.specs.Sinks.{HandsOver};
 
 use crate::chains::Chains;
 use crate::handler::RequestHandler;
 use crate::reply::{lookup_by, reply_by};
-use crate::serve::serve_by;
 use crate::sink::{ResponseHandler, ServiceFault, hand_over};
 use drd_types::NSIDPayload;
 use std::alloc::{AllocError, Global};
@@ -33,7 +30,7 @@ pub struct Catalog<S, H = Box<dyn ZoneHandler>> {
 impl<S, H: ZoneHandler> Catalog<S, H> {
     /// No zones, and no identifier.
     pub fn new(alloc: Global, suite: S) -> Catalog<S, H>
-        ensures chains { result.chains.chains.entries ≡ [] }
+        ensures chains { result.chains.chains ≡ [] }
         ensures nsid { result.nsid ≡ None }
     {
         Catalog {
@@ -46,36 +43,35 @@ impl<S, H: ZoneHandler> Catalog<S, H> {
 
     /// Puts a chain in place of the one under a name, which is dropped.
     pub fn upsert(&mut self, name: &Name, handlers: Vec<H>) -> Result<(), AllocError>
-        ensures ok { OnOk result (self.new.chains.chains.entries ≡ with_chain self.old.chains.chains.entries name.now handlers) }
-        ensures err { OnErr result (self.new.chains.chains.entries ≡ self.old.chains.chains.entries) }
+        ensures ok { OnOk result (self.new.chains.chains ≡ with_chain self.old.chains.chains name.now handlers) }
+        ensures err { OnErr result (self.new.chains.chains ≡ self.old.chains.chains) }
         ensures nsid { self.new.nsid ≡ self.old.nsid }
     {
         self.chains.upsert(self.alloc, name, handlers)
     }
 
-    /// Takes out the chain under a name, and hands it back.
-    pub fn remove(&mut self, name: &Name) -> Result<Option<Vec<H>>, AllocError>
-        ensures value { IfOk result (λ chain. chain ≡ chain_at self.old.chains.chains.entries (lowercase_name name.now)) }
-        ensures ok { OnOk result (self.new.chains.chains.entries ≡ without_chain self.old.chains.chains.entries name.now) }
-        ensures err { OnErr result (self.new.chains.chains.entries ≡ self.old.chains.chains.entries) }
+    /// Takes out the chain under a name, and returns it. It takes no memory.
+    pub fn remove(&mut self, name: &Name) -> Option<Vec<H>>
+        ensures value { result ≡ chain_at self.old.chains.chains (lowercase_name name.now) }
+        ensures after { self.new.chains.chains ≡ without_chain self.old.chains.chains name.now }
         ensures nsid { self.new.nsid ≡ self.old.nsid }
     {
         self.chains.remove(self.alloc, name)
     }
 
-    /// The chain for a name: that under the name, or else under the nearest name above it.
-    pub fn find(&self, name: &Name) -> Result<Option<&[H]>, AllocError>
-        ensures { IfOk result (λ found. option_map (λ chain. chain.now) found
-            ≡ option_map (λ chain. chain.items) (chain_for self.now.chains.chains.entries name.now)) }
+    /// The chain for a name: that under the name, or else under the nearest name above it. It takes no memory.
+    pub fn find(&self, name: &Name) -> Option<&[H]>
+        ensures { option_map (λ chain. chain.now) result
+            ≡ option_map (λ chain. chain.items) (chain_for self.now.chains.chains name.now) }
     {
         self.chains.find(self.alloc, name)
     }
 
-    /// Whether a name has a chain: that under the name, or one under a name above it.
-    pub fn contains(&self, name: &Name) -> Result<bool, AllocError>
-        ensures { IfOk result (λ there. there ≡ is_some (chain_for self.now.chains.chains.entries name.now)) }
+    /// Whether a name has a chain: that under the name, or one under a name above it. It takes no memory.
+    pub fn contains(&self, name: &Name) -> bool
+        ensures { result ≡ is_some (chain_for self.now.chains.chains name.now) }
     {
-        Ok(self.chains.find(self.alloc, name)?.is_some())
+        self.chains.find(self.alloc, name).is_some()
     }
 
     /// Sets the identifier that is told to those who ask for it (RFC 5001), or none.
@@ -93,44 +89,17 @@ impl<S, H: ZoneHandler> Catalog<S, H> {
         self.nsid.as_ref()
     }
 
-    /// The reply to a request, and its header as it was written, within the limit of its transport. A request has an
-    /// operation that four bits hold, as each that is read.
+    /// The reply to a request, and its header as it was written, within the limit of its transport.
     pub fn reply_to(
         &self,
         message: &MessageRequest<'_>,
         src: SocketAddr,
         protocol: Protocol,
     ) -> Result<(ResponseInfo, Vec<u8>), AllocError>
-        requires { FitsOpCode message.now.metadata }
-        ensures { IfOk result (λ sent. RepliesBy (views_of H.view self.now.chains.chains.entries)
+        ensures { IfOk result (λ sent. RepliesBy (views_of H.view self.now.chains.chains)
             self.now.nsid message.now protocol sent.0 sent.1.items) }
     {
         reply_by(
-            &self.chains,
-            self.nsid.as_ref(),
-            self.alloc,
-            message,
-            src,
-            protocol,
-        )
-    }
-
-    /// Serves one message. A message outside the request grammar gets no reply; each other gets one, within its transport's
-    /// limit, of what the chains give, where each record of that can be read back.
-    ///
-    /// A message that is itself a reply (QR set) is answered by a format error. Callers drop such datagrams, since two
-    /// servers that answer them would answer each other without end.
-    pub fn serve(
-        &self,
-        message: &[u8],
-        src: SocketAddr,
-        protocol: Protocol,
-    ) -> Result<Option<Vec<u8>>, AllocError>
-        ensures served { IfOk result (λ answer. Serves (views_of H.view self.now.chains.chains.entries)
-            self.now.nsid message.now protocol (option_map (λ reply. reply.items) answer)) }
-        ensures refused { OnErr result (12 ≤ length message.now) }
-    {
-        serve_by(
             &self.chains,
             self.nsid.as_ref(),
             self.alloc,
@@ -148,9 +117,8 @@ impl<S, H: ZoneHandler> Catalog<S, H> {
         _now: u64,
         handle: &mut R,
     ) -> Result<ResponseInfo, ServiceFault>
-        requires { FitsOpCode request.now.message.metadata }
         ensures replied { IfOk result (λ told. (reply : List ℕ) × (sent : Header)
-            × RepliesBy (views_of H.view self.now.chains.chains.entries) self.now.nsid request.now.message request.now.transport sent reply
+            × RepliesBy (views_of H.view self.now.chains.chains) self.now.nsid request.now.message request.now.transport sent reply
             × HandsOver (R.sink handle.old) reply sent request.now.message.metadata (R.sink handle.new) told) }
         ensures refused { IfErr result (λ fault. fault ≡ ServiceFault.OutOfMemory false) }
         ensures untouched { OnErr result (R.sink handle.new ≡ R.sink handle.old) }
@@ -171,9 +139,8 @@ impl<S, H: ZoneHandler> Catalog<S, H> {
         _now: u64,
         handle: &mut R,
     ) -> Result<ResponseInfo, ServiceFault>
-        requires { FitsOpCode request.now.message.metadata }
         ensures replied { IfOk result (λ told. (reply : List ℕ) × (sent : Header)
-            × AnswersQuery (views_of H.view self.now.chains.chains.entries) request.now.message (option_copied edns.entry) request.now.transport sent reply
+            × AnswersQuery (views_of H.view self.now.chains.chains) request.now.message (option_copied edns.entry) request.now.transport sent reply
             × HandsOver (R.sink handle.old) reply sent request.now.message.metadata (R.sink handle.new) told) }
         ensures refused { IfErr result (λ fault. fault ≡ ServiceFault.OutOfMemory false) }
         ensures untouched { OnErr result (R.sink handle.new ≡ R.sink handle.old) }
@@ -197,7 +164,7 @@ impl<S, H: ZoneHandler> RequestHandler for Catalog<S, H> {
     ghost use Rattle.zsv_catalog.specs.declared.sink.ServiceFault.TheVariants.{OutOfMemory};
 
     ghost replies = { λ catalog request moment sent reply left. (left ≡ catalog)
-        × RepliesBy (views_of H.view catalog.chains.chains.entries) catalog.nsid request.message request.transport sent reply };
+        × RepliesBy (views_of H.view catalog.chains.chains) catalog.nsid request.message request.transport sent reply };
 
     ghost refuses = { λ catalog request moment fault left. (left ≡ catalog) × (fault ≡ OutOfMemory false) };
 

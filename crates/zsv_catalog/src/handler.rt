@@ -1,7 +1,6 @@
 //! What answers requests.
 
 ghost use Rattle.std.specs.Prelude.{◌≡◌, ℕ, List, IfErr, IfOk, OnErr};
-ghost use Rattle.zsv_answer.specs.zsv_reply.Writing.{FitsOpCode};
 ghost use Rattle.zsv_answer.specs.zsv_reply.zsv_message.zsv_parts.declared.header.Header.{Header};
 ghost use Rattle.zsv_answer.specs.zsv_request.Requests.{Requested};
 ghost use Rattle.zsv_catalog.specs.Sinks.{HandsOver};
@@ -18,15 +17,13 @@ pub trait RequestHandler {
     ghost refuses: { Self → Requested → ℕ → Fault → Self → Type 0 };
 
     /// Answers a request: its reply is handed to a sink. What is told is the header of the reply as it was written; where the
-    /// sink didn't take it, that the server failed. The moment is given in seconds since 1970. A request has an operation that
-    /// four bits hold, as each that is read.
+    /// sink didn't take it, that the server failed. The moment is given in seconds since 1970.
     fn handle_request<R: ResponseHandler>(
         &mut self,
         request: &Request<'_>,
         now: u64,
         response_handle: &mut R,
     ) -> Result<ResponseInfo, ServiceFault>
-        requires { FitsOpCode request.now.message.metadata }
         ensures replied { IfOk result (λ told. (reply : List ℕ) × (sent : Header)
             × replies self.old request.now now sent reply self.new
             × HandsOver (R.sink response_handle.old) reply sent request.now.message.metadata (R.sink response_handle.new) told) }

@@ -20,14 +20,11 @@ mod catalog;
 mod chains;
 mod handler;
 mod reply;
-mod serve;
 mod sink;
 mod suite;
 
 pub use catalog::Catalog;
 pub use chains::Chains;
 pub use handler::RequestHandler;
-pub use reply::{lookup_by, reply_by};
-pub use serve::serve_by;
 pub use sink::{ResponseHandler, SendFault, ServiceFault};
 pub use suite::{NoSuite, SignFault, TsigSuite};

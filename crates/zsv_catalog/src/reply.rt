@@ -2,9 +2,9 @@
 
 ghost use Rattle.std.specs.Prelude.{◌≡◌, [], IfOk, OnOk, option_copied};
 ghost use Rattle.zsv_answer.specs.Responses.{parts_of};
-ghost use Rattle.zsv_answer.specs.zsv_reply.Writing.{FitsOpCode};
 ghost use Rattle.zsv_catalog.specs.Catalogs.{AnswersEdns, AnswersQuery, IsReplyEdns, KindParts, PlainParts, QueryParts, QuestionParts, RepliesBy, SendsWith, has_other_version, identifier, nsid_for};
 ghost use Rattle.zsv_catalog.specs.Chains.{views_of};
+ghost use Rattle.zsv_catalog.specs.ReadingBack.{FitsOption};
 
 use crate::chains::Chains;
 use drd_types::{EdnsCode, EdnsOption, NSIDPayload};
@@ -61,15 +61,14 @@ fn question_response<'z, H: ZoneHandler>(
     options: LookupOptions,
     question: &Query,
 ) -> Result<Response<'z>, AllocError>
-    ensures parts { IfOk result (λ r. QuestionParts (views_of H.view chains.now.chains.entries)
+    ensures parts { IfOk result (λ r. QuestionParts (views_of H.view chains.now.chains)
         message.now.metadata options.dnssec_ok question.now (parts_of r)) }
     ensures operation { IfOk result (λ r. r.metadata.op_code ≡ message.now.metadata.op_code) }
 {
     let metadata = message.metadata();
     let key = NameKey::of(alloc, &question.name)?;
-    let handlers = match chains.find_at(&key)? {
-        Some(handlers) => handlers,
-        None => return Ok(error_response(metadata, ResponseCode::Refused)),
+    let Some(handlers) = chains.find_at(key.borrow()) else {
+        return Ok(error_response(metadata, ResponseCode::Refused));
     };
     if question.query_type == RecordType::AXFR {
         return Ok(error_response(metadata, ResponseCode::ServFail));
@@ -86,7 +85,7 @@ fn query_response<'z, H: ZoneHandler>(
     src: SocketAddr,
     options: LookupOptions,
 ) -> Result<Response<'z>, AllocError>
-    ensures parts { IfOk result (λ r. QueryParts (views_of H.view chains.now.chains.entries)
+    ensures parts { IfOk result (λ r. QueryParts (views_of H.view chains.now.chains)
         message.now.metadata options.dnssec_ok message.now.asked.questions (parts_of r)) }
     ensures operation { IfOk result (λ r. r.metadata.op_code ≡ message.now.metadata.op_code) }
 {
@@ -104,7 +103,7 @@ fn kind_response<'z, H: ZoneHandler>(
     src: SocketAddr,
     options: LookupOptions,
 ) -> Result<Response<'z>, AllocError>
-    ensures parts { IfOk result (λ r. KindParts (views_of H.view chains.now.chains.entries) message.now.metadata options.dnssec_ok
+    ensures parts { IfOk result (λ r. KindParts (views_of H.view chains.now.chains) message.now.metadata options.dnssec_ok
         message.now.metadata.message_type message.now.asked.questions (parts_of r)) }
     ensures operation { IfOk result (λ r. r.metadata.op_code ≡ message.now.metadata.op_code) }
 {
@@ -135,7 +134,7 @@ fn response_to<'z, H: ZoneHandler>(
     message: &MessageRequest<'_>,
     src: SocketAddr,
 ) -> Result<Response<'z>, AllocError>
-    ensures parts { IfOk result (λ r. PlainParts (views_of H.view chains.now.chains.entries) message.now (parts_of r)) }
+    ensures parts { IfOk result (λ r. PlainParts (views_of H.view chains.now.chains) message.now (parts_of r)) }
     ensures operation { IfOk result (λ r. r.metadata.op_code ≡ message.now.metadata.op_code) }
 {
     if has_other_version(message.edns()) {
@@ -145,7 +144,7 @@ fn response_to<'z, H: ZoneHandler>(
     kind_response(chains, alloc, message, src, options)
 }
 
-// The same identifier once more. It has no more octets than an identifier may have, so memory alone can be wanted.
+// A copy of an NSID.
 fn copy_of(alloc: Global, nsid: &NSIDPayload) -> Result<NSIDPayload, AllocError>
     ensures { IfOk result (λ copy. copy ≡ nsid.now) }
 {
@@ -218,7 +217,6 @@ fn sent_by(
     message: &MessageRequest<'_>,
     protocol: Protocol,
 ) -> Result<(ResponseInfo, Vec<u8>), AllocError>
-    requires { FitsOpCode response.now.metadata }
     ensures { IfOk result (λ sent. SendsWith (parts_of response.now) (option_copied nsid.entry) message.now protocol sent.0 sent.1.items) }
 {
     let code = response.metadata.response_code;
@@ -226,9 +224,18 @@ fn sent_by(
     response.encode(alloc, edns.as_ref(), message.queries(), protocol)
 }
 
-/// The reply of these chains to a request, and its header as it was written, within the limit of its transport. A request has
-/// an operation that four bits hold, as each that is read.
-pub fn reply_by<H: ZoneHandler>(
+// The octets of an NSID, for which an option has room.
+fn nsid_octets<'n>(nsid: Option<&'n NSIDPayload>) -> &'n [u8]
+    ensures { FitsOption (option_copied nsid.entry) }
+{
+    match nsid {
+        Some(payload) => payload.as_ref(),
+        None => &[],
+    }
+}
+
+/// The reply of these chains to a request, and its header as it was written, within the limit of its transport.
+pub(crate) fn reply_by<H: ZoneHandler>(
     chains: &Chains<H>,
     nsid: Option<&NSIDPayload>,
     alloc: Global,
@@ -236,9 +243,9 @@ pub fn reply_by<H: ZoneHandler>(
     src: SocketAddr,
     protocol: Protocol,
 ) -> Result<(ResponseInfo, Vec<u8>), AllocError>
-    requires { FitsOpCode message.now.metadata }
-    ensures { IfOk result (λ sent. RepliesBy (views_of H.view chains.now.chains.entries) (option_copied nsid.entry) message.now protocol sent.0 sent.1.items) }
+    ensures { IfOk result (λ sent. RepliesBy (views_of H.view chains.now.chains) (option_copied nsid.entry) message.now protocol sent.0 sent.1.items) }
 {
+    let (_octets, _questions) = (nsid_octets(nsid), message.queries().queries());
     let mut response = response_to(chains, alloc, message, src)?;
     let sent = sent_by(&response, nsid, alloc, message, protocol);
     // (the drop of a response costs much even where it holds nothing of its own)
@@ -250,8 +257,8 @@ pub fn reply_by<H: ZoneHandler>(
 }
 
 /// The reply of these chains to a query with these options, and its header as it was written, within the limit of its
-/// transport. A request has an operation that four bits hold, as each that is read.
-pub fn lookup_by<H: ZoneHandler>(
+/// transport.
+pub(crate) fn lookup_by<H: ZoneHandler>(
     chains: &Chains<H>,
     edns: Option<&Edns>,
     alloc: Global,
@@ -259,10 +266,10 @@ pub fn lookup_by<H: ZoneHandler>(
     src: SocketAddr,
     protocol: Protocol,
 ) -> Result<(ResponseInfo, Vec<u8>), AllocError>
-    requires { FitsOpCode message.now.metadata }
-    ensures { IfOk result (λ sent. AnswersQuery (views_of H.view chains.now.chains.entries)
+    ensures { IfOk result (λ sent. AnswersQuery (views_of H.view chains.now.chains)
         message.now (option_copied edns.entry) protocol sent.0 sent.1.items) }
 {
+    let _questions = message.queries().queries();
     let options = LookupOptions::from_edns(message.edns());
     let response = query_response(chains, alloc, message, src, options)?;
     response.encode(alloc, edns, message.queries(), protocol)

@@ -1,6 +1,6 @@
 //! What tests and makes signatures by keys that are shared (RFC 8945).
 
-ghost use Rattle.std.specs.Prelude.{◌≡◌, ℕ, Bool, true, false, List, IfErr, IfOk, OnOk};
+ghost use Rattle.std.specs.Prelude.{◌≡◌, ℕ, Bool, true, false, List, Err, IfErr, IfOk, OnOk};
 ghost use Rattle.zsv_answer.specs.zst_request.declared.TSigResponseContext.{TSigResponseContext as Context};
 ghost use Rattle.zsv_answer.specs.zst_request.dnw_name.DomainName.{DomainName};
 ghost use Rattle.zsv_answer.specs.zst_request.zst_codes.declared.settings.TsigVerdict.{TsigVerdict as Verdict};
@@ -69,9 +69,14 @@ impl TsigSuite for NoSuite {
     fn sign(
         &self,
         _alloc: Global,
-        _context: &TSigResponseContext,
-        _octets: &[u8],
-    ) -> Result<TsigRecord, SignFault> {
+        context: &TSigResponseContext,
+        octets: &[u8],
+    ) -> Result<TsigRecord, SignFault>
+        ensures never { result ≡ Err SignFault.Failed }
+        ensures back { IfOk result TsigReadsBack }
+        ensures signed { OnOk result (true ≡ false) }
+        ensures failed { IfErr result (λ fault. fault ≡ SignFault.Failed → true ≡ true) }
+    {
         Err(SignFault::Failed)
     }
 }

@@ -1,3 +1,4 @@
+pub mod Fits
 pub mod Gathered
 pub mod Held
 pub mod Listed

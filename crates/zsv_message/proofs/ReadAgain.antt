@@ -5,7 +5,7 @@ use Rattle.std.specs.List.{AllByRecursion}
 use Rattle.std.specs.Prelude.{Option, Some, None, option_to_list, unwrap_or, find, cond}
 use Rattle.zsv_sections.specs.Sections.{PlacedRecords, is_opt, is_root, is_signature, is_tsig, misplaced, past, past_all}
 use Rattle.zst_edns.specs.declared.edns.Edns.{Edns}
-use Rattle.zsv_sections.specs.zst_record.Records.{RecordAt, ReadsBackAlone, belongs_to_message}
+use Rattle.zsv_sections.specs.zst_record.Records.{RecordAt, IsServable, belongs_to_message}
 use Rattle.zsv_sections.specs.zst_record.declared.records.Record.{Record}
 use Rattle.zsv_sections.specs.zst_record.dnw_codes.RecordType.{named_record_types, record_type_number, record_type_of, same_record_type}
 use Rattle.zsv_sections.specs.zst_record.dnw_codes.declared.record_type.RecordType.{RecordType}
@@ -73,7 +73,7 @@ record IsOfZone (r : Record) : Type 0 where
   signature : is_signature r ≡ false
   bare : is_update0 r.rdata ≡ false
 
-of_zone : (message : List ℕ) (place : ℕ) (r : Record) (end : ℕ) → RecordAt message place r end → ReadsBackAlone r → IsOfZone r
+of_zone : (message : List ℕ) (place : ℕ) (r : Record) (end : ℕ) → RecordAt message place r end → IsServable r → IsOfZone r
 of_zone message place r end at alone =
     let t = type_of r.rdata in
     let n = at.record_type.number in
@@ -83,7 +83,7 @@ of_zone message place r end at alone =
       opt = not_of t kind.OPT n at.record_type.means refl alone.of_zones;
       tsig = tsig;
       signature = λ i. tsig i || sig i;
-      bare = not_bare r.rdata alone.rdata;
+      bare = not_bare r.rdata alone.alone.rdata;
     }
 
 -- ---- sections of such records
@@ -99,7 +99,7 @@ record Section (u a : Bool) (octets : List ℕ) (place : ℕ) (xs : List Record)
   same : past_all (record { is_update = u; is_additional = a; is_signed = false; has_options = false }) xs ≡ record { is_update = u; is_additional = a; is_signed = false; has_options = false }
   others : AllByRecursion IsOfZone xs
 
-section_of : (u a : Bool) (octets : List ℕ) (place : ℕ) (xs : List Record) (end : ℕ) → AllByRecursion ReadsBackAlone xs → Entries (RecordAt octets) place xs end → Section u a octets place xs end
+section_of : (u a : Bool) (octets : List ℕ) (place : ℕ) (xs : List Record) (end : ℕ) → AllByRecursion IsServable xs → Entries (RecordAt octets) place xs end → Section u a octets place xs end
 section_of u a octets place [] end all e = record { placed = e; same = refl; others = tt }
 section_of u a octets place (x ∷ xs) end all (behind, at, later) =
     let is = of_zone octets place x behind at all.0 in
@@ -267,7 +267,7 @@ signature_part u has message place (Some s) end (behind, at, later) =
     }
 
 -- The additional section.
-additional_section : (op : OpCode) (message : List ℕ) (place records_end edns_end end : ℕ) (xs : List Record) (edns : Option Edns) (signature : Option TsigRecord) → AllByRecursion ReadsBackAlone xs → Entries (RecordAt message) place xs records_end → Entries (OptAt message) records_end (option_to_list edns) edns_end → Entries (TsigRecordAt message) edns_end (option_to_list signature) end →
+additional_section : (op : OpCode) (message : List ℕ) (place records_end edns_end end : ℕ) (xs : List Record) (edns : Option Edns) (signature : Option TsigRecord) → AllByRecursion IsServable xs → Entries (RecordAt message) place xs records_end → Entries (OptAt message) records_end (option_to_list edns) edns_end → Entries (TsigRecordAt message) edns_end (option_to_list signature) end →
     AdditionalsAt message op place (length xs + length (option_to_list edns) + length (option_to_list signature)) xs edns signature end
 additional_section op message place records_end edns_end end xs edns signature all f g h =
     let u = is_update op in
@@ -347,10 +347,10 @@ written_is_read octets m end at back message is far =
     let op = m.metadata.op_code in
     let u = is_update op in
     let asks = asked_again octets m end at message is.questions_end (record { questions = (is.questions.questions.0, refl); octets = is.questions.octets }) far in
-    let later = all_rest ReadsBackAlone m.answers (m.authorities ++ m.additionals) back.records in
-    let first = section_of u false octets at.questions_end m.answers at.answers_end (all_front ReadsBackAlone m.answers (m.authorities ++ m.additionals) back.records) at.answers in
-    let second = section_of u false octets at.answers_end m.authorities at.authorities_end (all_front ReadsBackAlone m.authorities m.additionals later) at.authorities in
-    let third = additional_section op octets at.authorities_end at.additionals_end at.edns_end end m.additionals m.edns m.signature (all_rest ReadsBackAlone m.authorities m.additionals later) at.additionals at.edns at.signature in
+    let later = all_rest IsServable m.answers (m.authorities ++ m.additionals) back.records in
+    let first = section_of u false octets at.questions_end m.answers at.answers_end (all_front IsServable m.answers (m.authorities ++ m.additionals) back.records) at.answers in
+    let second = section_of u false octets at.answers_end m.authorities at.authorities_end (all_front IsServable m.authorities m.additionals later) at.authorities in
+    let third = additional_section op octets at.authorities_end at.additionals_end at.edns_end end m.additionals m.edns m.signature (all_rest IsServable m.authorities m.additionals later) at.additionals at.edns at.signature in
     record {
       long = at.header.within;
       questions_end = at.questions_end;

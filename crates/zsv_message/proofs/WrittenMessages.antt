@@ -9,7 +9,7 @@ use Rattle.zsv_sections.specs.zst_record.dnw_encoder.Effects.{Emitted, IsRefusal
 use Rattle.zsv_sections.proofs.zst_record_lemmas.dnw_encoder_lemmas.Laws.{holds_more, holds_written, puts_stands, writes_then}
 use Rattle.zsv_sections.specs.zst_record.dnw_encoder.State.{State}
 use Rattle.zsv_sections.specs.zst_record.drd_rdata.Writing.{WritesInFull}
-use Rattle.zsv_sections.specs.zst_record.Records.{ReadsBackAlone, RecordAt, plain}
+use Rattle.zsv_sections.specs.zst_record.Records.{IsServable, RecordAt, plain}
 use Rattle.zsv_sections.specs.zst_record.Writing.{EmitsRecord, RefusesRecord}
 use Rattle.zst_edns.specs.Writing.{EdnsReadsBack, EmitsEdns, RefusesEdns, opt_octets}
 use Rattle.zst_edns.specs.declared.edns.Edns.{Edns}
@@ -68,7 +68,7 @@ message_stands m old start behind last new s l back full small =
     let at_records = set_then start behind at_start l.records in
     let at_options = set_then behind last at_records l.edns in
     let front = front_stands m old start behind last new s l full.sound in
-    let records = holds_more behind.offset new.offset new _ l.behind_records.forward (holds_written behind.offset behind new _ l.behind_records (omega arith) (list_stands IsSet RecordAt plain ReadsBackAlone EmitsRecord RefusesRecord records_stand (all_records m) start behind back.records at_start s.records)) in
+    let records = holds_more behind.offset new.offset new _ l.behind_records.forward (holds_written behind.offset behind new _ l.behind_records (omega arith) (list_stands IsSet RecordAt plain IsServable EmitsRecord RefusesRecord records_stand (all_records m) start behind back.records at_start s.records)) in
     let options = holds_more last.offset new.offset new _ l.signature.forward (holds_written last.offset last new _ l.signature (omega arith) (list_stands IsSet OptAt (λ (edns : Edns). length (opt_octets edns)) EdnsReadsBack EmitsEdns RefusesEdns options_stand (option_to_list m.edns) behind last back.edns at_records s.edns)) in
     let signature = list_stands IsSet TsigRecordAt (λ (r : TsigRecord). length (tsig_record_octets r)) TsigReadsBack EmitsTsigRecord RefusesTsigRecord signature_stands (option_to_list m.signature) last new back.signature at_options s.signature in
     record {
@@ -96,7 +96,7 @@ pub steps_emit : (m : Message) (old start behind last new : State) → Steps m o
 steps_emit m old start behind last new s =
     let l = later m old start behind last new s in
     let far : start.offset ≡ old.offset + length (front_octets m) = s.front.offset in
-    let one = list_fits IsSet RecordAt plain ReadsBackAlone EmitsRecord RefusesRecord records_stand (all_records m) start behind (omega (arith, far, s.room, s.begins.modes.maximum)) s.records in
+    let one = list_fits IsSet RecordAt plain IsServable EmitsRecord RefusesRecord records_stand (all_records m) start behind (omega (arith, far, s.room, s.begins.modes.maximum)) s.records in
     let two = list_fits IsSet OptAt (λ (edns : Edns). length (opt_octets edns)) EdnsReadsBack EmitsEdns RefusesEdns options_stand (option_to_list m.edns) behind last (omega (arith, one, l.records.modes.maximum)) s.edns in
     let three = list_fits IsSet TsigRecordAt (λ (r : TsigRecord). length (tsig_record_octets r)) TsigReadsBack EmitsTsigRecord RefusesTsigRecord signature_stands (option_to_list m.signature) last new (omega (arith, two, l.edns.modes.maximum)) s.signature in
     record {
@@ -106,7 +106,7 @@ steps_emit m old start behind last new s =
       stays = λ back full small. message_stands m old start behind last new s l back full small;
       again = λ back full small at_front octets is far. message_again m old new (message_stands m old start behind last new s l back full small) at_front back octets is far;
       size = λ back.
-          let first = list_size IsSet RecordAt plain ReadsBackAlone EmitsRecord RefusesRecord records_stand (all_records m) start behind back.records s.records in
+          let first = list_size IsSet RecordAt plain IsServable EmitsRecord RefusesRecord records_stand (all_records m) start behind back.records s.records in
           let second = list_size IsSet OptAt (λ (edns : Edns). length (opt_octets edns)) EdnsReadsBack EmitsEdns RefusesEdns options_stand (option_to_list m.edns) behind last back.edns s.edns in
           let third = list_size IsSet TsigRecordAt (λ (r : TsigRecord). length (tsig_record_octets r)) TsigReadsBack EmitsTsigRecord RefusesTsigRecord signature_stands (option_to_list m.signature) last new back.signature s.signature in
           omega (arith, far, first, second, third);
@@ -118,14 +118,14 @@ part_refused m old e (no_front refused) back small =
     refusal_more (12 + length m.asked.octets) (message_size m) old e (omega arith) refused
 part_refused m old e (no_record start front among) back small =
     let records = sum_by plain (all_records m) in
-    let refused = list_refused IsSet RecordAt plain ReadsBackAlone EmitsRecord RefusesRecord records_stand (all_records m) start e back.records (omega (arith, small, front.modes.maximum)) among in
+    let refused = list_refused IsSet RecordAt plain IsServable EmitsRecord RefusesRecord records_stand (all_records m) start e back.records (omega (arith, small, front.modes.maximum)) among in
     refusal_more (12 + length m.asked.octets + records) (message_size m) old e (omega arith)
     (refusal_behind (12 + length m.asked.octets) records old start e front.modes.maximum (omega (arith, front.offset)) refused)
 part_refused m old e (no_options start behind front written among) back small =
     let records = sum_by plain (all_records m) in
     let options = sum_by (λ (edns : Edns). length (opt_octets edns)) (option_to_list m.edns) in
     let w = emitted_writes EmitsRecord (all_records m) start behind written in
-    let far = list_size IsSet RecordAt plain ReadsBackAlone EmitsRecord RefusesRecord records_stand (all_records m) start behind back.records written in
+    let far = list_size IsSet RecordAt plain IsServable EmitsRecord RefusesRecord records_stand (all_records m) start behind back.records written in
     let same : behind.maximum ≡ old.maximum = w.modes.maximum ∙ front.modes.maximum in
     let refused = list_refused IsSet OptAt (λ (edns : Edns). length (opt_octets edns)) EdnsReadsBack EmitsEdns RefusesEdns options_stand (option_to_list m.edns) behind e back.edns (omega (arith, small, same)) among in
     refusal_more (12 + length m.asked.octets + records + options) (message_size m) old e (omega arith)
@@ -136,7 +136,7 @@ part_refused m old e (no_signature start behind last front written optioned amon
     let signature = sum_by (λ (r : TsigRecord). length (tsig_record_octets r)) (option_to_list m.signature) in
     let w = emitted_writes EmitsRecord (all_records m) start behind written in
     let v = emitted_writes EmitsEdns (option_to_list m.edns) behind last optioned in
-    let far = list_size IsSet RecordAt plain ReadsBackAlone EmitsRecord RefusesRecord records_stand (all_records m) start behind back.records written in
+    let far = list_size IsSet RecordAt plain IsServable EmitsRecord RefusesRecord records_stand (all_records m) start behind back.records written in
     let further = list_size IsSet OptAt (λ (edns : Edns). length (opt_octets edns)) EdnsReadsBack EmitsEdns RefusesEdns options_stand (option_to_list m.edns) behind last back.edns optioned in
     let same : last.maximum ≡ old.maximum = v.modes.maximum ∙ w.modes.maximum ∙ front.modes.maximum in
     let refused = list_refused IsSet TsigRecordAt (λ (r : TsigRecord). length (tsig_record_octets r)) TsigReadsBack EmitsTsigRecord RefusesTsigRecord signature_stands (option_to_list m.signature) last e back.signature (omega (arith, small, same)) among in

@@ -19,7 +19,8 @@ use Rattle.zsv_sections.specs.zst_record.dnw_encoder.State.{State, is_lower}
 use Rattle.zsv_sections.specs.zst_record.drd_rdata.Reading.{RDataAt}
 use Rattle.zsv_sections.specs.zst_record.drd_rdata.Writing.{WritesInFull}
 use Rattle.zsv_sections.specs.zst_record.drd_rdata.declared.rdata.RData.TheVariants as rdata
-use Rattle.zsv_sections.specs.zst_record.Records.{RecordAt, ReadsBackAlone, plain}
+use Rattle.zsv_sections.proofs.zst_record_lemmas.BackLaws.{servable_back}
+use Rattle.zsv_sections.specs.zst_record.Records.{RecordAt, IsServable, plain}
 use Rattle.zsv_sections.specs.zst_record.Writing.{EmitsRecord, RefusesRecord}
 use Rattle.zst_edns.specs.Edns.{IsEdnsOf, edns_ttl}
 use Rattle.zst_edns.specs.Writing.{EdnsReadsBack, EmitsEdns, FitsFields, RefusesEdns, edns_data, opt_head, opt_octets}
@@ -45,13 +46,13 @@ set_then old new f w = record {
   small = omega (arith, w.modes.maximum, f.small);
 }
 
-pub records_stand : Standing IsSet RecordAt plain ReadsBackAlone EmitsRecord RefusesRecord
+pub records_stand : Standing IsSet RecordAt plain IsServable EmitsRecord RefusesRecord
 records_stand = record {
   goes_on = set_then;
-  stays = λ r old new one alone f. one.stays alone f.in_full f.small;
-  size = λ r old new one alone. one.size alone;
+  stays = λ r old new one alone f. one.stays (servable_back r alone) f.in_full f.small;
+  size = λ r old new one alone. one.size (servable_back r alone);
   fits = λ r old new one. one.fits;
-  refused = λ r old e refused alone small. refused alone small;
+  refused = λ r old e refused alone small. refused.whole (servable_back r alone) small;
 }
 
 -- The number of the class of a number is that number.
@@ -130,7 +131,7 @@ options_stand = record {
 
 -- A signature that reads back is refused for room or for want of memory.
 sign_wanted : (r : TsigRecord) (old : State) (e : ProtoError) → RefusesTsigRecord r old e → TsigReadsBack r → IsRefusal old (length (tsig_record_octets r)) e
-sign_wanted r old e (inl refused) back = refused
+sign_wanted r old e (inl refused) back = refused.1
 sign_wanted r old e (inr long) back = absurd (omega (arith, long.0, back.counted))
 
 pub signature_stands : Standing IsSet TsigRecordAt (λ r. length (tsig_record_octets r)) TsigReadsBack EmitsTsigRecord RefusesTsigRecord

@@ -8,7 +8,7 @@ use Rattle.zsv_sections.specs.zst_record.dnw_decoder.Octets.{Stands}
 use Rattle.zsv_sections.specs.zst_record.dnw_encoder.Effects.{Emitted, IsRefusal, Sound, StaysTrue, Writes, WritesOctets}
 use Rattle.zsv_sections.specs.zst_record.dnw_encoder.State.{State}
 use Rattle.zsv_sections.specs.zst_record.drd_rdata.Writing.{WritesInFull}
-use Rattle.zsv_sections.specs.zst_record.Records.{ReadsBackAlone, RecordAt, plain}
+use Rattle.zsv_sections.specs.zst_record.Records.{IsServable, RecordAt, plain}
 use Rattle.zsv_sections.specs.zst_record.Writing.{EmitsRecord, RefusesRecord}
 use Rattle.zsv_sections.specs.zst_record.declared.records.Record.{Record}
 use Rattle.zst_edns.specs.Writing.{EdnsReadsBack, EmitsEdns, RefusesEdns, opt_octets}
@@ -83,7 +83,7 @@ pub record MessageAt (message : List ℕ) (place : ℕ) (m : Message) (end : ℕ
 pub record ReadsBack (m : Message) : Type 0 where
   pub op_code : op_code_of (op_code_number m.metadata.op_code) ≡ m.metadata.op_code
   pub small_op_code : op_code_number m.metadata.op_code < 16
-  pub records : AllByRecursion ReadsBackAlone (all_records m)
+  pub records : AllByRecursion IsServable (all_records m)
   pub edns : AllByRecursion EdnsReadsBack (option_to_list m.edns)
   pub signature : AllByRecursion TsigReadsBack (option_to_list m.signature)
 

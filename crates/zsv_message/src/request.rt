@@ -1,6 +1,7 @@
 //! Messages that are read (RFC 1035 section 4.1, RFC 6891 section 6.1, RFC 8945 section 4.2).
 
 ghost use Rattle.std.specs.Prelude.{◌≡◌, ◌≤◌, option_copied};
+ghost use Rattle.zsv_sections.specs.zsv_parts.Headers.{FitsOpCode};
 ghost use Rattle.zsv_message.specs.Messages.{ReadsMessage, bare_message, counts_no_records, edns_version, is_update, joined_metadata, payload_taken};
 
 use crate::additionals::Additionals;
@@ -31,6 +32,10 @@ impl<'m> Model for MessageRequest<'m> {
     ghost Value = { Message };
 
     ghost view = { λ m. message_of m.metadata m.queries m.edns (slice_get m.held.items 0) };
+
+    ghost use Rattle.zsv_sections.specs.zsv_parts.Headers.{FitsOpCode};
+
+    ghost invariant = { λ m. FitsOpCode m.metadata };
 }
 
 // Whether an operation changes a zone (RFC 2136 section 1.3).
@@ -63,6 +68,7 @@ pub(crate) fn counts_no_records(counts: HeaderCounts) -> bool
 impl<'m> MessageRequest<'m> {
     // The message of questions alone.
     fn bare(alloc: Global, metadata: Metadata, queries: Queries<'m>) -> MessageRequest<'m>
+        requires { FitsOpCode metadata }
         ensures { result ≡ bare_message metadata queries.entry }
     {
         MessageRequest {
@@ -112,9 +118,10 @@ impl<'m> MessageRequest<'m> {
         })
     }
 
-    /// What header and options say: the response code is joined of both.
+    /// What header and options say: the response code is joined of both. Four bits hold the opcode.
     pub fn metadata(&self) -> Metadata
-        ensures { result ≡ self.now.metadata }
+        ensures value { result ≡ self.now.metadata }
+        ensures fits { FitsOpCode self.now.metadata }
     {
         self.metadata
     }

@@ -15,7 +15,7 @@ use Rattle.dnw_encoder.proofs.dnw_decoder_lemmas.Standing.{length-octets_32, sta
 use Rattle.zsv_parts.specs.declared.tsig.Tsig.{Tsig}
 use Rattle.zsv_parts.specs.declared.tsig.TsigRecord.{TsigRecord}
 use Rattle.zsv_parts.specs.Signatures.{code_octets, octets_48, signed_of, signed_octets, time_octets, tsig_octets, EmitsTsig, IsTooLong, TsigAt}
-use Rattle.zsv_parts.specs.SignatureRecords.{tsig_numbers, tsig_record_octets, EmitsTsigRecord, HasLongData, RefusesTsigRecord, TellsLength, TsigReadsBack, TsigRecordAt}
+use Rattle.zsv_parts.specs.SignatureRecords.{tsig_numbers, tsig_record_octets, EmitsTsigRecord, HasLongData, RefusesTsigRecord, TsigReadsBack, TsigRecordAt}
 use Rattle.zsv_parts.proofs.TsigLaws.{length-octets_48}
 use Rattle.zsv_parts.proofs.TsigWriting.{puts_then}
 
@@ -104,25 +104,28 @@ record_emitted r len old mid later new counted small within then sound is ttl ow
 
 -- A MAC, or other data, that 16 bits don't count make the data so.
 pub mac_too_long : (r : TsigRecord) (e : ProtoError) → IsTooLong r.rdata.mac.items e → HasLongData r e
-mac_too_long r e long = (omega (arith, long.1, tsig_size r.rdata), subst TellsLength (sym long.0) tt)
+mac_too_long r e long = (omega (arith, long.1, tsig_size r.rdata), inl (inl long))
 
-pub other_too_long : (r : TsigRecord) (e : ProtoError) → IsTooLong r.rdata.other.items e → HasLongData r e
-other_too_long r e long = (omega (arith, long.1, tsig_size r.rdata), subst TellsLength (sym long.0) tt)
+pub other_too_long : (r : TsigRecord) (e : ProtoError) → length r.rdata.mac.items < 2 ^ 16 → IsTooLong r.rdata.other.items e → HasLongData r e
+other_too_long r e mac long = (omega (arith, long.1, tsig_size r.rdata), inl (inr (omega (arith, mac), long)))
 
 -- The owner was refused, or the numbers, or the data.
-pub owner_refused : (r : TsigRecord) (old : State) (e : ProtoError) → IsRefusal old (length (name_octets r.name)) e → RefusesTsigRecord r old e
-owner_refused r old e (inl memory) = inl (inl memory)
-owner_refused r old e (inr refused) = inl (inr (refused.0, omega (arith, refused.1, record_size r)))
+pub owner_refused : (r : TsigRecord) (old : State) (e : ProtoError) → length (tsig_octets r.rdata) < 2 ^ 16 → IsRefusal old (length (name_octets r.name)) e → RefusesTsigRecord r old e
+owner_refused r old e few (inl memory) = inl (few, inl memory)
+owner_refused r old e few (inr refused) = inl (few, inr (refused.0, omega (arith, refused.1, record_size r)))
 
-pub numbers_refused : (r : TsigRecord) (len : ℕ) (old mid : State) (e : ProtoError) → WritesOctets (name_octets r.name) old mid → IsRefusal mid (length (tsig_numbers r len)) e → RefusesTsigRecord r old e
-numbers_refused r len old mid e owner (inl memory) = inl (inl memory)
-numbers_refused r len old mid e owner (inr refused) =
-    inl (inr (refused.0 ∙ ap MaxBufferSizeExceeded owner.modes.maximum, omega (arith, refused.1, record_size r, numbers_size r len, owner.offset, owner.modes.maximum)))
+pub numbers_refused : (r : TsigRecord) (len : ℕ) (old mid : State) (e : ProtoError) → length (tsig_octets r.rdata) < 2 ^ 16 → WritesOctets (name_octets r.name) old mid → IsRefusal mid (length (tsig_numbers r len)) e → RefusesTsigRecord r old e
+numbers_refused r len old mid e few owner (inl memory) = inl (few, inl memory)
+numbers_refused r len old mid e few owner (inr refused) =
+    inl (few, inr (refused.0 ∙ ap MaxBufferSizeExceeded owner.modes.maximum, omega (arith, refused.1, record_size r, numbers_size r len, owner.offset, owner.modes.maximum)))
 
-pub data_refused : (r : TsigRecord) (len : ℕ) (old mid later : State) (e : ProtoError) → WritesOctets (name_octets r.name) old mid → WritesOctets (tsig_numbers r len) mid later → IsRefusal later (length (tsig_octets r.rdata)) e → RefusesTsigRecord r old e
-data_refused r len old mid later e owner numbers (inl memory) = inl (inl memory)
-data_refused r len old mid later e owner numbers (inr refused) =
-    inl (inr (
-      refused.0 ∙ ap MaxBufferSizeExceeded (numbers.modes.maximum ∙ owner.modes.maximum),
-      omega (arith, refused.1, record_size r, numbers_size r len, owner.offset, numbers.offset, numbers.modes.maximum, owner.modes.maximum),
-    ))
+pub data_refused : (r : TsigRecord) (len : ℕ) (old mid later : State) (e : ProtoError) → length (tsig_octets r.rdata) < 2 ^ 16 → WritesOctets (name_octets r.name) old mid → WritesOctets (tsig_numbers r len) mid later → IsRefusal later (length (tsig_octets r.rdata)) e → RefusesTsigRecord r old e
+data_refused r len old mid later e few owner numbers (inl memory) = inl (few, inl memory)
+data_refused r len old mid later e few owner numbers (inr refused) =
+    inl (
+      few,
+      inr (
+        refused.0 ∙ ap MaxBufferSizeExceeded (numbers.modes.maximum ∙ owner.modes.maximum),
+        omega (arith, refused.1, record_size r, numbers_size r len, owner.offset, numbers.offset, numbers.modes.maximum, owner.modes.maximum),
+      ),
+    )

@@ -26,6 +26,11 @@ op_code_of n =
     == 4 then operations.Notify
     else if n == 5 then operations.Update else operations.Unknown n
 
+-- An opcode that four bits hold, as each that is read.
+pub record FitsOpCode (m : Metadata) : Type 0 where
+  pub op_code : op_code_of (op_code_number m.op_code) ≡ m.op_code
+  pub small : op_code_number m.op_code < 16
+
 -- Two operations are the same where their numbers are.
 abbrev pub same_op_code : OpCode → OpCode → Bool
 same_op_code = on op_code_number ◌==◌

@@ -1,9 +1,9 @@
 -- The record that signs a message, TSIG: RFC 8945, section 4.2.
-use Rattle.std.specs.Prelude.{◌≡◌, true, ℕ, ◌+◌, ◌^◌, ◌<◌, ◌≤◌, List, ◌++◌, ◌⊎◌, length}
+use Rattle.std.specs.Prelude.{◌≡◌, true, ℕ, ◌+◌, ◌^◌, ◌<◌, ◌≤◌, List, ◌++◌, ◌⊎◌, length, codes}
 use Rattle.dnw_codes.specs.DNSClass.{class_number, class_of}
 use Rattle.dnw_codes.specs.RecordType.{record_type_number}
 use Rattle.dnw_codes.specs.declared.error.ProtoError.{ProtoError}
-use Rattle.dnw_codes.specs.declared.error.ProtoError.TheVariants.{CharacterDataTooLong, Message}
+use Rattle.dnw_codes.specs.declared.error.ProtoError.TheVariants.{Message}
 use Rattle.dnw_codes.specs.declared.record_type.RecordType.TheVariants as kind
 use Rattle.dnw_encoder.specs.dnw_name.DomainName.{name_octets}
 use Rattle.dnw_encoder.specs.dnw_decoder.Codes.{ClassAt, RecordTypeAt}
@@ -12,7 +12,7 @@ use Rattle.dnw_encoder.specs.dnw_decoder.Spelling.{NameAt}
 use Rattle.dnw_encoder.specs.Effects.{Sound, StaysTrue, WritesOctets, IsRefusal}
 use Rattle.dnw_encoder.specs.State.{State}
 use Rattle.zsv_parts.specs.declared.tsig.TsigRecord.{TsigRecord}
-use Rattle.zsv_parts.specs.Signatures.{TsigAt, tsig_octets}
+use Rattle.zsv_parts.specs.Signatures.{HasLongPart, TsigAt, tsig_octets}
 
 -- The record at a place: its owner, which is the name of the key; its type; its class; its time to
 -- live; the number of its data's octets, and behind it as many octets that are data of a signature.
@@ -63,15 +63,22 @@ pub record EmitsTsigRecord (r : TsigRecord) (old new : State) : Type 0 where
   pub stays : Sound old → TsigReadsBack r
       → StaysTrue new new.offset (λ message. TsigRecordAt message old.offset r new.offset)
 
--- The data, or a part of them, are more octets than 16 bits count.
-abbrev pub TellsLength : ProtoError → Type 0
-TellsLength (CharacterDataTooLong most octets) = Unit {0}
-TellsLength (Message words) = Unit {0}
-TellsLength other = ⊥
+-- The data are more octets than 16 bits count.
+abbrev pub SaysLongData : ProtoError → Type 0
+SaysLongData (Message words) = words.now ≡ codes "a signature of more than 65,535 octets"
+SaysLongData other = ⊥
 
+-- The data are too long, and the error says why: the MAC is, or else the other data are; or neither
+-- is, but all of the data together.
 abbrev pub HasLongData : TsigRecord → ProtoError → Type 0
-HasLongData r e = (2 ^ 16 ≤ length (tsig_octets r.rdata)) × TellsLength e
+HasLongData r e =
+    (2 ^ 16 ≤ length (tsig_octets r.rdata))
+    × (HasLongPart r.rdata e
+    ⊎ ((length r.rdata.mac.items ≤ 65535) × (length r.rdata.other.items ≤ 65535)
+    × SaysLongData e))
 
--- It was refused: it would pass the maximum, memory was wanted, or its data are too long.
+-- It was refused: its data are too long, or else it would pass the maximum or was out of memory.
 abbrev pub RefusesTsigRecord : TsigRecord → State → ProtoError → Type 0
-RefusesTsigRecord r old e = IsRefusal old (length (tsig_record_octets r)) e ⊎ HasLongData r e
+RefusesTsigRecord r old e =
+    ((length (tsig_octets r.rdata) < 2 ^ 16) × IsRefusal old (length (tsig_record_octets r)) e)
+    ⊎ HasLongData r e

@@ -131,11 +131,16 @@ pub record EmitsTsig (tsig : Tsig) (old new : State) : Type 0 where
 abbrev pub IsTooLong : List ℕ → ProtoError → Type 0
 IsTooLong octets e = (e ≡ CharacterDataTooLong 65535 (length octets)) × (65535 < length octets)
 
+-- The MAC is too long, or else the other data.
+abbrev pub HasLongPart : Tsig → ProtoError → Type 0
+HasLongPart tsig e =
+    IsTooLong tsig.mac.items e
+    ⊎ ((length tsig.mac.items ≤ 65535) × IsTooLong tsig.other.items e)
+
 -- A signature is refused for the length of its MAC, or else of its other data, and nothing is
 -- written; or for want of room or memory.
 abbrev pub RefusesEmission : Tsig → State → ProtoError → State → Type 0
 RefusesEmission tsig old e new =
-    ((IsTooLong tsig.mac.items e
-    ⊎ ((length tsig.mac.items ≤ 65535) × IsTooLong tsig.other.items e)) × (new ≡ old))
+    (HasLongPart tsig e × (new ≡ old))
     ⊎ ((length tsig.mac.items ≤ 65535) × (length tsig.other.items ≤ 65535)
     × IsRefusal old (length (tsig_octets tsig)) e)

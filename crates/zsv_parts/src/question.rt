@@ -6,7 +6,7 @@ ghost use Rattle.std.specs.Cmp.{partial_equiv_from_equiv};
 ghost use Rattle.dnw_encoder.specs.dnw_decoder.Reading.{IsWantOfMemory};
 ghost use Rattle.zsv_parts.specs.declared.question.Query.{Query as Question};
 ghost use Rattle.zsv_parts.specs.QuestionLaws.{asked_equiv, question_equiv};
-ghost use Rattle.zsv_parts.specs.Questions.{Asked, AskedAt, HasWholeName, QuestionAt, QuestionsAt, RefusesQuestion, RefusesQuestions, asked_eq, question_eq};
+ghost use Rattle.zsv_parts.specs.Questions.{Asked, AskedAt, HasWholeName, IsSection, QuestionAt, QuestionsAt, RefusesQuestion, RefusesQuestions, asked_eq, question_eq};
 
 use dnw_codes::{DNSClass, DecodeError, RecordType};
 use dnw_encoder::{BinDecodable, BinDecoder, Name};
@@ -170,9 +170,10 @@ impl<'m> Queries<'m> {
         self.queries.is_empty()
     }
 
-    /// The questions, in order.
+    /// The questions, in order, as they were read from some message.
     pub fn queries(&self) -> &[Query]
-        ensures { result.now ≡ self.now.questions }
+        ensures value { result.now ≡ self.now.questions }
+        ensures section { IsSection self.now }
     {
         self.queries.as_slice()
     }

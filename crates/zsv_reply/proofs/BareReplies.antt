@@ -2,7 +2,7 @@
 use Rattle.std.proofs.Common.{◌≡◌, ℕ, ◌+◌, ◌<◌, ◌≤◌, ◌∙◌, false, List, [], ◌++◌, length, length-append, drop, refl, sym, ap, arith}
 use Rattle.std.proofs.lemmas.List.{append-nil, drop_all, drop_at}
 use Rattle.zsv_request.specs.zsv_message.zst_record.dnw_decoder.Octets.{Stands}
-use Rattle.zsv_request.specs.zsv_message.zsv_parts.Headers.{header_of, header_octets, reserved_bit}
+use Rattle.zsv_request.specs.zsv_message.zsv_parts.Headers.{FitsOpCode, header_of, header_octets, reserved_bit}
 use Rattle.zsv_request.specs.zsv_message.zsv_parts.Questions.{Asked}
 use Rattle.zsv_request.specs.zsv_message.zsv_parts.declared.header.Header.{Header}
 use Rattle.zsv_request.specs.zsv_message.zsv_parts.declared.header.Metadata.{Metadata}
@@ -21,11 +21,11 @@ questions_stand h octets reply same =
       behind = refl;
     }
 
-pub bare_encoded : (m : Metadata) (h : Header) (asked : Asked) (limit : ℕ) (reply : List ℕ) → h ≡ header_of_reply m false (length asked.questions) 0 0 0 → ((rest : List ℕ) → header_of (header_octets h ++ rest) ≡ h) → reply ≡ header_octets h ++ asked.octets → 12 + length asked.octets ≤ limit → IsEncoded h reply (bare_parts m) asked limit
+pub bare_encoded : (m : Metadata) (h : Header) (asked : Asked) (limit : ℕ) (reply : List ℕ) → h ≡ header_of_reply m false (length asked.questions) 0 0 0 → (FitsOpCode m → (rest : List ℕ) → header_of (header_octets h ++ rest) ≡ h) → reply ≡ header_octets h ++ asked.octets → 12 + length asked.octets ≤ limit → IsEncoded h reply (bare_parts m) asked limit
 bare_encoded m h asked limit reply is back same room =
     let first = 12 + length asked.octets in
     let long : length reply ≡ first = ap length same ∙ length-append (header_octets h) asked.octets in
-    let read : header_of reply ≡ h = ap header_of same ∙ back asked.octets in
+    let read : FitsOpCode m → header_of reply ≡ h = λ fits. ap header_of same ∙ back fits asked.octets in
     let clear : reserved_bit reply ≡ false = ap reserved_bit same ∙ reserved_zero h asked.octets in
     let within : length reply ≤ limit = omega (arith, long, room) in
     record {
@@ -46,11 +46,11 @@ bare_encoded m h asked limit reply is back same room =
             edns = refl;
             signature = long;
           };
-          header = read ∙ is;
+          header = λ fits. read fits ∙ is;
           reserved = clear;
           within = within;
         };
-        header = sym read;
+        header = is;
       };
       bare = λ less. absurd (omega (arith, less, room));
     }

@@ -12,6 +12,7 @@ use Rattle.zsv_request.proofs.zsv_message_lemmas.zst_record_lemmas.dnw_encoder_l
 use Rattle.zsv_request.specs.zsv_message.zst_record.dnw_encoder.State.{State, is_lower}
 use Rattle.zsv_request.specs.zsv_message.zst_record.drd_rdata.Writing.{WritesInFull}
 use Rattle.zsv_reply.specs.declared.fronts.Kept.{Kept}
+use Rattle.zsv_reply.specs.Iterators.{StartsWith, Supplies}
 use Rattle.zsv_reply.specs.Replies.{Front, is_cut}
 use Rattle.zsv_reply.specs.Writing.{written_count, EmitsFront, IsNotKept}
 
@@ -278,13 +279,56 @@ module _ {X : Type 0} (Fit : State → Type 0) (At : List ℕ → ℕ → X → 
         let split : x ∷ xs ≡ lent y ∷ (found ys ++ behind.0) = let same = first.0 in let others = behind.1 in cc in
         (behind.0, split, behind.2)
 
-    none_left : (xs : List X) (from to : I) → AlwaysYields gives lent from xs → gives from None to → xs ≡ []
-    none_left [] from to yields step = refl
+    -- The same where an iterator begins with these, or all of these were written.
+    begun : (items : List Y) (xs : List X) (from to : I) (old new : State) → StartsWith gives lent from xs → Yields gives from items to → AllByRecursion Good xs → Fit old → Emitted Emits old (found items) new →
+        ((rest : List X) × (xs ≡ found items ++ rest) × StartsWith gives lent to rest) ⊎ (old.offset + 11 * length xs ≤ old.maximum)
+    begun [] xs from to old new starts e all fit emitted = inl (xs, refl, subst (λ s. StartsWith gives lent s xs) e starts)
+    begun (y ∷ ys) [] from to old new starts gave all fit (mid, one, w, more) = inr (omega (arith, laws.fits (lent y) old mid one, w.forward))
+    begun (y ∷ ys) (x ∷ xs) from to old new (some, each) (next, step, later) all fit (mid, one, w, more) =
+        let first = each y next step in
+        let good = subst Good (sym first.0) all.0 in
+        let long = laws.long mid.octets old.offset (lent y) mid.offset (holds_now mid.offset mid _ (laws.stays (lent y) old mid one good fit w)) in
+        elim (begun ys xs next to mid new first.1 later all.1 (laws.fit (lent y) old mid one good fit w) more) [
+          | inl left ↦ let split : x ∷ xs ≡ lent y ∷ (found ys ++ left.0) = let same = first.0 in let others = left.1 in cc in inl (left.0, split, left.2)
+          | inr many ↦ inr (omega (arith, many, long, w.modes.maximum))
+        ]
+
+    -- The next call of an iterator gives the first of these, or none where there are none.
+    abbrev Next : I → List X → Type 0
+    Next from [] = (y : Y) (to : I) → gives from (Some y) to → ⊥
+    Next from (x ∷ xs) = ((to : I) → gives from None to → ⊥) × ((y : Y) (to : I) → gives from (Some y) to → lent y ≡ x)
+
+    next_given : (xs : List X) (from : I) → AlwaysYields gives lent from xs → Next from xs
+    next_given [] from none = none
+    next_given (x ∷ xs) from (some, each) = (some, λ y to step. (each y to step).0)
+
+    next_begun : (xs : List X) (from : I) → 0 < length xs → StartsWith gives lent from xs → Next from xs
+    next_begun [] from some starts = absurd (omega (arith, some))
+    next_begun (x ∷ xs) from some (more, each) = (more, λ y to step. (each y to step).0)
+
+    -- Items of an iterator that supplies these were written: they are a prefix of these, and the next call gives the next one.
+    -- 65,535 items would take more octets than any message holds.
+    supplied : (items : List Y) (xs : List X) (from to : I) (old new : State) → Supplies gives lent from xs → Yields gives from items to → AllByRecursion Good xs → Fit old → Emitted Emits old (found items) new →
+        (rest : List X) × (xs ≡ found items ++ rest) × Next to rest
+    supplied items xs from to old new (inl yields) gave all fit e =
+        let left = given items xs from to yields gave in
+        (left.0, left.1, next_given left.0 to left.2)
+    supplied items xs from to old new (inr (many, starts)) gave all fit e =
+        elim (begun items xs from to old new starts gave all fit e) [
+          | inl left ↦
+              let few = emitted_few (found items) old new (all_front (found items) left.0 (subst (λ (ys : List X). AllByRecursion Good ys) left.1 all)) fit e in
+              let some : 0 < length left.0 = omega (arith, few, many, laws.small old fit, ap length left.1, length-append (found items) left.0) in
+              (left.0, left.1, next_begun left.0 to some left.2)
+          | inr whole ↦ absurd (omega (arith, whole, many, laws.small old fit))
+        ]
+
+    none_left : (xs : List X) (from to : I) → Next from xs → gives from None to → xs ≡ []
+    none_left [] from to next step = refl
     none_left (x ∷ xs) from to (more, each) step = absurd (more to step)
 
-    next_left : (xs : List X) (from to : I) (y : Y) → AlwaysYields gives lent from xs → gives from (Some y) to → (rest : List X) × (xs ≡ lent y ∷ rest)
-    next_left [] from to y yields step = absurd (yields y to step)
-    next_left (x ∷ xs) from to y (more, each) step = (xs, ap (λ (first : X). first ∷ xs) (sym (each y to step).0))
+    next_left : (xs : List X) (from to : I) (y : Y) → Next from xs → gives from (Some y) to → (rest : List X) × (xs ≡ lent y ∷ rest)
+    next_left [] from to y next step = absurd (next y to step)
+    next_left (x ∷ xs) from to y (more, each) step = (xs, ap (λ (first : X). first ∷ xs) (sym (each y to step)))
 
     -- Items that are written, and refused, as those that they lend.
     module _ (emits : Y → State → State → Type 0) (refuses : Y → State → ProtoError → State → Type 0)
@@ -295,13 +339,13 @@ module _ {X : Type 0} (Fit : State → Type 0) (At : List ℕ → ℕ → X → 
       emitted_lent (y ∷ ys) old new (mid, one, w, more) = (mid, emits_lent y old mid one, w, emitted_lent ys mid new more)
 
       -- All items were written.
-      front_all : (xs : List X) (from to : I) (count : ℕ) (old new : State) → AlwaysYields gives lent from xs → AllByRecursion Good xs → Fit old →
+      front_all : (xs : List X) (from to : I) (count : ℕ) (old new : State) → Supplies gives lent from xs → AllByRecursion Good xs → Fit old →
           WroteAll gives emits from to count old new → Told xs old new (count, false)
       front_all xs from to count old new yields all fit (last, wrote, why) =
           let kept = found wrote.items in
-          let behind = given wrote.items xs from last yields wrote.yielded in
-          let split = behind.1 in
           let e = emitted_lent wrote.items old new wrote.emitted in
+          let behind = supplied wrote.items xs from last old new yields wrote.yielded all fit e in
+          let split = behind.1 in
           let few = emitted_few kept old new (all_front kept behind.0 (subst (λ (ys : List X). AllByRecursion Good ys) split all)) fit e in
           let none : behind.0 ≡ [] = elim why [
             | inl many ↦ absurd (omega (arith, few, laws.small old fit, many.0, wrote.counted, found_long wrote.items))
@@ -310,16 +354,16 @@ module _ {X : Type 0} (Fit : State → Type 0) (At : List ℕ → ℕ → X → 
           written_front xs kept behind.0 count false old new new split (found_long wrote.items ∙ wrote.counted) (cut_nowhere xs kept behind.0 split none) all fit e (writes_same new) refl (λ f. f) (λ message. nothing_left message old.maximum new.offset behind.0 none)
 
       -- The next item was refused: it doesn't fit, or memory is wanting.
-      front_stopped : (xs : List X) (from to : I) (old : State) (e : ProtoError) (new : State) → AlwaysYields gives lent from xs → AllByRecursion Good xs → Fit old →
+      front_stopped : (xs : List X) (from to : I) (old : State) (e : ProtoError) (new : State) → Supplies gives lent from xs → AllByRecursion Good xs → Fit old →
           WroteFront gives emits refuses from to old e new → IsMemory e ⊎ ((count : ℕ) × (e ≡ NotAllRecordsWritten count) × Told xs old new (count, true))
       front_stopped xs from to old e new yields all fit (last, count, mid, y, wrote, step, stops) =
           let kept = found wrote.items in
-          let behind = given wrote.items xs from last yields wrote.yielded in
+          let emitted = emitted_lent wrote.items old mid wrote.emitted in
+          let behind = supplied wrote.items xs from last old mid yields wrote.yielded all fit emitted in
           let next = next_left behind.0 last to y behind.2 step in
           let rest = lent y ∷ next.0 in
           let split : xs ≡ kept ++ rest = behind.1 ∙ ap (λ (ys : List X). kept ++ ys) next.1 in
           let alone : Good (lent y) = (all_rest kept rest (subst (λ (ys : List X). AllByRecursion Good ys) split all)).0 in
-          let emitted = emitted_lent wrote.items old mid wrote.emitted in
           let same : mid.maximum ≡ old.maximum = (emitted_writes kept old mid emitted).modes.maximum in
           elim stops [
             | inl (left, size, refused, told, back) ↦
@@ -332,7 +376,7 @@ module _ {X : Type 0} (Fit : State → Type 0) (At : List ℕ → ℕ → X → 
       not_kept xs old new (Ok count) e told memory many = absurd (omega (arith, told.few, many))
       not_kept xs old new (Err refused) e told memory is = subst IsMemory (sym is) memory
 
-      front_told : (xs : List X) (from : I) (old new : State) (r : Result ℕ ProtoError) → AlwaysYields gives lent from xs → AllByRecursion Good xs → Fit old →
+      front_told : (xs : List X) (from : I) (old new : State) (r : Result ℕ ProtoError) → Supplies gives lent from xs → AllByRecursion Good xs → Fit old →
           IfOk r (λ count. (left : I) × WroteAll gives emits from left count old new) → IfErr r (λ e. (left : I) × WroteFront gives emits refuses from left old e new) →
           IfOk (written_count r) (Told xs old new) × IfErr (written_count r) IsMemory
       front_told xs from old new (Ok count) yields all fit ok err = (front_all xs from ok.0 count old new yields all fit ok.1, tt)
@@ -349,14 +393,14 @@ module _ {X : Type 0} (Fit : State → Type 0) (At : List ℕ → ℕ → X → 
 
       -- What a call that writes the items, and tells what was kept of them, answers.
       module _ (from : I) (old new : State) (r : Result ℕ ProtoError) (fit : Fit old) (ok : IfOk r (λ count. (left : I) × WroteAll gives emits from left count old new)) (err : IfErr r (λ e. (left : I) × WroteFront gives emits refuses from left old e new)) where
-        pub front_kept : (answer : Result Kept ProtoError) → IfOk answer (λ kept. written_count r ≡ Ok (kept.count, kept.is_cut)) → IfOk answer (λ kept. (xs : List X) → AlwaysYields gives lent from xs → AllByRecursion Good xs → EmitsFront At plain xs kept old new × Fit new)
+        pub front_kept : (answer : Result Kept ProtoError) → IfOk answer (λ kept. written_count r ≡ Ok (kept.count, kept.is_cut)) → IfOk answer (λ kept. (xs : List X) → Supplies gives lent from xs → AllByRecursion Good xs → EmitsFront At plain xs kept old new × Fit new)
         front_kept (Ok kept) is = λ xs yields all.
             let told = front_told xs from old new r yields all fit ok err in
             let of = subst (λ (w : Result (ℕ × Bool) ProtoError). IfOk w (Told xs old new)) is told.0 in
             (of.front, of.fit)
         front_kept (Err e) is = tt
 
-        pub front_refused : (answer : Result Kept ProtoError) → IfErr answer (IsNotKept (written_count r)) → IfErr answer (λ e. (xs : List X) → AlwaysYields gives lent from xs → AllByRecursion Good xs → IsMemory e)
+        pub front_refused : (answer : Result Kept ProtoError) → IfErr answer (IsNotKept (written_count r)) → IfErr answer (λ e. (xs : List X) → Supplies gives lent from xs → AllByRecursion Good xs → IsMemory e)
         front_refused (Ok kept) is = tt
         front_refused (Err e) is = λ xs yields all.
             let told = front_told xs from old new r yields all fit ok err in

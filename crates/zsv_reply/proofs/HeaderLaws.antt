@@ -1,15 +1,16 @@
 -- The header of a reply is read as its fields, its response code as the last four bits.
-use Rattle.std.proofs.Common.{◌≡◌, ℕ, ◌+◌, ◌*◌, ◌%◌, ◌^◌, ◌<◌, ◌==◌, Bool, true, false, List, [], ◌∷◌, ◌++◌, refl, ap, ◌∙◌, arith}
+use Rattle.std.proofs.Common.{◌≡◌, ℕ, ◌+◌, ◌*◌, ◌%◌, ◌^◌, ◌<◌, ◌==◌, Bool, true, false, List, [], ◌∷◌, ◌++◌, refl, ap, sym, subst, ◌∙◌, arith}
 use Rattle.std.proofs.lemmas.Bool.{eqb-true}
 use Rattle.std.specs.Prelude.{Option, Some, unwrap_or, find, if◌then◌else◌}
 use Rattle.zsv_request.specs.zsv_message.zsv_parts.declared.header.Metadata.{Metadata}
-use Rattle.zsv_request.specs.zsv_message.zsv_parts.Headers.{header_of, header_octets}
+use Rattle.zsv_request.specs.zsv_message.zsv_parts.Headers.{header_of, header_octets, op_code_number, op_code_of}
+use Rattle.zsv_request.specs.zsv_message.zsv_parts.declared.header.OpCode.{OpCode}
 use Rattle.zsv_request.specs.zsv_message.zsv_parts.zst_codes.ResponseCode.{joined_code, low_bits, named_response_codes, response_code_number, response_code_of}
 use Rattle.zsv_request.specs.zsv_message.zsv_parts.zst_codes.declared.response_code.ResponseCode.{ResponseCode}
 use Rattle.zsv_request.specs.zsv_message.zsv_parts.zst_codes.declared.response_code.ResponseCode.TheVariants.{Unknown}
 use Rattle.zsv_request.proofs.zsv_message_lemmas.zsv_parts_lemmas.Flags.{octets_back}
 use Rattle.zsv_reply.specs.Replies.{header_of_reply}
-use Rattle.zsv_reply.specs.Writing.{FitsOpCode}
+use Rattle.zsv_request.specs.zsv_message.zsv_parts.Headers.{FitsOpCode}
 
 -- The number of the code of a number is that number.
 number_by : (b : Bool) (named : ResponseCode) (n : ℕ) (found : Option ResponseCode) → (b ≡ true → response_code_number named ≡ n) → response_code_number (unwrap_or found (Unknown n)) ≡ n → response_code_number (unwrap_or (if b then Some named else found) (Unknown n)) ≡ n
@@ -42,3 +43,10 @@ reply_header_back m truncated questions answers authorities additionals rest fit
       response_code = low_back m.response_code;
       small_response_code = omega (arith, low_number m.response_code);
     }) id q a n d
+
+-- Whether four bits hold the opcode depends on the opcode alone.
+pub fits_same : (m n : Metadata) → n.op_code ≡ m.op_code → FitsOpCode m → FitsOpCode n
+fits_same m n same fits = record {
+  op_code = subst (λ (op : OpCode). op_code_of (op_code_number op) ≡ op) (sym same) fits.op_code;
+  small = subst (λ (op : OpCode). op_code_number op < 16) (sym same) fits.small;
+}

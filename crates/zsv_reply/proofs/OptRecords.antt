@@ -20,7 +20,8 @@ use Rattle.zsv_request.specs.zsv_message.zst_record.dnw_encoder.State.{State}
 use Rattle.zsv_request.specs.zsv_message.zst_record.drd_rdata.Reading.{RDataAt}
 use Rattle.zsv_request.specs.zsv_message.zst_record.drd_rdata.Writing.{WritesInFull}
 use Rattle.zsv_request.specs.zsv_message.zst_record.drd_rdata.declared.rdata.RData.TheVariants as rdata
-use Rattle.zsv_request.specs.zsv_message.zst_record.Records.{RecordAt, ReadsBackAlone, plain}
+use Rattle.zsv_request.proofs.zsv_message_lemmas.zst_record_lemmas.BackLaws.{servable_back}
+use Rattle.zsv_request.specs.zsv_message.zst_record.Records.{RecordAt, IsServable, plain}
 use Rattle.zsv_request.specs.zsv_message.zst_record.Writing.{EmitsRecord, RefusesRecord}
 use Rattle.zsv_request.specs.zsv_message.zst_record.declared.records.Record.{Record}
 use Rattle.zsv_request.specs.zsv_message.Messages.{OptAt}
@@ -51,9 +52,9 @@ has_after : (old new : State) (octets : List ℕ) → Sound old → Keeps old.of
 has_after old new octets sound keeps (c, found, is) = (c, keeps.candidates c found (omega (arith, (sound.stands.each c found).within, sound.at_end)), is)
 
 -- The first record's owner is one, and so a later owner of the same labels is written in two octets.
-record_fit : (points : Bool) (first : ℕ) (r : Record) (old new : State) → EmitsRecord r old new → ReadsBackAlone r → LeadsRecords points first old → Writes old new → LeadsRecords points first new
+record_fit : (points : Bool) (first : ℕ) (r : Record) (old new : State) → EmitsRecord r old new → IsServable r → LeadsRecords points first old → Writes old new → LeadsRecords points first new
 record_fit points first r old new one alone leads w =
-    let here = one.stays alone leads.in_full leads.small in
+    let here = one.stays (servable_back r alone) leads.in_full leads.small in
     let long = record_long new.octets old.offset r new.offset (holds_now new.offset new _ here) in
     record {
       in_full = in_full_then old new leads.in_full w;
@@ -100,20 +101,20 @@ leads_nowhere s full small = record {
   known = λ p. absurd (cc p);
 }
 
-pub records_stand : (points : Bool) (first : ℕ) → Standing (LeadsRecords points first) (ReplyRecordAt points first) plain ReadsBackAlone EmitsRecord RefusesRecord
+pub records_stand : (points : Bool) (first : ℕ) → Standing (LeadsRecords points first) (ReplyRecordAt points first) plain IsServable EmitsRecord RefusesRecord
 records_stand points first = record {
   small = λ s leads. leads.small;
   fit = record_fit points first;
   back = record_back points first;
   stays = λ r old new one alone leads w. record {
     of = λ later a. record {
-      there = (one.stays alone leads.in_full leads.small).of later a;
-      owner = λ p lt some behind at. one.owner_used alone (leads.pointing p) some (leads.known p lt later (agrees_before old new later w a) r.name behind at some);
+      there = (one.stays (servable_back r alone) leads.in_full leads.small).of later a;
+      owner = λ p lt some behind at. one.owner_used (servable_back r alone) (leads.pointing p) some (leads.known p lt later (agrees_before old new later w a) r.name behind at some);
     };
   };
-  size = λ r old new one alone. one.size alone;
+  size = λ r old new one alone. one.size (servable_back r alone);
   fits = λ r old new one. one.fits;
-  refused = λ r old e refused alone small. refused alone small;
+  refused = λ r old e refused alone small. refused.whole (servable_back r alone) small;
   long = λ message place r end at. record_long message place r end at.there;
 }
 
@@ -205,7 +206,7 @@ tsig_long message place r end at =
 
 -- A signature that reads back is refused for room or for want of memory.
 sign_wanted : (r : TsigRecord) (old : State) (e : ProtoError) → RefusesTsigRecord r old e → TsigReadsBack r → IsRefusal old (tsig_plain r) e
-sign_wanted r old e (inl refused) back = refused
+sign_wanted r old e (inl refused) back = refused.1
 sign_wanted r old e (inr long) back = absurd (omega (arith, long.0, back.counted))
 
 pub signature_stands : Standing IsSet TsigRecordAt tsig_plain TsigReadsBack EmitsTsigRecord RefusesTsigRecord

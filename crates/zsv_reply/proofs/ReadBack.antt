@@ -6,7 +6,7 @@ use Rattle.std.specs.Prelude.{nat_lt, Option, Some, None, option_to_list, unwrap
 use Rattle.zsv_request.specs.zsv_message.Messages.{AdditionalsAt, IsEdnsFor, IsMessage, IsSignatureFor, Message, OptAt, in_additionals, is_update, joined_metadata, other_records}
 use Rattle.zsv_request.specs.zsv_message.Sections.{PlacedRecords, is_opt, is_root, is_signature, is_tsig, misplaced, past, past_all}
 use Rattle.zsv_request.specs.zsv_message.zst_edns.declared.edns.Edns.{Edns}
-use Rattle.zsv_request.specs.zsv_message.zst_record.Records.{RecordAt, ReadsBackAlone, belongs_to_message, plain}
+use Rattle.zsv_request.specs.zsv_message.zst_record.Records.{RecordAt, IsServable, belongs_to_message, plain}
 use Rattle.zsv_request.specs.zsv_message.zst_record.declared.records.Record.{Record}
 use Rattle.zsv_request.specs.zsv_message.zst_record.dnw_codes.RecordType.{named_record_types, record_type_number, record_type_of, same_record_type}
 use Rattle.zsv_request.specs.zsv_message.zst_record.dnw_codes.declared.record_type.RecordType.{RecordType}
@@ -58,7 +58,7 @@ record IsOfZone (r : Record) : Type 0 where
   signature : is_signature r ≡ false
   bare : is_update0 r.rdata ≡ false
 
-of_zone : (message : List ℕ) (place : ℕ) (r : Record) (end : ℕ) → RecordAt message place r end → ReadsBackAlone r → IsOfZone r
+of_zone : (message : List ℕ) (place : ℕ) (r : Record) (end : ℕ) → RecordAt message place r end → IsServable r → IsOfZone r
 of_zone message place r end at alone =
     let t = type_of r.rdata in
     let n = at.record_type.number in
@@ -68,7 +68,7 @@ of_zone message place r end at alone =
       opt = not_of t kind.OPT n at.record_type.means refl alone.of_zones;
       tsig = tsig;
       signature = λ i. tsig i || sig i;
-      bare = not_bare r.rdata alone.rdata;
+      bare = not_bare r.rdata alone.alone.rdata;
     }
 
 -- ---- sections of such records
@@ -84,12 +84,12 @@ record Section (u a : Bool) (reply : List ℕ) (place : ℕ) (kept : List Record
   same : past_all (record { is_update = u; is_additional = a; is_signed = false; has_options = false }) kept ≡ record { is_update = u; is_additional = a; is_signed = false; has_options = false }
   others : AllByRecursion IsOfZone kept
 
-section_of : (u a : Bool) (reply : List ℕ) (limit place : ℕ) (xs kept : List Record) (end : ℕ) → AllByRecursion ReadsBackAlone xs → Front RecordAt plain reply limit place xs kept end → Section u a reply place kept end
+section_of : (u a : Bool) (reply : List ℕ) (limit place : ℕ) (xs kept : List Record) (end : ℕ) → AllByRecursion IsServable xs → Front RecordAt plain reply limit place xs kept end → Section u a reply place kept end
 section_of u a reply limit place [] [] end all f = record { placed = f; same = refl; others = tt }
 section_of u a reply limit place (x ∷ xs) [] end all f = record { placed = f.0; same = refl; others = tt }
 section_of u a reply limit place [] (k ∷ ks) end all f = absurd f
 section_of u a reply limit place (x ∷ xs) (k ∷ ks) end all (behind, same, at, small, later) =
-    let is = of_zone reply place k behind at (subst ReadsBackAlone (sym same) all.0) in
+    let is = of_zone reply place k behind at (subst IsServable (sym same) all.0) in
     let rest = section_of u a reply limit behind xs ks end all.1 later in
     let stays = past_same u a k is in
     record {
@@ -266,7 +266,7 @@ signature_part u has reply limit place (Some s) (k ∷ []) end (behind, same, at
     }
 
 -- The additional section of a reply.
-additional_section : (op : OpCode) (reply : List ℕ) (limit place records_end edns_end end : ℕ) (xs kept : List Record) (edns : Option Edns) (es : List Edns) (signature : Option TsigRecord) (ss : List TsigRecord) → AllByRecursion ReadsBackAlone xs → Front RecordAt plain reply limit place xs kept records_end → Front OptAt opt_plain reply limit records_end (option_to_list edns) es edns_end → Front TsigRecordAt tsig_plain reply limit edns_end (option_to_list signature) ss end →
+additional_section : (op : OpCode) (reply : List ℕ) (limit place records_end edns_end end : ℕ) (xs kept : List Record) (edns : Option Edns) (es : List Edns) (signature : Option TsigRecord) (ss : List TsigRecord) → AllByRecursion IsServable xs → Front RecordAt plain reply limit place xs kept records_end → Front OptAt opt_plain reply limit records_end (option_to_list edns) es edns_end → Front TsigRecordAt tsig_plain reply limit edns_end (option_to_list signature) ss end →
     AdditionalsAt reply op place (length kept + length es + length ss) kept (first_of es) (first_of ss) end
 additional_section op reply limit place records_end edns_end end xs kept edns es signature ss all f g h =
     let u = is_update op in

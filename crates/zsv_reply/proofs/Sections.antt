@@ -12,20 +12,20 @@ use Rattle.zsv_request.specs.zsv_message.zst_record.dnw_encoder.Effects.{StaysTr
 use Rattle.zsv_request.proofs.zsv_message_lemmas.zst_record_lemmas.dnw_encoder_lemmas.Laws.{holds_more, holds_now, holds_same, holds_written, writes_same, writes_then}
 use Rattle.zsv_request.specs.zsv_message.zst_record.dnw_encoder.Members.{In}
 use Rattle.zsv_request.specs.zsv_message.zst_record.dnw_encoder.State.{State, at_offset}
-use Rattle.zsv_request.specs.zsv_message.zst_record.Records.{ReadsBackAlone, plain}
+use Rattle.zsv_request.specs.zsv_message.zst_record.Records.{IsServable, plain}
 use Rattle.zsv_request.specs.zsv_message.zst_record.Writing.{EmitsRecord, RefusesRecord}
 use Rattle.zsv_request.specs.zsv_message.Messages.{OptAt}
 use Rattle.zsv_request.specs.zsv_message.zst_edns.Writing.{EdnsReadsBack, EmitsEdns, RefusesEdns}
 use Rattle.zsv_request.specs.zsv_message.zst_edns.declared.edns.Edns.{Edns}
 use Rattle.zsv_request.specs.zsv_message.zsv_parts.declared.header.Header.{Header}
 use Rattle.zsv_request.specs.zsv_message.zsv_parts.declared.tsig.TsigRecord.{TsigRecord}
-use Rattle.zsv_request.specs.zsv_message.zsv_parts.Headers.{header_of, header_octets, reserved_bit}
+use Rattle.zsv_request.specs.zsv_message.zsv_parts.Headers.{FitsOpCode, header_of, header_octets, reserved_bit}
 use Rattle.zsv_request.specs.zsv_message.zsv_parts.Questions.{Asked}
 use Rattle.zsv_request.specs.zsv_message.zsv_parts.SignatureRecords.{EmitsTsigRecord, RefusesTsigRecord, TsigReadsBack, TsigRecordAt}
 use Rattle.zsv_request.proofs.zsv_message_lemmas.zsv_parts_lemmas.Flags.{reserved_zero}
 use Rattle.zsv_reply.specs.declared.fronts.Kept.{Kept}
-use Rattle.zsv_reply.specs.Replies.{Front, ReplyParts, ReplyRecordAt, header_of_reply, opt_plain, tsig_plain}
-use Rattle.zsv_reply.specs.Writing.{EmitsAdditionals, EmitsFront, IsEmitted, IsWritten, LeadsRecords}
+use Rattle.zsv_reply.specs.Replies.{Front, Fronts, ReplyParts, ReplyRecordAt, header_of_fronts, header_of_reply, opt_plain, tsig_plain}
+use Rattle.zsv_reply.specs.Writing.{EmitsAdditionals, EmitsFront, IsEmitted, LeadsRecords}
 use Rattle.zsv_reply.proofs.FrontLaws.{IsSet, emits_few, emits_fits}
 use Rattle.zsv_reply.proofs.OptRecords.{options_stand, records_stand, signature_stands}
 
@@ -52,7 +52,7 @@ reserved_at_last h last filled sound f =
 
 -- So many items together, of which each takes eleven octets, are counted by 16 bits.
 pub records_few : (points : Bool) (first : ℕ) (xs : List Record) (written : Kept) (old new : State) → EmitsFront (ReplyRecordAt points first) plain xs written old new → 11 * written.count ≤ old.maximum
-records_few points first xs written old new f = emits_few (LeadsRecords points first) (ReplyRecordAt points first) plain ReadsBackAlone EmitsRecord RefusesRecord (records_stand points first) xs written old new f
+records_few points first xs written old new f = emits_few (LeadsRecords points first) (ReplyRecordAt points first) plain IsServable EmitsRecord RefusesRecord (records_stand points first) xs written old new f
 
 pub options_few : (xs : List Edns) (written : Kept) (old new : State) → EmitsFront OptAt opt_plain xs written old new → 11 * written.count ≤ old.maximum
 options_few xs written old new f = emits_few IsSet OptAt opt_plain EdnsReadsBack EmitsEdns RefusesEdns options_stand xs written old new f
@@ -114,11 +114,11 @@ if_passed_on Q (Ok x) e is q = tt
 if_passed_on Q (Err other) e is q = subst Q (sym is) q
 
 -- What holds of the records of two lists holds of those of each.
-pub first_back : (xs ys : List Record) → AllByRecursion ReadsBackAlone (xs ++ ys) → AllByRecursion ReadsBackAlone xs
+pub first_back : (xs ys : List Record) → AllByRecursion IsServable (xs ++ ys) → AllByRecursion IsServable xs
 first_back [] ys all = tt
 first_back (x ∷ xs) ys all = (all.0, first_back xs ys all.1)
 
-pub later_back : (xs ys : List Record) → AllByRecursion ReadsBackAlone (xs ++ ys) → AllByRecursion ReadsBackAlone ys
+pub later_back : (xs ys : List Record) → AllByRecursion IsServable (xs ++ ys) → AllByRecursion IsServable ys
 later_back [] ys all = all
 later_back (x ∷ xs) ys all = later_back xs ys all.1
 
@@ -141,14 +141,14 @@ pub record Steps (points : Bool) (h : Header) (parts : ReplyParts) (answers auth
   pub additionals_front : EmitsAdditionals points asked.offset parts.additionals parts.edns parts.signature additionals vouched told
   pub additionals_writes : Writes vouched told
   pub header : Fills 0 (header_octets h) told filled
-  pub back : (rest : List ℕ) → header_of (header_octets h ++ rest) ≡ h
+  pub back : FitsOpCode parts.metadata → (rest : List ℕ) → header_of (header_octets h ++ rest) ≡ h
   pub says : h ≡ header_of_reply parts.metadata (answers.is_cut || authorities.is_cut || additionals.is_cut) questions answers.count authorities.count additionals.count
 
--- They write the reply.
-steps_write : (points : Bool) (h : Header) (parts : ReplyParts) (answers authorities additionals : Kept) (question_octets : List ℕ) (questions : ℕ) (opened asked answered vouched told filled : State) (limit : ℕ) → Steps points h parts answers authorities additionals question_octets questions opened asked answered vouched told filled →
-    opened.maximum ≡ limit → 12 + length question_octets ≤ limit →
-    IsWritten points filled.octets parts questions question_octets limit
-steps_write points h parts answers authorities additionals question_octets questions opened asked answered vouched told filled limit s maximum room =
+-- They write the reply, and the header is that over what was kept.
+pub steps_emit : (points : Bool) (h : Header) (parts : ReplyParts) (answers authorities additionals : Kept) (questions : Asked) (opened asked answered vouched told filled : State) (limit : ℕ) → Steps points h parts answers authorities additionals questions.octets (length questions.questions) opened asked answered vouched told filled →
+    opened.maximum ≡ limit → 12 + length questions.octets ≤ limit → (info : Header) → info ≡ h →
+    IsEmitted points info filled.octets parts questions limit
+steps_emit points h parts answers authorities additionals questions opened asked answered vouched told filled limit s maximum room info is =
     let one = s.answers_front in
     let two = s.authorities_front in
     let three = s.additionals_front in
@@ -158,7 +158,7 @@ steps_write points h parts answers authorities additionals question_octets quest
     let asked_maximum : asked.maximum ≡ limit = s.asks.modes.maximum ∙ maximum in
     let answered_maximum : answered.maximum ≡ limit = s.answers_writes.modes.maximum ∙ asked_maximum in
     let vouched_maximum : vouched.maximum ≡ limit = s.authorities_writes.modes.maximum ∙ answered_maximum in
-    let first : asked.offset ≡ 12 + length question_octets = omega (arith, s.question_offset, s.twelve) in
+    let first : asked.offset ≡ 12 + length questions.octets = omega (arith, s.question_offset, s.twelve) in
     let last : length filled.octets ≡ told.offset = sym (s.header.sound sound).at_end ∙ s.header.offset in
     let question = stands_at_last asked.offset _ _ asked told filled all (omega arith) s.header s.question in
     let answers_there = stands_at_last answered.offset _ _ answered told filled last_two (omega arith) s.header one.stays in
@@ -168,32 +168,26 @@ steps_write points h parts answers authorities additionals question_octets quest
     let signature_there = stands_at_last told.offset _ _ told told filled (writes_same told) (omega arith) s.header three.signature_stays in
     let answered_fits = emits_fits (ReplyRecordAt points asked.offset) plain parts.answers answers asked answered one (omega (arith, first, asked_maximum, room)) in
     let vouched_fits = emits_fits (ReplyRecordAt points asked.offset) plain parts.authorities authorities answered vouched two (omega (arith, answered_fits, answered_maximum, asked_maximum)) in
+    let kept : Fronts = record { answers = one.kept; authorities = two.kept; additionals = three.kept; edns = three.kept_edns; signature = three.kept_signature } in
+    let over : h ≡ header_of_fronts parts (length questions.questions) kept = s.says ∙ (λ i. header_of_reply parts.metadata (sym one.cut i || sym two.cut i || sym three.cut i) (length questions.questions) (sym one.counted i) (sym two.counted i) (sym three.counted i)) in
     record {
-      kept = record { answers = one.kept; authorities = two.kept; additionals = three.kept; edns = three.kept_edns; signature = three.kept_signature };
-      asked = subst (λ (p : ℕ). Stands filled.octets p question_octets (p + length question_octets)) s.twelve question;
-      fronts = record {
-        answers_end = answered.offset;
-        authorities_end = vouched.offset;
-        additionals_end = three.records_end;
-        edns_end = three.edns_end;
-        answers = rw (sym first, sym asked_maximum) answers_there;
-        authorities = rw (sym first) (subst (λ (k : ℕ). Front (ReplyRecordAt points asked.offset) plain filled.octets k answered.offset parts.authorities two.kept vouched.offset) answered_maximum authorities_there);
-        additionals = rw (sym first) (subst (λ (k : ℕ). Front (ReplyRecordAt points asked.offset) plain filled.octets k vouched.offset parts.additionals three.kept three.records_end) vouched_maximum additionals_there);
-        edns = subst (λ (k : ℕ). Front OptAt opt_plain filled.octets k three.records_end (option_to_list parts.edns) three.kept_edns three.edns_end) vouched_maximum options_there;
-        signature = rw last (subst (λ (k : ℕ). Front TsigRecordAt tsig_plain filled.octets k three.edns_end (option_to_list parts.signature) three.kept_signature told.offset) vouched_maximum signature_there);
+      written = record {
+        kept = kept;
+        asked = subst (λ (p : ℕ). Stands filled.octets p questions.octets (p + length questions.octets)) s.twelve question;
+        fronts = record {
+          answers_end = answered.offset;
+          authorities_end = vouched.offset;
+          additionals_end = three.records_end;
+          edns_end = three.edns_end;
+          answers = rw (sym first, sym asked_maximum) answers_there;
+          authorities = rw (sym first) (subst (λ (k : ℕ). Front (ReplyRecordAt points asked.offset) plain filled.octets k answered.offset parts.authorities two.kept vouched.offset) answered_maximum authorities_there);
+          additionals = rw (sym first) (subst (λ (k : ℕ). Front (ReplyRecordAt points asked.offset) plain filled.octets k vouched.offset parts.additionals three.kept three.records_end) vouched_maximum additionals_there);
+          edns = subst (λ (k : ℕ). Front OptAt opt_plain filled.octets k three.records_end (option_to_list parts.edns) three.kept_edns three.edns_end) vouched_maximum options_there;
+          signature = rw last (subst (λ (k : ℕ). Front TsigRecordAt tsig_plain filled.octets k three.edns_end (option_to_list parts.signature) three.kept_signature told.offset) vouched_maximum signature_there);
+        };
+        header = λ fits. header_at_last h told filled sound s.header (s.back fits) ∙ over;
+        reserved = reserved_at_last h told filled sound s.header;
+        within = omega (arith, last, three.fits (omega (arith, vouched_fits, vouched_maximum, answered_maximum)), vouched_maximum);
       };
-      header = header_at_last h told filled sound s.header s.back ∙ s.says ∙ (λ i. header_of_reply parts.metadata (sym one.cut i || sym two.cut i || sym three.cut i) questions (sym one.counted i) (sym two.counted i) (sym three.counted i));
-      reserved = reserved_at_last h told filled sound s.header;
-      within = omega (arith, last, three.fits (omega (arith, vouched_fits, vouched_maximum, answered_maximum)), vouched_maximum);
-    }
-
-pub steps_emit : (points : Bool) (h : Header) (parts : ReplyParts) (answers authorities additionals : Kept) (questions : Asked) (opened asked answered vouched told filled : State) (limit : ℕ) → Steps points h parts answers authorities additionals questions.octets (length questions.questions) opened asked answered vouched told filled →
-    opened.maximum ≡ limit → 12 + length questions.octets ≤ limit → (info : Header) → info ≡ h →
-    IsEmitted points info filled.octets parts questions limit
-steps_emit points h parts answers authorities additionals questions opened asked answered vouched told filled limit s maximum room info is =
-    let after = writes_then answered vouched told s.authorities_writes s.additionals_writes in
-    let sound = (writes_then asked answered told s.answers_writes after).sound (s.asks.sound s.sound) in
-    record {
-      written = steps_write points h parts answers authorities additionals questions.octets (length questions.questions) opened asked answered vouched told filled limit s maximum room;
-      header = is ∙ sym (header_at_last h told filled sound s.header s.back);
+      header = is ∙ over;
     }

@@ -2,10 +2,11 @@
 use Rattle.std.proofs.Common.{ℕ, Bool, ◌+◌, ◌≤◌, ◌∙◌, List, length, refl, subst, sym, arith}
 use Rattle.std.specs.Prelude.{option_to_list}
 use Rattle.zsv_request.specs.zsv_message.zst_record.dnw_decoder.Octets.{Stands}
-use Rattle.zsv_request.specs.zsv_message.zst_record.Records.{ReadsBackAlone, plain}
+use Rattle.zsv_request.specs.zsv_message.zst_record.Records.{IsServable, plain}
 use Rattle.zsv_request.specs.zsv_message.zst_record.Writing.{EmitsRecord, RefusesRecord}
 use Rattle.zsv_request.specs.zsv_message.Messages.{OptAt}
 use Rattle.zsv_request.specs.zsv_message.zst_edns.Writing.{EdnsReadsBack, EmitsEdns, RefusesEdns}
+use Rattle.zsv_request.specs.zsv_message.zsv_parts.Headers.{FitsOpCode}
 use Rattle.zsv_request.specs.zsv_message.zsv_parts.Questions.{Asked, AskedAt}
 use Rattle.zsv_request.proofs.zsv_message_lemmas.zsv_parts_lemmas.Pieces.{SameThere}
 use Rattle.zsv_request.proofs.zsv_message_lemmas.zsv_parts_lemmas.QuestionsOver.{questions_over}
@@ -21,17 +22,17 @@ pub fronts_forward : (points : Bool) (reply : List ℕ) (limit place : ℕ) (par
 fronts_forward points reply limit place parts kept f =
     omega (
       arith,
-      front_forward (LeadsRecords points place) (ReplyRecordAt points place) plain ReadsBackAlone EmitsRecord RefusesRecord (records_stand points place) reply limit place parts.answers kept.answers f.answers_end f.answers,
-      front_forward (LeadsRecords points place) (ReplyRecordAt points place) plain ReadsBackAlone EmitsRecord RefusesRecord (records_stand points place) reply limit f.answers_end parts.authorities kept.authorities f.authorities_end f.authorities,
-      front_forward (LeadsRecords points place) (ReplyRecordAt points place) plain ReadsBackAlone EmitsRecord RefusesRecord (records_stand points place) reply limit f.authorities_end parts.additionals kept.additionals f.additionals_end f.additionals,
+      front_forward (LeadsRecords points place) (ReplyRecordAt points place) plain IsServable EmitsRecord RefusesRecord (records_stand points place) reply limit place parts.answers kept.answers f.answers_end f.answers,
+      front_forward (LeadsRecords points place) (ReplyRecordAt points place) plain IsServable EmitsRecord RefusesRecord (records_stand points place) reply limit f.answers_end parts.authorities kept.authorities f.authorities_end f.authorities,
+      front_forward (LeadsRecords points place) (ReplyRecordAt points place) plain IsServable EmitsRecord RefusesRecord (records_stand points place) reply limit f.authorities_end parts.additionals kept.additionals f.additionals_end f.additionals,
       front_forward IsSet OptAt opt_plain EdnsReadsBack EmitsEdns RefusesEdns options_stand reply limit f.additionals_end (option_to_list parts.edns) kept.edns f.edns_end f.edns,
       front_forward IsSet TsigRecordAt tsig_plain TsigReadsBack EmitsTsigRecord RefusesTsigRecord signature_stands reply limit f.edns_end (option_to_list parts.signature) kept.signature (length reply) f.signature,
     )
 
--- A reply that was encoded, to the questions of a message.
-pub reply_of_encoded : (message reply : List ℕ) (info : Header) (parts : ReplyParts) (asked : Asked) (limit count end : ℕ) → AskedAt message 12 count asked end →
+-- A reply that was encoded, to the questions of a message, is a reply to it where four bits hold its opcode.
+pub reply_of_encoded : (message reply : List ℕ) (info : Header) (parts : ReplyParts) (asked : Asked) (limit count end : ℕ) → AskedAt message 12 count asked end → FitsOpCode parts.metadata →
     IsEncoded info reply parts asked limit → IsReply message reply parts asked parts.metadata.id limit
-reply_of_encoded message reply info parts asked limit count end is e =
+reply_of_encoded message reply info parts asked limit count end is fits e =
     let first = 12 + length asked.octets in
     record {
       within = e.within;
@@ -46,7 +47,7 @@ reply_of_encoded message reply info parts asked limit count end is e =
             question_octets = w.asked;
             questions = λ there far. (questions_over message reply first same long 12 asked.questions first (omega arith) (omega arith) there far, refl);
             fronts = w.fronts;
-            header = w.header;
+            header = w.header fits;
           };
       bare = λ less. let b = e.bare less in (b.long, sym b.header ∙ b.says);
     }

@@ -2,18 +2,18 @@
 use Rattle.std.proofs.Common.{◌≡◌, ℕ, ◌+◌, ◌≤◌, ◌||◌, ◌∙◌, Bool, false, List, [], ◌∷◌, ◌++◌, length, length-append, append_assoc, drop, refl, sym, ap, subst, arith}
 use Rattle.std.proofs.lemmas.Bool.{le-ltb}
 use Rattle.std.proofs.lemmas.List.{append-nil, drop_all, drop_at}
-use Rattle.std.specs.Prelude.{MatchOption, Option, Some, None, option_to_list}
+use Rattle.std.specs.Prelude.{IfSome, MatchOption, Option, Some, None, option_to_list}
 use Rattle.std.specs.List.{AllByRecursion}
 use Rattle.zsv_request.specs.zsv_message.Messages.{OptAt}
 use Rattle.zsv_request.specs.zsv_message.zst_edns.Writing.{EdnsReadsBack, FitsFields, opt_octets}
 use Rattle.zsv_request.specs.zsv_message.zst_edns.declared.edns.Edns.{Edns}
 use Rattle.zst_pointing.specs.Pointing.{ArePointing}
-use Rattle.zsv_request.specs.zsv_message.zst_record.Records.{ReadsBackAlone, plain}
+use Rattle.zsv_request.specs.zsv_message.zst_record.Records.{IsServable, plain}
 use Rattle.zsv_request.specs.zsv_message.zst_record.declared.records.Record.{Record}
 use Rattle.zsv_request.specs.zsv_message.zst_record.dnw_decoder.Octets.{Stands}
 use Rattle.zsv_request.specs.zsv_message.zst_record.dnw_name.DomainName.{DomainName, name_octets}
 use Rattle.zsv_request.proofs.zsv_message_lemmas.zst_record_lemmas.dnw_decoder_lemmas.Standing.{stands_split}
-use Rattle.zsv_request.specs.zsv_message.zsv_parts.Headers.{header_of, header_octets, reserved_bit}
+use Rattle.zsv_request.specs.zsv_message.zsv_parts.Headers.{FitsOpCode, header_of, header_octets, reserved_bit}
 use Rattle.zsv_request.specs.zsv_message.zsv_parts.Questions.{Asked, HasWholeName}
 use Rattle.zsv_request.specs.zsv_message.zsv_parts.declared.header.Header.{Header}
 use Rattle.zsv_request.specs.zsv_message.zsv_parts.declared.header.Metadata.{Metadata}
@@ -43,7 +43,7 @@ name_before : (asked : Asked) (reply : List ℕ) (name : DomainName) (first : �
 name_before asked reply name first b there = omega (arith, there.behind, ap length b.whole, length-append (name_octets name) b.rest)
 
 -- Records that point to it are a front of their list, all of them.
-records_stand : (points : Bool) (limit first : ℕ) (asked : Asked) (reply : List ℕ) (name : DomainName) → HasWholeName asked name → Stands reply 12 asked.octets first → (place end : ℕ) (records : List Record) (octets : List ℕ) → first ≤ place → ArePointing name records octets → AllByRecursion ReadsBackAlone records → Stands reply place octets end → Front (ReplyRecordAt points first) plain reply limit place records records end
+records_stand : (points : Bool) (limit first : ℕ) (asked : Asked) (reply : List ℕ) (name : DomainName) → HasWholeName asked name → Stands reply 12 asked.octets first → (place end : ℕ) (records : List Record) (octets : List ℕ) → first ≤ place → ArePointing name records octets → AllByRecursion IsServable records → Stands reply place octets end → Front (ReplyRecordAt points first) plain reply limit place records records end
 records_stand points limit first asked reply name begins questions place end [] octets behind none alone there = omega (arith, there.behind, ap length none)
 records_stand points limit first asked reply name begins questions place end (r ∷ rs) octets behind (one, rest, is, same, later) alone there =
     let both = stands_split reply place one rest end (subst (λ (o : List ℕ). Stands reply place o end) same there) in
@@ -51,7 +51,7 @@ records_stand points limit first asked reply name begins questions place end (r 
       place + length one,
       refl,
       record {
-        there = is.there alone.0 reply (12 + length (name_octets name)) place (place + length one) (name_stands asked reply name first begins questions) (omega (arith, before, behind)) both.0;
+        there = is.there alone.0.alone reply (12 + length (name_octets name)) place (place + length one) (name_stands asked reply name first begins questions) (omega (arith, before, behind)) both.0;
         owner = λ pointing later_place some owner_end owner_at. omega (arith, is.owner);
       },
       omega (arith, is.size),
@@ -92,14 +92,14 @@ none_truncated : (m : Metadata) (answers authorities : List Record) (edns : Opti
 none_truncated m answers authorities None = ap (λ (b : Bool). b || is_cut authorities authorities || false) (whole_uncut answers) ∙ ap (λ (b : Bool). b || false) (whole_uncut authorities)
 none_truncated m answers authorities (Some edns) = ap (λ (b : Bool). b || is_cut authorities authorities || false) (whole_uncut answers) ∙ ap (λ (b : Bool). b || false) (whole_uncut authorities)
 
-written_encoded : (m : Metadata) (h : Header) (asked : Asked) (limit : ℕ) (reply : List ℕ) (name : DomainName) (answers authorities : List Record) (octets options : List ℕ) (edns : Option Edns) → h ≡ header_of_reply m false (length asked.questions) (length answers) (length authorities) (length (option_to_list edns)) → ((rest : List ℕ) → header_of (header_octets h ++ rest) ≡ h) → reply ≡ header_octets h ++ (asked.octets ++ (octets ++ options)) → length reply ≤ limit → HasWholeName asked name → ArePointing name (answers ++ authorities) octets → AreOptions edns options → AllReadBack (written_parts m answers authorities edns) → IsEncoded h reply (written_parts m answers authorities edns) asked limit
+written_encoded : (m : Metadata) (h : Header) (asked : Asked) (limit : ℕ) (reply : List ℕ) (name : DomainName) (answers authorities : List Record) (octets options : List ℕ) (edns : Option Edns) → h ≡ header_of_reply m false (length asked.questions) (length answers) (length authorities) (length (option_to_list edns)) → (FitsOpCode m → (rest : List ℕ) → header_of (header_octets h ++ rest) ≡ h) → reply ≡ header_octets h ++ (asked.octets ++ (octets ++ options)) → length reply ≤ limit → HasWholeName asked name → ArePointing name (answers ++ authorities) octets → AreOptions edns options → AllReadBack (written_parts m answers authorities edns) → IsEncoded h reply (written_parts m answers authorities edns) asked limit
 written_encoded m h asked limit reply name answers authorities octets options edns is back same room begins pointing are alone =
     let behind = asked.octets ++ (octets ++ options) in
     let first = 12 + length asked.octets in
     let lists = pointing_split name answers authorities octets pointing in
     let middle = first + length lists.0 in
     let last = first + length octets in
-    let read : header_of reply ≡ h = ap header_of same ∙ back behind in
+    let read : FitsOpCode m → header_of reply ≡ h = λ fits. ap header_of same ∙ back fits behind in
     let clear : reserved_bit reply ≡ false = ap reserved_bit same ∙ reserved_zero h behind in
     let all = stands_split reply 12 asked.octets (octets ++ options) (length reply) (stands_last (header_octets h) behind reply 12 refl same) in
     let both = stands_split reply first octets options (length reply) all.1 in
@@ -126,17 +126,17 @@ written_encoded m h asked limit reply name answers authorities octets options ed
             edns = options_stand limit last (length reply) reply options edns are alone.edns both.1;
             signature = refl;
           };
-          header = read ∙ told;
+          header = λ fits. read fits ∙ told;
           reserved = clear;
           within = room;
         };
-        header = sym read;
+        header = told;
       };
       bare = λ less. absurd (omega (arith, less, room, all.1.behind, length-append octets options));
     }
 
 -- What was put together of so many records is encoded, whatever they are.
-pub joined_encoded : (m : Metadata) (h : Header) (asked : Asked) (limit : ℕ) (written : WrittenRecords) (options : List ℕ) (edns : Option Edns) → h ≡ header_of_reply m false (length asked.questions) written.answers written.authorities (length (option_to_list edns)) → ((rest : List ℕ) → header_of (header_octets h ++ rest) ≡ h) → AreOptions edns options → (info : Header) (reply : List ℕ) → (info ≡ h) × (reply ≡ header_octets h ++ (asked.octets ++ (written.octets.now ++ options))) × (length reply ≤ limit) → (name : DomainName) (answers authorities : List Record) → HasWholeName asked name → AreWritten name written answers authorities → AllReadBack (written_parts m answers authorities edns) → IsEncoded info reply (written_parts m answers authorities edns) asked limit
+pub joined_encoded : (m : Metadata) (h : Header) (asked : Asked) (limit : ℕ) (written : WrittenRecords) (options : List ℕ) (edns : Option Edns) → h ≡ header_of_reply m false (length asked.questions) written.answers written.authorities (length (option_to_list edns)) → (FitsOpCode m → (rest : List ℕ) → header_of (header_octets h ++ rest) ≡ h) → AreOptions edns options → (info : Header) (reply : List ℕ) → (info ≡ h) × (reply ≡ header_octets h ++ (asked.octets ++ (written.octets.now ++ options))) × (length reply ≤ limit) → (name : DomainName) (answers authorities : List Record) → HasWholeName asked name → AreWritten name written answers authorities → AllReadBack (written_parts m answers authorities edns) → IsEncoded info reply (written_parts m answers authorities edns) asked limit
 joined_encoded m h asked limit written options edns is back are info reply (told, same, room) name answers authorities begins records alone =
     subst (λ (i : Header). IsEncoded i reply (written_parts m answers authorities edns) asked limit) (sym told)
     (written_encoded m h asked limit reply name answers authorities written.octets.now options edns
@@ -148,3 +148,8 @@ joined_encoded m h asked limit written options edns is back are info reply (told
 pub match_weaker : {X : Type 0} {P Q : Type 0} {R S : X → Type 0} (o : Option X) → (P → Q) → ((x : X) → R x → S x) → MatchOption o P R → MatchOption o Q S
 match_weaker None none some m = none m
 match_weaker (Some x) none some m = some x m
+
+-- What is put together is said of it alone.
+pub some_weaker : {X : Type 0} (P : Type 0) {R S : X → Type 0} (o : Option X) → ((x : X) → R x → S x) → MatchOption o P R → IfSome o S
+some_weaker P None some m = tt
+some_weaker P (Some x) some m = some x m

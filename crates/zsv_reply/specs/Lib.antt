@@ -1,4 +1,5 @@
 pub mod Building
+pub mod Iterators
 pub mod Lending
 pub mod Replies
 pub mod Writing

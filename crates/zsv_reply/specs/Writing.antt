@@ -11,14 +11,14 @@ use Rattle.zsv_request.specs.zsv_message.zst_record.dnw_decoder.Spelling.{NameAt
 use Rattle.zsv_request.specs.zsv_message.zst_record.dnw_name.DomainName.{DomainName, name_octets}
 use Rattle.zsv_request.specs.zsv_message.zst_record.drd_rdata.Writing.{WritesInFull}
 use Rattle.zsv_request.specs.zsv_message.zst_record.declared.records.Record.{Record}
-use Rattle.zsv_request.specs.zsv_message.zst_record.Records.{ReadsBackAlone, plain}
+use Rattle.zsv_request.specs.zsv_message.zst_record.Records.{IsServable, plain}
 use Rattle.zsv_request.specs.zsv_message.Messages.{OptAt}
 use Rattle.zsv_request.specs.zsv_message.zst_edns.Writing.{EdnsReadsBack, opt_octets}
 use Rattle.zsv_request.specs.zsv_message.zst_edns.declared.edns.Edns.{Edns}
 use Rattle.zsv_request.specs.zsv_message.zsv_parts.declared.header.Metadata.{Metadata}
 use Rattle.zsv_request.specs.zsv_message.zsv_parts.declared.header.Header.{Header}
 use Rattle.zsv_request.specs.zsv_message.zsv_parts.declared.tsig.TsigRecord.{TsigRecord}
-use Rattle.zsv_request.specs.zsv_message.zsv_parts.Headers.{header_of, op_code_number, op_code_of, reserved_bit}
+use Rattle.zsv_request.specs.zsv_message.zsv_parts.Headers.{FitsOpCode, header_of, reserved_bit}
 use Rattle.zsv_request.specs.zsv_message.zsv_parts.Questions.{Asked}
 use Rattle.zsv_request.specs.zsv_message.zsv_parts.SignatureRecords.{TsigReadsBack, TsigRecordAt}
 use Rattle.zst_pointing.specs.Pointing.{ArePointing}
@@ -63,16 +63,11 @@ NeedsEncoder (Some edns) asked octets limit =
     (0 < length edns.options.options.items)
     ⊎ (limit < 12 + length asked.octets + length octets + length (opt_octets edns))
 
--- An operation that four bits hold.
-pub record FitsOpCode (m : Metadata) : Type 0 where
-  pub op_code : op_code_of (op_code_number m.op_code) ≡ m.op_code
-  pub small : op_code_number m.op_code < 16
-
 -- Each record of a reply reads back alone, and its options and its signature read back.
 pub record AllReadBack (parts : ReplyParts) : Type 0 where
-  pub answers : AllByRecursion ReadsBackAlone parts.answers
-  pub authorities : AllByRecursion ReadsBackAlone parts.authorities
-  pub additionals : AllByRecursion ReadsBackAlone parts.additionals
+  pub answers : AllByRecursion IsServable parts.answers
+  pub authorities : AllByRecursion IsServable parts.authorities
+  pub additionals : AllByRecursion IsServable parts.additionals
   pub edns : AllByRecursion EdnsReadsBack (option_to_list parts.edns)
   pub signature : AllByRecursion TsigReadsBack (option_to_list parts.signature)
 
@@ -155,21 +150,21 @@ pub record EmitsAdditionals (points : Bool) (first : ℕ) (records : List Record
   pub fits : old.offset ≤ old.maximum → new.offset ≤ old.maximum
 
 -- A reply as it is written: the header, the questions as they were sent, a front of each list, and
--- nothing behind.
+-- nothing behind. An opcode that four bits hold is read back.
 pub record IsWritten (points : Bool) (reply : List ℕ) (parts : ReplyParts) (questions : ℕ)
     (question_octets : List ℕ) (limit : ℕ) : Type 0 where
   pub kept : Fronts
   pub asked : Stands reply 12 question_octets (12 + length question_octets)
   pub fronts : FrontsAt points reply limit (12 + length question_octets) parts kept
-  pub header : header_of reply ≡ header_of_fronts parts questions kept
+  pub header : FitsOpCode parts.metadata → header_of reply ≡ header_of_fronts parts questions kept
   pub reserved : reserved_bit reply ≡ false
   pub within : length reply ≤ limit
 
--- A reply that was written, and its header.
+-- A reply that was written, and its header, which says what is left out whatever the opcode.
 pub record IsEmitted (points : Bool) (info : Header) (reply : List ℕ) (parts : ReplyParts)
     (asked : Asked) (limit : ℕ) : Type 0 where
   pub written : IsWritten points reply parts (length asked.questions) asked.octets limit
-  pub header : info ≡ header_of reply
+  pub header : info ≡ header_of_fronts parts (length asked.questions) written.kept
 
 -- A header alone, which says that the server failed.
 pub record IsBare (info : Header) (reply : List ℕ) (id : ℕ) : Type 0 where

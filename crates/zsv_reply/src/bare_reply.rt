@@ -1,9 +1,9 @@
 //! Replies with nothing behind their questions, as most errors are.
 
-ghost use Rattle.std.specs.Prelude.{◌≡◌, length, IfOk, None};
+ghost use Rattle.std.specs.Prelude.{◌≡◌, ◌≤◌, length, IfOk, None};
 ghost use Rattle.zsv_request.specs.Requests.{limit_of};
 ghost use Rattle.zsv_request.specs.zsv_message.zsv_parts.Questions.{Asked};
-ghost use Rattle.zsv_reply.specs.Writing.{FitsOpCode, IsEncoded, bare_parts};
+ghost use Rattle.zsv_reply.specs.Writing.{IsEncoded, bare_parts};
 
 use crate::fronts::Kept;
 use crate::header::{encode_failure, header_over};
@@ -21,8 +21,8 @@ pub fn encode_bare(
     octets: &[u8],
     protocol: Protocol,
 ) -> Result<(ResponseInfo, Vec<u8>), AllocError>
-    requires { FitsOpCode metadata }
-    ensures { (asked : Asked) → length asked.questions ≡ count → asked.octets ≡ octets.now
+    ensures limit { IfOk result (λ sent. length sent.1.items ≤ limit_of protocol None) }
+    ensures ok { (asked : Asked) → length asked.questions ≡ count → asked.octets ≡ octets.now
         → IfOk result (λ sent. IsEncoded sent.0 sent.1.items (bare_parts metadata) asked (limit_of protocol None)) }
 {
     let size = 12 + octets.len();

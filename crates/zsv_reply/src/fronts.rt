@@ -1,17 +1,17 @@
 //! The lists of a reply, each written as far as it fits.
 
 ghost use Rattle.std.specs.Prelude.{◌≡◌, ◌+◌, ◌^◌, ◌<◌, ◌≤◌, ◌||◌, ◌++◌, ℕ, Bool, List, Ok, option_copied, option_to_list, IfOk, IfErr, MatchResult};
-ghost use Rattle.std.specs.Iterator.{AlwaysYields};
 ghost use Rattle.std.specs.List.{AllByRecursion};
 ghost use Rattle.zsv_request.specs.zsv_message.Messages.{OptAt};
 ghost use Rattle.zsv_request.specs.zsv_message.zst_edns.Writing.{EdnsReadsBack};
-ghost use Rattle.zsv_request.specs.zsv_message.zst_record.Records.{ReadsBackAlone, plain};
+ghost use Rattle.zsv_request.specs.zsv_message.zst_record.Records.{IsServable, plain};
 ghost use Rattle.zsv_request.specs.zsv_message.zst_record.declared.records.Record.{Record};
 ghost use Rattle.zsv_request.specs.zsv_message.zst_record.dnw_codes.ProtoError.{IsMemory};
 ghost use Rattle.zsv_request.specs.zsv_message.zst_record.dnw_encoder.Effects.{Writes};
 ghost use Rattle.zsv_request.specs.zsv_message.zst_record.dnw_encoder.Encoders.{state};
 ghost use Rattle.zsv_request.specs.zsv_message.zst_record.drd_rdata.Writing.{WritesInFull};
 ghost use Rattle.zsv_request.specs.zsv_message.zsv_parts.SignatureRecords.{TsigReadsBack, TsigRecordAt};
+ghost use Rattle.zsv_reply.specs.Iterators.{Supplies};
 ghost use Rattle.zsv_reply.specs.Replies.{ReplyRecordAt, opt_plain, tsig_plain};
 ghost use Rattle.zsv_reply.specs.Writing.{written_count, EmitsAdditionals, EmitsFront, IsNotKept, LeadsRecords};
 
@@ -79,11 +79,11 @@ where
     ensures writes { Writes (state encoder.old) (state encoder.new) }
     ensures ok { IfOk result
         (λ kept. (points : Bool) (first : ℕ) → LeadsRecords points first (state encoder.old)
-        → (lent : List Record) → AlwaysYields I.next_gives I.Item.lent records lent → AllByRecursion ReadsBackAlone lent
+        → (lent : List Record) → Supplies I.next_gives I.Item.lent records lent → AllByRecursion IsServable lent
         → EmitsFront (ReplyRecordAt points first) plain lent kept (state encoder.old) (state encoder.new)
         × LeadsRecords points first (state encoder.new)) }
     ensures cause { IfErr result
-        (λ e. (lent : List Record) → AlwaysYields I.next_gives I.Item.lent records lent → AllByRecursion ReadsBackAlone lent
+        (λ e. (lent : List Record) → Supplies I.next_gives I.Item.lent records lent → AllByRecursion IsServable lent
         → IsMemory e) }
 {
     kept_of(encoder.emit_all(records))
@@ -106,13 +106,13 @@ where
     ensures writes { Writes (state encoder.old) (state encoder.new) }
     ensures ok { IfOk result
         (λ kept. (points : Bool) (first : ℕ) → LeadsRecords points first (state encoder.old)
-        → (lent : List Record) (more : List Record) → AlwaysYields I.next_gives I.Item.lent records lent
-        → AlwaysYields J.next_gives J.Item.lent later more → AllByRecursion ReadsBackAlone lent → AllByRecursion ReadsBackAlone more
+        → (lent : List Record) (more : List Record) → Supplies I.next_gives I.Item.lent records lent
+        → Supplies J.next_gives J.Item.lent later more → AllByRecursion IsServable lent → AllByRecursion IsServable more
         → EmitsFront (ReplyRecordAt points first) plain (lent ++ more) kept (state encoder.old) (state encoder.new)
         × LeadsRecords points first (state encoder.new)) }
     ensures cause { IfErr result
-        (λ e. (lent : List Record) (more : List Record) → AlwaysYields I.next_gives I.Item.lent records lent
-        → AlwaysYields J.next_gives J.Item.lent later more → AllByRecursion ReadsBackAlone lent → AllByRecursion ReadsBackAlone more
+        (λ e. (lent : List Record) (more : List Record) → Supplies I.next_gives I.Item.lent records lent
+        → Supplies J.next_gives J.Item.lent later more → AllByRecursion IsServable lent → AllByRecursion IsServable more
         → IsMemory e) }
 {
     let kept = emit_front(encoder, records)?;
@@ -182,12 +182,12 @@ where
     ensures writes { Writes (state encoder.old) (state encoder.new) }
     ensures ok { IfOk result
         (λ kept. (points : Bool) (first : ℕ) → LeadsRecords points first (state encoder.old)
-        → (lent : List Record) → AlwaysYields I.next_gives I.Item.lent records lent → AllByRecursion ReadsBackAlone lent
+        → (lent : List Record) → Supplies I.next_gives I.Item.lent records lent → AllByRecursion IsServable lent
         → AllByRecursion EdnsReadsBack (option_to_list (option_copied edns.entry))
         → AllByRecursion TsigReadsBack (option_to_list (option_copied signature.entry))
         → EmitsAdditionals points first lent (option_copied edns.entry) (option_copied signature.entry) kept (state encoder.old) (state encoder.new)) }
     ensures cause { IfErr result
-        (λ e. (lent : List Record) → AlwaysYields I.next_gives I.Item.lent records lent → AllByRecursion ReadsBackAlone lent
+        (λ e. (lent : List Record) → Supplies I.next_gives I.Item.lent records lent → AllByRecursion IsServable lent
         → AllByRecursion EdnsReadsBack (option_to_list (option_copied edns.entry))
         → AllByRecursion TsigReadsBack (option_to_list (option_copied signature.entry)) → IsMemory e) }
 {

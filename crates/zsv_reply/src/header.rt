@@ -3,7 +3,8 @@
 ghost use Rattle.std.specs.Prelude.{◌≡◌, ◌||◌, ◌++◌, false, ℕ, List, IfOk};
 ghost use Rattle.zsv_request.specs.zsv_message.zsv_parts.Headers.{header_of, header_octets};
 ghost use Rattle.zsv_reply.specs.Replies.{bare_failure, header_of_reply};
-ghost use Rattle.zsv_reply.specs.Writing.{FitsOpCode, IsBare};
+ghost use Rattle.zsv_request.specs.zsv_message.zsv_parts.Headers.{FitsOpCode};
+ghost use Rattle.zsv_reply.specs.Writing.{IsBare};
 
 use crate::fronts::Kept;
 use std::alloc::{AllocError, Global};

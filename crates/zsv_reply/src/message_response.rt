@@ -1,14 +1,14 @@
 //! Replies: what a reply holds, and how it is written (RFC 1035 section 4.1, RFC 2181 section 9, RFC 6891 section 6.1, RFC
 //! 8945 section 5.1).
 
-ghost use Rattle.std.specs.Prelude.{◌≡◌, ◌+◌, ◌^◌, ◌<◌, ◌≤◌, Some, length, IfOk, IfErr, OnOk};
+ghost use Rattle.std.specs.Prelude.{◌≡◌, ◌+◌, ◌^◌, ◌<◌, ◌≤◌, Some, length, option_copied, IfOk, IfErr, OnOk};
 ghost use Rattle.zsv_request.specs.Requests.{limit_of};
 ghost use Rattle.zsv_request.specs.zsv_message.zst_record.dnw_encoder.Effects.{IsRefusal};
 ghost use Rattle.zsv_request.specs.zsv_message.zst_record.dnw_encoder.Encoders.{state};
 ghost use Rattle.zsv_request.specs.zsv_message.zst_record.drd_rdata.Writing.{WritesInFull};
 ghost use Rattle.zsv_reply.specs.Lending.{Holds};
 ghost use Rattle.zsv_reply.specs.Replies.{ReplyParts};
-ghost use Rattle.zsv_reply.specs.Writing.{AllReadBack, FitsOpCode, IsEmitted, IsEncoded, lets_point};
+ghost use Rattle.zsv_reply.specs.Writing.{AllReadBack, IsEmitted, IsEncoded, lets_point};
 
 use crate::fronts::{emit_additionals, emit_front, emit_section};
 use crate::header::{encode_failure, header_over};
@@ -92,13 +92,12 @@ where
     /// they were sent, and of each list what fits; authorities and the start of a zone are one list. The header counts what
     /// is written, options and signature among the additional records, and says whether something was left out (RFC 2181
     /// section 9, RFC 6891 section 6.1.1, RFC 9471 section 3.1). It has the last four bits of the response code. A maximum
-    /// that doesn't hold the header and the questions is refused by `MaxBufferSizeExceeded`.
+    /// that doesn't hold the header and the questions is refused by `MaxBufferSizeExceeded`. The iterators may be endless.
     pub fn destructive_emit(self, encoder: &mut BinEncoder<'_>) -> Result<ResponseInfo, ProtoError>
         requires answers { A.can_next self.answers }
         requires authorities { N.can_next self.authorities }
         requires soa { S.can_next self.soa }
         requires additionals { D.can_next self.additionals }
-        requires metadata { FitsOpCode self.metadata }
         requires front { (state encoder.old).offset ≡ 0 }
         requires in_full { WritesInFull (state encoder.old) }
         requires small { (state encoder.old).maximum < 2 ^ 16 }
@@ -127,8 +126,9 @@ where
     }
 
     /// The octets of the reply, and its header as it was written. Over UDP it has at most 512 octets, or as many as its
-    /// options say; over TCP at most 65,535. What doesn't fit is left out, as `destructive_emit` tells. Where not even the
-    /// questions fit, or a record can't be written, it is a header alone, which says that the server failed.
+    /// options say; over TCP at most 65,535. What doesn't fit is left out, as `destructive_emit` says. Where not even the
+    /// questions fit, or a record can't be written, it is a header alone, which says that the server failed. The iterators
+    /// may be endless.
     pub fn encode(
         self,
         alloc: Global,
@@ -138,8 +138,8 @@ where
         requires authorities { N.can_next self.authorities }
         requires soa { S.can_next self.soa }
         requires additionals { D.can_next self.additionals }
-        requires metadata { FitsOpCode self.metadata }
-        ensures { IfOk result
+        ensures limit { IfOk result (λ sent. length sent.1.items ≤ limit_of protocol (option_copied self.entry.edns)) }
+        ensures ok { IfOk result
             (λ sent. (parts : ReplyParts)
             → Holds A.next_gives A.Item.lent N.next_gives N.Item.lent S.next_gives S.Item.lent D.next_gives D.Item.lent self.entry parts
             → AllReadBack parts → IsEncoded sent.0 sent.1.items parts self.entry.queries.now (limit_of protocol parts.edns)) }
@@ -152,7 +152,13 @@ where
         let written = self.destructive_emit(&mut encoder);
         encoder.into_bytes();
         match written {
-            Ok(info) => Ok((info, reply)),
+            Ok(info) => {
+                // Whatever an item's own writer may have left: nothing above the limit is sent.
+                if usize::from(limit) < reply.len() {
+                    return encode_failure(alloc, id);
+                }
+                Ok((info, reply))
+            }
             Err(ProtoError::Memory(refused)) => Err(refused),
             Err(_) => encode_failure(alloc, id),
         }

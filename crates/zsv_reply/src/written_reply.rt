@@ -1,13 +1,14 @@
 //! Replies whose records were written before, as those of most are.
 
-ghost use Rattle.std.specs.Prelude.{◌≡◌, ◌+◌, ◌<◌, ◌≤◌, ◌++◌, ℕ, List, false, length, option_copied, IfOk, MatchOption};
+ghost use Rattle.std.specs.Prelude.{◌≡◌, ◌+◌, ◌<◌, ◌≤◌, ◌++◌, ℕ, List, false, length, option_copied, IfOk, IfSome, MatchOption};
 ghost use Rattle.zsv_request.specs.Requests.{limit_of};
 ghost use Rattle.zsv_request.specs.zsv_message.zst_record.declared.records.Record.{Record};
 ghost use Rattle.zsv_request.specs.zsv_message.zst_record.dnw_name.DomainName.{DomainName};
 ghost use Rattle.zsv_request.specs.zsv_message.zsv_parts.Headers.{header_of, header_octets};
 ghost use Rattle.zsv_request.specs.zsv_message.zsv_parts.Questions.{HasWholeName};
 ghost use Rattle.zsv_reply.specs.Replies.{header_of_reply};
-ghost use Rattle.zsv_reply.specs.Writing.{AllReadBack, AreWritten, FitsOpCode, IsEncoded, NeedsEncoder, written_parts};
+ghost use Rattle.zsv_request.specs.zsv_message.zsv_parts.Headers.{FitsOpCode};
+ghost use Rattle.zsv_reply.specs.Writing.{AllReadBack, AreWritten, IsEncoded, NeedsEncoder, written_parts};
 
 use crate::fronts::Kept;
 use crate::header::header_over;
@@ -87,8 +88,8 @@ pub fn encode_written(
     edns: Option<&Edns>,
     protocol: Protocol,
 ) -> Result<Option<(ResponseInfo, Vec<u8>)>, AllocError>
-    requires { FitsOpCode metadata }
-    ensures { IfOk result (λ found. MatchOption found
+    ensures limit { IfOk result (λ found. IfSome found (λ sent. length sent.1.items ≤ limit_of protocol (option_copied edns.entry))) }
+    ensures ok { IfOk result (λ found. MatchOption found
         (NeedsEncoder (option_copied edns.entry) queries.now records.entry.octets.now (limit_of protocol (option_copied edns.entry)))
         (λ sent. (asked : DomainName) (answers authorities : List Record) → HasWholeName queries.now asked
         → AreWritten asked records.entry answers authorities → AllReadBack (written_parts metadata answers authorities (option_copied edns.entry))

@@ -1,5 +1,6 @@
+use Rattle.std.proofs.Common.{arith}
 use Rattle.std.proofs.lemmas.Result.{err_from_is_err_and}
-use Rattle.authority_load.proofs.Causes.{value_refused, value_taken}
+use Rattle.authority_load.proofs.Causes.{stands_since, value_refused, value_taken}
 use Rattle.authority_load.proofs.line.record_of.Goals as goal
 
 pub returns-in_err-header-clause-gives : goal.returns-in_err-header-clause-gives
@@ -10,7 +11,7 @@ returns-in_err-header-clause-gives g c =
 pub returns-in_err-rdata-clause-gives : goal.returns-in_err-rdata-clause-gives
 returns-in_err-rdata-clause-gives g c =
     let p = err_from_is_err_and c.from_residual-in_err-rdata.result c.from_residual-in_err-rdata.ensures.1 in
-    rw (p.1, p.2) (c.in_err-rdata.ensures c.args.line.now c.in_ok-header.ensures)
+    rw (p.1, p.2) (stands_since c.args.zone.now c.args.line.now 2 8 _ (omega arith) (c.in_err-rdata.ensures c.args.line.now c.in_ok-header.ensures))
 
 pub returns-in-Some-clause-gives : goal.returns-in-Some-clause-gives
 returns-in-Some-clause-gives g c =

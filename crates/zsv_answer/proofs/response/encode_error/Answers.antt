@@ -7,5 +7,5 @@ use Rattle.zsv_answer.proofs.response.encode_error.Goals as goal
 
 pub returns : goal.returns
 returns c =
-    let told = c.encode_bare.ensures c.args.queries.now (search rules) (sym c.as_bytes.ensures) in
+    let told = c.encode_bare.ensures.ok c.args.queries.now (search rules) (sym c.as_bytes.ensures) in
     subst (λ (m : Metadata). IfOk c.encode_bare.result (λ sent. IsEncoded sent.0 sent.1.items (bare_parts m) c.args.queries.now (limit_of c.args.protocol None))) c.reply_header-header.ensures told

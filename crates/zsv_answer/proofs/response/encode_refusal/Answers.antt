@@ -7,4 +7,4 @@ use Rattle.zsv_answer.proofs.response.encode_refusal.Goals as goal
 
 pub returns : goal.returns
 returns c = λ asked one are.
-    subst (λ (m : Metadata). IfOk c.encode_bare.result (λ sent. IsEncoded sent.0 sent.1.items (bare_parts m) asked (limit_of c.args.protocol None))) c.reply_header-header.ensures (c.encode_bare.ensures asked one are)
+    subst (λ (m : Metadata). IfOk c.encode_bare.result (λ sent. IsEncoded sent.0 sent.1.items (bare_parts m) asked (limit_of c.args.protocol None))) c.reply_header-header.ensures (c.encode_bare.ensures.ok asked one are)

@@ -27,7 +27,7 @@ returns-in-Some-clause-ok c =
     on_ok_weaker c.store_name.result (λ stores.
     asks_first c.args.queries.now name old mid new c.requires
     (subst (λ octets. WritesOctets octets old mid) c.as_bytes.ensures c.in_ok-emit_vec.ensures.ok)
-    (labels_first c.args.queries.now.questions c.in-Some.query.now (c.in-Some.ensures.value ∙ ap (λ (qs : List Query). slice_get qs 0) c.queries.ensures))
+    (labels_first c.args.queries.now.questions c.in-Some.query.now (c.in-Some.ensures.value ∙ ap (λ (qs : List Query). slice_get qs 0) c.queries.ensures.value))
     (subst (λ start. StoresName name start mid new) c.offset-start.ensures.value stores))
     c.store_name.ensures.ok
 
@@ -37,4 +37,4 @@ returns-in-None-clause-ok c =
     let mid = state c.emit_vec.new.self in
     asks_nothing c.args.queries.now old mid c.requires
     (subst (λ octets. WritesOctets octets old mid) c.as_bytes.ensures c.in_ok-emit_vec.ensures.ok)
-    (labels_none c.args.queries.now.questions (c.in-None.ensures.value ∙ ap (λ (qs : List Query). slice_get qs 0) c.queries.ensures))
+    (labels_none c.args.queries.now.questions (c.in-None.ensures.value ∙ ap (λ (qs : List Query). slice_get qs 0) c.queries.ensures.value))

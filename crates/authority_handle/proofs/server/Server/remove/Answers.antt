@@ -6,6 +6,6 @@ use Rattle.authority_handle.proofs.server.Server.remove.Goals as goal
 
 pub returns-clause-unchanged : goal.returns-clause-unchanged
 returns-clause-unchanged c =
-    c.in_ok-chain.ensures.ok
+    c.remove.ensures.after
     ∙ not_there (world_in c.args.self.now) c.in_ok-name.name
-    (c.in_ok-chain.ensures.views ∙ ap (option_map (λ handlers. map view_of handlers.items)) c.in-None.is)
+    (c.remove.ensures.views ∙ ap (option_map (λ handlers. map view_of handlers.items)) c.in-None.is)

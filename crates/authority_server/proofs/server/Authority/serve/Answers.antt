@@ -1,17 +1,11 @@
 use Rattle.std.proofs.Common.{◌∙◌, ap, refl, sym}
 use Rattle.zsv_access.specs.Access.{is_allowed}
-use Rattle.zsv_catalog.proofs.Asked.{fits_request}
 use Rattle.zsv_catalog.specs.zsv_answer.zsv_reply.zsv_message.Messages.{bare_message}
 use Rattle.authority_server.specs.Runs.{octets_of}
 use Rattle.authority_server.specs.Servers.{world_of}
 use Rattle.authority_server.specs.Serving.{Received, Serves}
 use Rattle.authority_server.proofs.Answered.{answer_of, answer_refused_for, refusal_sent, sent_answers}
 use Rattle.authority_server.proofs.server.Authority.serve.Goals as goal
-
-pub encode_refusal-requires : goal.encode_refusal-requires
-encode_refusal-requires g c =
-    let there = c.in-Some.ensures.there in
-    fits_request c.args.message.now (bare_message c.in-Some.request.metadata there.0) there.1
 
 pub returns-in-Some : goal.returns-in-Some
 returns-in-Some g c =

@@ -1,15 +1,12 @@
 use Rattle.std.proofs.Common.{refl, sym, subst, ⊎_elim, Vec, Global}
 use Rattle.std.specs.Prelude.{ℕ, Option}
 use Rattle.std.proofs.lemmas.Result.{IfOk-weaker, IfErr-weaker}
-use Rattle.zsv_catalog.proofs.Asked.{fits_request, memory_behind_header}
+use Rattle.zsv_catalog.proofs.Asked.{memory_behind_header}
 use Rattle.authority_server.specs.Runs.{octets_of}
 use Rattle.authority_server.specs.Servers.{world_of}
 use Rattle.authority_server.specs.Serving.{Received, Serves}
 use Rattle.authority_server.proofs.Answered.{answer_of, answer_refused_for, sent_answers}
 use Rattle.authority_server.proofs.server.Authority.serve_any.Goals as goal
-
-pub reply_to-requires : goal.reply_to-requires
-reply_to-requires g c = fits_request c.args.message.now c.in-Ok.request c.in-Ok.ensures
 
 pub returns-in-Err-clause-served : goal.returns-in-Err-clause-served
 returns-in-Err-clause-served g c = λ is moment.

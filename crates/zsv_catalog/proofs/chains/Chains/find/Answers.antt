@@ -1,5 +1,5 @@
 use Rattle.std.proofs.Common.{◌≡◌, subst}
-use Rattle.std.specs.Prelude.{IfOk, option_map}
+use Rattle.std.specs.Prelude.{option_map}
 use Rattle.zst_key.specs.Ancestors.{nearest_in}
 use Rattle.zst_key.specs.dnw_name.DomainName.{DomainName}
 use Rattle.zsv_catalog.specs.Chains.{chain_at}
@@ -7,5 +7,5 @@ use Rattle.zsv_catalog.proofs.chains.Chains.find.Goals as goal
 
 pub returns : goal.returns
 returns g c =
-    let chains = c.args.self.now.chains.entries in
-    subst (λ (name : DomainName). IfOk c.find_at.result (λ found. option_map (λ chain. chain.now) found ≡ option_map (λ chain. chain.items) (option_map (λ entry. entry.1) (nearest_in (chain_at chains) name)))) c.in_ok-key.ensures.key c.find_at.ensures
+    let chains = c.args.self.now.chains in
+    subst (λ (name : DomainName). option_map (λ chain. chain.now) c.find_at.result ≡ option_map (λ chain. chain.items) (option_map (λ entry. entry.1) (nearest_in (chain_at chains) name))) c.of-key.ensures (subst (λ (name : DomainName). option_map (λ chain. chain.now) c.find_at.result ≡ option_map (λ chain. chain.items) (option_map (λ entry. entry.1) (nearest_in (chain_at chains) name))) c.borrow.ensures c.find_at.ensures)

@@ -10,12 +10,12 @@ items_of found = option_map (λ chain. chain.items) (option_map (λ entry. entry
 
 pub returns-in-Some : goal.returns-in-Some
 returns-in-Some g c =
-    let chains = c.args.self.now.chains.entries in
-    let there = subst (λ (o : Option _). option_map (λ p. (p.0.now, p.1.now)) o ≡ nearest_in (chain_at chains) c.args.key.now) c.in-Some.is c.in_ok-chain.ensures in
+    let chains = c.args.self.now.chains in
+    let there = subst (λ (o : Option _). option_map (λ entry. entry.now) o ≡ nearest_in (chain_at chains) c.args.key) c.in-Some.is c.nearest.ensures in
     ap Some c.deref.ensures.value ∙ ap items_of there
 
 pub returns-in-None : goal.returns-in-None
 returns-in-None g c =
-    let chains = c.args.self.now.chains.entries in
-    let there = subst (λ (o : Option _). option_map (λ p. (p.0.now, p.1.now)) o ≡ nearest_in (chain_at chains) c.args.key.now) c.in-None.is c.in_ok-chain.ensures in
+    let chains = c.args.self.now.chains in
+    let there = subst (λ (o : Option _). option_map (λ entry. entry.now) o ≡ nearest_in (chain_at chains) c.args.key) c.in-None.is c.nearest.ensures in
     ap items_of there

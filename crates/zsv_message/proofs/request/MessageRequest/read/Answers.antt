@@ -5,6 +5,7 @@ use Rattle.zsv_sections.specs.zst_record.dnw_decoder.Reading.{IsWantOfMemory, Re
 use Rattle.zsv_sections.specs.zst_record.declared.records.Record.{Record}
 use Rattle.zsv_sections.specs.declared.placing.Placing.{Placing}
 use Rattle.zsv_sections.specs.Sections.{RefusesSection, SectionAt}
+use Rattle.zsv_message.proofs.Fits.{fits_header, fits_joined}
 use Rattle.zsv_message.proofs.Whole.{additionals_err, answers_err, asks_of, authorities_err, before_of, is_bare_message, is_held, is_message, memory_err}
 use Rattle.zsv_message.specs.Messages.{IsMessage, Message}
 use Rattle.zsv_message.proofs.request.MessageRequest.read.Goals as goal
@@ -94,3 +95,10 @@ returns-in_err-held c =
     let octets = c.args.octets.now in
     let asks = asks_of octets c.new-decoder.result c.read.new.decoder c.read-2.new.decoder c.in_ok-header.header c.in_ok-queries.queries c.new-decoder.ensures c.in_ok-header.ensures.header c.in_ok-header.ensures.same c.in_ok-queries.ensures.ok in
     rw (p.1, p.2) (memory_err octets c.in_err-held.field-0.0 asks.long c.in_err-held.ensures.memory)
+
+pub invariant_of-result : goal.invariant_of-result
+invariant_of-result c =
+    let octets = c.args.octets.now in
+    let h = c.in_ok-header.header in
+    let asks = asks_of octets c.new-decoder.result c.read.new.decoder c.read-2.new.decoder h c.in_ok-queries.queries c.new-decoder.ensures c.in_ok-header.ensures.header c.in_ok-header.ensures.same c.in_ok-queries.ensures.ok in
+    fits_joined h.metadata c.joined.result c.in_ok-found.found.edns c.joined.ensures (fits_header octets h asks.means)

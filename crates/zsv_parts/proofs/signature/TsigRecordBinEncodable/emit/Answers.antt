@@ -1,4 +1,4 @@
-use Rattle.std.proofs.Common.{◌≡◌, ◌<◌, ◌^◌, length, rules}
+use Rattle.std.proofs.Common.{◌≡◌, ℕ, ◌<◌, ◌^◌, length, rules, subst}
 use Rattle.std.proofs.lemmas.Result.{IfErr-weaker}
 use Rattle.dnw_encoder.specs.Effects.{WritesOctets}
 use Rattle.dnw_encoder.specs.Encoders.{state}
@@ -42,4 +42,6 @@ returns-clause-err c =
     let r = c.args.self.now in
     let len = c.in-Some.len in
     let head : WritesOctets (tsig_numbers r len) mid later = rw c.numbers.ensures.octets at c.in_ok-emit_vec.ensures.ok in
-    IfErr-weaker c.emit_data.result _ _ (λ e refused. data_refused r len old mid later e c.in_ok-emit_owner.ensures.ok head refused) c.emit_data.ensures.cause
+    let small : len < 2 ^ 16 = search rules in
+    let few : length (tsig_octets r.rdata) < 2 ^ 16 = subst (λ (n : ℕ). n < 2 ^ 16) c.in-Some.ensures small in
+    IfErr-weaker c.emit_data.result _ _ (λ e refused. data_refused r len old mid later e few c.in_ok-emit_owner.ensures.ok head refused) c.emit_data.ensures.cause

@@ -3,13 +3,13 @@ use Rattle.std.specs.List.{AllByRecursion}
 use Rattle.std.specs.Prelude.{Option, option_copied, option_to_list}
 use Rattle.zsv_request.specs.zsv_message.zst_record.dnw_encoder.Encoders.{state}
 use Rattle.zsv_request.proofs.zsv_message_lemmas.zst_record_lemmas.dnw_encoder_lemmas.PlaceLaws.{opens_open}
-use Rattle.zsv_request.specs.zsv_message.zst_record.Records.{ReadsBackAlone}
+use Rattle.zsv_request.specs.zsv_message.zst_record.Records.{IsServable}
 use Rattle.zsv_request.specs.zsv_message.zst_record.declared.records.Record.{Record}
 use Rattle.zsv_request.specs.zsv_message.zst_record.dnw_encoder.Effects.{Fills}
 use Rattle.zsv_request.specs.zsv_message.zst_edns.declared.edns.Edns.{Edns}
 use Rattle.zsv_request.specs.zsv_message.zst_edns.Writing.{EdnsReadsBack}
 use Rattle.zsv_request.specs.zsv_message.zsv_parts.declared.tsig.TsigRecord.{TsigRecord}
-use Rattle.zsv_request.specs.zsv_message.zsv_parts.Headers.{header_octets}
+use Rattle.zsv_request.specs.zsv_message.zsv_parts.Headers.{FitsOpCode, header_octets}
 use Rattle.zsv_request.specs.zsv_message.zsv_parts.SignatureRecords.{TsigReadsBack}
 use Rattle.zsv_request.specs.zsv_message.zst_record.Records.{plain}
 use Rattle.zsv_reply.specs.Replies.{ReplyRecordAt, header_of_reply}
@@ -42,7 +42,7 @@ returns-in_err-answers-clause-cause g c = if_passed_on _ c.from_residual-in_err-
 
 pub returns-in_err-authorities-clause-cause : goal.returns-in_err-authorities-clause-cause
 returns-in_err-authorities-clause-cause g c = if_passed_on _ c.from_residual-in_err-authorities.result c.in_err-authorities.field-0.0 c.from_residual-in_err-authorities.ensures.1 (λ parts holds alone.
-    let both = subst (λ (rs : List Record). AllByRecursion ReadsBackAlone rs) holds.section alone.authorities in
+    let both = subst (λ (rs : List Record). AllByRecursion IsServable rs) holds.section alone.authorities in
     inl (c.in_err-authorities.ensures.cause holds.above holds.behind holds.authorities holds.soa (first_back holds.above holds.behind both) (later_back holds.above holds.behind both)))
 
 pub returns-in_err-replace-clause-cause : goal.returns-in_err-replace-clause-cause
@@ -68,7 +68,7 @@ returns-clause-ok g c parts holds alone =
     let answers = c.in_ok-answers.answers in
     let authorities = c.in_ok-authorities.authorities in
     let additionals = c.in_ok-additionals.additionals in
-    let both = subst (λ (rs : List Record). AllByRecursion ReadsBackAlone rs) holds.section alone.authorities in
+    let both = subst (λ (rs : List Record). AllByRecursion IsServable rs) holds.section alone.authorities in
     let options_back = subst (λ (e : Option Edns). AllByRecursion EdnsReadsBack (option_to_list e)) holds.edns alone.edns in
     let signature_back = subst (λ (s : Option TsigRecord). AllByRecursion TsigReadsBack (option_to_list s)) holds.signature alone.signature in
     let points = lets_point (state c.args.encoder.now) questions in
@@ -90,7 +90,7 @@ returns-clause-ok g c parts holds alone =
           (c.in_ok-additionals.ensures.ok points asked.offset two.1 parts.additionals holds.additionals alone.additionals options_back signature_back));
       additionals_writes = c.in_ok-additionals.ensures.writes;
       header = subst (λ (p : ℕ). Fills p (header_octets header) told filled) front c.in_ok-replace.ensures.ok;
-      back = c.header_over-header.ensures.back c.requires.metadata;
+      back = λ fits. c.header_over-header.ensures.back (subst FitsOpCode holds.metadata fits);
       says = c.header_over-header.ensures.value
           ∙ (λ i. header_of_reply (sym holds.metadata i) (answers.is_cut || authorities.is_cut || additionals.is_cut) (c.len-count.ensures.value i) answers.count authorities.count additionals.count);
     } in

@@ -8,9 +8,9 @@ use Rattle.zsv_reply.specs.Writing.{IsEncoded}
 use Rattle.zsv_reply.proofs.Asking.{encoded}
 use Rattle.zsv_reply.proofs.message_response.MessageResponse.encode.Goals as goal
 
-pub returns-in-Ok : goal.returns-in-Ok
+pub returns-in-Ok-clause-ok : goal.returns-in-Ok-clause-ok
 unfolding writes_pointers
-returns-in-Ok g c = λ parts holds alone.
+returns-in-Ok-clause-ok g c = λ parts holds alone.
     let s = state c.set_max_size.new.self in
     let begun = c.set_max_size.ensures.state ∙ ap (λ (t : State). record t { maximum = c.limit-limit.result }) c.new-encoder.ensures.state in
     let maximum = ap (λ (t : State). t.maximum) begun ∙ c.limit-limit.ensures.value ∙ ap (λ (e : Option Edns). limit_of c.args.protocol e) (sym holds.edns) in
