@@ -1,3 +1,4 @@
 mod Lists
 mod Networks
 mod Removed
+mod Replies

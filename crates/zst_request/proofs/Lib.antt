@@ -1,1 +1,2 @@
 pub mod WorkedRows
+pub use Rattle.zst_handler.proofs.LookupOnce

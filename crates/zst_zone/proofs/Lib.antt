@@ -1,6 +1,5 @@
 pub mod Answered
 pub mod ChainLinks
-pub mod LookupOnce
 pub mod LowerNames
 pub mod Made
 pub mod Matches

@@ -2,15 +2,15 @@
 use Rattle.std.proofs.Common.{◌≡◌, ℕ, ◌+◌, ◌≤◌, Bool, true, false, ◌||◌, List, [], ◌∷◌, length, refl, ap, sym, ◌∙◌, subst, arith, true≢false}
 use Rattle.std.specs.Prelude.{Option, Some, None}
 use Rattle.std.specs.List.{list_any}
-use Rattle.zst_map.specs.dnw_codes.declared.record_type.RecordType.{RecordType}
-use Rattle.zst_map.specs.dnw_codes.declared.record_type.RecordType.TheVariants as kind
-use Rattle.zst_map.specs.dnw_codes.RecordType.{same_record_type}
-use Rattle.zst_map.specs.dnw_name.DomainName.{DomainName, name_eq}
-use Rattle.zst_map.specs.zst_record.RecordSets.{RRset}
-use Rattle.zst_map.specs.zst_handler.Chains.{IsAliasChain, Links, NoneTwice, asked_names, end_of, leads, long, loops, nothing}
-use Rattle.zst_map.specs.zst_handler.Found.{found}
-use Rattle.zst_map.specs.zst_handler.Lookups.{Answer, AnswersFrom, IsLookup, LookupFrom, Outcome, answered, is_flattened}
-use Rattle.zst_map.specs.zst_handler.Zones.{Zone}
+use Rattle.zst_handler.specs.dnw_codes.declared.record_type.RecordType.{RecordType}
+use Rattle.zst_handler.specs.dnw_codes.declared.record_type.RecordType.TheVariants as kind
+use Rattle.zst_handler.specs.dnw_codes.RecordType.{same_record_type}
+use Rattle.zst_handler.specs.dnw_name.DomainName.{DomainName, name_eq}
+use Rattle.zst_handler.specs.zst_record.RecordSets.{RRset}
+use Rattle.zst_handler.specs.Chains.{IsAliasChain, Links, NoneTwice, asked_names, end_of, leads, long, loops, nothing}
+use Rattle.zst_handler.specs.Found.{found}
+use Rattle.zst_handler.specs.Lookups.{Answer, AnswersFrom, IsLookup, LookupFrom, Outcome, answered, is_flattened}
+use Rattle.zst_handler.specs.Zones.{Zone}
 
 -- ---- the alias chain
 module _ (zone : List RRset) (t : RecordType) where
