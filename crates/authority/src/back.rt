@@ -7,14 +7,16 @@ ghost use Rattle.authority_load.specs.zst_zone.zst_handler.Zones.{ZoneReadsBack}
 use authority_load::InMemoryZoneHandler;
 use authority_server::Record;
 
-/// Whether a record can be read back alone, as each record of a zone that is served must be. It takes no memory.
+/// Whether a record reads back alone: its octets, names uncompressed, are read as itself. A record that is served is no
+/// OPT, SIG or TSIG besides. It takes no memory.
 pub fn record_reads_back(stored: &Record) -> bool
     ensures { IsTrue result ↔ ReadsBackAlone stored.now }
 {
     stored.reads_back_alone()
 }
 
-/// Whether each record of a zone and each signature can be read back alone, as a server asks. It takes no memory.
+/// Whether each record of a zone and each signature can be served: it reads back alone, and is no OPT, SIG or TSIG. It
+/// takes no memory.
 pub fn zone_reads_back<K>(zone: &InMemoryZoneHandler<K>) -> bool
     ensures { IsTrue result ↔ ZoneReadsBack zone.now }
 {

@@ -2,3 +2,4 @@ pub mod Answering
 pub mod Pointing
 pub mod Shapes
 pub mod zsv_reply_lemmas
+pub use Rattle.zst_request.proofs.LookupOnce

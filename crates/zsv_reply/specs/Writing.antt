@@ -63,7 +63,7 @@ NeedsEncoder (Some edns) asked octets limit =
     (0 < length edns.options.options.items)
     ⊎ (limit < 12 + length asked.octets + length octets + length (opt_octets edns))
 
--- Each record of a reply reads back alone, and its options and its signature read back.
+-- Each record of a reply can be served, and its options and its signature read back.
 pub record AllReadBack (parts : ReplyParts) : Type 0 where
   pub answers : AllByRecursion IsServable parts.answers
   pub authorities : AllByRecursion IsServable parts.authorities
