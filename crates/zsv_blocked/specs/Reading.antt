@@ -12,10 +12,12 @@ use Rattle.zsv_blocked.specs.declared.read.BlocklistError.TheVariants as causes
 abbrev pub GivesTooMany : Option (List ℕ) → Option (List ℕ) → Type 0
 GivesTooMany old new = (octets : List ℕ) × Consumes old new octets × (2 ^ 32 ≤ length octets)
 
--- What was read when memory was refused: these octets, not too many, and no fault.
+-- What was read when memory was refused: these octets, not too many, and no fault in the record of
+-- the reader that gave them.
 pub record IsShortOfMemory (faults : ReadFaults) (old new : Option (List ℕ)) (octets : List ℕ) :
     Type 0 where
   pub well : faults.failed ≡ false
+  pub given : faults.given ≡ true
   pub consumed : Consumes old new octets
   pub few : length octets < 2 ^ 32
 
@@ -45,7 +47,8 @@ pub record AddsRead (names : List DomainName) (old new : Option (List ℕ))
 -- reader's end was seen or for octets that are UTF-8.
 abbrev pub IsListFault : ReadFaults → Option (List ℕ) → Option (List ℕ) → BlocklistError → Type 0
 IsListFault faults old new causes.NotUtf8 =
-    (octets : List ℕ) × IsRead old new octets × (IsUtf8 octets → ⊥)
+    (octets : List ℕ) × IsRead old new octets × (IsUtf8 octets → ⊥) × (faults.failed ≡ false)
+    × (faults.ended ≡ true)
 IsListFault faults old new causes.OutOfMemory =
     (octets : List ℕ) × IsShortOfMemory faults old new octets
     × (faults.ended ≡ true → IsAtEnd new × IsUtf8 octets)

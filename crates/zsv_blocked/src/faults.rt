@@ -2,16 +2,18 @@
 //!
 //! std's `Read` has nothing by which a contract can tell that a call failed, or that one gave no octets. So the one call
 //! is here, and records both as they are answered; the contracts of who reads speak of the record.
-ghost use Rattle.std.specs.Prelude.{◌≡◌, ◌<◌, ◌≤◌, ◌==◌, true, MatchOption, length, take};
+ghost use Rattle.std.specs.Prelude.{◌≡◌, ◌<◌, ◌≤◌, ◌==◌, ◌||◌, not, true, MatchOption, length, take};
 ghost use Rattle.std.specs.Io.KnownBytes.{Consumes, IsAtEnd, Keeps};
 
 use std::io::Read;
 
-/// Whether a reader answered a fault, and whether its last call gave no octets. Only the call below changes it.
+/// Whether a reader answered a fault, whether its last call gave no octets, and whether one gave some. Only the call below
+/// changes it. A new record says that no octets were given, so that none can stand in for one that says more.
 #[derive(Debug, Drop)]
 pub struct ReadFaults {
     failed: bool,
     ended: bool,
+    given: bool,
 }
 
 impl ReadFaults {
@@ -21,10 +23,12 @@ impl ReadFaults {
     pub fn none() -> ReadFaults
         ensures failed { result.failed ≡ false }
         ensures ended { result.ended ≡ false }
+        ensures given { result.given ≡ false }
     {
         ReadFaults {
             failed: false,
             ended: false,
+            given: false,
         }
     }
 
@@ -48,12 +52,14 @@ impl ReadFaults {
             (λ count. (count ≤ length buffer.new) × Consumes (R.remaining reader.old) (R.remaining reader.new) (take count buffer.new)
             × (count ≡ 0 → 0 < length buffer.new → IsAtEnd (R.remaining reader.new))) }
         ensures fault { MatchOption result (self.new.failed ≡ true)
-            (λ count. (self.new.failed ≡ self.old.failed) × (self.new.ended ≡ (count == 0))) }
+            (λ count. (self.new.failed ≡ self.old.failed) × (self.new.ended ≡ (count == 0))
+            × (self.new.given ≡ (self.old.given || not (count == 0)))) }
     {
         match reader.read(buffer) {
             Ok(count) => {
                 *self = ReadFaults {
                     ended: count == 0,
+                    given: self.given || count != 0,
                     ..*self
                 };
                 Some(count)

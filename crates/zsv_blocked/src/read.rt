@@ -51,6 +51,7 @@ pub fn read_list<R: Read>(
     ensures few { IfOk result (λ octets. length octets.items < 2 ^ 32) }
     ensures well { OnOk result (faults.new.failed ≡ false) }
     ensures ended { OnOk result (faults.new.ended ≡ true) }
+    ensures given { IfOk result (λ octets. 0 < length octets.items → faults.new.given ≡ true) }
     ensures cause { IfErr result (IsReadFault faults.new (R.remaining reader.old) (R.remaining reader.new)) }
 {
     let mut octets = Vec::new(alloc);
@@ -81,9 +82,14 @@ pub fn add_list<R: Read>(
     requires { faults.old.failed ≡ false }
     ensures ok { OnOk result (AddsRead names.old (R.remaining reader.old) (R.remaining reader.new) names.new) }
     ensures err { OnErr result (names.new ≡ names.old) }
+    ensures well { OnOk result (faults.new.failed ≡ false) }
+    ensures ended { OnOk result (faults.new.ended ≡ true) }
     ensures cause { IfErr result (IsListFault faults.new (R.remaining reader.old) (R.remaining reader.new)) }
 {
     let octets = read_list(alloc, reader, faults)?;
+    if octets.is_empty() {
+        return Ok(());
+    }
     let Ok(text) = str::from_utf8(&octets) else {
         return Err(BlocklistError::NotUtf8);
     };

@@ -153,6 +153,8 @@ impl BlocklistZoneHandler {
         ensures ok { OnOk result (AddsRead self.old.names (R.remaining reader.old) (R.remaining reader.new) self.new.names) }
         ensures kept { self.new ≡ record self.old { names = self.new.names } }
         ensures err { OnErr result (self.new ≡ self.old) }
+        ensures well { OnOk result (faults.new.failed ≡ false) }
+        ensures ended { OnOk result (faults.new.ended ≡ true) }
         ensures cause { IfErr result (IsListFault faults.new (R.remaining reader.old) (R.remaining reader.new)) }
     {
         add_list(alloc, &mut self.names, reader, faults)

@@ -1,4 +1,4 @@
-use Rattle.std.proofs.Common.{◌≡◌, ◌<◌, ◌^◌, ◌-◌, length, false}
+use Rattle.std.proofs.Common.{◌≡◌, ◌<◌, ◌^◌, ◌-◌, length, false, true}
 use Rattle.std.specs.Io.KnownBytes.{Consumes}
 use Rattle.zsv_blocked.proofs.read.read_list.Given as goal
 
@@ -7,6 +7,7 @@ invariant-reading g l = record {
   read : Consumes (g.R.Read.remaining l.initial.reader) (g.R.Read.remaining l.reader) l.octets.items;
   few : length l.octets.items < 2 ^ 32;
   well : l.faults.failed ≡ false;
+  given : 0 < length l.octets.items → l.faults.given ≡ true;
 }
 
 abbrev pub decreases-reading : goal.decreases-reading
