@@ -105,6 +105,7 @@ fn put(octets: &[u8], buffer: &mut [u8]) -> Option<usize>
 }
 
 // Serves a message, and returns the length of its reply.
+#[tactic(auto, using(crate::proofs::Replies::replied))]
 fn reply_to(
     server: &mut Server,
     message: &[u8],
