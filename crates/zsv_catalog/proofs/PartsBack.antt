@@ -40,7 +40,7 @@ use Rattle.zsv_answer.specs.zsv_reply.zsv_message.zsv_parts.declared.header.OpCo
 use Rattle.zsv_answer.specs.zsv_reply.zsv_message.zsv_parts.declared.question.Query.{Query}
 use Rattle.zsv_catalog.specs.Catalogs.{AnswersEdns, KindParts, OperationParts, PartsOf, PlainParts, QueryParts, QuestionParts, asks_for_dnssec, asks_for_nsid, has_other_version, identifier, nsid_for}
 use Rattle.zsv_catalog.specs.Chains.{chain_for}
-use Rattle.zsv_catalog.specs.ReadingBack.{ChainReadsBack, ChainsReadBack, FitsOption, ViewReadsBack}
+use Rattle.zsv_catalog.specs.ReadingBack.{ChainReadsBack, ChainsReadBack, ViewReadsBack}
 use Rattle.zsv_catalog.proofs.ResolvedBack.{ResolutionReadsBack, answering_back, for_back, resolves_back}
 use Rattle.zsv_catalog.proofs.ShownBack.{OutcomeReadsBack, append_back, filter_back, lookup_back, sets_shown_back, zone_sound}
 
@@ -174,6 +174,11 @@ one_option payload short = record {
   }));
   counted = omega (arith, short, length-append payload []);
 }
+
+-- The RDATA of an OPT record have room for the NSID, after its code and its length (RFC 6891, section 6.1.2; RFC 5001, section
+-- 2.3), as for every `NSIDPayload`.
+abbrev pub FitsOption : Option (List ℕ) → Type 0
+FitsOption nsid = IfSome nsid (λ octets. length octets ≤ 65531)
 
 identifier_back : (asked : Edns) (nsid : Option (List ℕ)) → FitsOption nsid → OptionsBack (identifier asked nsid)
 identifier_back asked None fits = record { options = inl refl; counted = omega arith }

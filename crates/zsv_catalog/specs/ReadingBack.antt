@@ -16,8 +16,3 @@ ChainReadsBack chain = AllByRecursion ViewReadsBack chain
 
 abbrev pub ChainsReadBack : List (DomainName × List View) → Type 0
 ChainsReadBack chains = AllByRecursion (λ entry. ChainReadsBack entry.1) chains
-
--- The RDATA of an OPT record have room for the NSID, after its code and its length (RFC 6891, section
--- 6.1.2; RFC 5001, section 2.3), as for every `NSIDPayload`.
-abbrev pub FitsOption : Option (List ℕ) → Type 0
-FitsOption nsid = IfSome nsid (λ octets. length octets ≤ 65531)

@@ -1,10 +1,9 @@
 //! What chains of handlers answer to a request (RFC 1034 section 4.3.2).
 
-ghost use Rattle.std.specs.Prelude.{◌≡◌, [], IfOk, OnOk, option_copied};
+ghost use Rattle.std.specs.Prelude.{◌≡◌, ◌≤◌, [], IfOk, IfSome, OnOk, length, option_copied};
 ghost use Rattle.zsv_answer.specs.Responses.{parts_of};
 ghost use Rattle.zsv_catalog.specs.Catalogs.{AnswersEdns, AnswersQuery, IsReplyEdns, KindParts, PlainParts, QueryParts, QuestionParts, RepliesBy, SendsWith, has_other_version, identifier, nsid_for};
 ghost use Rattle.zsv_catalog.specs.Chains.{views_of};
-ghost use Rattle.zsv_catalog.specs.ReadingBack.{FitsOption};
 
 use crate::chains::Chains;
 use drd_types::{EdnsCode, EdnsOption, NSIDPayload};
@@ -226,7 +225,7 @@ fn sent_by(
 
 // The octets of an NSID, for which an option has room.
 fn nsid_octets<'n>(nsid: Option<&'n NSIDPayload>) -> &'n [u8]
-    ensures { FitsOption (option_copied nsid.entry) }
+    ensures { IfSome (option_copied nsid.entry) (λ octets. length octets ≤ 65531) }
 {
     match nsid {
         Some(payload) => payload.as_ref(),
