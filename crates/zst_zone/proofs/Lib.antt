@@ -6,6 +6,7 @@ pub mod Matches
 pub mod ReadBack
 pub mod Stored
 pub mod Targets
+pub mod SeenKeys
 pub mod Told
 pub use Rattle.zst_map.proofs.dnw_name_lemmas
 pub use Rattle.zst_map.proofs.drd_words_lemmas

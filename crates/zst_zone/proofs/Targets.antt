@@ -2,7 +2,6 @@
 use Rattle.std.proofs.Common.{◌≡◌, ◌++◌, ◌≤◌, ℕ, drop, length, refl, ap, sym, ◌∙◌, append_assoc, append-nil}
 use Rattle.std.specs.Prelude.{Bool, true, false, not, cond, ◌||◌, List, [], ◌∷◌, Option, Some, None}
 use Rattle.std.proofs.lemmas.List.{drop_all}
-use Rattle.std.specs.HashSet.{HashSet, contains}
 use Rattle.std.specs.List.{cons_option, filter, flat_map, list_any}
 use Rattle.zst_map.specs.dnw_codes.declared.record_type.RecordType.TheVariants as kind
 use Rattle.zst_map.specs.dnw_name.DomainName.{DomainName, lowercase_name, name_eq}
@@ -55,14 +54,14 @@ any-lower (key ∷ keys) name =
     ap (λ (b : Bool). b || list_any (name_eq (lowercase_name name)) keys) (eq-lower-first name key)
     ∙ ap (λ (b : Bool). name_eq name key || b) (any-lower keys name)
 
-module _ {S : Type 0} (sets : List RRset) (seen : HashSet DomainName S) where
-  seen-keyed : (key name : DomainName) → key ≡ lowercase_name name → contains name_eq seen key ≡ contains name_eq seen name
-  seen-keyed key name at = ap (contains name_eq seen) at ∙ any-lower seen.keys name
+module _ (sets : List RRset) (seen : List DomainName) where
+  seen-keyed : (key name : DomainName) → key ≡ lowercase_name name → list_any (name_eq key) seen ≡ list_any (name_eq name) seen
+  seen-keyed key name at = ap (λ (other : DomainName). list_any (name_eq other) seen) at ∙ any-lower seen name
 
   unseen-lower : (name : DomainName) → unseen sets seen (lowercase_name name) ≡ unseen sets seen name
   unseen-lower name =
       ap (λ (b : Bool). cond b [] (addresses sets (Some (lowercase_name name)))) (seen-keyed (lowercase_name name) name refl)
-      ∙ ap (λ (more : List RRset). cond (contains name_eq seen name) [] more) (addresses-keyed sets (lowercase_name name) name refl)
+      ∙ ap (λ (more : List RRset). cond (list_any (name_eq name) seen) [] more) (addresses-keyed sets (lowercase_name name) name refl)
 
   -- A target that adds nothing is passed over, and so are those equal to it.
   adds-nothing : (name : DomainName) → unseen sets seen name ≡ [] → (other : DomainName) → cond (name_eq name other) [] (unseen sets seen other) ≡ unseen sets seen other
@@ -82,30 +81,30 @@ module _ {S : Type 0} (sets : List RRset) (seen : HashSet DomainName S) where
     pub left-without : None ≡ rrset_at sets key kind.A → None ≡ rrset_at sets key kind.AAAA → (later : List Record) → before ++ left_to_list sets seen later ≡ before ++ left_to_list sets seen (r ∷ later)
     left-without v4 v6 later =
         let none : unseen sets seen name ≡ []
-        = either-none (contains name_eq seen name) (addresses sets (Some name))
+        = either-none (list_any (name_eq name) seen) (addresses sets (Some name))
         (sym (addresses-keyed sets key name at) ∙ ap (λ (o : Option RRset). listed o ++ listed (rrset_at sets key kind.AAAA)) (sym v4) ∙ ap listed (sym v6)) in
         ap (λ (more : List RRset). before ++ more) (one-more (unseen sets seen) (unseen sets seen) name (adds-nothing name none) [] r later none to)
 
     -- The target is seen then.
-    module _ (new : HashSet DomainName S) (puts : (k : DomainName) → contains name_eq new k ≡ cond (name_eq key k) true (contains name_eq seen k)) where
+    module _ (new : List DomainName) (puts : (k : DomainName) → list_any (name_eq k) new ≡ cond (name_eq key k) true (list_any (name_eq k) seen)) where
       seen-now : (other : DomainName) → cond (name_eq name other) [] (unseen sets seen other) ≡ unseen sets new other
       seen-now other =
           by (name_eq name other)
           ∙ ap (λ (b : Bool). cond b [] (addresses sets (Some other)))
-          (sym (puts other ∙ ap (λ (b : Bool). cond b true (contains name_eq seen other)) (ap (λ (k : DomainName). name_eq k other) at ∙ eq-lower-first name other)))
+          (sym (puts other ∙ ap (λ (b : Bool). cond b true (list_any (name_eq other) seen)) (ap (λ (k : DomainName). name_eq k other) at ∙ eq-lower-first name other)))
         where
-          by : (b : Bool) → cond b [] (unseen sets seen other) ≡ cond (cond b true (contains name_eq seen other)) [] (addresses sets (Some other))
+          by : (b : Bool) → cond b [] (unseen sets seen other) ≡ cond (cond b true (list_any (name_eq other) seen)) [] (addresses sets (Some other))
           by true = refl
           by false = refl
 
       -- It was seen before.
-      pub left-seen : contains name_eq seen key ≡ true → (later : List Record) → before ++ left_to_list sets new later ≡ before ++ left_to_list sets seen (r ∷ later)
+      pub left-seen : list_any (name_eq key) seen ≡ true → (later : List Record) → before ++ left_to_list sets new later ≡ before ++ left_to_list sets seen (r ∷ later)
       left-seen there later =
           let none : unseen sets seen name ≡ [] = ap (λ (b : Bool). cond b [] (addresses sets (Some name))) (sym (seen-keyed key name at) ∙ there) in
           ap (λ (more : List RRset). before ++ more) (one-more (unseen sets seen) (unseen sets new) name seen-now [] r later none to)
 
       -- It was not.
-      pub left-new : contains name_eq seen key ≡ false → (v4 v6 : Option RRset) → v4 ≡ rrset_at sets key kind.A → v6 ≡ rrset_at sets key kind.AAAA
+      pub left-new : list_any (name_eq key) seen ≡ false → (v4 v6 : Option RRset) → v4 ≡ rrset_at sets key kind.A → v6 ≡ rrset_at sets key kind.AAAA
           → (first after : List RRset) → first ≡ before ++ listed v4 → after ≡ first ++ listed v6
           → (later : List Record) → after ++ left_to_list sets new later ≡ before ++ left_to_list sets seen (r ∷ later)
       left-new absent v4 v6 is4 is6 first after one two later =
@@ -119,19 +118,19 @@ module _ {S : Type 0} (sets : List RRset) (seen : HashSet DomainName S) where
 
 -- ---- all targets
 -- Nothing was seen before the first.
-none-seen : {S : Type 0} (sets : List RRset) (seen : HashSet DomainName S) → seen.keys ≡ [] → (names : List DomainName)
+none-seen : (sets : List RRset) (seen : List DomainName) → seen ≡ [] → (names : List DomainName)
     → flat_map (unseen sets seen) names ≡ flat_map (λ name. addresses sets (Some name)) names
 none-seen sets seen empty [] = refl
 none-seen sets seen empty (name ∷ names) =
     ap (λ (keys : List DomainName). cond (list_any (name_eq name) keys) [] (addresses sets (Some name)) ++ flat_map (unseen sets seen) names) empty
     ∙ ap (λ (more : List RRset). addresses sets (Some name) ++ more) (none-seen sets seen empty names)
 
-pub left-last : {S : Type 0} (sets : List RRset) (seen : HashSet DomainName S) (before all : List RRset) (rs : List Record) (n : ℕ) → length rs ≤ n
+pub left-last : (sets : List RRset) (seen : List DomainName) (before all : List RRset) (rs : List Record) (n : ℕ) → length rs ≤ n
     → before ++ left_to_list sets seen (drop n rs) ≡ all → before ≡ all
 left-last sets seen before all rs n end e =
     sym (append-nil before) ∙ ap (λ (more : List Record). before ++ left_to_list sets seen more) (sym (drop_all n rs end)) ∙ e
 
-pub left-first : {S : Type 0} (sets : List RRset) (seen : HashSet DomainName S) → seen.keys ≡ [] → (rs : List Record) → left_to_list sets seen rs ≡ target_addresses sets rs
+pub left-first : (sets : List RRset) (seen : List DomainName) → seen ≡ [] → (rs : List Record) → left_to_list sets seen rs ≡ target_addresses sets rs
 left-first sets seen empty rs = none-seen sets seen empty (once (targets rs))
 
 -- ---- the additional data of a set

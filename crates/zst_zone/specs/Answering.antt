@@ -1,7 +1,6 @@
 -- What the sets of a zone answer, as a lookup gives it.
 use Rattle.std.specs.Prelude.{◌≡◌, ℕ, List, [], ◌∷◌, map, length, Option, Some, None, IsSomeAnd, if◌then◌else◌}
-use Rattle.std.specs.HashSet.{HashSet, contains}
-use Rattle.std.specs.List.{flat_map}
+use Rattle.std.specs.List.{flat_map, list_any}
 use Rattle.zst_map.specs.dnw_codes.declared.record_type.RecordType.{RecordType}
 use Rattle.zst_map.specs.dnw_name.DomainName.{DomainName, lowercase_name, name_eq}
 use Rattle.zst_map.specs.zst_record.RecordSets.{RRset}
@@ -38,15 +37,14 @@ AnswersOne options sets name record_type (Some first) found =
 abbrev pub target_addresses : List RRset → List Record → List RRset
 target_addresses sets rs = flat_map (λ name. addresses sets (Some name)) (once (targets rs))
 
-module _ {S : Type 0} where
-  -- The addresses of a name that was not seen before.
-  abbrev pub unseen : List RRset → HashSet DomainName S → DomainName → List RRset
-  unseen sets seen name =
-      if contains name_eq seen name then [] else addresses sets (Some name)
+-- The addresses of a name that was not seen before.
+abbrev pub unseen : List RRset → List DomainName → DomainName → List RRset
+unseen sets seen name =
+    if list_any (name_eq name) seen then [] else addresses sets (Some name)
 
-  -- What is left to list from a record on: the addresses of targets that were not seen before.
-  abbrev pub left_to_list : List RRset → HashSet DomainName S → List Record → List RRset
-  left_to_list sets seen rs = flat_map (unseen sets seen) (once (targets rs))
+-- What is left to list from a record on: the addresses of targets that were not seen before.
+abbrev pub left_to_list : List RRset → List DomainName → List Record → List RRset
+left_to_list sets seen rs = flat_map (unseen sets seen) (once (targets rs))
 
 -- What answers a question for any type: all sets, if there is one.
 abbrev pub AnswersAll : LookupOptions → List RRset → Option AuthLookup → Type 0

@@ -1,5 +1,6 @@
 pub mod Answering
 pub mod Makings
+pub mod Seen
 pub mod Starts
 pub use Rattle.zst_map.specs.dnw_codes
 pub use Rattle.zst_map.specs.dnw_name

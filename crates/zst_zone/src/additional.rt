@@ -1,17 +1,16 @@
 //! The additional data of an answer (RFC 1034 section 4.3.2 step 6).
 
-ghost use Rattle.std.specs.Prelude.{◌≡◌, ◌∷◌, ◌++◌, not, true, IfOk, OnOk, List, Some, if◌then◌else◌, map, option_copied};
-ghost use Rattle.std.specs.HashSet.{contains};
+ghost use Rattle.std.specs.Prelude.{◌≡◌, ◌∷◌, ◌++◌, IfOk, OnOk, List, Some, map, option_copied};
 ghost use Rattle.zst_map.specs.zst_handler.Answers.{records_if, set_in, sets_shown};
 ghost use Rattle.zst_map.specs.zst_handler.Chains.{target_of};
 ghost use Rattle.zst_map.specs.zst_handler.Lookups.{additionals, addresses, has_additionals, listed};
 ghost use Rattle.zst_map.specs.zst_record.declared.records.Record.{Record as Stored};
 ghost use Rattle.zst_zone.specs.Answering.{left_to_list, target_addresses};
+ghost use Rattle.zst_zone.specs.Seen.{AreRising, seen_keys};
 
 use crate::chain::target_of;
+use crate::seen::Seen;
 use std::alloc::{AllocError, Global};
-use std::collections::HashSet;
-use std::hash::Hash;
 use zst_map::{
     AnswerSet, LookupOptions, LookupRecords, NameKey, Record, RecordSet, RecordType, ZoneSets, push,
 };
@@ -93,7 +92,7 @@ fn all_addresses<'z>(
     ensures { IfOk result (λ found. records_if found ≡ sets_shown options.dnssec_ok (target_addresses sets.now records.now)) }
 {
     let mut found = Vec::new(alloc);
-    let mut seen = HashSet::new(alloc);
+    let mut seen = Seen::new(alloc);
     'targets: for next in records {
         list_target(sets, alloc, next, &mut found, &mut seen, records.len())?;
     }
@@ -110,11 +109,13 @@ fn list_target<'z>(
     alloc: Global,
     next: &Record,
     found: &mut Vec<AnswerSet<'z>>,
-    seen: &mut HashSet<NameKey>,
+    seen: &mut Seen,
     room: usize,
 ) -> Result<(), AllocError>
-    ensures { OnOk result ((later : List Stored) → map set_in found.new.items ++ left_to_list sets.now seen.new later
-        ≡ map set_in found.old.items ++ left_to_list sets.now seen.old (next.now ∷ later)) }
+    requires { AreRising seen.old.rising.items }
+    ensures rising { OnOk result (AreRising seen.new.rising.items) }
+    ensures lists { OnOk result ((later : List Stored) → map set_in found.new.items ++ left_to_list sets.now (seen_keys seen.new) later
+        ≡ map set_in found.old.items ++ left_to_list sets.now (seen_keys seen.old) (next.now ∷ later)) }
 {
     let Some(target) = target_of(&next.rdata) else {
         return Ok(());
@@ -124,29 +125,11 @@ fn list_target<'z>(
     if v4.is_none() && v6.is_none() {
         return Ok(());
     }
-    if !insert_new(seen, room, key)? {
+    if !seen.insert(key, room)? {
         return Ok(());
     }
     push_set(found, v4)?;
     push_set(found, v6)
-}
-
-// Puts a key among those that were seen; false where it is there. The first takes room for this many.
-fn insert_new<K: Eq + Hash + Drop>(
-    seen: &mut HashSet<K>,
-    room: usize,
-    key: K,
-) -> Result<bool, AllocError>
-    ensures new { IfOk result (λ new. new ≡ not (contains K.eq seen.old key)) }
-    ensures after { OnOk result ((k : K) → contains K.eq seen.new k ≡ (if K.eq key k then true else contains K.eq seen.old k)) }
-{
-    if seen.is_empty() {
-        seen.reserve(room)?;
-    }
-    match seen.insert(key) {
-        Ok(is_new) => Ok(is_new),
-        Err(_) => Err(AllocError),
-    }
 }
 
 // Appends a set, if there is one.

@@ -20,6 +20,7 @@ mod back;
 mod chain;
 mod handler;
 mod lookup;
+mod seen;
 mod zone_handler;
 
 pub use handler::{InMemoryZoneHandler, ZoneError};
