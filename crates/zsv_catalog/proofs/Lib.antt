@@ -1,8 +1,10 @@
+pub mod AnsweredOnce
 pub mod Asked
 mod BlockedBack
 pub mod Chained
 mod Named
 pub mod PartsBack
+pub mod PartsOnce
 pub mod Replied
 mod ResolvedBack
 mod ShownBack

@@ -1,0 +1,100 @@
+-- A request is answered in one way: what a full reply holds is a function of the zones, the identifier and the request.
+use Rattle.std.proofs.Common.{◌≡◌, ◌∙◌, ℕ, Bool, true, false, List, [], ◌∷◌, ◌++◌, ap, length, refl, subst, sym}
+use Rattle.std.specs.Prelude.{Option, Some, None, IsSome, option_map}
+use Rattle.drd_types.specs.dnw_decoder.Octets.{octets_16, octets_32}
+use Rattle.drd_types.specs.drd_opt.Entries.{entries_octets}
+use Rattle.zsv_catalog.proofs.PartsOnce.{SameParts, equal-parts, one-chain-parts}
+use Rattle.zsv_answer.specs.Responses.{with_edns}
+use Rattle.zsv_answer.specs.zst_request.Views.{View}
+use Rattle.zsv_answer.specs.zst_request.dnw_codes.declared.record_type.RecordType.TheVariants.{AXFR}
+use Rattle.zsv_answer.specs.zst_request.dnw_codes.declared.record_type.RecordType.TheVariants as kind
+use Rattle.zsv_answer.specs.zst_request.dnw_codes.RecordType.{record_type_number, same_record_type}
+use Rattle.zsv_answer.specs.zst_request.dnw_name.DomainName.{DomainName}
+use Rattle.zsv_answer.specs.zst_request.zst_codes.declared.response_code.ResponseCode.{ResponseCode}
+use Rattle.zsv_answer.specs.zsv_reply.Replies.{ReplyParts}
+use Rattle.zsv_answer.specs.zsv_reply.zsv_message.Messages.{Message}
+use Rattle.zsv_answer.specs.zsv_reply.zsv_message.zst_edns.Edns.{edns_ttl}
+use Rattle.zsv_answer.specs.zsv_reply.zsv_message.zst_edns.Writing.{edns_data, opt_octets}
+use Rattle.zsv_answer.specs.zsv_reply.zsv_message.zst_edns.declared.edns.Edns.{Edns}
+use Rattle.zsv_answer.specs.zsv_reply.zsv_message.zsv_parts.declared.header.Metadata.{Metadata}
+use Rattle.zsv_answer.specs.zsv_reply.zsv_message.zsv_parts.declared.header.MessageType.{MessageType}
+use Rattle.zsv_answer.specs.zsv_reply.zsv_message.zsv_parts.declared.header.MessageType.TheVariants as messages
+use Rattle.zsv_answer.specs.zsv_reply.zsv_message.zsv_parts.declared.header.OpCode.{OpCode}
+use Rattle.zsv_answer.specs.zsv_reply.zsv_message.zsv_parts.declared.header.OpCode.TheVariants as operations
+use Rattle.zsv_answer.specs.zsv_reply.zsv_message.zsv_parts.declared.question.Query.{Query}
+use Rattle.zsv_catalog.specs.Catalogs.{AnswersEdns, IsReplyEdns, KindParts, OperationParts, PartsOf, PlainParts, QueryParts, QuestionParts, asks_for_dnssec, has_other_version, identifier, nsid_for}
+use Rattle.zsv_catalog.specs.Chains.{chain_for}
+
+module _ (chains : List (DomainName × List View)) (m : Metadata) (dnssec_ok : Bool) where
+  one-question : (q : Query) (a b : ReplyParts) → QuestionParts chains m dnssec_ok q a → QuestionParts chains m dnssec_ok q b → SameParts a b
+  one-question q a b is also = by (chain_for chains q.name) refl (same_record_type q.query_type AXFR) refl
+    where
+      by : (chain : Option (List View)) → chain_for chains q.name ≡ chain → (transfer : Bool) → same_record_type q.query_type AXFR ≡ transfer → SameParts a b
+      by None none transfer t = equal-parts a b (is.no_chain none ∙ sym (also.no_chain none))
+      by (Some chain) some true t =
+          let there : IsSome (chain_for chains q.name) = subst (λ (x : Option (List View)). IsSome x) (sym some) refl in
+          equal-parts a b (is.transfer there t ∙ sym (also.transfer there t))
+      by (Some chain) some false t = one-chain-parts chain m dnssec_ok q.name q.query_type a b (is.looked_up chain some t) (also.looked_up chain some t)
+
+  one-query : (qs : List Query) (a b : ReplyParts) → QueryParts chains m dnssec_ok qs a → QueryParts chains m dnssec_ok qs b → SameParts a b
+  one-query [] a b is also = equal-parts a b (is ∙ sym also)
+  one-query (q ∷ []) a b is also = one-question q a b is also
+  one-query (q ∷ r ∷ qs) a b is also = equal-parts a b (is ∙ sym also)
+
+  one-operation : (operation : OpCode) (qs : List Query) (a b : ReplyParts) → OperationParts chains m dnssec_ok operation qs a → OperationParts chains m dnssec_ok operation qs b → SameParts a b
+  one-operation operations.Query qs a b is also = one-query qs a b is also
+  one-operation other qs a b is also = equal-parts a b (is ∙ sym also)
+
+  one-kind : (kind : MessageType) (qs : List Query) (a b : ReplyParts) → KindParts chains m dnssec_ok kind qs a → KindParts chains m dnssec_ok kind qs b → SameParts a b
+  one-kind messages.Response qs a b is also = equal-parts a b (is ∙ sym also)
+  one-kind messages.Query qs a b is also = one-operation m.op_code qs a b is also
+
+one-plain : (chains : List (DomainName × List View)) (request : Message) (a b : ReplyParts) → PlainParts chains request a → PlainParts chains request b → SameParts a b
+one-plain chains request a b is also = by (has_other_version request.edns) refl
+  where
+    by : (other : Bool) → has_other_version request.edns ≡ other → SameParts a b
+    by true e = equal-parts a b (is.other_version e ∙ sym (also.other_version e))
+    by false e = one-kind chains request.metadata (asks_for_dnssec request.edns) request.metadata.message_type request.asked.questions a b (is.answered e) (also.answered e)
+
+-- ---- the options
+abbrev octets-of : ℕ → ℕ → List ℕ → List ℕ
+octets-of ttl payload octets = (0 ∷ (octets_16 (record_type_number kind.OPT) ++ (octets_16 payload ++ (octets_32 ttl ++ octets_16 (length octets))))) ++ octets
+
+same-octets : (e f : Edns) → edns_ttl e ≡ edns_ttl f → e.max_payload ≡ f.max_payload → edns_data e ≡ edns_data f → opt_octets e ≡ opt_octets f
+same-octets e f ttl payload octets =
+    ap (λ (n : ℕ). octets-of n e.max_payload (edns_data e)) ttl
+    ∙ ap (λ (n : ℕ). octets-of (edns_ttl f) n (edns_data e)) payload
+    ∙ ap (octets-of (edns_ttl f) f.max_payload) octets
+
+one-edns : (asked : Edns) (nsid : Option (List ℕ)) (code : ResponseCode) (e f : Edns) → IsReplyEdns asked nsid code e → IsReplyEdns asked nsid code f → opt_octets e ≡ opt_octets f
+one-edns asked nsid code e f is also =
+    let high : e.rcode_high ≡ f.rcode_high = is.rcode_high ∙ sym also.rcode_high in
+    let version : e.version ≡ f.version = is.version ∙ sym also.version in
+    let dnssec : e.flags.dnssec_ok ≡ f.flags.dnssec_ok = is.dnssec_ok ∙ sym also.dnssec_ok in
+    let other : e.flags.z ≡ f.flags.z = is.other_flags ∙ sym also.other_flags in
+    same-octets e f (cc (high, version, dnssec, other)) (is.max_payload ∙ sym also.max_payload) (ap entries_octets (is.options ∙ sym also.options))
+
+one-answer : (asked : Option Edns) (nsid : Option (List ℕ)) (code : ResponseCode) (e f : Option Edns) → AnswersEdns asked nsid code e → AnswersEdns asked nsid code f → option_map opt_octets e ≡ option_map opt_octets f
+one-answer None nsid code None None is also = refl
+one-answer None nsid code (Some e) f is also = absurd is
+one-answer None nsid code e (Some f) is also = absurd also
+one-answer (Some asked) nsid code (Some e) (Some f) is also = ap Some (one-edns asked nsid code e f is also)
+one-answer (Some asked) nsid code None f is also = absurd is
+one-answer (Some asked) nsid code e None is also = absurd also
+
+-- What a full reply holds is one.
+pub one-parts : (chains : List (DomainName × List View)) (nsid : Option (List ℕ)) (request : Message) (a b : ReplyParts) → PartsOf chains nsid request a → PartsOf chains nsid request b → SameParts a b
+one-parts chains nsid request a b is also =
+    let same : SameParts is.plain also.plain = one-plain chains request is.plain also.plain is.gives also.gives in
+    let code : is.plain.metadata.response_code ≡ also.plain.metadata.response_code = ap (λ (m : Metadata). m.response_code) same.metadata in
+    subst (λ (p : ReplyParts). SameParts p b) (sym is.whole)
+    (subst (SameParts (with_edns a.edns is.plain)) (sym also.whole)
+    (record {
+      metadata = same.metadata;
+      answers = same.answers;
+      authorities = same.authorities;
+      additionals = same.additionals;
+      edns = one-answer request.edns (nsid_for request.edns nsid) is.plain.metadata.response_code a.edns b.edns is.edns
+          (subst (λ (c : ResponseCode). AnswersEdns request.edns (nsid_for request.edns nsid) c b.edns) (sym code) also.edns);
+      signature = same.signature;
+    }))
