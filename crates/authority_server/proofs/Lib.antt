@@ -1,4 +1,5 @@
 mod Answered
+pub mod RepliesOnce
 mod ServedRuns
 mod StreamFaults
 mod StreamRuns

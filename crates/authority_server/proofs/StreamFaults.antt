@@ -29,8 +29,8 @@ message_fault left middle rest size errors.Read small long (octets, few, read) =
 message_fault left middle rest size errors.Write small long none = absurd none
 message_fault left middle rest size errors.CutFrame small long ((octets, few, read), ended) =
     (to_be_bytes w16 size ++ octets, in_message size octets (to_be_bytes w16 size ++ octets) small few refl, search rules, Consumes-trans left middle rest (to_be_bytes w16 size) octets long read, ended)
-message_fault left middle rest size (errors.OutOfMemory applied) small long (is, none) =
-    (is, size, subst (Consumes left rest) (append-nil (to_be_bytes w16 size)) (Consumes-trans left middle rest (to_be_bytes w16 size) [] long none))
+message_fault left middle rest size (errors.OutOfMemory applied) small long (is, some, none) =
+    (is, size, some, subst (Consumes left rest) (append-nil (to_be_bytes w16 size)) (Consumes-trans left middle rest (to_be_bytes w16 size) [] long none))
 message_fault left middle rest size errors.TooLong small long none = absurd none
 
 -- A front of the first part is a front of the whole.

@@ -34,12 +34,12 @@ IsMessageFault left rest size errors.Read = ReadsLess left rest size
 IsMessageFault left rest size errors.Write = ⊥
 IsMessageFault left rest size errors.CutFrame = ReadsLess left rest size × IsAtEnd rest
 IsMessageFault left rest size (errors.OutOfMemory applied) =
-    (applied ≡ false) × Consumes left rest []
+    (applied ≡ false) × (0 < size) × Consumes left rest []
 IsMessageFault left rest size errors.TooLong = ⊥
 
 -- What reading a frame may answer instead. A fault of the reader leaves a cut frame, perhaps
 -- nothing of it; `CutFrame` comes where the input ended inside a frame; for want of memory a length
--- was read and no more.
+-- of some octets was read and no more.
 abbrev pub IsReadFault : Option (List ℕ) → Option (List ℕ) → StreamError → Type 0
 IsReadFault left rest errors.Read =
     (octets : List ℕ) × IsCutFrame octets × Consumes left rest octets
@@ -48,7 +48,7 @@ IsReadFault left rest errors.CutFrame =
     (octets : List ℕ) × IsCutFrame octets × (0 < length octets) × Consumes left rest octets
     × IsAtEnd rest
 IsReadFault left rest (errors.OutOfMemory applied) =
-    (applied ≡ false) × (size : ℕ) × Consumes left rest (to_be_bytes w16 size)
+    (applied ≡ false) × (size : ℕ) × (0 < size) × Consumes left rest (to_be_bytes w16 size)
 IsReadFault left rest errors.TooLong = ⊥
 
 -- A front of these octets was written.

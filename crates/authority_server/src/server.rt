@@ -252,7 +252,7 @@ impl<S, H: ZoneHandler> Authority<S, H> {
             (map received_of arrivals.now) (map octets_of answers.old.items) (map octets_of answers.new.items)
             (world_of H.view self.new) }
         ensures all { OnOk result (length answers.new.items ≡ length answers.old.items + length arrivals.now) }
-        ensures refused { IfErr result (λ e. e ≡ ServeError.OutOfMemory false) }
+        ensures refused { IfErr result (λ e. (e ≡ ServeError.OutOfMemory false) × (0 < length arrivals.now)) }
         ensures unchanged { self.new ≡ self.old }
     {
         if answers.try_reserve(arrivals.len()).is_err() {
