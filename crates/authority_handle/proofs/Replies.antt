@@ -1,4 +1,4 @@
--- What stands at the start of a buffer is the reply of its length.
+-- The octets at the start of a buffer are the reply of that length.
 use Rattle.std.proofs.Common.{◌≡◌, ℕ, suc, zero, List, [], ◌∷◌, ap, arith, refl, sym}
 use Rattle.std.specs.Prelude.{Some}
 use Rattle.authority_handle.specs.Calls.{StandsIn, reply_of}

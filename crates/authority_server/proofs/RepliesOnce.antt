@@ -1,5 +1,4 @@
--- A server has one reply to a request, but for how data own memory: what the reply holds in full is a function of the server,
--- the request and its source.
+-- The full reply is a function of the server, the request and its source, whatever memory its data own.
 use Rattle.std.proofs.Common.{◌≡◌, ◌∙◌, Bool, true, false, refl, sym}
 use Rattle.std.specs.Net.Socket.{socket_ip}
 use Rattle.std.specs.declared.net.SocketAddr.{SocketAddr}

@@ -38,8 +38,8 @@ IsMessageFault left rest size (errors.OutOfMemory applied) =
 IsMessageFault left rest size errors.TooLong = ⊥
 
 -- What reading a frame may answer instead. A fault of the reader leaves a cut frame, perhaps
--- nothing of it; `CutFrame` comes where the input ended inside a frame; for want of memory a length
--- of some octets was read and no more.
+-- nothing of it; `CutFrame` comes where the input ended inside a frame; out of memory, a nonzero
+-- length was read and no more.
 abbrev pub IsReadFault : Option (List ℕ) → Option (List ℕ) → StreamError → Type 0
 IsReadFault left rest errors.Read =
     (octets : List ℕ) × IsCutFrame octets × Consumes left rest octets

@@ -94,7 +94,7 @@ impl<S, H: ZoneHandler> Authority<S, H> {
     }
 
     /// Puts a chain of handlers in place of the one under a name, which is dropped. Each record of its zones, and each
-    /// signature, can be served, as `zone_reads_back` tells of a stored zone.
+    /// signature, can be served, as `zone_reads_back` tests.
     pub fn upsert(&mut self, name: &Name, handlers: Vec<H>) -> Result<(), AllocError>
         requires { ChainReadsBack (map H.view handlers.items) }
         ensures ok { OnOk result (world_of H.view self.new ≡ with_zones (world_of H.view self.old) name.now (map H.view handlers.items)) }

@@ -81,8 +81,7 @@ pub record IsStored (set : RRset) : Type 0 where
 abbrev pub AreStored : List RRset → Type 0
 AreStored sets = AllByRecursion IsStored sets
 
--- Each record of a set and each of its signatures can be served: what a server's replies hold can
--- be read by whom they reach.
+-- Each record and each signature of a set can be served, and so read by the receiver.
 pub record SetReadsBack (set : RRset) : Type 0 where
   pub records : AllByRecursion IsServable set.records
   pub signatures : AllByRecursion IsServable set.signatures

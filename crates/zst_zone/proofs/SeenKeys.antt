@@ -1,4 +1,4 @@
--- A key behind the last of those that came in rising order is new.
+-- A key after the last of a rising list is new.
 use Rattle.std.proofs.Common.{◌≡◌, ◌∙◌, ◌++◌, ◌-◌, ℕ, Bool, true, false, not, List, [], ◌∷◌, ap, arith, length, refl, subst, sym, inl, inr}
 use Rattle.std.proofs.lemmas.Bool.{true≢false}
 use Rattle.std.proofs.lemmas.List.{length-append}
@@ -23,7 +23,7 @@ both true true e = (refl, refl)
 both true false e = absurd (true≢false (sym e))
 both false b e = absurd (true≢false (sym e))
 
--- ---- behind the last
+-- ---- after the last
 before-one : (key last x : DomainName) → is_lt (name_cmp last key) ≡ true → is_le (name_cmp x last) ≡ true → is_lt (name_cmp x key) ≡ true
 before-one key last x past up = by (name_cmp x last) refl up
   where
@@ -111,7 +111,7 @@ first-then true b c = refl
 first-then false b true = refl
 first-then false b false = refl
 
--- A key that goes from the first list to the second was seen before and after.
+-- Moving a key from one list to the other leaves it seen.
 pub moved : (rising rest hashed after : List DomainName) (key : DomainName) → rising ≡ rest ++ key ∷ [] → Puts key hashed after
     → (k : DomainName) → list_any (name_eq k) (rest ++ after) ≡ list_any (name_eq k) (rising ++ hashed)
 moved rising rest hashed after key is puts k =
@@ -138,14 +138,14 @@ appended rising hashed key k =
     ∙ ap (λ (b : Bool). cond b true (list_any (name_eq k) rising || list_any (name_eq k) hashed)) (eq-turned k key)
     ∙ ap (λ (b : Bool). cond (name_eq key k) true b) (sym (list_any-append (name_eq k) rising hashed))
 
--- A key that is behind all others is new.
+-- A key after all others is new.
 pub new-key : (rising hashed : List DomainName) (key : DomainName) → hashed ≡ [] → are_before key rising ≡ true → list_any (name_eq key) (rising ++ hashed) ≡ false
 new-key rising hashed key none before =
     list_any-append (name_eq key) rising hashed
     ∙ ap (λ (keys : List DomainName). list_any (name_eq key) rising || list_any (name_eq key) keys) none
     ∙ ap (λ (b : Bool). b || false) (none-there key rising before)
 
--- Where no key is in the first list, the second tells of all.
+-- If the first list is empty, only the second counts.
 pub second-tells : (rising hashed : List DomainName) (k : DomainName) → rising ≡ [] → list_any (name_eq k) hashed ≡ list_any (name_eq k) (rising ++ hashed)
 second-tells rising hashed k none = ap (λ (keys : List DomainName). list_any (name_eq k) (keys ++ hashed)) (sym none)
 

@@ -1,4 +1,4 @@
-//! Keys of which each is taken once.
+//! The targets already listed, by their keys (RFC 1034 section 4.3.2 step 6).
 
 ghost use Rattle.std.specs.Prelude.{◌≡◌, ◌∷◌, ◌++◌, [], Bool, IfOk, OnOk, false, not, true, if◌then◌else◌};
 ghost use Rattle.std.specs.List.{AllByRecursion, list_any};
@@ -9,8 +9,8 @@ use std::alloc::{AllocError, Global};
 use std::collections::HashSet;
 use zst_map::{NameKey, push};
 
-/// Keys that were seen. As long as they come in rising order they stand in a list, where a comparison with the last tells
-/// that one is new; from the first that doesn't on, all are hashed.
+/// The keys seen so far: a list while they come in canonical order (RFC 4034 6.1), where comparing with the last one shows
+/// that a key is new; a hash set from the first key out of order.
 #[derive(Drop)]
 pub(crate) struct Seen {
     rising: Vec<NameKey>,
@@ -40,7 +40,7 @@ impl Seen {
         }
     }
 
-    /// Takes a key; false where it was seen before. The first takes room for this many.
+    /// Inserts a key; false if it was seen. The first insertion reserves room for this many.
     pub(crate) fn insert(&mut self, key: NameKey, room: usize) -> Result<bool, AllocError>
         requires { AreRising self.old.rising.items }
         ensures new { IfOk result (λ new. new ≡ not (was_seen self.old key)) }
@@ -71,7 +71,7 @@ impl Seen {
     }
 }
 
-// Appends a key. The first takes room for this many.
+// Appends a key. The first append reserves room for this many.
 fn append(keys: &mut Vec<NameKey>, key: NameKey, room: usize) -> Result<(), AllocError>
     ensures { OnOk result (keys.new.items ≡ keys.old.items ++ key ∷ []) }
 {
@@ -81,7 +81,7 @@ fn append(keys: &mut Vec<NameKey>, key: NameKey, room: usize) -> Result<(), Allo
     push(keys, key)
 }
 
-// Puts a key among others; false where it is there.
+// Inserts a key; false if it was there.
 fn put(keys: &mut HashSet<NameKey>, key: NameKey) -> Result<bool, AllocError>
     ensures new { IfOk result (λ new. new ≡ not (list_any (name_eq key) keys.old.keys)) }
     ensures after { OnOk result ((k : DomainName) → list_any (name_eq k) keys.new.keys ≡ (if name_eq key k then true else list_any (name_eq k) keys.old.keys)) }

@@ -12,8 +12,7 @@ use Rattle.zsv_blocked.specs.declared.read.BlocklistError.TheVariants as causes
 abbrev pub GivesTooMany : Option (List ℕ) → Option (List ℕ) → Type 0
 GivesTooMany old new = (octets : List ℕ) × Consumes old new octets × (2 ^ 32 ≤ length octets)
 
--- What was read when memory was refused: these octets, not too many, and no fault in the record of
--- the reader that gave them.
+-- Out of memory after these octets, at most 2^32 - 1: the reader's record has octets and no fault.
 pub record IsShortOfMemory (faults : ReadFaults) (old new : Option (List ℕ)) (octets : List ℕ) :
     Type 0 where
   pub well : faults.failed ≡ false

@@ -8,7 +8,7 @@ ghost use Rattle.std.specs.Io.KnownBytes.{Consumes, IsAtEnd, Keeps};
 use std::io::Read;
 
 /// Whether a reader answered a fault, whether its last call gave no octets, and whether one gave some. Only the call below
-/// changes it. A new record says that no octets were given, so that none can stand in for one that says more.
+/// changes it. A new record has no octets given, so it can't replace one that has.
 #[derive(Debug, Drop)]
 pub struct ReadFaults {
     failed: bool,

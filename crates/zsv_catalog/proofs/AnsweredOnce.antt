@@ -1,4 +1,4 @@
--- A request is answered in one way: what a full reply holds is a function of the zones, the identifier and the request.
+-- The full reply is a function of the zones, the NSID and the request.
 use Rattle.std.proofs.Common.{◌≡◌, ◌∙◌, ℕ, Bool, true, false, List, [], ◌∷◌, ◌++◌, ap, length, refl, subst, sym}
 use Rattle.std.specs.Prelude.{Option, Some, None, IsSome, option_map}
 use Rattle.drd_types.specs.dnw_decoder.Octets.{octets_16, octets_32}
@@ -82,7 +82,7 @@ one-answer (Some asked) nsid code (Some e) (Some f) is also = ap Some (one-edns 
 one-answer (Some asked) nsid code None f is also = absurd is
 one-answer (Some asked) nsid code e None is also = absurd also
 
--- What a full reply holds is one.
+-- A request has one full reply.
 pub one-parts : (chains : List (DomainName × List View)) (nsid : Option (List ℕ)) (request : Message) (a b : ReplyParts) → PartsOf chains nsid request a → PartsOf chains nsid request b → SameParts a b
 one-parts chains nsid request a b is also =
     let same : SameParts is.plain also.plain = one-plain chains request is.plain also.plain is.gives also.gives in

@@ -33,7 +33,7 @@ use Rattle.zsv_answer.specs.Responses.{parts_with, reply_metadata}
 use Rattle.zsv_answer.specs.Shown.{hidden_but, is_dnssec_record, is_shown, shown_if, shown_to}
 
 -- ---- the same in octets
--- A record as it is told: its RDATA by their octets, however they own memory.
+-- A record by its octets, whatever memory its RDATA own.
 pub record InOctets : Type 0 where
   pub name : DomainName
   pub record_type : RecordType
@@ -60,7 +60,7 @@ pub record SameParts (a b : ReplyParts) : Type 0 where
 pub equal-parts : (a b : ReplyParts) → a ≡ b → SameParts a b
 equal-parts a b e = subst (SameParts a) e (record { metadata = refl; answers = refl; authorities = refl; additionals = refl; edns = refl; signature = refl })
 
--- ---- what a list answers in place of a name
+-- ---- a blocklist's answer
 one-text : (address : Record) (octets : List ℕ) (v w : RData) → IsText octets v → IsText octets w → in_octets (with_data address v) ≡ in_octets (with_data address w)
 one-text address octets (rdata.TXT txt) (rdata.TXT text) is also =
     ap (λ (ss : List (List ℕ)). record { name = address.name; record_type = types.TXT; dns_class = address.dns_class; ttl = address.ttl; rdata = fields_octets (strings ss ∷ []) }) (is ∙ sym also)
@@ -79,7 +79,7 @@ one-blocked answer rs others is also =
     ∙ sym (ap (map in_octets) also.address)
 
 -- ---- one resolution
--- Two resolutions are one, or hold the same records in place of a blocked name.
+-- Two resolutions are equal, or hold the same records for a blocked name.
 data SameResolution (a b : Resolution) : Type 0 where
   one : a ≡ b → SameResolution a b
   blocked : (rs others : List Record) → a ≡ resolved rs [] → b ≡ resolved others [] → SameRecords rs others → SameResolution a b
@@ -100,7 +100,7 @@ one-resolution : (chain : List View) (view : View) (name : DomainName) (t : Reco
 one-resolution chain (Stored zone) name t dnssec_ok a b is also = in-zone zone (enforced chain name t) name t dnssec_ok a b is also
 one-resolution chain (Blocked blocklist) name t dnssec_ok a b is also = in-list (blocked_answer blocklist name t) a b is also
 
--- ---- what goes with an answer
+-- ---- authority records
 at-origin : (view : View) (dnssec_ok : Bool) (t : RecordType) (rs others : List Record) → AtOrigin view dnssec_ok t rs → AtOrigin view dnssec_ok t others → rs ≡ others
 at-origin (Stored zone) dnssec_ok t rs others (outcome, is, shown) (other, also, too) =
     shown ∙ ap (answer_records dnssec_ok) (one-lookup zone zone.origin t outcome other is also) ∙ sym too
@@ -183,7 +183,7 @@ authoritative view m dnssec_ok t no_such_type a b is also = denied view m dnssec
 authoritative view m dnssec_ok t no_such_name a b is also = denied view m dnssec_ok responses.NXDomain a b is also
 authoritative view m dnssec_ok t (not_here code) a b is also = equal-parts a b (is ∙ sym also)
 
--- Two replies whose records are those in place of a blocked name.
+-- Two replies to a blocked name.
 blocked-here : (view : View) (m : Metadata) (dnssec_ok : Bool) (t : RecordType) (rs others : List Record) (a b : ReplyParts) → SameRecords rs others
     → AuthoritativeParts view m dnssec_ok t (resolved rs []) a → AuthoritativeParts view m dnssec_ok t (resolved others []) b → SameParts a b
 blocked-here view m dnssec_ok t rs others a b same (later, is, gives) (other, also, too) =
@@ -233,7 +233,7 @@ resolved-as view m dnssec_ok t r s a b (blocked rs others e f same) is also =
     (subst (λ (x : Resolution). PartsAs (zone_type_of view) view m dnssec_ok t x a) e is)
     (subst (λ (x : Resolution). PartsAs (zone_type_of view) view m dnssec_ok t x b) f also)
 
--- What a chain answers to a question is one.
+-- A chain has one answer to a question.
 pub one-chain-parts : (chain : List View) (m : Metadata) (dnssec_ok : Bool) (name : DomainName) (t : RecordType) (a b : ReplyParts) → ChainParts chain m dnssec_ok name t a → ChainParts chain m dnssec_ok name t b → SameParts a b
 one-chain-parts chain m dnssec_ok name t a b is also = by (answering chain name) refl
   where

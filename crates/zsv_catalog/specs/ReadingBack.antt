@@ -5,8 +5,8 @@ use Rattle.zsv_answer.specs.zst_request.Views.{Blocked, Stored, View}
 use Rattle.zsv_answer.specs.zst_request.dnw_name.DomainName.{DomainName}
 use Rattle.zsv_answer.specs.zst_request.zst_handler.Zones.{AreStored, ZoneReadsBack}
 
--- A zone is stored as every zone is, and each of its records can be served; the message of a list of
--- blocked names is one string (RFC 1035, section 3.3).
+-- Each set of a zone has its own records, and each of these can be served; a blocklist's message is
+-- one character string (RFC 1035, section 3.3).
 abbrev pub ViewReadsBack : View → Type 0
 ViewReadsBack (Stored zone) = AreStored zone.sets × ZoneReadsBack zone
 ViewReadsBack (Blocked blocklist) = IfSome blocklist.block_message (λ octets. length octets ≤ 255)
