@@ -16,7 +16,7 @@ use Rattle.zst_zone.specs.dnw_codes.declared.dns_class.DNSClass.TheVariants.{IN}
 use Rattle.zst_zone.specs.drd_rdata.Types.{type_of}
 use Rattle.authority_load.proofs.Joined.{joins_reads_back}
 use Rattle.authority_load.proofs.Sound.{IsAccepted, IsSound, joins_sound}
-use Rattle.authority_load.proofs.TextTypes.{text_unsecured}
+use Rattle.authority_load.proofs.TextTypes.{text_own, text_unsecured}
 use Rattle.authority_load.specs.Loaded.{AliasesAlone, IsLoaded, IsLoadedSet}
 use Rattle.authority_load.specs.Joining.{Joins}
 use Rattle.authority_load.specs.ZoneText.{Loads, LoadsLine, IsTaken, RefusesLine, IsRefusedAt, is_skipped_line}
@@ -62,6 +62,7 @@ taken_accepted : (zone : Zone) (line : List ℕ) (r : Record) → IsTaken zone l
 taken_accepted zone line r taken = record {
   inside = taken.inside;
   unsecured = text_unsecured (type_of r.rdata) taken.text.value.1.0 None r.rdata taken.text.value.1.2;
+  own_type = text_own (type_of r.rdata) taken.text.value.1.0 None r.rdata taken.text.value.1.2;
   of_class = ap (λ c. same_class c IN) taken.text.class;
   no_alias = taken.joins.no_alias;
   no_second = taken.joins.no_second;

@@ -66,6 +66,7 @@ apart_left a b t e =
 pub record IsAccepted (zone : Zone) (r : Record) : Type 0 where
   pub inside : is_at_or_below r.name zone.origin ≡ true
   pub unsecured : added_by_signing (type_of r.rdata) ≡ false
+  pub own_type : IsOwnType (type_of r.rdata)
   pub of_class : same_class r.dns_class IN ≡ true
   pub no_alias : is_beside_alias zone.sets r ≡ false
   pub no_second : is_second_start zone.sets r ≡ false
@@ -135,7 +136,7 @@ module _ (zone : Zone) (r : Record) (is : IsAccepted zone r) (servable : IsServa
     single = λ e. omega arith;
     unsecured = is.unsecured;
     of_class = is.of_class;
-    own_type = servable.alone.own_type;
+    own_type = is.own_type;
   }
 
   -- A single set joins only where it has the same data.
@@ -163,7 +164,7 @@ module _ (zone : Zone) (r : Record) (is : IsAccepted zone r) (servable : IsServa
   with_put u name t there named typed plain old =
       let found = and_parts (name_eq name u.name) (same_record_type u.record_type t) (found_is name t zone.sets u there) in
       let same : same_record_type (type_of r.rdata) u.record_type ≡ true = sym (same_right t u.record_type (type_of r.rdata) (turned u.record_type t found.1)) ∙ typed in
-      let kind_is : type_of r.rdata ≡ u.record_type = own_same (type_of r.rdata) u.record_type servable.alone.own_type old.own_type same in
+      let kind_is : type_of r.rdata ≡ u.record_type = own_same (type_of r.rdata) u.record_type is.own_type old.own_type same in
       record {
         records = loaded_of zone.origin (with_one false u r) (put_record u.records r)
             (fits_put zone.origin u.record_type u.records r (fits_of zone.origin u u.records old.records) (is.of_class, kind_is, is.inside, servable, is.fits));

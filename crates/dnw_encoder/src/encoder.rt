@@ -122,6 +122,13 @@ impl<'a> BinEncoder<'a> {
         self.maximum = usize::from(maximum);
     }
 
+    /// The number of octets that no write may pass.
+    pub fn max_size(&self) -> usize
+        ensures { result ≡ (state self.now).maximum }
+    {
+        self.maximum
+    }
+
     /// Says whether record data are written in canonical form (RFC 4034 6.2).
     pub fn set_canonical_form(&mut self, canonical_form: bool)
         ensures same_reference { self.new.buffer.ghost_name ≡ self.old.buffer.ghost_name }

@@ -10,10 +10,11 @@ use Rattle.drd_svcb.specs.dnw_name.DomainName.{DomainName, domain_name}
 use Rattle.drd_types.specs.dnw_decoder.Octets.{octets_16, octets_32}
 use Rattle.drd_types.proofs.dnw_decoder_lemmas.SpellingLaws.{spelled_within}
 use Rattle.drd_types.proofs.dnw_decoder_lemmas.Standing.{length-octets_32}
-use Rattle.drd_types.specs.dnw_encoder.Effects.{StaysTrue, IsRefusal}
+use Rattle.drd_types.specs.dnw_encoder.Effects.{Sound, StaysTrue, IsRefusal}
+use Rattle.drd_svcb.proofs.dnw_encoder_lemmas.NameLaws.{length-encoded}
 use Rattle.drd_types.proofs.dnw_encoder_lemmas.Laws.{holds_map}
 use Rattle.drd_types.specs.dnw_encoder.Names.{encoded_name}
-use Rattle.drd_types.specs.dnw_encoder.State.{State, is_lower, rdata_encoding}
+use Rattle.drd_types.specs.dnw_encoder.State.{State, is_lower, rdata_encoding, writes_pointers}
 use Rattle.drd_types.specs.dnw_encoder.declared.modes.NameEncoding.{NameEncoding}
 use Rattle.drd_types.specs.dnw_encoder.declared.modes.RDataEncoding.{RDataEncoding}
 use Rattle.drd_types.specs.dnw_encoder.declared.modes.RDataEncoding.TheVariants.{StandardRecord, Canonical, Other}
@@ -27,7 +28,7 @@ use Rattle.drd_types.proofs.drd_fields_lemmas.BackLaws.{fields_full}
 use Rattle.drd_types.specs.drd_fields.Equality.{AreFull}
 use Rattle.drd_types.specs.drd_fields.FieldLaws.{strings_forward, fields_forward}
 use Rattle.drd_types.specs.drd_fields.Fields.{Field, octet, short, long, name, string, strings, rest, FieldAt, FieldsAt}
-use Rattle.drd_types.specs.drd_fields.Writing.{EmitsData, EndsWithin, RefusesFields, encoded_fields, fields_octets}
+use Rattle.drd_types.specs.drd_fields.Writing.{EmitsData, EndsWithin, RefusesFields, encoded_field, encoded_fields, field_octets, fields_octets}
 use Rattle.drd_types.proofs.drd_fields_lemmas.WritingLaws.{refused_front}
 use Rattle.drd_rdata.specs.Fields.{encoding_of, rdata_fields}
 use Rattle.drd_types.specs.drd_opt.Entries.{Entry, entries_octets, raw_octets, raw_of}
@@ -35,7 +36,8 @@ use Rattle.drd_types.specs.drd_opt.Reading.{HoldsEntries}
 use Rattle.drd_types.specs.drd_opt.declared.opt.OPT.{OPT}
 use Rattle.drd_types.proofs.drd_opt_lemmas.FitLaws.{read_fit}
 use Rattle.drd_rdata.specs.Reading.{HoldsAs, ReadsAs}
-use Rattle.drd_rdata.specs.Writing.{EmitsRData, RefusesRData, WritesInFull, written_octets}
+use Rattle.drd_rdata.specs.Exceeding.{ExceedsRdlength}
+use Rattle.drd_rdata.specs.Writing.{EmitsRData, RefusesRData, StandsWritten, WritesInFull, names_form, written_octets}
 use Rattle.drd_rdata.proofs.ReadBackLaws.{options_there}
 use Rattle.drd_rdata.proofs.WritingLaws.{none_long, short_fields}
 use Rattle.drd_rdata.specs.declared.rdata.RData.{RData}
@@ -234,3 +236,74 @@ data_within (rdata.OPT opt) old new e = e.0.within
 data_within (rdata.Update0 code) old new e = unmoved old new e
 data_within rdata.ZERO old new e = unmoved old new e
 data_within v old new e = e.within
+
+-- ---- what was written stands in the encoder's form of names
+pub emitted_form : (v : RData) (old new : State) → Sound old → EmitsRData v old new
+    → StaysTrue new new.offset (λ message. StandsWritten v (names_form v old) message old.offset new.offset)
+emitted_form (rdata.CSYNC csync) old new sound e = e.stays sound
+emitted_form (rdata.OPT opt) old new sound e = e.0.stays sound
+emitted_form (rdata.Update0 code) old new sound e = record { of = λ later a. ap (λ (s : State). s.offset) e }
+emitted_form rdata.ZERO old new sound e = record { of = λ later a. ap (λ (s : State). s.offset) e }
+emitted_form v old new sound e = e.stays sound
+
+-- ---- what exceeds RDLENGTH is never written
+encoded_long : (encoding : NameEncoding) (fs : List Field) → length (fields_octets (encoded_fields encoding fs)) ≡ length (fields_octets fs)
+encoded_long encoding [] = refl
+encoded_long encoding (f ∷ fs) =
+    omega (arith, length-append (field_octets (encoded_field encoding f)) (fields_octets (encoded_fields encoding fs)), length-append (field_octets f) (fields_octets fs), one f, encoded_long encoding fs)
+  where
+    one : (f : Field) → length (field_octets (encoded_field encoding f)) ≡ length (field_octets f)
+    one (name n) = length-encoded encoding n
+    one other = refl
+
+-- Only the types of RFC 1035 are written with pointers (RFC 3597 4).
+in_full : (data_kind : RDataEncoding) (canonical : Bool) (encoding : NameEncoding) → (data_kind ≡ StandardRecord → ⊥) → writes_pointers (rdata_encoding data_kind canonical encoding) ≡ false
+unfolding writes_pointers
+in_full StandardRecord canonical encoding other = absurd (other refl)
+in_full Canonical false encoding other = refl
+in_full Canonical true encoding other = refl
+in_full Other canonical encoding other = refl
+
+fields_fits : (data_kind : RDataEncoding) (fs : List Field) (old new : State) → (data_kind ≡ StandardRecord → ⊥) → EmitsData data_kind fs old new → old.maximum < 2 ^ 16 → 65535 < length (fields_octets fs) → ⊥
+fields_fits data_kind fs old new other e small far =
+    let end = (e.exact (in_full data_kind old.canonical old.encoding other)).offset in
+    let long = encoded_long (rdata_encoding data_kind old.canonical old.encoding) fs in
+    omega (arith, end, long, e.within (omega (arith, end, long, far)), small, far)
+
+pub never_written : (v : RData) (old new : State) → EmitsRData v old new → old.maximum < 2 ^ 16 → ExceedsRdlength v → ⊥
+never_written (rdata.A a) old new e small far = far
+never_written (rdata.AAAA aaaa) old new e small far = far
+never_written (rdata.ANAME aname) old new e small far = far
+never_written (rdata.CNAME cname) old new e small far = far
+never_written (rdata.CSYNC csync) old new e small far = far
+never_written (rdata.MX mx) old new e small far = far
+never_written (rdata.NS ns) old new e small far = far
+never_written (rdata.PTR ptr) old new e small far = far
+never_written (rdata.SOA soa) old new e small far = far
+never_written (rdata.SRV srv) old new e small far = far
+never_written (rdata.OPT opt) old new e small far = fields_fits Other (rdata_fields (rdata.OPT opt)) old new (λ same. absurd (cc same)) e.0 small far
+never_written (rdata.Update0 code) old new e small far = omega (arith, far)
+never_written rdata.ZERO old new e small far = omega (arith, far)
+never_written v old new e small far = fields_fits (encoding_of v) (rdata_fields v) old new (λ same. absurd (cc same)) e small far
+
+-- They would take as many octets at most as they have in full.
+pub exceeding_size : (v : RData) (old new : State) → ExceedsRdlength v → EmitsRData v old new → new.offset ≤ old.offset + length (written_octets v)
+exceeding_size (rdata.CSYNC csync) old new far e = absurd far
+exceeding_size (rdata.OPT opt) old new far e = e.0.size
+exceeding_size (rdata.Update0 code) old new far e = absurd (omega (arith, far))
+exceeding_size rdata.ZERO old new far e = absurd (omega (arith, far))
+exceeding_size v old new far e = e.size
+
+-- RDATA that exceed RDLENGTH have more octets than a maximum of 16 bits, and are not those of an update without any.
+pub exceeding_long : (v : RData) → ExceedsRdlength v → 65535 < length (written_octets v)
+exceeding_long (rdata.A a) far = absurd far
+exceeding_long (rdata.AAAA aaaa) far = absurd far
+exceeding_long (rdata.ANAME aname) far = absurd far
+exceeding_long (rdata.CNAME cname) far = absurd far
+exceeding_long (rdata.CSYNC csync) far = absurd far
+exceeding_long (rdata.MX mx) far = absurd far
+exceeding_long (rdata.NS ns) far = absurd far
+exceeding_long (rdata.PTR ptr) far = absurd far
+exceeding_long (rdata.SOA soa) far = absurd far
+exceeding_long (rdata.SRV srv) far = absurd far
+exceeding_long v far = far

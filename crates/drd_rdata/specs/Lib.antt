@@ -3,6 +3,7 @@ pub mod Fields
 pub mod Reading
 pub mod Readable
 pub mod Writing
+pub mod Exceeding
 pub mod ReadingBack
 pub mod Texts
 pub mod Order

@@ -2,7 +2,7 @@
 use Rattle.std.specs.Prelude.{ℕ, ◌≡◌, false, List}
 use Rattle.std.proofs.Common.{◌⊎◌}
 use Rattle.drd_types.specs.dnw_codes.declared.error.ProtoError.{ProtoError}
-use Rattle.drd_types.specs.dnw_encoder.State.{State, is_lower}
+use Rattle.drd_types.specs.dnw_encoder.State.{State, is_lower, rdata_encoding}
 use Rattle.drd_types.specs.dnw_encoder.declared.modes.RDataEncoding.TheVariants.{Other}
 use Rattle.drd_types.specs.drd_fields.Fields.{FieldsAt}
 use Rattle.drd_types.specs.drd_fields.Writing.{EmitsData, RefusesFields, encoded_fields, fields_octets}
@@ -42,6 +42,10 @@ RefusesRData value old e = RefusesFields (rdata_fields value) old e
 -- Want of memory, or so many octets that pass the maximum.
 abbrev pub WantsRoom : State → ProtoError → Type 0
 WantsRoom old e = (size : ℕ) × IsRefusal old size e
+
+-- The form in which an encoder writes the names of the data.
+abbrev pub names_form : RData → State → NameEncoding
+names_form value s = rdata_encoding (encoding_of value) s.canonical s.encoding
 
 -- What stands where the data were written, names in the form in which the encoder wrote them.
 abbrev pub StandsWritten : RData → NameEncoding → List ℕ → ℕ → ℕ → Type 0

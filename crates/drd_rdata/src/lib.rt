@@ -19,6 +19,7 @@ pub use drd_types::{
 
 mod case;
 mod emit;
+mod exceeding;
 mod kinds;
 mod order;
 mod print;
@@ -28,5 +29,6 @@ mod readable;
 mod text;
 mod text_type;
 
+pub use exceeding::exceeds_rdlength;
 pub use rdata::RData;
 pub use readable::is_readable;

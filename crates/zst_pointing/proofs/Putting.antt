@@ -78,6 +78,7 @@ start_held asked v soa m n mname rname is named mname_is rname_is mname_near rna
           tt,
         ),
       );
+  short = λ far. far;
   long = omega (arith, length-append mname (rname ++ fields_octets (soa_numbers soa)), length-append rname (fields_octets (soa_numbers soa)), numbers_size soa);
   plain = omega (
     arith,

@@ -1,12 +1,14 @@
 -- A record that is written piece by piece.
-use Rattle.std.proofs.Common.{◌≡◌, ℕ, ◌+◌, ◌^◌, ◌<◌, ◌≤◌, ◌⊎◌, inl, inr, List, [], ◌∷◌, ◌++◌, length, length-append, slice_index_or, refl, sym, ap, subst, ◌∙◌, arith}
+use Rattle.std.proofs.Common.{◌≡◌, ℕ, ◌+◌, ◌^◌, ◌<◌, ◌≤◌, ◌⊎◌, inl, inr, Bool, List, [], ◌∷◌, ◌++◌, length, length-append, slice_index_or, refl, sym, ap, subst, ◌∙◌, arith}
 use Rattle.std.specs.Prelude.{Result, Ok, Err, OnOk}
 use Rattle.std.specs.Int.{to_be_bytes, w32}
 use Rattle.std.specs.Net.Addr.{ipv4_bits}
 use Rattle.drd_fields.proofs.ReadableLaws.{own_fields}
 use Rattle.drd_rdata.specs.dnw_codes.DNSClass.{class_number}
 use Rattle.drd_rdata.specs.dnw_codes.RecordType.{record_type_number}
+use Rattle.drd_rdata.specs.dnw_codes.ProtoError.{IsMemory}
 use Rattle.drd_rdata.specs.dnw_codes.declared.error.ProtoError.{ProtoError}
+use Rattle.drd_rdata.specs.dnw_codes.declared.error.ProtoError.TheVariants.{MaxBufferSizeExceeded}
 use Rattle.drd_rdata.specs.dnw_codes.declared.record_type.RecordType.{RecordType}
 use Rattle.drd_rdata.specs.dnw_codes.declared.record_type.RecordType.TheVariants as kind
 use Rattle.drd_rdata.specs.dnw_decoder.Octets.{octets_16, octets_32, Stands}
@@ -17,23 +19,24 @@ use Rattle.drd_rdata.proofs.dnw_encoder_lemmas.Laws.{holds_more, holds_same, hol
 use Rattle.drd_fields.specs.dnw_encoder.Members.{In}
 use Rattle.drd_rdata.specs.dnw_encoder.Names.{EmitsName, encoded_name}
 use Rattle.drd_rdata.proofs.dnw_encoder_lemmas.PlaceLaws.{opens_open}
-use Rattle.drd_rdata.specs.dnw_encoder.State.{Candidate, State, is_lower}
+use Rattle.drd_rdata.specs.dnw_encoder.State.{Candidate, State, is_lower, rdata_encoding}
 use Rattle.drd_rdata.specs.dnw_encoder.declared.modes.NameEncoding.{NameEncoding}
 use Rattle.drd_rdata.specs.dnw_name.DomainName.{DomainName, name_octets}
 use Rattle.drd_rdata.proofs.drd_fields_lemmas.WritingLaws.{refused_front, refused_later, within_then, written_then}
 use Rattle.drd_rdata.specs.Reading.{HoldsAs, IsEmptyOf, IsReadable, ReadsAs}
 use Rattle.drd_rdata.specs.Types.{type_of}
-use Rattle.drd_rdata.specs.Writing.{EmitsRData, RefusesRData, StandsWritten, WritesInFull, written_octets}
-use Rattle.drd_rdata.proofs.WrittenLaws.{data_within, encoded_full, written_reads, written_size, written_refused}
-use Rattle.drd_rdata.proofs.BackLaws.{emitted_stands}
+use Rattle.drd_rdata.specs.Exceeding.{ExceedsRdlength}
+use Rattle.drd_rdata.specs.Fields.{encoding_of}
+use Rattle.drd_rdata.specs.Writing.{EmitsRData, RefusesRData, StandsWritten, WritesInFull, names_form, written_octets}
+use Rattle.drd_rdata.proofs.WrittenLaws.{data_within, emitted_form, encoded_full, exceeding_long, exceeding_size, never_written, written_reads, written_size, written_refused}
 use Rattle.drd_rdata.specs.declared.rdata.RData.{RData}
 use Rattle.drd_rdata.specs.declared.rdata.RData.TheVariants as rdata
 use Rattle.drd_rdata.specs.drd_params.AddressFields.{aaaa_fields}
 use Rattle.drd_rdata.specs.drd_params.declared.a.A.{A}
 use Rattle.drd_rdata.specs.drd_params.declared.aaaa.AAAA.{AAAA}
 use Rattle.zst_record.proofs.OwnCodes.{class_read, class_small, type_read, type_small}
-use Rattle.zst_record.specs.Records.{IsEmpty, ReadsBack}
-use Rattle.zst_record.specs.Writing.{HeadAt, HeadWritten, DataWritten, EmitsHead, DataAt, EmitsBehindLength, EmitsRecord, RefusesBehindLength, RefusesLater, RefusesRecord, head_numbers}
+use Rattle.zst_record.specs.Records.{HasOwnHead, IsEmpty, ReadsBack}
+use Rattle.zst_record.specs.Writing.{HeadAt, HeadWritten, DataWritten, EmitsHead, DataAt, EmitsBehindLength, EmitsRecord, RefusesBehindLength, RefusesLater, RefusesRecord, ShownError, ShowsRefusal, head_numbers}
 use Rattle.zst_record.specs.declared.records.Record.{Record}
 
 -- What stands behind one call stands behind a later one.
@@ -127,17 +130,38 @@ data_reads (rdata.Update0 t) b c n at (inr none) full emits = record {
 }
 data_reads v b c n at (inr none) full emits = absurd none
 
-data_size : (v : RData) (b c : State) → IsReadable v ⊎ IsEmpty v → EmitsRData v b c → c.offset ≤ b.offset + length (written_octets v)
-data_size v b c (inl readable) emits =
+data_size : (v : RData) (b c : State) → (IsReadable v ⊎ IsEmpty v) ⊎ ExceedsRdlength v → EmitsRData v b c → c.offset ≤ b.offset + length (written_octets v)
+data_size v b c (inl (inl readable)) emits =
     written_size (type_of v) readable.message readable.place v readable.end (refl, readable.there) b c emits
-data_size (rdata.Update0 t) b c (inr none) emits = omega (arith, ap (λ (s : State). s.offset) emits)
-data_size v b c (inr none) emits = absurd none
+data_size (rdata.Update0 t) b c (inl (inr none)) emits = omega (arith, ap (λ (s : State). s.offset) emits)
+data_size v b c (inl (inr none)) emits = absurd none
+data_size v b c (inr far) emits = exceeding_size v b c far emits
 
 data_room : (v : RData) (b : State) (e : ProtoError) → IsReadable v ⊎ IsEmpty v → RefusesRData v b e → IsRefusal b (length (written_octets v)) e
 data_room v b e (inl readable) refused =
     written_refused (type_of v) readable.message readable.place v readable.end (refl, readable.there) b e refused
 data_room (rdata.Update0 t) b e (inr none) refused = absurd refused
 data_room v b e (inr none) refused = absurd none
+
+-- What exceeds RDLENGTH doesn't fit.
+far_refused : (v : RData) (b s : State) (e : ProtoError) → s.maximum ≡ b.maximum → b.maximum < 2 ^ 16 → ExceedsRdlength v → IsMemory e ⊎ (e ≡ MaxBufferSizeExceeded s.maximum) → IsRefusal b (length (written_octets v)) e
+far_refused v b s e same small far (inl memory) = inl memory
+far_refused v b s e same small far (inr is) = inr (is ∙ ap MaxBufferSizeExceeded same, omega (arith, small, exceeding_long v far))
+
+shown_room : (v : RData) (b s : State) (cause e : ProtoError) → s.maximum ≡ b.maximum → b.maximum < 2 ^ 16 → ShownError v s cause e → (IsReadable v ⊎ IsEmpty v) ⊎ ExceedsRdlength v → RefusesRData v b cause → IsRefusal b (length (written_octets v)) e
+shown_room v b s cause e same small shown (inr far) refused = far_refused v b s e same small far (shown.room far)
+shown_room v b s cause e same small shown (inl reads) refused = by shown.is
+  where
+    by : (e ≡ cause) ⊎ (ExceedsRdlength v × (e ≡ MaxBufferSizeExceeded s.maximum)) → IsRefusal b (length (written_octets v)) e
+    by (inl is) = subst (λ (f : ProtoError). IsRefusal b (length (written_octets v)) f) (sym is) (data_room v b cause reads refused)
+    by (inr far) = far_refused v b s e same small far.0 (inr far.1)
+
+shown_any : (v : RData) (b s : State) (cause e : ProtoError) → s.maximum ≡ b.maximum → b.maximum < 2 ^ 16 → ShownError v s cause e → RefusesRData v b cause → ShowsRefusal v b e
+shown_any v b s cause e same small shown refused = by shown.is
+  where
+    by : (e ≡ cause) ⊎ (ExceedsRdlength v × (e ≡ MaxBufferSizeExceeded s.maximum)) → ShowsRefusal v b e
+    by (inl is) = inl (subst (λ (f : ProtoError). RefusesRData v b f) (sym is) refused)
+    by (inr far) = inr (far.0, far_refused v b s e same small far.0 (inr far.1))
 
 data_filled : (v : RData) (n : ℕ) (a b c d : State) → Opens a.offset 2 a b → Writes a b → EmitsRData v b c → Writes b c → Fills a.offset (octets_16 n) c d → a.offset + 2 + n ≡ c.offset → n < 2 ^ 16 → IsReadable v ⊎ IsEmpty v → WritesInFull a → StaysTrue d d.offset (λ message. DataAt message a.offset v d.offset)
 data_filled v n a b c d opens ab emits bc fills long small reads full =
@@ -155,25 +179,28 @@ data_filled v n a b c d opens ab emits bc fills long small reads full =
       };
     }
 
+-- The form of names stays with the modes.
+same_form : (v : RData) (a b : State) → SameModes a b → names_form v b ≡ names_form v a
+same_form v a b modes =
+    ap (λ (c : Bool). rdata_encoding (encoding_of v) c b.encoding) modes.canonical ∙ ap (λ (e : NameEncoding). rdata_encoding (encoding_of v) a.canonical e) modes.encoding
+
 -- Whatever the RDATA are, they are where they were written, in the encoder's form.
-data_written : (v : RData) (n : ℕ) (a b c d : State) → Opens a.offset 2 a b → Writes a b → EmitsRData v b c → Writes b c → Fills a.offset (octets_16 n) c d → a.offset + 2 + n ≡ c.offset → n < 2 ^ 16 → Sound a → (form : NameEncoding) × StaysTrue d d.offset (λ message. DataWritten v form message a.offset d.offset)
+data_written : (v : RData) (n : ℕ) (a b c d : State) → Opens a.offset 2 a b → Writes a b → EmitsRData v b c → Writes b c → Fills a.offset (octets_16 n) c d → a.offset + 2 + n ≡ c.offset → n < 2 ^ 16 → Sound a → StaysTrue d d.offset (λ message. DataWritten v (names_form v a) message a.offset d.offset)
 data_written v n a b c d opens ab emits bc fills long small sound =
     let from : b.offset ≡ a.offset + 2 = opens.offset in
-    let written = emitted_stands v b c (ab.sound sound) emits in
-    let form = written.0 in
-    let stays = holds_more c.offset d.offset d (λ m. StandsWritten v form m b.offset c.offset) (omega (arith, fills.offset)) (holds_same c.offset c.offset c d (λ m. StandsWritten v form m b.offset c.offset) (fills.same c.offset) (omega arith) written.1) in
-    let counted = holds_more (a.offset + 2) d.offset d (λ m. Stands m a.offset (octets_16 n) (a.offset + 2)) (omega (arith, fills.offset, long)) (fills.stays (bc.sound (ab.sound sound))) in (
-      form,
-      record {
-        of = λ later agrees. record {
-          len = n;
-          count = counted.of later agrees;
-          small = small;
-          rdata = subst (λ (q : ℕ). StandsWritten v form later (a.offset + 2) q) (sym long) (subst (λ (p : ℕ). StandsWritten v form later p c.offset) from (stays.of later agrees));
-          filled = omega (arith, fills.offset, long);
-        };
-      },
-    )
+    let form = names_form v a in
+    let written = subst (λ (f : NameEncoding). StaysTrue c c.offset (λ m. StandsWritten v f m b.offset c.offset)) (same_form v a b ab.modes) (emitted_form v b c (ab.sound sound) emits) in
+    let stays = holds_more c.offset d.offset d (λ m. StandsWritten v form m b.offset c.offset) (omega (arith, fills.offset)) (holds_same c.offset c.offset c d (λ m. StandsWritten v form m b.offset c.offset) (fills.same c.offset) (omega arith) written) in
+    let counted = holds_more (a.offset + 2) d.offset d (λ m. Stands m a.offset (octets_16 n) (a.offset + 2)) (omega (arith, fills.offset, long)) (fills.stays (bc.sound (ab.sound sound))) in
+    record {
+      of = λ later agrees. record {
+        len = n;
+        count = counted.of later agrees;
+        small = small;
+        rdata = subst (λ (q : ℕ). StandsWritten v form later (a.offset + 2) q) (sym long) (subst (λ (p : ℕ). StandsWritten v form later p c.offset) from (stays.of later agrees));
+        filled = omega (arith, fills.offset, long);
+      };
+    }
 
 pub behind_emitted : (v : RData) (p n : ℕ) (a b c d : State) → Opens p 2 a b → Writes a b → a.offset + 2 ≤ a.maximum → EmitsRData v b c → Writes b c → Fills p (octets_16 n) c d → p + 2 + n ≡ c.offset → n < 2 ^ 16 → EmitsBehindLength v a d
 behind_emitted v p n a b c d opens ab room emits bc fills long short =
@@ -184,6 +211,7 @@ behind_emitted v p n a b c d opens ab room emits bc fills long short =
     record {
       written = λ sound. data_written v n a b c d opened ab emits bc filled end short sound;
       stays = λ reads full small. data_filled v n a b c d opened ab emits bc filled end short reads full;
+      never = λ far small. never_written v b c emits (omega (arith, small, ab.modes.maximum)) far;
       size = λ reads. omega (arith, fills.offset, opens.offset, data_size v b c reads emits);
       fits = omega (arith, fills.offset, within);
     }
@@ -195,10 +223,10 @@ place_refused v a e refused = record {
   any = λ small. inl refused;
 }
 
-pub data_refused : (v : RData) (p : ℕ) (a b : State) (e : ProtoError) → Opens p 2 a b → RefusesRData v b e → RefusesBehindLength v a e
-data_refused v p a b e opens refused = record {
-  whole = λ reads small. refused_later (length (written_octets v)) 2 a b e opens.modes (omega (arith, opens.offset)) (data_room v b e reads refused);
-  any = λ small. inr (b, opens.modes, opens.offset, refused);
+pub data_refused : (v : RData) (p : ℕ) (a b c : State) (cause e : ProtoError) → Opens p 2 a b → Writes b c → RefusesRData v b cause → ShownError v c cause e → RefusesBehindLength v a e
+data_refused v p a b c cause e opens bc refused shown = record {
+  whole = λ reads small. refused_later (length (written_octets v)) 2 a b e opens.modes (omega (arith, opens.offset)) (shown_room v b c cause e bc.modes.maximum (omega (arith, small, opens.modes.maximum)) shown reads refused);
+  any = λ small. inr (b, opens.modes, opens.offset, shown_any v b c cause e bc.modes.maximum (omega (arith, small, opens.modes.maximum)) shown refused);
 }
 
 -- No more octets than 16 bits count fit a maximum of 16 bits.
@@ -215,19 +243,30 @@ pub record_emitted : (r : Record) (a b c : State) → EmitsHead r a b → Writes
 record_emitted r a b c head ab behind bc = record {
   written = λ sound.
       let first = later_holds b.offset b c (λ m. HeadWritten r a.encoding m a.offset b.offset) bc (omega arith) (head.written sound) in
-      let second = behind.written (ab.sound sound) in (
-        second.0,
-        record {
-          of = λ later agrees. record {
-            head_end = b.offset;
-            head = first.of later agrees;
-            rdata = second.1.of later agrees;
-          };
-        },
-      );
-  stays = λ back full small.
-      let first = later_holds b.offset b c (λ m. HeadAt m a.offset r b.offset) bc (omega arith) (head.stays back.owner back.own_type back.own_class full) in
-      let second = behind.stays back.rdata (full_after a b ab full) (omega (arith, small, ab.modes.maximum)) in
+      let second = subst (λ (f : NameEncoding). StaysTrue c c.offset (λ m. DataWritten r.rdata f m b.offset c.offset)) (same_form r.rdata a b ab.modes) (behind.written (ab.sound sound)) in
+      record {
+        of = λ later agrees. record {
+          head_end = b.offset;
+          head = first.of later agrees;
+          rdata = second.of later agrees;
+        };
+      };
+  stays = λ back full small. back_stands back full small;
+  size = λ back. omega (arith, head.size, behind.size (data_back back));
+  fits = omega (arith, behind.fits, ab.modes.maximum);
+  owner_used = λ back points some has. omega (arith, head.owner_used points some has, behind.size (data_back back));
+  owner_kept = λ sound points some room early. has_after b c (name_octets r.name) bc (ab.sound sound) (head.owner_kept points some room early);
+}
+  where
+    data_back : ReadsBack r → (IsReadable r.rdata ⊎ IsEmpty r.rdata) ⊎ ExceedsRdlength r.rdata
+    data_back (inl reads) = inl reads.1
+    data_back (inr far) = inr far
+
+    back_stands : ReadsBack r → WritesInFull a → a.maximum < 2 ^ 16 → StaysTrue c c.offset (λ message. RecordAt message a.offset r c.offset)
+    back_stands (inr far) full small = absurd (behind.never far (omega (arith, small, ab.modes.maximum)))
+    back_stands (inl (own, reads)) full small =
+      let first = later_holds b.offset b c (λ m. HeadAt m a.offset r b.offset) bc (omega arith) (head.stays own.owner own.own_type own.own_class full) in
+      let second = behind.stays reads (full_after a b ab full) (omega (arith, small, ab.modes.maximum)) in
       record {
         of = λ later agrees.
             let h = first.of later agrees in
@@ -249,12 +288,7 @@ record_emitted r a b c head ab behind bc = record {
               rdata = d.data_there;
               filled = d.filled;
             };
-      };
-  size = λ back. omega (arith, head.size, behind.size back.rdata);
-  fits = omega (arith, behind.fits, ab.modes.maximum);
-  owner_used = λ back points some has. omega (arith, head.owner_used points some has, behind.size back.rdata);
-  owner_kept = λ sound points some room early. has_after b c (name_octets r.name) bc (ab.sound sound) (head.owner_kept points some room early);
-}
+      }
 
 pub head_refused : (r : Record) (a : State) (e : ProtoError) → IsRefusal a (length (name_octets r.name) + 8) e → RefusesRecord r a e
 head_refused r a e refused = record {
@@ -263,7 +297,7 @@ head_refused r a e refused = record {
 }
 
 -- The RDATA that come after the head are refused.
-later_refused : (r : Record) (a b : State) (e : ProtoError) → EmitsHead r a b → Writes a b → IsRefusal b 2 e ⊎ ((start : State) × SameModes b start × (start.offset ≡ b.offset + 2) × RefusesRData r.rdata start e) → IsRefusal a (length (name_octets r.name) + 10) e ⊎ RefusesLater r a e
+later_refused : (r : Record) (a b : State) (e : ProtoError) → EmitsHead r a b → Writes a b → IsRefusal b 2 e ⊎ ((start : State) × SameModes b start × (start.offset ≡ b.offset + 2) × ShowsRefusal r.rdata start e) → IsRefusal a (length (name_octets r.name) + 10) e ⊎ RefusesLater r a e
 later_refused r a b e head ab (inl refused) =
     inl (subst (λ (n : ℕ). IsRefusal a n e) (omega arith) (refused_later 2 (length (name_octets r.name) + 8) a b e ab.modes (omega (arith, head.size)) refused))
 later_refused r a b e head ab (inr refused) = inr (record {
@@ -278,9 +312,13 @@ pub rest_refused : (r : Record) (a b : State) (e : ProtoError) → EmitsHead r a
 rest_refused r a b e head ab refused = record {
   whole = λ back small.
       subst (λ (n : ℕ). IsRefusal a n e) (omega arith)
-      (refused_later (2 + length (written_octets r.rdata)) (length (name_octets r.name) + 8) a b e ab.modes (omega (arith, head.size)) (refused.whole back.rdata (omega (arith, small, ab.modes.maximum))));
+      (refused_later (2 + length (written_octets r.rdata)) (length (name_octets r.name) + 8) a b e ab.modes (omega (arith, head.size)) (refused.whole (data_back back) (omega (arith, small, ab.modes.maximum))));
   any = λ small. later_refused r a b e head ab (refused.any (omega (arith, small, ab.modes.maximum)));
 }
+  where
+    data_back : ReadsBack r → (IsReadable r.rdata ⊎ IsEmpty r.rdata) ⊎ ExceedsRdlength r.rdata
+    data_back (inl reads) = inl reads.1
+    data_back (inr far) = inr far
 
 -- ---- an address in one piece behind its owner
 pub eight_octets : (octets : List ℕ) (r : Record) → octets ≡ head_numbers r → slice_index_or octets 0 0 ∷ slice_index_or octets 1 0 ∷ slice_index_or octets 2 0 ∷ slice_index_or octets 3 0 ∷ slice_index_or octets 4 0 ∷ slice_index_or octets 5 0 ∷ slice_index_or octets 6 0 ∷ slice_index_or octets 7 0 ∷ [] ≡ head_numbers r
@@ -311,6 +349,10 @@ pub record IsOctets (v : RData) (n : ℕ) (octets : List ℕ) : Type 0 where
   pub long : length octets ≡ n
   pub some : 0 < n
   pub few : n < 2 ^ 16
+
+-- So few don't exceed RDLENGTH.
+pub octets_short : (v : RData) (n : ℕ) (octets : List ℕ) → IsOctets v n octets → ExceedsRdlength v → ⊥
+octets_short v n octets is far = omega (arith, exceeding_long v far, is.written, is.few)
 
 -- Those of an address of 32 bits, and of one of 128.
 pub are_address : (v : RData) (a : A) → v ≡ rdata.A a → IsOctets v 4 (octets_32 (ipv4_bits a.0))
@@ -348,20 +390,18 @@ octets_emitted v n own old new is octets room =
     let end : new.offset ≡ old.offset + 2 + n = omega (arith, octets.offset, is.long) in
     record {
       written = λ sound.
-          let there = puts_stands (octets_16 n ++ own) old new sound octets in (
-            old.encoding,
-            record {
-              of = λ later agrees.
-                  let both = stands_split later old.offset (octets_16 n) own new.offset (there.of later agrees) in
-                  record {
-                    len = n;
-                    count = both.0;
-                    small = is.few;
-                    rdata = is.stands later (old.offset + 2) (old.offset + 2 + n) old.encoding (subst (λ (q : ℕ). Stands later (old.offset + 2) own q) end both.1);
-                    filled = end;
-                  };
-            },
-          );
+          let there = puts_stands (octets_16 n ++ own) old new sound octets in
+          record {
+            of = λ later agrees.
+                let both = stands_split later old.offset (octets_16 n) own new.offset (there.of later agrees) in
+                record {
+                  len = n;
+                  count = both.0;
+                  small = is.few;
+                  rdata = is.stands later (old.offset + 2) (old.offset + 2 + n) (names_form v old) (subst (λ (q : ℕ). Stands later (old.offset + 2) own q) end both.1);
+                  filled = end;
+                };
+          };
       stays = λ reads full small.
           let there = puts_stands (octets_16 n ++ own) old new full.sound octets in
           record {
@@ -375,6 +415,7 @@ octets_emitted v n own old new is octets room =
                   filled = end;
                 };
           };
+      never = λ far small. octets_short v n own is far;
       size = λ reads. omega (arith, end, is.written);
       fits = omega (arith, end, room);
     }
@@ -416,7 +457,7 @@ address_start r n own a b e is name ab refused =
       modes = record { maximum = ab.modes.maximum; encoding = ab.modes.encoding; canonical = ab.modes.canonical; points = ab.modes.points };
       after = omega (arith, ab.forward);
       near = omega (arith, name.size);
-      refused = is.refuses start e (start_refused n b e refused);
+      refused = inl (is.refuses start e (start_refused n b e refused));
     }
   where
     start_refused : (n : ℕ) (b : State) (e : ProtoError) → IsRefusal b (10 + n) e → IsRefusal (record b { offset = b.offset + 10 }) n e

@@ -1,4 +1,6 @@
 pub mod PutRecords
+pub mod Drafting
+pub mod Moving
 pub mod ReadingLaws
 pub mod OwnCodes
 pub mod Emission

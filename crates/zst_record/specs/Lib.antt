@@ -1,4 +1,5 @@
 pub mod OneOrMany
+pub mod Drafts
 pub mod Lending
 pub mod Records
 pub mod RecordSets

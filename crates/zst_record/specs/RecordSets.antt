@@ -1,5 +1,5 @@
 -- Sets of records: RFC 2181, section 5.
-use Rattle.std.specs.Prelude.{◌≡◌, ℕ, ◌<◌, Bool, true, false, not, ◌&&◌, ◌||◌, ◌==◌, nat_le, List, [], ◌∷◌, ◌++◌, length, map, min, Option, Some, None, if◌then◌else◌}
+use Rattle.std.specs.Prelude.{◌≡◌, ℕ, ◌+◌, ◌%◌, ◌^◌, ◌<◌, Bool, true, false, not, ◌&&◌, ◌||◌, ◌==◌, nat_le, List, [], ◌∷◌, ◌++◌, length, map, min, Option, Some, None, if◌then◌else◌}
 use Rattle.std.specs.List.{AllByRecursion, list_any}
 use Rattle.drd_rdata.specs.declared.rdata.RData.{RData}
 use Rattle.drd_rdata.specs.declared.rdata.RData.TheVariants.{SOA}
@@ -135,6 +135,19 @@ left_of set (r ∷ rs) =
 
 abbrev pub removed : RRset → Record → RRset
 removed set r = left_of set (without set.records r.rdata)
+
+-- The serial number goes round (RFC 2136, section 3.6; RFC 1982, section 3.1).
+abbrev pub raised_data : RData → RData
+raised_data (SOA soa) = SOA (record soa { serial = (soa.serial + 1) % 2 ^ 32 })
+raised_data other = other
+
+abbrev pub raised_first : List Record → List Record
+raised_first [] = []
+raised_first (r ∷ rs) = record r { rdata = raised_data r.rdata } ∷ rs
+
+-- The set of a zone's start with the next serial number. It has no signatures.
+abbrev pub raised_set : RRset → RRset
+raised_set set = record set { records = raised_first set.records; signatures = [] }
 
 abbrev pub signed_with : RRset → Record → RRset
 signed_with set r =

@@ -11,6 +11,7 @@ use Rattle.drd_rdata.specs.dnw_name.DomainName.{DomainName, name_octets, name_eq
 use Rattle.drd_rdata.specs.dnw_decoder.Codes.{RecordTypeAt, ClassAt}
 use Rattle.drd_rdata.specs.dnw_decoder.Octets.{octets_16, octets_32, Stands}
 use Rattle.drd_rdata.specs.dnw_decoder.Spelling.{NameAt}
+use Rattle.drd_rdata.specs.Exceeding.{ExceedsRdlength}
 use Rattle.drd_rdata.specs.Order.{rdata_eq}
 use Rattle.drd_rdata.specs.Reading.{ReadsAs, IsReadable}
 use Rattle.drd_rdata.specs.Types.{type_of}
@@ -71,14 +72,18 @@ belongs_to_message kind.SIG = true
 belongs_to_message kind.TSIG = true
 belongs_to_message other = false
 
--- A record reads back alone: its octets, names uncompressed, are read outside an update as this very
--- record. The owner is fully qualified, type and class are those of their numbers, and the RDATA
--- are read as themselves in some message.
-pub record ReadsBackAlone (r : Record) : Type 0 where
+-- Owner, type and class are read as themselves: the owner is fully qualified, type and class are
+-- those of their numbers.
+pub record HasOwnHead (r : Record) : Type 0 where
   pub owner : r.name.fqdn ≡ true
   pub own_type : IsOwnType (type_of r.rdata)
   pub own_class : IsOwnClass r.dns_class
-  pub rdata : IsReadable r.rdata
+
+-- A record reads back alone: its octets, names uncompressed and of any length in all, are read
+-- outside an update as this very record, its RDATA in some message; or the RDATA exceed RDLENGTH, so
+-- that no message holds the record.
+abbrev pub ReadsBackAlone : Record → Type 0
+ReadsBackAlone r = (HasOwnHead r × IsReadable r.rdata) ⊎ ExceedsRdlength r.rdata
 
 -- A zone may hold the record, and a server may send it: it reads back alone, and is of no type
 -- whose records belong to one message.
@@ -94,9 +99,7 @@ IsEmpty (rdata.Update0 code) = Unit {0}
 IsEmpty other = ⊥
 
 -- A record reads back where it is written: as one that reads back alone, or, without RDATA, in an
--- update.
-pub record ReadsBack (r : Record) : Type 0 where
-  pub owner : r.name.fqdn ≡ true
-  pub own_type : IsOwnType (type_of r.rdata)
-  pub own_class : IsOwnClass r.dns_class
-  pub rdata : IsReadable r.rdata ⊎ IsEmpty r.rdata
+-- update. One whose RDATA exceed RDLENGTH is never written.
+abbrev pub ReadsBack : Record → Type 0
+ReadsBack r =
+    (HasOwnHead r × (IsReadable r.rdata ⊎ IsEmpty r.rdata)) ⊎ ExceedsRdlength r.rdata

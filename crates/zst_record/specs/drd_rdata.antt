@@ -1,3 +1,4 @@
+pub use Rattle.drd_rdata.specs.Exceeding
 pub use Rattle.drd_rdata.specs.Fields
 pub use Rattle.drd_rdata.specs.Order
 pub use Rattle.drd_rdata.specs.Reading

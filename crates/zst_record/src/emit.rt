@@ -8,10 +8,10 @@ ghost use Rattle.drd_rdata.specs.dnw_encoder.Encoders.{state};
 ghost use Rattle.drd_rdata.specs.dnw_name.DomainName.{name_octets};
 ghost use Rattle.drd_rdata.specs.Writing.{written_octets};
 ghost use Rattle.zst_record.specs.Lending.{seen};
-ghost use Rattle.zst_record.specs.Writing.{EmitsHead, EmitsBehindLength, EmitsRecord, RefusesBehindLength, RefusesRecord, head_numbers};
+ghost use Rattle.zst_record.specs.Writing.{EmitsHead, EmitsBehindLength, EmitsRecord, RefusesBehindLength, RefusesRecord, ShownError, head_numbers};
 
 use crate::records::{Record, RecordRef};
-use drd_rdata::{A, AAAA, BinEncodable, BinEncoder, ProtoError, RData, octets_of};
+use drd_rdata::{A, AAAA, BinEncodable, BinEncoder, ProtoError, RData, exceeds_rdlength, octets_of};
 
 impl RecordRef<'_> {
     /// The numbers of type, class and time to live, as they stand behind the owner.
@@ -97,13 +97,35 @@ fn emit_behind_length(encoder: &mut BinEncoder<'_>, rdata: &RData) -> Result<(),
     ensures cause { IfErr result (RefusesBehindLength rdata.now (state encoder.old)) }
 {
     let length = encoder.place::<u16>()?;
-    rdata.emit(encoder)?;
+    if let Err(cause) = rdata.emit(encoder) {
+        return Err(shown_error(encoder, rdata, cause));
+    }
     match u16::try_from(encoder.len_since_place(&length)) {
         Ok(octets) => {
             encoder.fill_u16(length, octets);
             Ok(())
         }
         Err(_) => Err(ProtoError::Message("more octets of data than 16 bits count")),
+    }
+}
+
+// The error that is shown of a cause for which RDATA were refused: those that exceed RDLENGTH don't fit, whatever else is
+// wrong with them, so that a list ends before their record.
+fn shown_error(encoder: &BinEncoder<'_>, rdata: &RData, cause: ProtoError) -> ProtoError
+    ensures { ShownError rdata.now (state encoder.now) cause result }
+{
+    match cause {
+        ProtoError::Memory(refused) => ProtoError::Memory(refused),
+        ProtoError::MaxBufferSizeExceeded(maximum) if maximum == encoder.max_size() => {
+            ProtoError::MaxBufferSizeExceeded(maximum)
+        }
+        cause => {
+            if exceeds_rdlength(rdata) {
+                ProtoError::MaxBufferSizeExceeded(encoder.max_size())
+            } else {
+                cause
+            }
+        }
     }
 }
 

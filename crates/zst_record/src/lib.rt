@@ -10,6 +10,7 @@ pub use drd_rdata::{
     RecordType, RrKey, SOA, SRV,
 };
 
+mod draft;
 mod emit;
 mod lists;
 mod one_or_many;
@@ -18,6 +19,7 @@ mod record_set;
 mod records;
 mod rrset_records;
 
+pub use draft::Draft;
 pub use lists::push;
 pub use one_or_many::OneOrMany;
 pub use record_set::RecordSet;

@@ -3,8 +3,10 @@
 ghost use Rattle.std.specs.Prelude.{◌≡◌, ◌<◌, ◌≤◌, ◌∷◌, [], length, OnErr, OnOk, slice_get, slice_set, vec_capacity};
 ghost use Rattle.std.specs.List.{insert, remove};
 ghost use Rattle.std.specs.Mem.{FitsInMemory};
+ghost use Rattle.zst_record.specs.Drafts.{IsDraft, drafted};
 ghost use Rattle.zst_record.specs.OneOrMany.{is_one, items_of};
 
+use crate::draft::Draft;
 use std::alloc::{AllocError, Global};
 use std::{mem, slice};
 
@@ -48,6 +50,32 @@ impl<T: Drop> OneOrMany<T> {
         ensures { items_of self.new ≡ item ∷ [] }
     {
         *self = OneOrMany::One(item);
+    }
+
+    /// These items, of which there is one at least.
+    pub(crate) fn from_vec(items: Vec<T>) -> OneOrMany<T>
+        requires { 0 < length items.items }
+        ensures { items_of result ≡ items.items }
+    {
+        let mut items = items;
+        if items.len() == 1 {
+            if let Some(only) = items.pop() {
+                return OneOrMany::One(only);
+            }
+        }
+        OneOrMany::Many(items)
+    }
+
+    /// The list of a draft over the items. Others are left here.
+    pub(crate) fn settle(&mut self, draft: Draft<T>) -> Vec<T>
+        requires fits { FitsInMemory T.row }
+        requires draft { IsDraft (length (items_of self.old)) draft.places.items draft.items.items }
+        ensures { result.items ≡ drafted (items_of self.old) draft.places.items draft.items.items }
+    {
+        match self {
+            OneOrMany::One(only) => draft.settle(slice::from_mut(only)),
+            OneOrMany::Many(items) => draft.settle(items),
+        }
     }
 
     /// Puts an item in at a place.

@@ -1,16 +1,18 @@
 //! Sets of records (RFC 2181 section 5).
 
-ghost use Rattle.std.specs.Prelude.{◌≡◌, ◌⊎◌, ◌<◌, ◌∷◌, ◌++◌, ◌&&◌, ◌||◌, ◌==◌, true, [], Some, IfOk, OnOk, OnErr, length, position, if◌then◌else◌};
-ghost use Rattle.std.specs.List.{list_any};
+ghost use Rattle.std.specs.Prelude.{◌≡◌, ◌⊎◌, ◌<◌, ◌∷◌, ◌++◌, ◌&&◌, ◌||◌, ◌==◌, true, false, [], Some, IfOk, OnOk, OnErr, length, position, if◌then◌else◌};
+ghost use Rattle.std.specs.List.{AllByRecursion, list_any};
 ghost use Rattle.drd_rdata.specs.Order.{rdata_eq};
 ghost use Rattle.drd_rdata.specs.Types.{type_of};
 ghost use Rattle.drd_rdata.specs.dnw_codes.DNSClass.{same_class};
 ghost use Rattle.drd_rdata.specs.dnw_codes.RecordType.{same_record_type};
 ghost use Rattle.drd_rdata.specs.dnw_name.DomainName.{name_eq};
+ghost use Rattle.zst_record.specs.Drafts.{IsDraft, drafted};
 ghost use Rattle.zst_record.specs.OneOrMany.{items_of};
-ghost use Rattle.zst_record.specs.RecordSets.{IsRRset, empty_set, holds, inserted, is_signature_of, is_single, keeps_last, least_from, least_ttl, loses, none_left, outlasts, removed, set_of, set_with, signed_with, takes, with_one};
+ghost use Rattle.zst_record.specs.RecordSets.{IsHeld, IsRRset, empty_set, held_set, holds, inserted, is_signature_of, is_single, keeps_last, least_from, least_ttl, loses, none_left, outlasts, raised_data, raised_first, raised_set, removed, set_of, set_with, signed_with, takes, with_one};
 ghost use Rattle.zst_record.specs.RecordSets.{put_record as with_record};
 
+use crate::draft::Draft;
 use crate::one_or_many::OneOrMany;
 use crate::records::Record;
 use crate::rrset_records::RrsetRecords;
@@ -258,12 +260,72 @@ impl RecordSet {
         true
     }
 
+    /// Puts the records of a draft over the set's, of which there is one at least, in place of these. The type and the class
+    /// are theirs. The signatures go. It takes no memory.
+    pub fn settle(&mut self, record_type: RecordType, draft: Draft<Record>)
+        requires draft { IsDraft (length self.old.records) draft.places.items draft.items.items }
+        requires held { IsHeld record_type false (drafted self.old.records draft.places.items draft.items.items) [] }
+        ensures { self.new ≡ held_set record_type false (drafted self.old.records draft.places.items draft.items.items) [] }
+    {
+        let items = if self.is_empty {
+            draft.settle(&mut [])
+        } else {
+            self.records.settle(draft)
+        };
+        self.records = OneOrMany::from_vec(items);
+        self.record_type = record_type;
+        self.is_empty = false;
+        self.rrsigs.clear();
+    }
+
+    /// Raises the serial number of the first record, if that is an SOA, by one; behind 2^32 - 1 comes 0 (RFC 2136 3.6). The
+    /// signatures go. It takes no memory.
+    pub fn raise_serial(&mut self)
+        ensures { self.new ≡ raised_set self.old }
+    {
+        if !self.is_empty {
+            raise_first(&mut self.records);
+        }
+        self.rrsigs.clear();
+    }
+
+    /// Puts signatures of the set in place of those that it has. It takes no memory.
+    pub fn sign_with(&mut self, signatures: Vec<Record>)
+        requires { AllByRecursion (λ r. is_signature_of self.old r ≡ true) signatures.items }
+        ensures { self.new ≡ record self.old { signatures = signatures.items } }
+    {
+        self.rrsigs = signatures;
+    }
+
     // Whether no record of the set may be taken out.
     fn keeps_last(&self) -> bool
         ensures { result ≡ keeps_last self.now }
     {
         self.record_type == RecordType::SOA
             || (self.record_type == RecordType::NS && self.as_slice().len() <= 1)
+    }
+}
+
+// Raises the serial number of the first record, if that is an SOA.
+fn raise_first(records: &mut OneOrMany<Record>)
+    ensures { items_of records.new ≡ raised_first (items_of records.old) }
+{
+    match records {
+        OneOrMany::One(only) => raise_data(&mut only.rdata),
+        OneOrMany::Many(all) => {
+            if let Some(first) = all.first_mut() {
+                raise_data(&mut first.rdata);
+            }
+        }
+    }
+}
+
+// Raises the serial number of data of an SOA.
+fn raise_data(rdata: &mut RData)
+    ensures { rdata.new ≡ raised_data rdata.old }
+{
+    if let RData::SOA(soa) = rdata {
+        soa.serial = soa.serial.wrapping_add(1);
     }
 }
 

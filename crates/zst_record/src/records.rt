@@ -5,11 +5,11 @@ ghost use Rattle.std.specs.Cmp.{partial_equiv_from_equiv};
 ghost use Rattle.drd_rdata.specs.Types.{type_of};
 ghost use Rattle.drd_rdata.specs.dnw_codes.declared.dns_class.DNSClass.TheVariants.{IN};
 ghost use Rattle.drd_rdata.specs.declared.rdata.RData.TheVariants.{Update0};
-ghost use Rattle.zst_record.specs.Records.{IsOwnClass, IsOwnType, IsServable, ReadsBackAlone, belongs_to_message, record_eq, record_with};
+ghost use Rattle.zst_record.specs.Records.{HasOwnHead, IsOwnClass, IsOwnType, IsServable, ReadsBackAlone, belongs_to_message, record_eq, record_with};
 ghost use Rattle.zst_record.specs.RecordLaws.{record_equiv};
 ghost use Rattle.zst_record.specs.Lending.{seen};
 
-use drd_rdata::{DNSClass, Name, RData, RecordType, is_readable};
+use drd_rdata::{DNSClass, Name, RData, RecordType, exceeds_rdlength, is_readable};
 
 /// A resource record.
 #[derive(Debug, Drop)]
@@ -64,14 +64,19 @@ impl Record {
     }
 
     /// Whether the record reads back alone: its owner ends at the root (RFC 1035 3.1), type and class are those of their
-    /// numbers, and some message holds its RDATA (`is_readable`). It takes no memory.
+    /// numbers, and some message holds its RDATA (`is_readable`); or its RDATA have more octets than RDLENGTH can count, so
+    /// that no message holds the record (`exceeds_rdlength`). It takes no memory.
     pub fn reads_back_alone(&self) -> bool
         ensures { IsTrue result ↔ ReadsBackAlone self.now }
     {
-        self.name.is_fqdn()
-            && is_own_type(self.record_type())
-            && is_own_class(self.dns_class)
-            && is_readable(&self.rdata)
+        (self.has_own_head() && is_readable(&self.rdata)) || exceeds_rdlength(&self.rdata)
+    }
+
+    // Whether owner, type and class are read as themselves.
+    fn has_own_head(&self) -> bool
+        ensures { IsTrue result ↔ HasOwnHead self.now }
+    {
+        self.name.is_fqdn() && is_own_type(self.record_type()) && is_own_class(self.dns_class)
     }
 
     /// Whether a zone may hold the record, and a server may send it: it reads back alone, and its type is none of those whose

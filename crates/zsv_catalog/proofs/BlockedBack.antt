@@ -1,5 +1,5 @@
 -- The records that are answered in place of a blocked name's read back.
-use Rattle.std.proofs.Common.{◌≡◌, ◌<◌, ◌≤◌, ℕ, List, [], ◌∷◌, length, refl, subst, sym, arith}
+use Rattle.std.proofs.Common.{inl, ◌≡◌, ◌<◌, ◌≤◌, ℕ, List, [], ◌∷◌, length, refl, subst, sym, arith}
 use Rattle.std.proofs.lemmas.List.{length-append}
 use Rattle.std.proofs.lemmas.List.Elements.{All-nil, All-cons}
 use Rattle.std.specs.Prelude.{Bool, true, false, cond, Option, Some, None, IfSome, unwrap_or}
@@ -26,7 +26,7 @@ use Rattle.zsv_answer.specs.zsv_reply.drd_rdata.Fields.{rdata_fields}
 use Rattle.zsv_answer.specs.zsv_reply.drd_rdata.Reading.{IsReadable, RDataAt}
 use Rattle.zsv_answer.specs.zsv_reply.drd_rdata.declared.rdata.RData.{RData}
 use Rattle.zsv_answer.specs.zsv_reply.drd_rdata.declared.rdata.RData.TheVariants as rdata
-use Rattle.zsv_answer.specs.zsv_reply.zst_record.Records.{IsServable, record_with}
+use Rattle.zsv_answer.specs.zsv_reply.zst_record.Records.{IsOwnClass, IsServable, record_with}
 use Rattle.zsv_answer.specs.zsv_reply.zst_record.declared.records.Record.{Record}
 
 -- Fields that stand alone, and take octets, are read from these.
@@ -50,29 +50,34 @@ wide_read ip =
     from_fields (rdata.AAAA (record { 0 = ip })) (rdata_fields (rdata.AAAA (record { 0 = ip }))) (λ m p e there. (there, tt)) (omega arith) (tt, (tt, (tt, (tt, (tt, (tt, (tt, (tt, tt))))))))
 
 sunk_back : (owner : DomainName) (ttl : ℕ) (ip : Ipv4Addr) (wide : Ipv6Addr) (b : Bool) → owner.fqdn ≡ true → IsServable (record_with owner IN ttl (cond b (rdata.AAAA (record { 0 = wide })) (rdata.A (record { 0 = ip }))))
-sunk_back owner ttl ip wide true full = record { alone = record { owner = full; own_type = tt; own_class = tt; rdata = wide_read wide }; of_zones = refl }
-sunk_back owner ttl ip wide false full = record { alone = record { owner = full; own_type = tt; own_class = tt; rdata = address_read ip }; of_zones = refl }
+sunk_back owner ttl ip wide true full = record { alone = inl (record { owner = full; own_type = tt; own_class = tt }, wide_read wide); of_zones = refl }
+sunk_back owner ttl ip wide false full = record { alone = inl (record { owner = full; own_type = tt; own_class = tt }, address_read ip); of_zones = refl }
 
 -- ---- the message
+-- The owner is fully qualified, and the class that of its number.
+abbrev HasHead : Record → Type 0
+HasHead r = (r.name.fqdn ≡ true) × IsOwnClass r.dns_class
+
 text_read : (octets : List ℕ) (txt : TXT) → txt_strings txt ≡ octets ∷ [] → length octets ≤ 255 → IsReadable (rdata.TXT txt)
 text_read octets txt is short =
     from_fields (rdata.TXT txt) (txt_fields txt) (λ m p e there. (there, tt))
     (subst (λ (ss : List (List ℕ)). 0 < length (fields_octets (strings ss ∷ []))) (sym is) (omega arith))
     (subst (λ (ss : List (List ℕ)). All IsShort ss) (sym is) (All-cons IsShort octets [] short (All-nil IsShort)), tt)
 
-message_back : (r : Record) (octets : List ℕ) (value : RData) → IsServable r → IsText octets value → length octets ≤ 255 → IsServable (record r { rdata = value })
-message_back r octets (rdata.TXT txt) back is short = record { alone = record { owner = back.alone.owner; own_type = tt; own_class = back.alone.own_class; rdata = text_read octets txt is short }; of_zones = refl }
-message_back r octets other back is short = absurd is
+message_back : (r : Record) (octets : List ℕ) (value : RData) → HasHead r → IsText octets value → length octets ≤ 255 → IsServable (record r { rdata = value })
+message_back r octets (rdata.TXT txt) head is short = record { alone = inl (record { owner = head.0; own_type = tt; own_class = head.1 }, text_read octets txt is short); of_zones = refl }
+message_back r octets other head is short = absurd is
 
-later_back : (address : Record) (message : Option (List ℕ)) (rs : List Record) → IsServable address → IfSome message (λ octets. length octets ≤ 255) → IsMessage address message rs → AllByRecursion IsServable rs
-later_back address None rs back short is = subst (AllByRecursion IsServable) (sym is) tt
-later_back address (Some octets) rs back short (value, is, text) =
-    subst (AllByRecursion IsServable) (sym is) (message_back address octets value back text short, tt)
+later_back : (address : Record) (message : Option (List ℕ)) (rs : List Record) → HasHead address → IfSome message (λ octets. length octets ≤ 255) → IsMessage address message rs → AllByRecursion IsServable rs
+later_back address None rs head short is = subst (AllByRecursion IsServable) (sym is) tt
+later_back address (Some octets) rs head short (value, is, text) =
+    subst (AllByRecursion IsServable) (sym is) (message_back address octets value head text short, tt)
 
 -- ---- both
 -- What is answered in place of a blocked name can be read.
 pub record AnswerReadsBack (answer : BlockedAnswer) : Type 0 where
   pub address : IsServable answer.address
+  pub head : HasHead answer.address
   pub message : IfSome answer.message (λ octets. length octets ≤ 255)
 
 abbrev in_place_of : Blocklist → DomainName → RecordType → BlockedAnswer
@@ -84,10 +89,11 @@ answer_back blocklist name t full short = by (is_blocked blocklist name)
     by : (b : Bool) → IfSome (cond b (Some (in_place_of blocklist name t)) None) AnswerReadsBack
     by true = record {
       address = sunk_back (lowercase_name name) blocklist.ttl (unwrap_or blocklist.sinkhole_ipv4 unspecified_ipv4) (unwrap_or blocklist.sinkhole_ipv6 unspecified_ipv6) (same_record_type t kind.AAAA) full;
+      head = (full, tt);
       message = short;
     }
     by false = tt
 
 pub records_back : (answer : BlockedAnswer) (rs : List Record) → AnswerReadsBack answer → AreBlocked answer rs → AllByRecursion IsServable rs
 records_back answer rs back are =
-    subst (AllByRecursion IsServable) (sym are.address) (back.address, later_back answer.address answer.message are.later back.address back.message are.message)
+    subst (AllByRecursion IsServable) (sym are.address) (back.address, later_back answer.address answer.message are.later back.head back.message are.message)

@@ -1,5 +1,5 @@
 -- What a lookup answers in a zone whose records read back reads back: whatever is found stands at a fully qualified name.
-use Rattle.std.proofs.Common.{◌≡◌, ◌∙◌, ap, refl, subst, sym}
+use Rattle.std.proofs.Common.{◌≡◌, ◌∙◌, ap, inl, inr, refl, subst, sym}
 use Rattle.std.specs.Prelude.{ℕ, Bool, true, false, ◌&&◌, List, [], ◌∷◌, ◌++◌, map, min, Option, Some, None, IfSome, cond, is_some, option_map}
 use Rattle.std.specs.Bool.{beq}
 use Rattle.std.specs.List.{AllByRecursion, filter, flat_map}
@@ -10,32 +10,62 @@ use Rattle.zsv_answer.specs.zst_request.dnw_codes.RecordType.{same_record_type}
 use Rattle.zsv_answer.specs.zst_request.dnw_name.DomainName.{DomainName, domain_name, is_at_or_below, lowercase_name, name_eq}
 use Rattle.zst_key.specs.Ancestors.{nearest_from, or_else, star}
 use Rattle.zsv_answer.specs.zsv_reply.zst_record.declared.records.Record.{Record}
-use Rattle.zsv_answer.specs.zsv_reply.zst_record.Records.{IsServable}
-use Rattle.zsv_answer.specs.zsv_reply.zst_record.RecordSets.{RRset, flattened_record, flattened_set, none_left, renamed, renamed_record}
+use Rattle.zsv_answer.specs.zsv_reply.drd_rdata.Exceeding.{ExceedsRdlength}
+use Rattle.zsv_answer.specs.zsv_reply.drd_rdata.declared.rdata.RData.{RData}
+use Rattle.zsv_answer.specs.zsv_reply.drd_rdata.declared.rdata.RData.TheVariants as rdata
+use Rattle.zsv_answer.specs.zsv_reply.zst_record.Records.{IsServable, ReadsBackAlone}
+use Rattle.zsv_answer.specs.zsv_reply.zst_record.RecordSets.{IsRecordOf, RRset, flattened_record, flattened_set, is_signature_of, renamed, renamed_record}
 use Rattle.zsv_answer.specs.zst_request.zst_handler.Answers.{shown, sets_shown}
-use Rattle.zsv_answer.specs.zst_request.zst_handler.Chains.{Links, first_target, leads}
+use Rattle.zsv_answer.specs.zst_request.zst_handler.Chains.{Links, first_target, leads, target_of}
 use Rattle.zsv_answer.specs.zst_request.zst_handler.Found.{above, cut_at, cut_found, delegation, found, found_set, here, is_address, wildcard_answer}
 use Rattle.zsv_answer.specs.zst_request.zst_handler.Lookups.{Answer, AnswersFrom, IsLookup, LookupFrom, Outcome, additionals, addresses, alias_answer, alias_ttl, all_outcome, answered, behind_alias, denial, has_additionals, is_flattened, listed, name_error, name_exists, of_type, once, out_of_zone, sets_of_name, targets}
 use Rattle.zsv_answer.specs.zst_request.zst_handler.Zones.{AreStored, IsStored, SetReadsBack, Zone, ZoneReadsBack, exists_in, rrset_at}
 
--- A set whose records read back, and whose owner, which is theirs, is fully qualified.
+-- A record may be served, and where its owner is fully qualified this flag is set.
+pub record IsSoundUnder (fqdn : Bool) (r : Record) : Type 0 where
+  pub servable : IsServable r
+  pub full : r.name.fqdn ≡ true → fqdn ≡ true
+
+-- A set whose records read back, and whose owner is fully qualified as theirs are.
 pub record SetIsSound (set : RRset) : Type 0 where
-  pub owner : set.name.fqdn ≡ true
-  pub records : AllByRecursion IsServable set.records
-  pub signatures : AllByRecursion IsServable set.signatures
+  pub records : AllByRecursion (IsSoundUnder set.name.fqdn) set.records
+  pub signatures : AllByRecursion (IsSoundUnder set.name.fqdn) set.signatures
 
 abbrev pub ZoneIsSound : Zone → Type 0
 ZoneIsSound zone = AllByRecursion SetIsSound zone.sets
 
+first_holds : (a b : Bool) → (a && b) ≡ true → a ≡ true
+first_holds true b h = refl
+first_holds false b h = h
+
+same_flag : (a b : Bool) → beq a b ≡ true → b ≡ true → a ≡ true
+same_flag true b same full = refl
+same_flag false true same full = same
+same_flag false false same full = full
+
+other_flag : (a b : Bool) → beq a b ≡ true → a ≡ true → b ≡ true
+other_flag a true same full = refl
+other_flag true false same full = same
+other_flag false false same full = full
+
+-- A record under the name of its set, up to case.
+under : (set : RRset) (r : Record) → name_eq r.name set.name ≡ true → IsServable r → IsSoundUnder set.name.fqdn r
+under set r named servable =
+    record { servable = servable; full = λ full. other_flag r.name.fqdn set.name.fqdn (first_holds (beq r.name.fqdn set.name.fqdn) _ named) full }
+
+records_under : (set : RRset) (rs : List Record) → AllByRecursion (IsRecordOf set) rs → AllByRecursion IsServable rs → AllByRecursion (IsSoundUnder set.name.fqdn) rs
+records_under set [] of back = tt
+records_under set (r ∷ rs) of back = (under set r of.0.at_owner back.0, records_under set rs of.1 back.1)
+
+signatures_under : (set : RRset) (rs : List Record) → AllByRecursion (λ r. is_signature_of set r ≡ true) rs → AllByRecursion IsServable rs → AllByRecursion (IsSoundUnder set.name.fqdn) rs
+signatures_under set [] of back = tt
+signatures_under set (r ∷ rs) of back = (under set r (first_holds (name_eq r.name set.name) _ of.0) back.0, signatures_under set rs of.1 back.1)
+
 set_sound : (set : RRset) → IsStored set → SetReadsBack set → SetIsSound set
-set_sound set stored back = by set.records refl
-  where
-    by : (rs : List Record) → set.records ≡ rs → SetIsSound set
-    by [] e = absurd (true≢false (ap none_left (sym e) ∙ stored.filled))
-    by (r ∷ rs) e =
-        let named : set.name ≡ r.name = (stored.is.spelled r rs e).0 in
-        let first : IsServable r = (subst (AllByRecursion IsServable) e back.records).0 in
-        record { owner = ap (λ (n : DomainName). n.fqdn) named ∙ first.alone.owner; records = back.records; signatures = back.signatures }
+set_sound set stored back = record {
+  records = records_under set set.records stored.is.records back.records;
+  signatures = signatures_under set set.signatures stored.is.signatures back.signatures;
+}
 
 all_sound : (sets : List RRset) → AreStored sets → AllByRecursion SetReadsBack sets → AllByRecursion SetIsSound sets
 all_sound [] stored back = tt
@@ -44,10 +74,11 @@ all_sound (set ∷ sets) stored back = (set_sound set stored.0 back.0, all_sound
 pub zone_sound : (zone : Zone) → AreStored zone.sets → ZoneReadsBack zone → ZoneIsSound zone
 zone_sound zone stored back = all_sound zone.sets stored back
 
--- A set that is found at a name, of this flag: the set reads back, and the name is fully qualified.
+-- A set that is found at a name, of this flag: the set reads back, and the name is fully qualified if
+-- the set's is.
 pub record IsFound (fqdn : Bool) (set : RRset) : Type 0 where
   pub back : SetIsSound set
-  pub full : fqdn ≡ true
+  pub full : set.name.fqdn ≡ true → fqdn ≡ true
 
 -- ---- choices
 either : {X : Type 0} (P : X → Type 0) (a b : Option X) → IfSome a P → IfSome b P → IfSome (or_else a b) P
@@ -67,15 +98,6 @@ weaker P Q None f all = tt
 weaker P Q (Some x) f all = f x all
 
 -- ---- the sets of a name
-first_holds : (a b : Bool) → (a && b) ≡ true → a ≡ true
-first_holds true b h = refl
-first_holds false b h = h
-
-same_flag : (a b : Bool) → beq a b ≡ true → b ≡ true → a ≡ true
-same_flag true b same full = refl
-same_flag false true same full = same
-same_flag false false same full = full
-
 stored_back : (sets : List RRset) (name : DomainName) (t : RecordType) → AllByRecursion SetIsSound sets → IfSome (rrset_at sets name t) (IsFound name.fqdn)
 stored_back [] name t back = tt
 stored_back (set ∷ sets) name t back = by (name_eq name set.name && same_record_type set.record_type t) refl (stored_back sets name t back.1)
@@ -84,7 +106,7 @@ stored_back (set ∷ sets) name t back = by (name_eq name set.name && same_recor
     by false at later = later
     by true at later = record {
       back = back.0;
-      full = same_flag name.fqdn set.name.fqdn (first_holds (beq name.fqdn set.name.fqdn) _ (first_holds (name_eq name set.name) (same_record_type set.record_type t) at)) back.0.owner;
+      full = λ full. same_flag name.fqdn set.name.fqdn (first_holds (beq name.fqdn set.name.fqdn) _ (first_holds (name_eq name set.name) (same_record_type set.record_type t) at)) full;
     }
 
 here_back : (sets : List RRset) (t : RecordType) (name : DomainName) → AllByRecursion SetIsSound sets → IfSome (here sets t name) (IsFound name.fqdn)
@@ -127,21 +149,29 @@ delegation_back sets name t back =
     (cut_found_back name.fqdn _ (nearest_back (λ servers. IfSome servers (IsFound name.fqdn)) (cut_at sets) name.fqdn each name.labels))
 
 -- ---- under another name
-owned_back : (owner : DomainName) (ttl : ℕ) (r : Record) → owner.fqdn ≡ true → IsServable r → IsServable (record r { name = owner; ttl = ttl })
-owned_back owner ttl r full back = record { alone = record { owner = full; own_type = back.alone.own_type; own_class = back.alone.own_class; rdata = back.alone.rdata }; of_zones = back.of_zones }
+owned_alone : (owner : DomainName) (ttl : ℕ) (r : Record) → (r.name.fqdn ≡ true → owner.fqdn ≡ true) → ReadsBackAlone r → ReadsBackAlone (record r { name = owner; ttl = ttl })
+owned_alone owner ttl r full (inl (own, read)) = inl (record { owner = full own.owner; own_type = own.own_type; own_class = own.own_class }, read)
+owned_alone owner ttl r full (inr far) = inr far
 
-each_back : (f : Record → Record) (rs : List Record) → ((r : Record) → IsServable r → IsServable (f r)) → AllByRecursion IsServable rs → AllByRecursion IsServable (map f rs)
-each_back f [] kept all = tt
-each_back f (r ∷ rs) kept all = (kept r all.0, each_back f rs kept all.1)
+owned_back : (owner : DomainName) (ttl : ℕ) (r : Record) → (r.name.fqdn ≡ true → owner.fqdn ≡ true) → IsServable r → IsSoundUnder owner.fqdn (record r { name = owner; ttl = ttl })
+owned_back owner ttl r full back = record { servable = record { alone = owned_alone owner ttl r full back.alone; of_zones = back.of_zones }; full = λ same. same }
 
-renamed_back : (owner : DomainName) (set : RRset) → owner.fqdn ≡ true → SetIsSound set → SetIsSound (renamed owner set)
+module _ (fqdn : Bool) (owner : DomainName) (full : fqdn ≡ true → owner.fqdn ≡ true) where
+  renamed_each : (rs : List Record) → AllByRecursion (IsSoundUnder fqdn) rs → AllByRecursion (IsSoundUnder owner.fqdn) (map (renamed_record owner) rs)
+  renamed_each [] all = tt
+  renamed_each (r ∷ rs) all = (owned_back owner r.ttl r (λ same. full (all.0.full same)) all.0.servable, renamed_each rs all.1)
+
+  flattened_each : (ttl : ℕ) (rs : List Record) → AllByRecursion (IsSoundUnder fqdn) rs → AllByRecursion (IsSoundUnder owner.fqdn) (map (flattened_record owner ttl) rs)
+  flattened_each ttl [] all = tt
+  flattened_each ttl (r ∷ rs) all = (owned_back owner (min r.ttl ttl) r (λ same. full (all.0.full same)) all.0.servable, flattened_each ttl rs all.1)
+
+renamed_back : (owner : DomainName) (set : RRset) → (set.name.fqdn ≡ true → owner.fqdn ≡ true) → SetIsSound set → SetIsSound (renamed owner set)
 renamed_back owner set full back =
-    let kept = λ (r : Record). owned_back owner r.ttl r full in
-    record { owner = full; records = each_back (renamed_record owner) set.records kept back.records; signatures = each_back (renamed_record owner) set.signatures kept back.signatures }
+    record { records = renamed_each set.name.fqdn owner full set.records back.records; signatures = renamed_each set.name.fqdn owner full set.signatures back.signatures }
 
-flattened_back : (owner : DomainName) (ttl : ℕ) (set : RRset) → owner.fqdn ≡ true → SetIsSound set → SetIsSound (flattened_set owner ttl set)
+flattened_back : (owner : DomainName) (ttl : ℕ) (set : RRset) → (set.name.fqdn ≡ true → owner.fqdn ≡ true) → SetIsSound set → SetIsSound (flattened_set owner ttl set)
 flattened_back owner ttl set full back =
-    record { owner = full; records = each_back (flattened_record owner ttl) set.records (λ r. owned_back owner (min r.ttl ttl) r full) back.records; signatures = tt }
+    record { records = flattened_each set.name.fqdn owner full ttl set.records back.records; signatures = tt }
 
 -- ---- what is found
 found_set_back : (fqdn : Bool) (o : Option (DomainName × RRset)) → IfSome o (λ entry. IsFound fqdn entry.1) → IfSome (found_set o) (IsFound fqdn)
@@ -153,7 +183,7 @@ wildcard_back sets name t back =
     let at_star = λ (ancestor : DomainName). here sets t (star ancestor) in
     let each = λ (labels : List (List ℕ)). here_back sets t (star (domain_name name.fqdn labels)) back in
     mapped (IsFound name.fqdn) (renamed (lowercase_name name)) (found_set (above at_star name))
-    (weaker (IsFound name.fqdn) _ (found_set (above at_star name)) (λ set at. record { back = renamed_back (lowercase_name name) set at.full at.back; full = at.full })
+    (weaker (IsFound name.fqdn) _ (found_set (above at_star name)) (λ set at. record { back = renamed_back (lowercase_name name) set at.full at.back; full = λ same. same })
     (found_set_back name.fqdn _ (above_back (IsFound name.fqdn) at_star name.fqdn each name.labels)))
 
 pub found_back : (sets : List RRset) (name : DomainName) (t : RecordType) → AllByRecursion SetIsSound sets → IfSome (found sets name t) (IsFound name.fqdn)
@@ -215,16 +245,39 @@ abbrev pub OutcomeReadsBack : Outcome → Type 0
 OutcomeReadsBack (answered answer) = AnswerReadsBack answer
 OutcomeReadsBack denied = Unit {0}
 
-alias_back : (name : DomainName) (alias : RRset) (behind : Option RRset) → IsFound name.fqdn alias → IfSome behind SetIsSound → AnswerReadsBack (alias_answer name alias behind)
-alias_back name alias None at behind = record { answers = (at.back, tt); additionals = tt }
-alias_back name alias (Some set) at behind =
-    record { answers = (flattened_back (lowercase_name name) (alias_ttl alias.records) set at.full behind, tt); additionals = (at.back, tt) }
+-- A record that leads to a name exceeds nothing, so its owner is fully qualified.
+leading_full : (r : Record) (to : DomainName) → target_of r.rdata ≡ Some to → ReadsBackAlone r → r.name.fqdn ≡ true
+leading_full r to leads (inl (own, read)) = own.owner
+leading_full r to leads (inr far) = absurd (by r.rdata leads far)
+  where
+    by : (v : RData) → target_of v ≡ Some to → ExceedsRdlength v → ⊥
+    by (rdata.CNAME cname) leads far = far
+    by (rdata.ANAME aname) leads far = far
+    by (rdata.NS ns) leads far = far
+    by (rdata.MX mx) leads far = far
+    by (rdata.SRV srv) leads far = far
+    by other leads far = absurd (cc leads)
+
+-- So is the owner of a set that leads to one.
+target_full : (fqdn : Bool) (rs : List Record) (to : DomainName) → AllByRecursion (IsSoundUnder fqdn) rs → first_target rs ≡ Some to → fqdn ≡ true
+target_full fqdn [] to all leads = absurd (cc leads)
+target_full fqdn (r ∷ rs) to all leads = all.0.full (leading_full r to leads all.0.servable.alone)
+
+alias_back : (name : DomainName) (alias : RRset) (behind : Option RRset) → IsFound name.fqdn alias → (is_some behind ≡ true → alias.name.fqdn ≡ true) → IfSome behind SetIsSound → AnswerReadsBack (alias_answer name alias behind)
+alias_back name alias None at full behind = record { answers = (at.back, tt); additionals = tt }
+alias_back name alias (Some set) at full behind =
+    record { answers = (flattened_back (lowercase_name name) (alias_ttl alias.records) set (λ same. at.full (full refl)) behind, tt); additionals = (at.back, tt) }
+
+-- Something is behind an alias only where it leads to a name.
+behind_leads : (sets : List RRset) (t : RecordType) (fqdn : Bool) (rs : List Record) → AllByRecursion (IsSoundUnder fqdn) rs → (target : Option DomainName) → first_target rs ≡ target → is_some (behind_alias sets t target) ≡ true → fqdn ≡ true
+behind_leads sets t fqdn rs all None leads some = absurd (true≢false (sym some))
+behind_leads sets t fqdn rs all (Some to) leads some = target_full fqdn rs to all leads
 
 answer_back : (sets : List RRset) (name : DomainName) (t : RecordType) (first : RRset) (answer : Answer) → AllByRecursion SetIsSound sets → IsFound name.fqdn first → AnswersFrom sets name t first answer → AnswerReadsBack answer
 answer_back sets name t first answer back at (flat, chain) = by (is_flattened t first) refl
   where
     by : (b : Bool) → is_flattened t first ≡ b → AnswerReadsBack answer
-    by true e = subst AnswerReadsBack (sym (flat e)) (alias_back name first _ at (behind_back sets t (first_target first.records) back))
+    by true e = subst AnswerReadsBack (sym (flat e)) (alias_back name first _ at (behind_leads sets t first.name.fqdn first.records at.back.records (first_target first.records) refl) (behind_back sets t (first_target first.records) back))
     by false e =
         let is = chain e in
         record {
@@ -269,9 +322,13 @@ pub append_back : (rs more : List Record) → AllByRecursion IsServable rs → A
 append_back [] more first later = later
 append_back (r ∷ rs) more first later = (first.0, append_back rs more first.1 later)
 
+servable_each : (fqdn : Bool) (rs : List Record) → AllByRecursion (IsSoundUnder fqdn) rs → AllByRecursion IsServable rs
+servable_each fqdn [] all = tt
+servable_each fqdn (r ∷ rs) all = (all.0.servable, servable_each fqdn rs all.1)
+
 shown_back : (dnssec_ok : Bool) (set : RRset) → SetIsSound set → AllByRecursion IsServable (shown dnssec_ok set)
-shown_back true set back = append_back set.records set.signatures back.records back.signatures
-shown_back false set back = back.records
+shown_back true set back = append_back set.records set.signatures (servable_each set.name.fqdn set.records back.records) (servable_each set.name.fqdn set.signatures back.signatures)
+shown_back false set back = servable_each set.name.fqdn set.records back.records
 
 pub sets_shown_back : (dnssec_ok : Bool) (sets : List RRset) → AllByRecursion SetIsSound sets → AllByRecursion IsServable (sets_shown dnssec_ok sets)
 sets_shown_back dnssec_ok [] all = tt

@@ -1,16 +1,17 @@
 -- A message that stands whole at the front of octets is read from them.
-use Rattle.std.proofs.Common.{◌≡◌, ℕ, ◌+◌, ◌*◌, ◌%◌, ◌<◌, ◌≤◌, ◌==◌, ◌||◌, ◌^◌, not, Bool, true, false, inr, List, [], ◌∷◌, ◌++◌, length, length-append, length-drop, take, drop, get_or, refl, sym, ap, subst, ◌∙◌, arith, append-nil, true≢false, Vec, Global}
+use Rattle.std.proofs.Common.{◌≡◌, ℕ, ◌+◌, ◌*◌, ◌%◌, ◌<◌, ◌≤◌, ◌==◌, ◌||◌, ◌^◌, not, Bool, true, false, inl, inr, List, [], ◌∷◌, ◌++◌, length, length-append, length-drop, take, drop, get_or, refl, sym, ap, subst, ◌∙◌, arith, append-nil, true≢false, Vec, Global}
 use Rattle.std.proofs.lemmas.Bool.{eqb-true}
 use Rattle.std.specs.List.{AllByRecursion}
 use Rattle.std.specs.Prelude.{Option, Some, None, option_to_list, unwrap_or, find, cond}
 use Rattle.zsv_sections.specs.Sections.{PlacedRecords, is_opt, is_root, is_signature, is_tsig, misplaced, past, past_all}
 use Rattle.zst_edns.specs.declared.edns.Edns.{Edns}
-use Rattle.zsv_sections.specs.zst_record.Records.{RecordAt, IsServable, belongs_to_message}
+use Rattle.zsv_sections.specs.zst_record.Records.{ReadsBackAlone, RecordAt, IsServable, belongs_to_message}
 use Rattle.zsv_sections.specs.zst_record.declared.records.Record.{Record}
 use Rattle.zsv_sections.specs.zst_record.dnw_codes.RecordType.{named_record_types, record_type_number, record_type_of, same_record_type}
 use Rattle.zsv_sections.specs.zst_record.dnw_codes.declared.record_type.RecordType.{RecordType}
 use Rattle.zsv_sections.specs.zst_record.dnw_codes.declared.record_type.RecordType.TheVariants as kind
 use Rattle.zsv_sections.specs.zst_record.dnw_decoder.Octets.{Stands}
+use Rattle.zsv_sections.specs.zst_record.drd_rdata.Exceeding.{ExceedsRdlength}
 use Rattle.zsv_sections.specs.zst_record.drd_rdata.Reading.{IsReadable, RDataAt}
 use Rattle.zsv_sections.specs.zst_record.drd_rdata.Types.{is_update0, type_of}
 use Rattle.zsv_sections.specs.zst_record.drd_rdata.declared.rdata.RData.{RData}
@@ -67,6 +68,10 @@ there_not_bare message place end other at = refl
 not_bare : (v : RData) → IsReadable v → is_update0 v ≡ false
 not_bare v readable = there_not_bare readable.message readable.place readable.end v readable.there
 
+far_not_bare : (v : RData) → ExceedsRdlength v → is_update0 v ≡ false
+far_not_bare (rdata.Update0 code) far = absurd (omega (arith, far))
+far_not_bare other far = refl
+
 record IsOfZone (r : Record) : Type 0 where
   opt : is_opt r ≡ false
   tsig : is_tsig r ≡ false
@@ -83,8 +88,12 @@ of_zone message place r end at alone =
       opt = not_of t kind.OPT n at.record_type.means refl alone.of_zones;
       tsig = tsig;
       signature = λ i. tsig i || sig i;
-      bare = not_bare r.rdata alone.alone.rdata;
+      bare = some_data r alone.alone;
     }
+  where
+    some_data : (r : Record) → ReadsBackAlone r → is_update0 r.rdata ≡ false
+    some_data r (inl read) = not_bare r.rdata read.1
+    some_data r (inr far) = far_not_bare r.rdata far
 
 -- ---- sections of such records
 may_stand : (u a : Bool) (r : Record) → IsOfZone r → misplaced (record { is_update = u; is_additional = a; is_signed = false; has_options = false }) r ≡ None

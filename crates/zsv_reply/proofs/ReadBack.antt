@@ -68,7 +68,7 @@ of_zone message place r end at alone =
       opt = not_of t kind.OPT n at.record_type.means refl alone.of_zones;
       tsig = tsig;
       signature = λ i. tsig i || sig i;
-      bare = not_bare r.rdata alone.alone.rdata;
+      bare = not_bare r alone.alone;
     }
 
 -- ---- sections of such records

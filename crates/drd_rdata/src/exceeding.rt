@@ -1,0 +1,148 @@
+//! RDATA that no message can hold: more octets than RDLENGTH can count (RFC 1035 3.2.1).
+ghost use Rattle.std.specs.Prelude.{◌≡◌, ◌↔◌, ◌+◌, ◌<◌, IsTrue, MatchOption, length, map};
+ghost use Rattle.std.specs.List.{flat_map};
+ghost use Rattle.drd_types.specs.drd_fields.Seen.{seen};
+ghost use Rattle.drd_types.specs.drd_fields.Writing.{field_octets, fields_octets, string_octets};
+ghost use Rattle.drd_types.specs.drd_opt.Entries.{entries_octets};
+ghost use Rattle.drd_types.specs.drd_opt.Options.{option_octets};
+ghost use Rattle.drd_svcb.specs.Fields.{svcb_fields};
+ghost use Rattle.drd_svcb.specs.drd_params.Params.{params_octets};
+ghost use Rattle.drd_svcb.specs.dnw_name.DomainName.{name_octets};
+ghost use Rattle.drd_rdata.specs.Exceeding.{ExceedsRdlength};
+
+use crate::rdata::RData;
+use drd_svcb::{SVCB, SvcParamKey, SvcParamValue};
+use drd_types::{EdnsCode, EdnsOption, FieldRef, Name};
+
+/// Whether the RDATA have more than 65,535 octets, names uncompressed: no message holds them. It takes no memory.
+pub fn exceeds_rdlength(rdata: &RData) -> bool
+    ensures { IsTrue result ↔ ExceedsRdlength rdata.now }
+{
+    match rdata {
+        RData::A(_)
+        | RData::AAAA(_)
+        | RData::ANAME(_)
+        | RData::CNAME(_)
+        | RData::CSYNC(_)
+        | RData::MX(_)
+        | RData::NS(_)
+        | RData::PTR(_)
+        | RData::SOA(_)
+        | RData::SRV(_) => false,
+        RData::HTTPS(https) => room_after_service(&https.0).is_none(),
+        RData::OPT(opt) => room_after_options(opt.as_ref(), u16::MAX).is_none(),
+        RData::SVCB(svcb) => room_after_service(svcb).is_none(),
+        _ => room_after_fields(rdata.fields().as_slice(), u16::MAX).is_none(),
+    }
+}
+
+// What is left of a room behind so many octets, if they fit.
+fn room_after(octets: usize, room: u16) -> Option<u16>
+    ensures { MatchOption result (room < octets) (λ left. left + octets ≡ room) }
+{
+    match u16::try_from(octets) {
+        Ok(octets) => room.checked_sub(octets),
+        Err(_) => None,
+    }
+}
+
+// What is left behind a name.
+fn room_after_name(name: &Name, room: u16) -> Option<u16>
+    ensures { MatchOption result (room < length (name_octets name.now)) (λ left. left + length (name_octets name.now) ≡ room) }
+{
+    room_after(name.as_octets().len() + 1, room)
+}
+
+// What is left behind a string with the octet of its length.
+fn room_after_string(string: &[u8], room: u16) -> Option<u16>
+    ensures { MatchOption result (room < length (string_octets string.now)) (λ left. left + length (string_octets string.now) ≡ room) }
+{
+    room_after(string.len(), room.checked_sub(1)?)
+}
+
+// What is left behind strings.
+fn room_after_strings(strings: &[Vec<u8>], room: u16) -> Option<u16>
+    ensures { MatchOption result (room < length (flat_map string_octets (map (λ s. s.items) strings.entry.now)))
+        (λ left. left + length (flat_map string_octets (map (λ s. s.items) strings.entry.now)) ≡ room) }
+{
+    match strings.split_first() {
+        None => Some(room),
+        Some((first, later)) => room_after_strings(later, room_after_string(first, room)?),
+    }
+}
+
+// What is left behind a field.
+fn room_after_field(field: FieldRef<'_>, room: u16) -> Option<u16>
+    ensures { MatchOption result (room < length (field_octets (seen field.entry))) (λ left. left + length (field_octets (seen field.entry)) ≡ room) }
+{
+    match field {
+        FieldRef::U8(_) => room.checked_sub(1),
+        FieldRef::U16(_) => room.checked_sub(2),
+        FieldRef::U32(_) => room.checked_sub(4),
+        FieldRef::Name(name) => room_after_name(name, room),
+        FieldRef::String(string) => room_after_string(string, room),
+        FieldRef::Strings(strings) => room_after_strings(strings, room),
+        FieldRef::Octets(octets) => room_after(octets.len(), room),
+    }
+}
+
+// What is left behind fields.
+fn room_after_fields(fields: &[FieldRef<'_>], room: u16) -> Option<u16>
+    ensures { MatchOption result (room < length (fields_octets (map seen fields.entry.now)))
+        (λ left. left + length (fields_octets (map seen fields.entry.now)) ≡ room) }
+{
+    match fields.split_first() {
+        None => Some(room),
+        Some((first, later)) => room_after_fields(later, room_after_field(*first, room)?),
+    }
+}
+
+// What is left behind a value with the octets of its number and its length.
+fn room_after_value(octets: Option<u16>, room: u16) -> Option<u16>
+    ensures { MatchOption octets (MatchOption result (Unit {0}) (λ left. ⊥))
+        (λ n. MatchOption result (room < 4 + n) (λ left. left + (4 + n) ≡ room)) }
+{
+    room.checked_sub(4)?.checked_sub(octets?)
+}
+
+// What is left behind options.
+fn room_after_options(entries: &[(EdnsCode, EdnsOption)], room: u16) -> Option<u16>
+    ensures { MatchOption result (room < length (entries_octets entries.entry.now)) (λ left. left + length (entries_octets entries.entry.now) ≡ room) }
+{
+    match entries.split_first() {
+        None => Some(room),
+        Some((entry, later)) => {
+            room_after_options(later, room_after_value(option_len(&entry.1), room)?)
+        }
+    }
+}
+
+// How many octets an option has, if two octets can count them.
+fn option_len(option: &EdnsOption) -> Option<u16>
+    ensures { MatchOption result (65535 < length (option_octets option.now)) (λ n. n ≡ length (option_octets option.now)) }
+{
+    if option.is_countable() {
+        Some(option.len())
+    } else {
+        None
+    }
+}
+
+// What is left behind the parameters of a service.
+fn room_after_params(params: &[(SvcParamKey, SvcParamValue)], room: u16) -> Option<u16>
+    ensures { MatchOption result (room < length (params_octets params.entry.now)) (λ left. left + length (params_octets params.entry.now) ≡ room) }
+{
+    match params.split_first() {
+        None => Some(room),
+        Some((param, later)) => {
+            room_after_params(later, room_after_value(param.1.octet_len(), room)?)
+        }
+    }
+}
+
+// What is left of RDLENGTH's room behind a service.
+fn room_after_service(svcb: &SVCB) -> Option<u16>
+    ensures { MatchOption result (65535 < length (fields_octets (svcb_fields svcb.now))) (λ left. left + length (fields_octets (svcb_fields svcb.now)) ≡ 65535) }
+{
+    room_after_params(&svcb.svc_params, room_after_name(&svcb.target_name, u16::MAX - 2)?)
+}
