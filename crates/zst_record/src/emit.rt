@@ -11,7 +11,9 @@ ghost use Rattle.zst_record.specs.Lending.{seen};
 ghost use Rattle.zst_record.specs.Writing.{EmitsHead, EmitsBehindLength, EmitsRecord, RefusesBehindLength, RefusesRecord, ShownError, head_numbers};
 
 use crate::records::{Record, RecordRef};
-use drd_rdata::{A, AAAA, BinEncodable, BinEncoder, ProtoError, RData, exceeds_rdlength, octets_of};
+use drd_rdata::{
+    A, AAAA, BinEncodable, BinEncoder, ProtoError, RData, exceeds_rdlength, octets_of,
+};
 
 impl RecordRef<'_> {
     /// The numbers of type, class and time to live, as they stand behind the owner.
