@@ -35,7 +35,7 @@ use Rattle.drd_rdata.specs.drd_params.AddressFields.{aaaa_fields}
 use Rattle.drd_rdata.specs.drd_params.declared.a.A.{A}
 use Rattle.drd_rdata.specs.drd_params.declared.aaaa.AAAA.{AAAA}
 use Rattle.zst_record.proofs.OwnCodes.{class_read, class_small, type_read, type_small}
-use Rattle.zst_record.specs.Records.{HasOwnHead, IsEmpty, ReadsBack}
+use Rattle.zst_record.specs.Records.{IsEmpty, ReadsBack, RecordAt}
 use Rattle.zst_record.specs.Writing.{HeadAt, HeadWritten, DataWritten, EmitsHead, DataAt, EmitsBehindLength, EmitsRecord, RefusesBehindLength, RefusesLater, RefusesRecord, ShownError, ShowsRefusal, head_numbers}
 use Rattle.zst_record.specs.declared.records.Record.{Record}
 
