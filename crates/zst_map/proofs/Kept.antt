@@ -38,7 +38,7 @@ abbrev pub Owner : Type 0
 Owner = DomainName × Unit {0}
 
 -- ---- names that are equal are asked for alike
-alike_keys : (a b : DomainName) → name_eq a b ≡ true → name_key a ≡ name_key b
+pub alike_keys : (a b : DomainName) → name_eq a b ≡ true → name_key a ≡ name_key b
 alike_keys a b e = same_octets (name_key a) (name_key b) (same_key a b ∙ e)
 
 same_test : (a b x : DomainName) → name_eq a b ≡ true → name_eq a x ≡ name_eq b x

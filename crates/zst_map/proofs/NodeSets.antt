@@ -333,7 +333,7 @@ owned_made key (changes.Upsert r) (Some s) at of = by (takes s r)
 owned_made key (changes.Put new) o at of = record { owner = at }
 
 -- ---- a node with a change of its owner
-found_of : (P : RRset → Type 0) (t : RecordType) (sets : List RRset) (s : RRset) → AllByRecursion P sets → find (is_of_type t) sets ≡ Some s → P s
+pub found_of : (P : RRset → Type 0) (t : RecordType) (sets : List RRset) (s : RRset) → AllByRecursion P sets → find (is_of_type t) sets ≡ Some s → P s
 found_of P t [] s all e = let h : ⊥ = cc in absurd h
 found_of P t (x ∷ sets) s all e = by (is_of_type t x) e (found_of P t sets s all.1)
   where
@@ -341,7 +341,7 @@ found_of P t (x ∷ sets) s all e = by (is_of_type t x) e (found_of P t sets s a
     by true e more = let g : x ≡ s = cc in subst P g all.0
     by false e more = more e
 
-found_type : (t : RecordType) (sets : List RRset) (s : RRset) → find (is_of_type t) sets ≡ Some s → code_of s ≡ record_type_number t
+pub found_type : (t : RecordType) (sets : List RRset) (s : RRset) → find (is_of_type t) sets ≡ Some s → code_of s ≡ record_type_number t
 found_type t [] s e = let h : ⊥ = cc in absurd h
 found_type t (x ∷ sets) s e = by (is_of_type t x) refl e (found_type t sets s)
   where
