@@ -5,9 +5,7 @@ use Rattle.std.specs.Prelude.{Result, Ok, Err, IfOk}
 use Rattle.drd_types.specs.dnw_codes.declared.error.DecodeError.{DecodeError}
 use Rattle.drd_types.specs.dnw_codes.declared.record_type.RecordType.{RecordType}
 use Rattle.drd_types.specs.dnw_decoder.Octets.{Stands}
-use Rattle.drd_types.specs.dnw_encoder.Effects.{Sound, StaysTrue}
 use Rattle.drd_types.proofs.dnw_encoder_lemmas.Laws.{holds_map}
-use Rattle.drd_types.specs.dnw_encoder.State.{State}
 use Rattle.drd_types.specs.dnw_encoder.declared.modes.NameEncoding.{NameEncoding}
 use Rattle.drd_types.specs.drd_fields.Fields.{Field, rest, FieldsAt}
 use Rattle.drd_types.specs.drd_fields.Writing.{encoded_fields}
@@ -17,7 +15,7 @@ use Rattle.drd_types.specs.drd_opt.Reading.{EntriesAt, HoldsEntries}
 use Rattle.drd_rdata.specs.Fields.{rdata_fields}
 use Rattle.drd_rdata.specs.Reading.{HoldsAs, IsValid}
 use Rattle.drd_rdata.specs.Types.{type_of}
-use Rattle.drd_rdata.specs.Writing.{EmitsRData, StandsWritten}
+use Rattle.drd_rdata.specs.Writing.{StandsWritten}
 use Rattle.drd_rdata.specs.declared.rdata.RData.{RData}
 use Rattle.drd_rdata.specs.declared.rdata.RData.TheVariants as rdata
 use Rattle.drd_rdata.specs.ReadingBack.{IsReadBack, ReadsBack, encoded_data}

@@ -25,13 +25,11 @@ use Rattle.drd_types.specs.drd_opt.declared.opt.OPT.{OPT}
 use Rattle.drd_svcb.specs.Fields.{svcb_fields}
 use Rattle.drd_svcb.specs.declared.https.HTTPS.{HTTPS}
 use Rattle.drd_svcb.specs.declared.svcb.SVCB.{SVCB}
-use Rattle.drd_rdata.specs.Fields.{rdata_fields}
 use Rattle.drd_rdata.specs.Order.{compared_fields}
 use Rattle.drd_rdata.specs.Reading.{IsReadable, IsValid, RDataAt}
 use Rattle.drd_rdata.specs.declared.rdata.RData.{RData}
 use Rattle.drd_rdata.specs.declared.rdata.RData.TheVariants as rdata
 use Rattle.drd_types.specs.drd_fields.Readable.{AreReadable}
-use Rattle.drd_svcb.specs.Readable.{IsService}
 use Rattle.drd_rdata.specs.Readable.{CanBeRead}
 use Rattle.drd_types.proofs.drd_opt_lemmas.ReadableLaws.{entries_stand, holding}
 

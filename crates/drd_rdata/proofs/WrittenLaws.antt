@@ -1,6 +1,6 @@
 -- What was read is written, names in full, as what reads back the same, in as many octets as it has, and is refused only where these
 -- don't fit. Whatever is written ends within the maximum.
-use Rattle.std.proofs.Common.{◌≡◌, ℕ, zero, suc, ◌+◌, ◌<◌, ◌≤◌, inl, inr, Bool, true, false, List, [], ◌∷◌, ◌++◌, length, map, cond, refl, sym, ap, subst, ◌∙◌, arith}
+use Rattle.std.proofs.Common.{◌≡◌, ℕ, zero, suc, ◌+◌, ◌^◌, ◌<◌, ◌≤◌, inl, inr, Bool, true, false, List, [], ◌∷◌, ◌++◌, length, map, cond, refl, sym, ap, subst, ◌∙◌, arith}
 use Rattle.std.proofs.lemmas.List.{length-append}
 use Rattle.std.specs.Str.{str_to_ascii_lowercase}
 use Rattle.drd_types.specs.dnw_codes.declared.error.ProtoError.{ProtoError}
@@ -35,11 +35,23 @@ use Rattle.drd_types.specs.drd_opt.Entries.{Entry, entries_octets, raw_octets, r
 use Rattle.drd_types.specs.drd_opt.Reading.{HoldsEntries}
 use Rattle.drd_types.specs.drd_opt.declared.opt.OPT.{OPT}
 use Rattle.drd_types.proofs.drd_opt_lemmas.FitLaws.{read_fit}
+use Rattle.drd_rdata.specs.Order.{compared_fields}
 use Rattle.drd_rdata.specs.Reading.{HoldsAs, ReadsAs}
 use Rattle.drd_rdata.specs.Exceeding.{ExceedsRdlength}
 use Rattle.drd_rdata.specs.Writing.{EmitsRData, RefusesRData, StandsWritten, WritesInFull, names_form, written_octets}
 use Rattle.drd_rdata.proofs.ReadBackLaws.{options_there}
 use Rattle.drd_rdata.proofs.WritingLaws.{none_long, short_fields}
+use Rattle.drd_svcb.specs.drd_params.declared.a.A.{A}
+use Rattle.drd_svcb.specs.drd_params.declared.aaaa.AAAA.{AAAA}
+use Rattle.drd_names_keys.specs.drd_names.declared.aname.ANAME.{ANAME}
+use Rattle.drd_names_keys.specs.drd_names.declared.cname.CNAME.{CNAME}
+use Rattle.drd_svcb.specs.declared.https.HTTPS.{HTTPS}
+use Rattle.drd_names_keys.specs.drd_names.declared.mx.MX.{MX}
+use Rattle.drd_names_keys.specs.drd_names.declared.ns.NS.{NS}
+use Rattle.drd_names_keys.specs.drd_names.declared.ptr.PTR.{PTR}
+use Rattle.drd_names_keys.specs.drd_names.declared.soa.SOA.{SOA}
+use Rattle.drd_names_keys.specs.drd_names.declared.srv.SRV.{SRV}
+use Rattle.drd_svcb.specs.declared.svcb.SVCB.{SVCB}
 use Rattle.drd_rdata.specs.declared.rdata.RData.{RData}
 use Rattle.drd_rdata.specs.declared.rdata.RData.TheVariants as rdata
 
@@ -307,3 +319,21 @@ exceeding_long (rdata.PTR ptr) far = absurd far
 exceeding_long (rdata.SOA soa) far = absurd far
 exceeding_long (rdata.SRV srv) far = absurd far
 exceeding_long v far = far
+
+-- ---- which exceed it, by what is counted
+-- Data that are counted field by field.
+pub plain_exceeds : (value : RData) → ((x : A) → value ≡ rdata.A x → ⊥) → ((x : AAAA) → value ≡ rdata.AAAA x → ⊥) → ((x : ANAME) → value ≡ rdata.ANAME x → ⊥) → ((x : CNAME) → value ≡ rdata.CNAME x → ⊥) → ((x : CSYNC) → value ≡ rdata.CSYNC x → ⊥) → ((x : HTTPS) → value ≡ rdata.HTTPS x → ⊥) → ((x : MX) → value ≡ rdata.MX x → ⊥) → ((x : NS) → value ≡ rdata.NS x → ⊥) → ((x : OPT) → value ≡ rdata.OPT x → ⊥) → ((x : PTR) → value ≡ rdata.PTR x → ⊥) → ((x : SOA) → value ≡ rdata.SOA x → ⊥) → ((x : SRV) → value ≡ rdata.SRV x → ⊥) → ((x : SVCB) → value ≡ rdata.SVCB x → ⊥) → ExceedsRdlength value ≡ (65535 < length (fields_octets (compared_fields value)))
+plain_exceeds (rdata.A x) na naaaa naname ncname ncsync nhttps nmx nns nopt nptr nsoa nsrv nsvcb = absurd (na x refl)
+plain_exceeds (rdata.AAAA x) na naaaa naname ncname ncsync nhttps nmx nns nopt nptr nsoa nsrv nsvcb = absurd (naaaa x refl)
+plain_exceeds (rdata.ANAME x) na naaaa naname ncname ncsync nhttps nmx nns nopt nptr nsoa nsrv nsvcb = absurd (naname x refl)
+plain_exceeds (rdata.CNAME x) na naaaa naname ncname ncsync nhttps nmx nns nopt nptr nsoa nsrv nsvcb = absurd (ncname x refl)
+plain_exceeds (rdata.CSYNC x) na naaaa naname ncname ncsync nhttps nmx nns nopt nptr nsoa nsrv nsvcb = absurd (ncsync x refl)
+plain_exceeds (rdata.HTTPS x) na naaaa naname ncname ncsync nhttps nmx nns nopt nptr nsoa nsrv nsvcb = absurd (nhttps x refl)
+plain_exceeds (rdata.MX x) na naaaa naname ncname ncsync nhttps nmx nns nopt nptr nsoa nsrv nsvcb = absurd (nmx x refl)
+plain_exceeds (rdata.NS x) na naaaa naname ncname ncsync nhttps nmx nns nopt nptr nsoa nsrv nsvcb = absurd (nns x refl)
+plain_exceeds (rdata.OPT x) na naaaa naname ncname ncsync nhttps nmx nns nopt nptr nsoa nsrv nsvcb = absurd (nopt x refl)
+plain_exceeds (rdata.PTR x) na naaaa naname ncname ncsync nhttps nmx nns nopt nptr nsoa nsrv nsvcb = absurd (nptr x refl)
+plain_exceeds (rdata.SOA x) na naaaa naname ncname ncsync nhttps nmx nns nopt nptr nsoa nsrv nsvcb = absurd (nsoa x refl)
+plain_exceeds (rdata.SRV x) na naaaa naname ncname ncsync nhttps nmx nns nopt nptr nsoa nsrv nsvcb = absurd (nsrv x refl)
+plain_exceeds (rdata.SVCB x) na naaaa naname ncname ncsync nhttps nmx nns nopt nptr nsoa nsrv nsvcb = absurd (nsvcb x refl)
+plain_exceeds other na naaaa naname ncname ncsync nhttps nmx nns nopt nptr nsoa nsrv nsvcb = refl

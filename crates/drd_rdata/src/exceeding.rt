@@ -9,6 +9,7 @@ ghost use Rattle.drd_svcb.specs.Fields.{svcb_fields};
 ghost use Rattle.drd_svcb.specs.drd_params.Params.{params_octets};
 ghost use Rattle.drd_svcb.specs.dnw_name.DomainName.{name_octets};
 ghost use Rattle.drd_rdata.specs.Exceeding.{ExceedsRdlength};
+ghost use Rattle.drd_rdata.specs.Order.{compared_fields};
 
 use crate::rdata::RData;
 use drd_svcb::{SVCB, SvcParamKey, SvcParamValue};
@@ -32,8 +33,15 @@ pub fn exceeds_rdlength(rdata: &RData) -> bool
         RData::HTTPS(https) => room_after_service(&https.0).is_none(),
         RData::OPT(opt) => room_after_options(opt.as_ref(), u16::MAX).is_none(),
         RData::SVCB(svcb) => room_after_service(svcb).is_none(),
-        _ => room_after_fields(rdata.fields().as_slice(), u16::MAX).is_none(),
+        _ => fields_exceed(rdata),
     }
+}
+
+// Whether data that are lent field by field have more.
+fn fields_exceed(rdata: &RData) -> bool
+    ensures { IsTrue result ↔ (65535 < length (fields_octets (compared_fields rdata.now))) }
+{
+    room_after_fields(rdata.fields().as_slice(), u16::MAX).is_none()
 }
 
 // What is left of a room behind so many octets, if they fit.
@@ -144,5 +152,8 @@ fn room_after_params(params: &[(SvcParamKey, SvcParamValue)], room: u16) -> Opti
 fn room_after_service(svcb: &SVCB) -> Option<u16>
     ensures { MatchOption result (65535 < length (fields_octets (svcb_fields svcb.now))) (λ left. left + length (fields_octets (svcb_fields svcb.now)) ≡ 65535) }
 {
-    room_after_params(&svcb.svc_params, room_after_name(&svcb.target_name, u16::MAX - 2)?)
+    room_after_params(
+        &svcb.svc_params,
+        room_after_name(&svcb.target_name, u16::MAX - 2)?,
+    )
 }

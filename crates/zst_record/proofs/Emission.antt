@@ -35,7 +35,7 @@ use Rattle.drd_rdata.specs.drd_params.AddressFields.{aaaa_fields}
 use Rattle.drd_rdata.specs.drd_params.declared.a.A.{A}
 use Rattle.drd_rdata.specs.drd_params.declared.aaaa.AAAA.{AAAA}
 use Rattle.zst_record.proofs.OwnCodes.{class_read, class_small, type_read, type_small}
-use Rattle.zst_record.specs.Records.{HasOwnHead, IsEmpty, ReadsBack}
+use Rattle.zst_record.specs.Records.{IsEmpty, ReadsBack, RecordAt}
 use Rattle.zst_record.specs.Writing.{HeadAt, HeadWritten, DataWritten, EmitsHead, DataAt, EmitsBehindLength, EmitsRecord, RefusesBehindLength, RefusesLater, RefusesRecord, ShownError, ShowsRefusal, head_numbers}
 use Rattle.zst_record.specs.declared.records.Record.{Record}
 
@@ -265,30 +265,30 @@ record_emitted r a b c head ab behind bc = record {
     back_stands : ReadsBack r → WritesInFull a → a.maximum < 2 ^ 16 → StaysTrue c c.offset (λ message. RecordAt message a.offset r c.offset)
     back_stands (inr far) full small = absurd (behind.never far (omega (arith, small, ab.modes.maximum)))
     back_stands (inl (own, reads)) full small =
-      let first = later_holds b.offset b c (λ m. HeadAt m a.offset r b.offset) bc (omega arith) (head.stays own.owner own.own_type own.own_class full) in
-      let second = behind.stays reads (full_after a b ab full) (omega (arith, small, ab.modes.maximum)) in
-      record {
-        of = λ later agrees.
-            let h = first.of later agrees in
-            let d = second.of later agrees in
-            record {
-              owner_end = h.owner_end;
-              type_end = h.type_end;
-              class_end = h.class_end;
-              ttl_end = b.offset;
-              first = b.offset + 2;
-              len = d.len;
-              owner = h.owner;
-              record_type = h.record_type;
-              dns_class = h.dns_class;
-              ttl = h.ttl;
-              small_ttl = h.small_ttl;
-              count = d.number;
-              small_len = d.small;
-              rdata = d.data_there;
-              filled = d.filled;
-            };
-      }
+        let first = later_holds b.offset b c (λ m. HeadAt m a.offset r b.offset) bc (omega arith) (head.stays own.owner own.own_type own.own_class full) in
+        let second = behind.stays reads (full_after a b ab full) (omega (arith, small, ab.modes.maximum)) in
+        record {
+          of = λ later agrees.
+              let h = first.of later agrees in
+              let d = second.of later agrees in
+              record {
+                owner_end = h.owner_end;
+                type_end = h.type_end;
+                class_end = h.class_end;
+                ttl_end = b.offset;
+                first = b.offset + 2;
+                len = d.len;
+                owner = h.owner;
+                record_type = h.record_type;
+                dns_class = h.dns_class;
+                ttl = h.ttl;
+                small_ttl = h.small_ttl;
+                count = d.number;
+                small_len = d.small;
+                rdata = d.data_there;
+                filled = d.filled;
+              };
+        }
 
 pub head_refused : (r : Record) (a : State) (e : ProtoError) → IsRefusal a (length (name_octets r.name) + 8) e → RefusesRecord r a e
 head_refused r a e refused = record {

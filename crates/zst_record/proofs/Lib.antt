@@ -1,4 +1,5 @@
 pub mod PutRecords
+pub mod RaisedRecords
 pub mod Drafting
 pub mod Moving
 pub mod ReadingLaws

@@ -1,7 +1,9 @@
 //! Records that are written (RFC 1035 section 4.1.3).
 
-ghost use Rattle.std.specs.Prelude.{◌≡◌, ◌+◌, ◌++◌, ◌<◌, ◌^◌, IfErr, OnOk, length};
+ghost use Rattle.std.specs.Prelude.{◌≡◌, ◌↔◌, ◌⊎◌, ◌+◌, ◌++◌, ◌<◌, ◌^◌, IfErr, IsTrue, OnOk, length};
 ghost use Rattle.std.specs.Net.Addr.{ipv4_bits};
+ghost use Rattle.drd_rdata.specs.dnw_codes.ProtoError.{IsMemory};
+ghost use Rattle.drd_rdata.specs.dnw_codes.declared.error.ProtoError.TheVariants.{MaxBufferSizeExceeded};
 ghost use Rattle.drd_rdata.specs.dnw_decoder.Octets.{octets_16, octets_32};
 ghost use Rattle.drd_rdata.specs.dnw_encoder.Effects.{Writes, IsRefusal};
 ghost use Rattle.drd_rdata.specs.dnw_encoder.Encoders.{state};
@@ -11,7 +13,10 @@ ghost use Rattle.zst_record.specs.Lending.{seen};
 ghost use Rattle.zst_record.specs.Writing.{EmitsHead, EmitsBehindLength, EmitsRecord, RefusesBehindLength, RefusesRecord, ShownError, head_numbers};
 
 use crate::records::{Record, RecordRef};
-use drd_rdata::{A, AAAA, BinEncodable, BinEncoder, ProtoError, RData, exceeds_rdlength, octets_of};
+use drd_rdata::{
+    A, AAAA, BinEncodable, BinEncoder, ProtoError, RData, exceeds_rdlength, octets_of,
+};
+use std::mem;
 
 impl RecordRef<'_> {
     /// The numbers of type, class and time to live, as they stand behind the owner.
@@ -114,18 +119,22 @@ fn emit_behind_length(encoder: &mut BinEncoder<'_>, rdata: &RData) -> Result<(),
 fn shown_error(encoder: &BinEncoder<'_>, rdata: &RData, cause: ProtoError) -> ProtoError
     ensures { ShownError rdata.now (state encoder.now) cause result }
 {
+    let maximum = encoder.max_size();
+    if wants_room(&cause, maximum) || !exceeds_rdlength(rdata) {
+        return cause;
+    }
+    mem::drop(cause);
+    ProtoError::MaxBufferSizeExceeded(maximum)
+}
+
+// Whether memory is wanting, or the maximum would be passed.
+fn wants_room(cause: &ProtoError, maximum: usize) -> bool
+    ensures { IsTrue result ↔ (IsMemory cause.now ⊎ (cause.now ≡ MaxBufferSizeExceeded maximum)) }
+{
     match cause {
-        ProtoError::Memory(refused) => ProtoError::Memory(refused),
-        ProtoError::MaxBufferSizeExceeded(maximum) if maximum == encoder.max_size() => {
-            ProtoError::MaxBufferSizeExceeded(maximum)
-        }
-        cause => {
-            if exceeds_rdlength(rdata) {
-                ProtoError::MaxBufferSizeExceeded(encoder.max_size())
-            } else {
-                cause
-            }
-        }
+        ProtoError::Memory(_) => true,
+        ProtoError::MaxBufferSizeExceeded(size) => *size == maximum,
+        _ => false,
     }
 }
 

@@ -283,9 +283,7 @@ impl RecordSet {
     pub fn raise_serial(&mut self)
         ensures { self.new ≡ raised_set self.old }
     {
-        if !self.is_empty {
-            raise_first(&mut self.records);
-        }
+        raise_first(&mut self.records);
         self.rrsigs.clear();
     }
 

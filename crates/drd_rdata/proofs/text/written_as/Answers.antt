@@ -1,6 +1,5 @@
-use Rattle.std.proofs.Common.{◌≡◌, false, true, inl, inr, map, ap}
+use Rattle.std.proofs.Common.{inl, inr, map}
 use Rattle.std.specs.Option.{option_copied}
-use Rattle.drd_rdata.specs.Texts.{has_text}
 use Rattle.drd_rdata.proofs.text.written_as.Goals as goal
 
 pub returns-in-Ok-clause-ok : goal.returns-in-Ok-clause-ok

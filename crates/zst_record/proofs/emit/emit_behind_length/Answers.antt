@@ -1,19 +1,17 @@
 use Rattle.std.proofs.Common.{ℕ, ◌+◌, ap, ◌∙◌, rules}
-use Rattle.std.proofs.lemmas.Result.{err_from_is_err_and}
 use Rattle.drd_rdata.specs.dnw_decoder.Octets.{octets_16}
 use Rattle.drd_rdata.specs.dnw_encoder.Encoders.{state}
 use Rattle.drd_rdata.proofs.dnw_encoder_lemmas.Laws.{writes_then}
 use Rattle.zst_record.proofs.Emission.{still_open, filled_writes, behind_emitted, data_refused}
 use Rattle.zst_record.proofs.emit.emit_behind_length.Goals as goal
 
-pub returns-in_err-emit-clause-writes : goal.returns-in_err-emit-clause-writes
-returns-in_err-emit-clause-writes c =
+pub returns-in-Err-clause-writes : goal.returns-in-Err-clause-writes
+returns-in-Err-clause-writes c =
     writes_then (state c.args.encoder.now) (state c.place.new.self) (state c.emit.new.encoder) c.place.ensures.writes c.emit.ensures.writes
 
-pub returns-in_err-emit-clause-cause : goal.returns-in_err-emit-clause-cause
-returns-in_err-emit-clause-cause c =
-    let p = err_from_is_err_and c.from_residual-in_err-emit.result c.from_residual-in_err-emit.ensures.1 in
-    rw (p.1, p.2) (data_refused c.args.rdata.now c.in_ok-length.length.start (state c.args.encoder.now) (state c.place.new.self) c.in_err-emit.field-0.0 c.in_ok-length.ensures.ok c.in_err-emit.ensures.err)
+pub returns-in-Err-clause-cause : goal.returns-in-Err-clause-cause
+returns-in-Err-clause-cause c =
+    data_refused c.args.rdata.now c.in_ok-length.length.start (state c.args.encoder.now) (state c.place.new.self) (state c.emit.new.encoder) c.in-Err.cause c.shown_error.result c.in_ok-length.ensures.ok c.emit.ensures.writes c.in-Err.ensures.err c.shown_error.ensures
 
 pub fill_u16-requires-clause-is_open : goal.fill_u16-requires-clause-is_open
 fill_u16-requires-clause-is_open c =
@@ -27,8 +25,8 @@ returns-in-Ok-clause-writes c =
 
 pub returns-in-Ok-clause-ok : goal.returns-in-Ok-clause-ok
 returns-in-Ok-clause-ok c =
-    behind_emitted c.args.rdata.now c.in_ok-length.length.start c.in-Ok.octets (state c.args.encoder.now) (state c.place.new.self) (state c.emit.new.encoder) (state c.fill_u16.new.self) c.in_ok-length.ensures.ok c.place.ensures.writes c.in_ok-length.ensures.fits c.in_ok-emit.ensures.ok c.emit.ensures.writes c.fill_u16.ensures.fills (ap (λ (n : ℕ). c.in_ok-length.length.start + 2 + n) c.in-Ok.ensures.1 ∙ c.len_since_place.ensures) (search rules)
+    behind_emitted c.args.rdata.now c.in_ok-length.length.start c.in-Ok.octets (state c.args.encoder.now) (state c.place.new.self) (state c.emit.new.encoder) (state c.fill_u16.new.self) c.in_ok-length.ensures.ok c.place.ensures.writes c.in_ok-length.ensures.fits c.in_default.ensures.ok c.emit.ensures.writes c.fill_u16.ensures.fills (ap (λ (n : ℕ). c.in_ok-length.length.start + 2 + n) c.in-Ok.ensures.1 ∙ c.len_since_place.ensures) (search rules)
 
-pub returns-in-Err-clause-writes : goal.returns-in-Err-clause-writes
-returns-in-Err-clause-writes c =
+pub returns-in-Err-try_from-clause-writes : goal.returns-in-Err-try_from-clause-writes
+returns-in-Err-try_from-clause-writes c =
     writes_then (state c.args.encoder.now) (state c.place.new.self) (state c.emit.new.encoder) c.place.ensures.writes c.emit.ensures.writes

@@ -1,5 +1,5 @@
-use Rattle.std.proofs.Common.{◌∙◌, ap, refl, subst, sym}
-use Rattle.std.specs.Prelude.{◌≡◌, ◌∷◌, [], true}
+use Rattle.std.proofs.Common.{◌∙◌, ap, subst, sym}
+use Rattle.std.specs.Prelude.{◌≡◌, true}
 use Rattle.drd_rdata.specs.dnw_codes.DNSClass.{same_class}
 use Rattle.drd_rdata.specs.dnw_codes.RecordType.{same_record_type}
 use Rattle.drd_rdata.specs.dnw_name.DomainName.{name_eq}
