@@ -7,7 +7,7 @@
 pub use drd_rdata::{
     A, AAAA, ANAME, CAA, CERT, CNAME, CSYNC, FieldData, FieldRef, Fields, HEX, HINFO, HTTPS, IpNet,
     MX, NAPTR, NS, NULL, OPENPGPKEY, OPT, PTR, RData, RecordDataDecodable, SMIMEA, SOA, SRV, SSHFP,
-    SVCB, TLSA, TXT, TextData, cert, is_readable, sshfp, tlsa,
+    SVCB, TLSA, TXT, TextData, cert, exceeds_rdlength, is_readable, sshfp, tlsa,
 };
 pub use drd_record_data::RecordData;
 
