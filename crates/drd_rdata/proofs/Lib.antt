@@ -5,6 +5,7 @@ pub mod WrittenLaws
 pub mod Others
 pub mod Words
 pub mod ReadableLaws
+pub mod RoomLaws
 pub use Rattle.drd_types.proofs.dnw_name_lemmas
 pub use Rattle.drd_types.proofs.drd_words_lemmas
 pub use Rattle.drd_types.proofs.dnw_decoder_lemmas

@@ -3,10 +3,10 @@ ghost use Rattle.std.specs.Prelude.{◌≡◌, ◌↔◌, ◌+◌, ◌<◌, IsTr
 ghost use Rattle.std.specs.List.{flat_map};
 ghost use Rattle.drd_types.specs.drd_fields.Seen.{seen};
 ghost use Rattle.drd_types.specs.drd_fields.Writing.{field_octets, fields_octets, string_octets};
-ghost use Rattle.drd_types.specs.drd_opt.Entries.{entries_octets};
+ghost use Rattle.drd_types.specs.drd_opt.Entries.{entries_octets, raw_octets, raw_of};
 ghost use Rattle.drd_types.specs.drd_opt.Options.{option_octets};
 ghost use Rattle.drd_svcb.specs.Fields.{svcb_fields};
-ghost use Rattle.drd_svcb.specs.drd_params.Params.{params_octets};
+ghost use Rattle.drd_svcb.specs.drd_params.Params.{param_octets, params_octets};
 ghost use Rattle.drd_svcb.specs.dnw_name.DomainName.{name_octets};
 ghost use Rattle.drd_rdata.specs.Exceeding.{ExceedsRdlength};
 ghost use Rattle.drd_rdata.specs.Order.{compared_fields};
@@ -69,14 +69,18 @@ fn room_after_string(string: &[u8], room: u16) -> Option<u16>
 }
 
 // What is left behind strings.
+#[tactic(auto, using(crate::proofs::RoomLaws::leads_end, crate::proofs::RoomLaws::leads_none))]
 fn room_after_strings(strings: &[Vec<u8>], room: u16) -> Option<u16>
-    ensures { MatchOption result (room < length (flat_map string_octets (map (λ s. s.items) strings.entry.now)))
-        (λ left. left + length (flat_map string_octets (map (λ s. s.items) strings.entry.now)) ≡ room) }
+    ensures { MatchOption result (room < length (flat_map string_octets (map (λ s. s.items) strings.now)))
+        (λ left. left + length (flat_map string_octets (map (λ s. s.items) strings.now)) ≡ room) }
 {
-    match strings.split_first() {
-        None => Some(room),
-        Some((first, later)) => room_after_strings(later, room_after_string(first, room)?),
+    let mut left = room;
+    let mut rest = strings;
+    'strings: while let Some((first, later)) = rest.split_first() {
+        left = room_after_string(first, left)?;
+        rest = later;
     }
+    Some(left)
 }
 
 // What is left behind a field.
@@ -94,7 +98,7 @@ fn room_after_field(field: FieldRef<'_>, room: u16) -> Option<u16>
     }
 }
 
-// What is left behind fields.
+// What is left behind fields, of which there are at most eight.
 fn room_after_fields(fields: &[FieldRef<'_>], room: u16) -> Option<u16>
     ensures { MatchOption result (room < length (fields_octets (map seen fields.entry.now)))
         (λ left. left + length (fields_octets (map seen fields.entry.now)) ≡ room) }
@@ -114,15 +118,24 @@ fn room_after_value(octets: Option<u16>, room: u16) -> Option<u16>
 }
 
 // What is left behind options.
+#[tactic(auto, using(crate::proofs::RoomLaws::leads_end, crate::proofs::RoomLaws::leads_none))]
 fn room_after_options(entries: &[(EdnsCode, EdnsOption)], room: u16) -> Option<u16>
-    ensures { MatchOption result (room < length (entries_octets entries.entry.now)) (λ left. left + length (entries_octets entries.entry.now) ≡ room) }
+    ensures { MatchOption result (room < length (entries_octets entries.now)) (λ left. left + length (entries_octets entries.now) ≡ room) }
 {
-    match entries.split_first() {
-        None => Some(room),
-        Some((entry, later)) => {
-            room_after_options(later, room_after_value(option_len(&entry.1), room)?)
-        }
+    let mut left = room;
+    let mut rest = entries;
+    'entries: while let Some((entry, later)) = rest.split_first() {
+        left = room_after_option(entry, left)?;
+        rest = later;
     }
+    Some(left)
+}
+
+// What is left behind an option with its code and its length.
+fn room_after_option(entry: &(EdnsCode, EdnsOption), room: u16) -> Option<u16>
+    ensures { MatchOption result (room < length (raw_octets (raw_of entry.now))) (λ left. left + length (raw_octets (raw_of entry.now)) ≡ room) }
+{
+    room_after_value(option_len(&entry.1), room)
 }
 
 // How many octets an option has, if two octets can count them.
@@ -137,15 +150,24 @@ fn option_len(option: &EdnsOption) -> Option<u16>
 }
 
 // What is left behind the parameters of a service.
+#[tactic(auto, using(crate::proofs::RoomLaws::leads_end, crate::proofs::RoomLaws::leads_none))]
 fn room_after_params(params: &[(SvcParamKey, SvcParamValue)], room: u16) -> Option<u16>
-    ensures { MatchOption result (room < length (params_octets params.entry.now)) (λ left. left + length (params_octets params.entry.now) ≡ room) }
+    ensures { MatchOption result (room < length (params_octets params.now)) (λ left. left + length (params_octets params.now) ≡ room) }
 {
-    match params.split_first() {
-        None => Some(room),
-        Some((param, later)) => {
-            room_after_params(later, room_after_value(param.1.octet_len(), room)?)
-        }
+    let mut left = room;
+    let mut rest = params;
+    'params: while let Some((param, later)) = rest.split_first() {
+        left = room_after_param(param, left)?;
+        rest = later;
     }
+    Some(left)
+}
+
+// What is left behind a parameter with its key and its length.
+fn room_after_param(param: &(SvcParamKey, SvcParamValue), room: u16) -> Option<u16>
+    ensures { MatchOption result (room < length (param_octets param.now)) (λ left. left + length (param_octets param.now) ≡ room) }
+{
+    room_after_value(param.1.octet_len(), room)
 }
 
 // What is left of RDLENGTH's room behind a service.
