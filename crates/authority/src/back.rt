@@ -7,8 +7,8 @@ ghost use Rattle.authority_load.specs.zst_zone.zst_handler.Zones.{ZoneReadsBack}
 use authority_load::InMemoryZoneHandler;
 use authority_server::Record;
 
-/// Whether a record reads back alone: its octets, names uncompressed, are read as itself. A record that is served is no
-/// OPT, SIG or TSIG besides. It takes no memory.
+/// Whether a record reads back alone: its octets, names uncompressed, are read as itself, or its RDATA have more than 65,535.
+/// A record that is served is no OPT, SIG or TSIG besides. It takes no memory.
 pub fn record_reads_back(stored: &Record) -> bool
     ensures { IsTrue result ↔ ReadsBackAlone stored.now }
 {

@@ -33,7 +33,8 @@ pub enum LoadCause {
     OutsideZone = 7,
     /// The type belongs to one message: OPT, SIG, TSIG.
     TypeNotLoaded = 8,
-    /// The record's octets wouldn't decode to it: a relative name, a TXT without strings.
+    /// The record's octets wouldn't decode to it: a relative name, a TXT without strings. RDATA of more than 65,535 octets,
+    /// which are never written, may have any names.
     NotReadBack = 9,
     /// The owner of an alias would own another type too, or a second, different alias (RFC 1034 section 3.6.2).
     BesideCname = 10,

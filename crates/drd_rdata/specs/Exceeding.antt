@@ -1,4 +1,4 @@
--- RDATA that no message can hold: more octets than RDLENGTH can count (RFC 1035, section 3.2.1).
+-- RDATA of more octets, with their names in full, than RDLENGTH can count (RFC 1035, section 3.2.1).
 use Rattle.std.specs.Prelude.{◌<◌, length}
 use Rattle.drd_rdata.specs.Writing.{written_octets}
 use Rattle.drd_rdata.specs.declared.rdata.RData.{RData}

@@ -1,4 +1,4 @@
-//! RDATA that no message can hold: more octets than RDLENGTH can count (RFC 1035 3.2.1).
+//! RDATA of more octets, with their names in full, than RDLENGTH can count (RFC 1035 3.2.1).
 ghost use Rattle.std.specs.Prelude.{◌≡◌, ◌↔◌, ◌+◌, ◌<◌, IsTrue, MatchOption, length, map};
 ghost use Rattle.std.specs.List.{flat_map};
 ghost use Rattle.drd_types.specs.drd_fields.Seen.{seen};
@@ -15,7 +15,7 @@ use crate::rdata::RData;
 use drd_svcb::{SVCB, SvcParamKey, SvcParamValue};
 use drd_types::{EdnsCode, EdnsOption, FieldRef, Name};
 
-/// Whether the RDATA have more than 65,535 octets, names uncompressed: no message holds them. It takes no memory.
+/// Whether the RDATA have more than 65,535 octets, names uncompressed: then they are never written. It takes no memory.
 pub fn exceeds_rdlength(rdata: &RData) -> bool
     ensures { IsTrue result ↔ ExceedsRdlength rdata.now }
 {

@@ -252,6 +252,7 @@ record_emitted r a b c head ab behind bc = record {
         };
       };
   stays = λ back full small. back_stands back full small;
+  never = λ far small. behind.never far (omega (arith, small, ab.modes.maximum));
   size = λ back. omega (arith, head.size, behind.size (data_back back));
   fits = omega (arith, behind.fits, ab.modes.maximum);
   owner_used = λ back points some has. omega (arith, head.owner_used points some has, behind.size (data_back back));

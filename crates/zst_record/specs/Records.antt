@@ -81,7 +81,7 @@ pub record HasOwnHead (r : Record) : Type 0 where
 
 -- A record reads back alone: its octets, names uncompressed and of any length in all, are read
 -- outside an update as this very record, its RDATA in some message; or the RDATA exceed RDLENGTH, so
--- that no message holds the record.
+-- that the record is never written.
 abbrev pub ReadsBackAlone : Record → Type 0
 ReadsBackAlone r = (HasOwnHead r × IsReadable r.rdata) ⊎ ExceedsRdlength r.rdata
 

@@ -53,7 +53,8 @@ pub record RecordWritten (r : Record) (encoder : State) (message : List ℕ) (pl
   pub rdata : DataWritten r.rdata (names_form r.rdata encoder) message head_end end
 
 -- A record was written, within the maximum. One that reads back is read there, in the finished
--- message too, and takes its plain size at most. A maximum that was set is a number of 16 bits.
+-- message too, and takes its plain size at most; one whose RDATA exceed RDLENGTH is never written.
+-- A maximum that was set is a number of 16 bits.
 -- Where names are written with pointers, an owner of labels takes two octets if it is a candidate,
 -- and has become one if there was room.
 pub record EmitsRecord (r : Record) (old new : State) : Type 0 where
@@ -61,6 +62,7 @@ pub record EmitsRecord (r : Record) (old new : State) : Type 0 where
       → StaysTrue new new.offset (λ message. RecordWritten r old message old.offset new.offset)
   pub stays : ReadsBack r → WritesInFull old → old.maximum < 2 ^ 16
       → StaysTrue new new.offset (λ message. RecordAt message old.offset r new.offset)
+  pub never : ExceedsRdlength r.rdata → old.maximum < 2 ^ 16 → ⊥
   pub size : ReadsBack r → new.offset ≤ old.offset + plain r
   pub fits : new.offset ≤ old.maximum
   pub owner_used : ReadsBack r → old.points ≡ true → 0 < length r.name.labels

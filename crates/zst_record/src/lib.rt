@@ -1,7 +1,7 @@
 //! Records and their sets (RFC 1035 section 4.1.3, RFC 2181 section 5).
 //!
 //! A contract sees a `RecordSet` as an `RRset`. A record that reads back alone (`ReadsBackAlone`) is written as what reads
-//! back (`EmitsRecord`).
+//! back (`EmitsRecord`), or never, where its RDATA exceed RDLENGTH.
 #![tactic(auto)]
 
 pub use drd_rdata::{

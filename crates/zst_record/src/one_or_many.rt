@@ -55,7 +55,8 @@ impl<T: Drop> OneOrMany<T> {
     /// These items, of which there is one at least.
     pub(crate) fn from_vec(items: Vec<T>) -> OneOrMany<T>
         requires { 0 < length items.items }
-        ensures { items_of result ≡ items.items }
+        ensures items { items_of result ≡ items.items }
+        ensures one { length items.items ≡ 1 → is_one result }
     {
         let mut items = items;
         if items.len() == 1 {

@@ -65,7 +65,7 @@ impl Record {
 
     /// Whether the record reads back alone: its owner ends at the root (RFC 1035 3.1), type and class are those of their
     /// numbers, and some message holds its RDATA (`is_readable`); or its RDATA have more octets than RDLENGTH can count, so
-    /// that no message holds the record (`exceeds_rdlength`). It takes no memory.
+    /// that the record is never written (`exceeds_rdlength`). It takes no memory.
     pub fn reads_back_alone(&self) -> bool
         ensures { IsTrue result ↔ ReadsBackAlone self.now }
     {
