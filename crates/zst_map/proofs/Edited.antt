@@ -20,12 +20,12 @@ use Rattle.zst_map.proofs.Kept.{alike_keys}
 use Rattle.zst_map.proofs.NodeSets.{IsNode-with, found_of, found_type}
 
 pub edited_name : (edit : Edit) (set : RRset) → CanEdit edit set → name_key (edited edit set).name ≡ name_key set.name
-edited_name (edits.Settle t draft) set can = alike_keys (first_name (drafted set.records draft.places.items draft.items.items)) set.name can.2.0
+edited_name (edits.Settle t draft) set can = alike_keys (first_name (drafted set.records draft.places.items draft.items.items)) set.name can.2
 edited_name edits.RaiseSerial set can = refl
 edited_name (edits.Sign signatures) set can = refl
 
 pub edited_type : (edit : Edit) (set : RRset) → CanEdit edit set → record_type_number (edited edit set).record_type ≡ record_type_number set.record_type
-edited_type (edits.Settle t draft) set can = eqb-true (record_type_number t) (record_type_number set.record_type) can.2.1
+edited_type (edits.Settle t draft) set can = eqb-true (record_type_number t) (record_type_number set.record_type) can.3
 edited_type edits.RaiseSerial set can = refl
 edited_type (edits.Sign signatures) set can = refl
 
@@ -43,14 +43,15 @@ one x y e = cc
 
 found_parts : (sets : List RRset) (name : DomainName) (t : RecordType) (s : RRset) → rrset_at sets name t ≡ Some s → (name_eq name s.name && same_record_type s.record_type t) ≡ true
 found_parts [] name t s e = absurd (let h : ⊥ = cc in h)
-found_parts (x ∷ xs) name t s e = by (name_eq name x.name && same_record_type x.record_type t) refl e
+found_parts (x ∷ xs) name t s e = by (name_eq name x.name && same_record_type x.record_type t) refl e (found_parts xs name t s)
   where
-    by : (b : Bool) → (name_eq name x.name && same_record_type x.record_type t) ≡ b → cond b (Some x) (rrset_at xs name t) ≡ Some s → (name_eq name s.name && same_record_type s.record_type t) ≡ true
-    by true is e = subst (λ (u : RRset). (name_eq name u.name && same_record_type u.record_type t) ≡ true) (one x s e) is
-    by false is e = found_parts xs name t s e
+    by : (b : Bool) → (name_eq name x.name && same_record_type x.record_type t) ≡ b → cond b (Some x) (rrset_at xs name t) ≡ Some s → (rrset_at xs name t ≡ Some s → (name_eq name s.name && same_record_type s.record_type t) ≡ true)
+        → (name_eq name s.name && same_record_type s.record_type t) ≡ true
+    by true is e more = subst (λ (u : RRset). (name_eq name u.name && same_record_type u.record_type t) ≡ true) (one x s e) is
+    by false is e more = more e
 
 alike_names : (edit : Edit) (set : RRset) → CanEdit edit set → name_eq (edited edit set).name set.name ≡ true
-alike_names (edits.Settle t draft) set can = can.2.0
+alike_names (edits.Settle t draft) set can = can.2
 alike_names edits.RaiseSerial set can = name_eq_equiv.refl set.name
 alike_names (edits.Sign signatures) set can = name_eq_equiv.refl set.name
 

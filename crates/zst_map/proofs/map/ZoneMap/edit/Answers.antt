@@ -26,8 +26,8 @@ edit_node-requires-clause-there c = (
 pub edit_node-requires-clause-rise : goal.edit_node-requires-clause-rise
 edit_node-requires-clause-rise c = (node_under c.self.inside.nodes c.self.inside.owners c.self.invariant c.args.key.now c.in-Some.node.now c.in-Some.ensures.value).rise
 
-pub invariant_of-self : goal.invariant_of-self
-invariant_of-self c =
+pub invariant_of-self-2 : goal.invariant_of-self-2
+invariant_of-self-2 c =
     let w = c.edit_node.new.sets in
     let there = c.in-Some.ensures.value in
     let node = node_under c.self.inside.nodes c.self.inside.owners c.self.invariant c.args.key.now c.in-Some.node.now there in
@@ -40,8 +40,8 @@ invariant_of-self c =
     (subst (IsNode (name_key c.args.key.now)) (sym (c.edit_node.ensures c.requires.0 found c.requires.2))
     (node_edited (name_key c.args.key.now) (items_of c.in-Some.node.now) c.args.record_type c.requires.0 c.args.edit node found c.requires.2)))
 
-pub returns-in-Some-clause-others : goal.returns-in-Some-clause-others
-returns-in-Some-clause-others c = λ set is can.
+pub returns-clause-others : goal.returns-clause-others
+returns-clause-others c = λ set is can.
     let w = c.edit_node.new.sets in
     let there = c.in-Some.ensures.value in
     let node = node_under c.self.inside.nodes c.self.inside.owners c.self.invariant c.args.key.now c.in-Some.node.now there in
@@ -49,20 +49,23 @@ returns-in-Some-clause-others c = λ set is can.
     let owner = (found_of (IsOwnedAt (name_key c.args.key.now)) c.args.record_type (items_of c.in-Some.node.now) set node.owned found).owner in
     found_by c.args.self.now _ c.args.key.now c.args.record_type set c.args.edit is can
     (replaced_after c.self.inside.nodes (c.get_mut.follows.lender w) c.self.inside.owners c.self.inside.owners c.args.key.now (Some w) c.self.invariant
-    ((c.get_mut.follows.holds w).3 (sym (ap is_some there))).0 (invariant_of-self c) c.args.self.now c.self.view_is (changes.Put (edited c.args.edit set))
+    ((c.get_mut.follows.holds w).3 (sym (ap is_some there))).0 (invariant_of-self-2 c) c.args.self.now c.self.view_is (changes.Put (edited c.args.edit set))
     (sym (edited_name c.args.edit set can ∙ owner)) w refl
     (c.edit_node.ensures set found can ∙ ap (λ (o : Option (OneOrMany RRset)). with_set (held_sets o) (edited c.args.edit set)) there))
 
-pub returns-in-Some-clause-ordered : goal.returns-in-Some-clause-ordered
-returns-in-Some-clause-ordered c = in_order (c.get_mut.follows.lender c.edit_node.new.sets) c.self.inside.owners (invariant_of-self c)
+pub returns-clause-ordered : goal.returns-clause-ordered
+returns-clause-ordered c = in_order (c.get_mut.follows.lender c.edit_node.new.sets) c.self.inside.owners (invariant_of-self-2 c)
 
 none_there : (o : Option RRset) (set : RRset) → o ≡ Some set → o ≡ None → ⊥
 none_there o set some none = let e = sym some ∙ none in cc
 
-in_default-absurd : goal.In_default → ⊥
+in_default-absurd : goal.After-drop → ⊥
 in_default-absurd c =
     none_there _ c.requires.0 c.requires.1
     (set_under c.self.inside.nodes c.self.inside.owners c.self.invariant c.args.self.now c.self.view_is c.args.key.now c.args.record_type None c.in_default.ensures.value)
+
+pub invariant_of-self : goal.invariant_of-self
+invariant_of-self c = absurd (in_default-absurd c)
 
 pub returns-in_default-clause-others : goal.returns-in_default-clause-others
 returns-in_default-clause-others c = absurd (in_default-absurd c)
