@@ -60,46 +60,46 @@ is_pointing asked r n own is named points of small = record {
         → Stands message place (pointing_octets asked r n own) end → RecordAt message place r end
     by (inr far) message begun place end asked_there before there = absurd (of.short far)
     by (inl (own_head, readable)) message begun place end asked_there before there =
-      let pointer = near_octets asked r.name 0 in
-      let kind = octets_16 (record_type_number (type_of r.rdata)) in
-      let class = octets_16 (class_number r.dns_class) in
-      let head = head_numbers r in
-      let two = owner_size asked r.name points in
-      let owner = stands_split message place pointer (head ++ (octets_16 n ++ own)) end there in
-      let behind = place + length pointer in
-      let both = stands_split message behind head (octets_16 n ++ own) end owner.1 in
-      let typed = stands_split message behind kind (class ++ octets_32 r.ttl) (behind + length head) both.0 in
-      let classed = stands_split message (behind + length kind) class (octets_32 r.ttl) (behind + length head) typed.1 in
-      let counted = stands_split message (behind + length head) (octets_16 n) own end both.1 in
-      let first = behind + length head + length (octets_16 n) in
-      let last : end ≡ first + n = omega (arith, counted.1.behind, of.long) in
-      record {
-        owner_end = behind;
-        type_end = behind + length kind;
-        class_end = behind + length kind + length class;
-        ttl_end = behind + length head;
-        first = first;
-        len = n;
-        owner = near_stands asked r.name 0 points.near is named own_head.owner message begun place behind asked_there before owner.0;
-        record_type = record {
-          number = record_type_number (type_of r.rdata);
-          small = type_small (type_of r.rdata) own_head.own_type;
-          there = typed.0;
-          means = type_read (type_of r.rdata) own_head.own_type;
-        };
-        dns_class = record {
-          number = class_number r.dns_class;
-          small = class_small r.dns_class own_head.own_class;
-          there = classed.0;
-          means = class_read r.dns_class own_head.own_class;
-        };
-        ttl = classed.1;
-        small_ttl = small;
-        count = counted.0;
-        small_len = of.few;
-        rdata = inr (of.some, of.holds readable message begun first (first + n) asked_there (omega (arith, before)) (subst (λ (q : ℕ). Stands message first own q) last counted.1));
-        filled = last;
-      }
+        let pointer = near_octets asked r.name 0 in
+        let kind = octets_16 (record_type_number (type_of r.rdata)) in
+        let class = octets_16 (class_number r.dns_class) in
+        let head = head_numbers r in
+        let two = owner_size asked r.name points in
+        let owner = stands_split message place pointer (head ++ (octets_16 n ++ own)) end there in
+        let behind = place + length pointer in
+        let both = stands_split message behind head (octets_16 n ++ own) end owner.1 in
+        let typed = stands_split message behind kind (class ++ octets_32 r.ttl) (behind + length head) both.0 in
+        let classed = stands_split message (behind + length kind) class (octets_32 r.ttl) (behind + length head) typed.1 in
+        let counted = stands_split message (behind + length head) (octets_16 n) own end both.1 in
+        let first = behind + length head + length (octets_16 n) in
+        let last : end ≡ first + n = omega (arith, counted.1.behind, of.long) in
+        record {
+          owner_end = behind;
+          type_end = behind + length kind;
+          class_end = behind + length kind + length class;
+          ttl_end = behind + length head;
+          first = first;
+          len = n;
+          owner = near_stands asked r.name 0 points.near is named own_head.owner message begun place behind asked_there before owner.0;
+          record_type = record {
+            number = record_type_number (type_of r.rdata);
+            small = type_small (type_of r.rdata) own_head.own_type;
+            there = typed.0;
+            means = type_read (type_of r.rdata) own_head.own_type;
+          };
+          dns_class = record {
+            number = class_number r.dns_class;
+            small = class_small r.dns_class own_head.own_class;
+            there = classed.0;
+            means = class_read r.dns_class own_head.own_class;
+          };
+          ttl = classed.1;
+          small_ttl = small;
+          count = counted.0;
+          small_len = of.few;
+          rdata = inr (of.some, of.holds readable message begun first (first + n) asked_there (omega (arith, before)) (subst (λ (q : ℕ). Stands message first own q) last counted.1));
+          filled = last;
+        }
 
 -- Such octets behind others.
 pub puts_pointing : (asked : DomainName) (r : Record) (n : ℕ) (own old new : List ℕ) → IsDomainName asked → IsDomainName r.name → PointsOwner asked r.name → HoldsBehind asked r.rdata n own → r.ttl < 2 ^ 32 → new ≡ old ++ pointing_octets asked r n own → PutsPointing asked r old new

@@ -1,5 +1,5 @@
 -- A reply has the identifier and the opcode of its request.
-use Rattle.std.proofs.Common.{◌≡◌, ◌∙◌, refl, sym, ap, subst}
+use Rattle.std.proofs.Common.{◌≡◌, refl, sym, ap, subst}
 use Rattle.std.specs.Prelude.{ℕ, Bool, true, false, List, [], ◌∷◌, Option, Some, None, IsSome}
 use Rattle.zsv_answer.specs.Forwarding.{ForwardedParts, resolved_parts}
 use Rattle.zsv_answer.specs.Parts.{AuthoritativeParts, ChainParts, PartsAs}

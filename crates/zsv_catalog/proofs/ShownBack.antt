@@ -1,5 +1,5 @@
 -- What a lookup answers in a zone whose records read back reads back: whatever is found stands at a fully qualified name.
-use Rattle.std.proofs.Common.{◌≡◌, ◌∙◌, ap, inl, inr, refl, subst, sym}
+use Rattle.std.proofs.Common.{◌≡◌, inl, inr, refl, subst, sym}
 use Rattle.std.specs.Prelude.{ℕ, Bool, true, false, ◌&&◌, List, [], ◌∷◌, ◌++◌, map, min, Option, Some, None, IfSome, cond, is_some, option_map}
 use Rattle.std.specs.Bool.{beq}
 use Rattle.std.specs.List.{AllByRecursion, filter, flat_map}

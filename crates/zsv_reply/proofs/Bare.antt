@@ -3,7 +3,7 @@ use Rattle.std.proofs.Common.{◌≡◌, ℕ, false, inl, inr, List, refl, arith
 use Rattle.zsv_request.specs.zsv_message.zst_record.Records.{ReadsBackAlone}
 use Rattle.zsv_request.specs.zsv_message.zst_record.declared.records.Record.{Record}
 use Rattle.zsv_request.specs.zsv_message.zst_record.drd_rdata.Exceeding.{ExceedsRdlength}
-use Rattle.zsv_request.specs.zsv_message.zst_record.drd_rdata.Reading.{IsReadable, RDataAt}
+use Rattle.zsv_request.specs.zsv_message.zst_record.drd_rdata.Reading.{RDataAt}
 use Rattle.zsv_request.specs.zsv_message.zst_record.drd_rdata.Types.{is_update0}
 use Rattle.zsv_request.specs.zsv_message.zst_record.drd_rdata.declared.rdata.RData.{RData}
 use Rattle.zsv_request.specs.zsv_message.zst_record.drd_rdata.declared.rdata.RData.TheVariants as rdata
