@@ -170,10 +170,10 @@ none_indexed index = record {
 pub with_edited : (index : Index) (before after : List RRset) (owner : DomainName) (kind : RecordType) (old set : RRset) → rrset_at before owner kind ≡ Some old → Replaces before owner kind (Some set) after → IsIndexed index before → IsIndexed index after
 with_edited index before after owner kind old set there replaces is =
     let typed = λ (name : DomainName) (t : RecordType) (same : same_record_type kind t ≡ true).
-        ap (λ (n : ℕ). find (λ (s : RRset). name_eq name s.name && record_type_number s.record_type == n) before) (eqb-true (record_type_number kind) (record_type_number t) same) in
+    ap (λ (n : ℕ). find (λ (s : RRset). name_eq name s.name && record_type_number s.record_type == n) before) (eqb-true (record_type_number kind) (record_type_number t) same) in
     let was = λ (name : DomainName) (t : RecordType) (some : IsSome (rrset_at after name t)).
-        split before after owner kind (Some set) name t (IsSome (rrset_at before name t)) replaces some
-        (λ named same. ap is_some (sym (typed name t same) ∙ sym (rrset_same before name owner kind named) ∙ there)) (λ some. some) in
+    split before after owner kind (Some set) name t (IsSome (rrset_at before name t)) replaces some
+    (λ named same. ap is_some (sym (typed name t same) ∙ sym (rrset_same before name owner kind named) ∙ there)) (λ some. some) in
     record {
       uncut = λ none name some. remains before after owner kind set name types.SOA replaces (is.uncut none name (was name types.NS some));
       cuts = λ name some. is.cuts name (was name types.NS some);

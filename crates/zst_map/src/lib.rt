@@ -5,10 +5,10 @@
 #![tactic(auto)]
 
 pub use zst_handler::{
-    AnswerSet, AuthLookup, AxfrPolicy, DNSClass, Draft, LookupControlFlow, LookupError, LookupOptions,
-    LookupRecords, LookupRecordsIter, LowerName, Name, Nsec3HashAlgorithm, NxProofKind, ProtoError,
-    RData, Record, RecordRef, RecordSet, RecordType, ResponseCode, RrKey, RrsetRecords, Salt,
-    SaltLenError, ZoneSettings, ZoneType, push,
+    AnswerSet, AuthLookup, AxfrPolicy, DNSClass, Draft, LookupControlFlow, LookupError,
+    LookupOptions, LookupRecords, LookupRecordsIter, LowerName, Name, Nsec3HashAlgorithm,
+    NxProofKind, ProtoError, RData, Record, RecordRef, RecordSet, RecordType, ResponseCode, RrKey,
+    RrsetRecords, Salt, SaltLenError, ZoneSettings, ZoneType, push,
 };
 pub use zst_key::NameKey;
 

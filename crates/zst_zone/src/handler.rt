@@ -22,9 +22,9 @@ use std::marker::{Model, PhantomData};
 use std::mem;
 use thiserror::Error;
 use zst_map::{
-    AuthLookup, AxfrPolicy, DNSClass, Edit, LookupControlFlow, LookupError, LookupOptions, Name, NameKey,
-    NxProofKind, RData, Record, RecordSet, RecordType, ResponseCode, RrKey, Search, ZoneSets,
-    ZoneSettings, ZoneType,
+    AuthLookup, AxfrPolicy, DNSClass, Edit, LookupControlFlow, LookupError, LookupOptions, Name,
+    NameKey, NxProofKind, RData, Record, RecordSet, RecordType, ResponseCode, RrKey, Search,
+    ZoneSets, ZoneSettings, ZoneType,
 };
 
 /// Why a zone is not changed or made. The numbers are stable; 3 is free.
@@ -425,12 +425,7 @@ impl<K> InMemoryZoneHandler<K> {
     }
 
     /// Puts a set that has records, and whose owner has this key, in place of the one of its owner and type.
-    pub fn put_at(
-        &mut self,
-        alloc: Global,
-        key: NameKey,
-        set: RecordSet,
-    ) -> Result<(), AllocError>
+    pub fn put_at(&mut self, alloc: Global, key: NameKey, set: RecordSet) -> Result<(), AllocError>
         requires key { key ≡ lowercase_name set.name }
         requires filled { none_left set.records ≡ false }
         ensures ok { OnOk result (ZoneReplaces self.old set.name set.record_type (Some set) self.new) }
