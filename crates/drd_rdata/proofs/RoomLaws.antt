@@ -1,11 +1,11 @@
--- What is left of a room behind so many octets, piece by piece.
+-- The room left after octets are counted, piece by piece.
 use Rattle.std.proofs.Common.{◌≡◌, ℕ, ◌+◌, ◌<◌, List, [], ◌∷◌, arith, length, refl}
 use Rattle.std.specs.Prelude.{Option, Some, None, MatchOption}
 
 abbrev pub Left : ℕ → ℕ → Option ℕ → Type 0
 Left room octets result = MatchOption result (room < octets) (λ left. left + octets ≡ room)
 
--- What is left behind the rest is what is left behind all.
+-- The room left after the rest is the room left after all.
 abbrev pub LeadsTo : ℕ → ℕ → ℕ → ℕ → Type 0
 LeadsTo room octets left rest = (result : Option ℕ) → Left left rest result → Left room octets result
 

@@ -249,7 +249,7 @@ data_within (rdata.Update0 code) old new e = unmoved old new e
 data_within rdata.ZERO old new e = unmoved old new e
 data_within v old new e = e.within
 
--- ---- what was written stands in the encoder's form of names
+-- ---- written RDATA have their names in the encoder's form
 pub emitted_form : (v : RData) (old new : State) → Sound old → EmitsRData v old new
     → StaysTrue new new.offset (λ message. StandsWritten v (names_form v old) message old.offset new.offset)
 emitted_form (rdata.CSYNC csync) old new sound e = e.stays sound
@@ -298,7 +298,7 @@ never_written (rdata.Update0 code) old new e small far = omega (arith, far)
 never_written rdata.ZERO old new e small far = omega (arith, far)
 never_written v old new e small far = fields_fits (encoding_of v) (rdata_fields v) old new (λ same. absurd (cc same)) e small far
 
--- They would take as many octets at most as they have in full.
+-- They would take at most their octets with names uncompressed.
 pub exceeding_size : (v : RData) (old new : State) → ExceedsRdlength v → EmitsRData v old new → new.offset ≤ old.offset + length (written_octets v)
 exceeding_size (rdata.CSYNC csync) old new far e = absurd far
 exceeding_size (rdata.OPT opt) old new far e = e.0.size

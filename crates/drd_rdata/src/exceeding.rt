@@ -1,4 +1,4 @@
-//! RDATA of more octets, with their names in full, than RDLENGTH can count (RFC 1035 3.2.1).
+//! RDATA with more octets, names uncompressed, than RDLENGTH counts (RFC 1035 3.2.1).
 ghost use Rattle.std.specs.Prelude.{◌≡◌, ◌↔◌, ◌+◌, ◌<◌, IsTrue, MatchOption, length, map};
 ghost use Rattle.std.specs.List.{flat_map};
 ghost use Rattle.drd_types.specs.drd_fields.Seen.{seen};
@@ -37,14 +37,14 @@ pub fn exceeds_rdlength(rdata: &RData) -> bool
     }
 }
 
-// Whether data that are lent field by field have more.
+// The same of RDATA whose fields can be borrowed.
 fn fields_exceed(rdata: &RData) -> bool
     ensures { IsTrue result ↔ (65535 < length (fields_octets (compared_fields rdata.now))) }
 {
     room_after_fields(rdata.fields().as_slice(), u16::MAX).is_none()
 }
 
-// What is left of a room behind so many octets, if they fit.
+// The room left after `octets`, if they fit.
 fn room_after(octets: usize, room: u16) -> Option<u16>
     ensures { MatchOption result (room < octets) (λ left. left + octets ≡ room) }
 {
@@ -54,21 +54,21 @@ fn room_after(octets: usize, room: u16) -> Option<u16>
     }
 }
 
-// What is left behind a name.
+// The room left after an uncompressed name.
 fn room_after_name(name: &Name, room: u16) -> Option<u16>
     ensures { MatchOption result (room < length (name_octets name.now)) (λ left. left + length (name_octets name.now) ≡ room) }
 {
     room_after(name.as_octets().len() + 1, room)
 }
 
-// What is left behind a string with the octet of its length.
+// The room left after a character string and its length octet.
 fn room_after_string(string: &[u8], room: u16) -> Option<u16>
     ensures { MatchOption result (room < length (string_octets string.now)) (λ left. left + length (string_octets string.now) ≡ room) }
 {
     room_after(string.len(), room.checked_sub(1)?)
 }
 
-// What is left behind strings.
+// The room left after character strings.
 #[tactic(auto, using(crate::proofs::RoomLaws::leads_end, crate::proofs::RoomLaws::leads_none))]
 fn room_after_strings(strings: &[Vec<u8>], room: u16) -> Option<u16>
     ensures { MatchOption result (room < length (flat_map string_octets (map (λ s. s.items) strings.now)))
@@ -83,7 +83,7 @@ fn room_after_strings(strings: &[Vec<u8>], room: u16) -> Option<u16>
     Some(left)
 }
 
-// What is left behind a field.
+// The room left after a field.
 fn room_after_field(field: FieldRef<'_>, room: u16) -> Option<u16>
     ensures { MatchOption result (room < length (field_octets (seen field.entry))) (λ left. left + length (field_octets (seen field.entry)) ≡ room) }
 {
@@ -98,7 +98,7 @@ fn room_after_field(field: FieldRef<'_>, room: u16) -> Option<u16>
     }
 }
 
-// What is left behind fields, of which there are at most eight.
+// The room left after fields. A recursion, since there are eight at most.
 fn room_after_fields(fields: &[FieldRef<'_>], room: u16) -> Option<u16>
     ensures { MatchOption result (room < length (fields_octets (map seen fields.entry.now)))
         (λ left. left + length (fields_octets (map seen fields.entry.now)) ≡ room) }
@@ -109,7 +109,7 @@ fn room_after_fields(fields: &[FieldRef<'_>], room: u16) -> Option<u16>
     }
 }
 
-// What is left behind a value with the octets of its number and its length.
+// The room left after a value of this length, its code and its length.
 fn room_after_value(octets: Option<u16>, room: u16) -> Option<u16>
     ensures { MatchOption octets (MatchOption result (Unit {0}) (λ left. ⊥))
         (λ n. MatchOption result (room < 4 + n) (λ left. left + (4 + n) ≡ room)) }
@@ -117,7 +117,7 @@ fn room_after_value(octets: Option<u16>, room: u16) -> Option<u16>
     room.checked_sub(4)?.checked_sub(octets?)
 }
 
-// What is left behind options.
+// The room left after EDNS options.
 #[tactic(auto, using(crate::proofs::RoomLaws::leads_end, crate::proofs::RoomLaws::leads_none))]
 fn room_after_options(entries: &[(EdnsCode, EdnsOption)], room: u16) -> Option<u16>
     ensures { MatchOption result (room < length (entries_octets entries.now)) (λ left. left + length (entries_octets entries.now) ≡ room) }
@@ -131,14 +131,14 @@ fn room_after_options(entries: &[(EdnsCode, EdnsOption)], room: u16) -> Option<u
     Some(left)
 }
 
-// What is left behind an option with its code and its length.
+// The room left after an option, its code and its length.
 fn room_after_option(entry: &(EdnsCode, EdnsOption), room: u16) -> Option<u16>
     ensures { MatchOption result (room < length (raw_octets (raw_of entry.now))) (λ left. left + length (raw_octets (raw_of entry.now)) ≡ room) }
 {
     room_after_value(option_len(&entry.1), room)
 }
 
-// How many octets an option has, if two octets can count them.
+// The length of an option, if 16 bits count it.
 fn option_len(option: &EdnsOption) -> Option<u16>
     ensures { MatchOption result (65535 < length (option_octets option.now)) (λ n. n ≡ length (option_octets option.now)) }
 {
@@ -149,7 +149,7 @@ fn option_len(option: &EdnsOption) -> Option<u16>
     }
 }
 
-// What is left behind the parameters of a service.
+// The room left after the parameters of a service.
 #[tactic(auto, using(crate::proofs::RoomLaws::leads_end, crate::proofs::RoomLaws::leads_none))]
 fn room_after_params(params: &[(SvcParamKey, SvcParamValue)], room: u16) -> Option<u16>
     ensures { MatchOption result (room < length (params_octets params.now)) (λ left. left + length (params_octets params.now) ≡ room) }
@@ -163,16 +163,17 @@ fn room_after_params(params: &[(SvcParamKey, SvcParamValue)], room: u16) -> Opti
     Some(left)
 }
 
-// What is left behind a parameter with its key and its length.
+// The room left after a parameter, its key and its length.
 fn room_after_param(param: &(SvcParamKey, SvcParamValue), room: u16) -> Option<u16>
     ensures { MatchOption result (room < length (param_octets param.now)) (λ left. left + length (param_octets param.now) ≡ room) }
 {
     room_after_value(param.1.octet_len(), room)
 }
 
-// What is left of RDLENGTH's room behind a service.
+// The room that RDLENGTH leaves after a service.
 fn room_after_service(svcb: &SVCB) -> Option<u16>
-    ensures { MatchOption result (65535 < length (fields_octets (svcb_fields svcb.now))) (λ left. left + length (fields_octets (svcb_fields svcb.now)) ≡ 65535) }
+    ensures { MatchOption result (65535 < length (fields_octets (svcb_fields svcb.now)))
+        (λ left. left + length (fields_octets (svcb_fields svcb.now)) ≡ 65535) }
 {
     room_after_params(
         &svcb.svc_params,

@@ -31,7 +31,7 @@ pub on_ok : {T E A B P : Type 0} (r : Result T E) → (A → B → P) → OnOk r
 on_ok (Ok x) f a b = f a b
 on_ok (Err e) f a b = tt
 
--- ---- what stands at a place
+-- ---- the item at an index
 pub place_below : (low count at p : ℕ) (ps : List (Option ℕ)) → Rise low count ps → slice_get ps at ≡ Some (Some p) → p < count
 place_below low count at p [] rise e = let h : ⊥ = cc in absurd h
 place_below low count zero p (None ∷ ps) rise e = let h : ⊥ = cc in absurd h

@@ -14,7 +14,7 @@ rise_from low high count (Some p ∷ ps) le (from, below, more) = (omega (arith,
 apart : (i p : ℕ) → i + 1 ≤ p → p ≢ i
 apart i p le e = omega (arith, le, e)
 
--- What was exchanged at a place isn't taken behind it.
+-- An item exchanged at an index isn't taken after it.
 pub drafted_set : {X : Type 0} (stored : List X) (i count : ℕ) (y : X) (ps : List (Option ℕ)) (xs : List X) → Rise (i + 1) count ps
     → drafted (set stored i y) ps xs ≡ drafted stored ps xs
 drafted_set stored i count y [] xs rise = refl
@@ -24,7 +24,7 @@ drafted_set stored i count y (Some p ∷ ps) (x ∷ xs) (from, below, more) =
     ap (λ (l : List _). get_or (set stored i y) p x ∷ l) (drafted_set stored i count y ps xs (rise_from (i + 1) (p + 1) count ps (omega (arith, from)) more))
     ∙ ap (λ (z : _). z ∷ drafted stored ps xs) (get_or-set_other stored i p y x (apart i p from))
 
--- So many items are where they are to be; what the rest gives from here on completes the list.
+-- The first k items are final, and the rest of the draft completes the list.
 pub record Moved {X : Type 0} (places : List (Option ℕ)) (items stored : List X) (k : ℕ) (now left : List X) : Type 0 where
   pub long : length now ≡ length places
   pub kept : length left ≡ length stored

@@ -145,7 +145,7 @@ abbrev pub raised_first : List Record → List Record
 raised_first [] = []
 raised_first (r ∷ rs) = record r { rdata = raised_data r.rdata } ∷ rs
 
--- The set of a zone's start with the next serial number. It has no signatures.
+-- The SOA set with the next serial number. It has no signatures.
 abbrev pub raised_set : RRset → RRset
 raised_set set = record set { records = raised_first set.records; signatures = [] }
 

@@ -80,8 +80,8 @@ pub record HasOwnHead (r : Record) : Type 0 where
   pub own_class : IsOwnClass r.dns_class
 
 -- A record reads back alone: its octets, names uncompressed and of any length in all, are read
--- outside an update as this very record, its RDATA in some message; or the RDATA exceed RDLENGTH, so
--- that the record is never written.
+-- outside an update as this very record, its RDATA in some message; or its RDATA exceed RDLENGTH,
+-- and it is never written.
 abbrev pub ReadsBackAlone : Record → Type 0
 ReadsBackAlone r = (HasOwnHead r × IsReadable r.rdata) ⊎ ExceedsRdlength r.rdata
 

@@ -37,8 +37,8 @@ pub record HeadWritten (r : Record) (form : NameEncoding) (message : List ℕ) (
 
 -- RDATA at an offset, as they are written whatever they are: the number of their octets, then the
 -- RDATA with names in this form.
-pub record DataWritten (value : RData) (form : NameEncoding) (message : List ℕ) (place end : ℕ) : Type
-    0 where
+pub record DataWritten (value : RData) (form : NameEncoding) (message : List ℕ)
+    (place end : ℕ) : Type 0 where
   pub len : ℕ
   pub count : Stands message place (octets_16 len) (place + 2)
   pub small : len < 2 ^ 16
@@ -71,8 +71,8 @@ pub record EmitsRecord (r : Record) (old new : State) : Type 0 where
   pub owner_kept : Sound old → old.points ≡ true → 0 < length r.name.labels
       → length old.candidates < 64 → old.offset < 16383 → Has new.candidates (name_octets r.name)
 
--- The error that is shown where RDATA are refused: their own, but RDATA that exceed RDLENGTH don't
--- fit, whatever else is wrong with them.
+-- The error where RDATA are refused: their own, but RDATA that exceed RDLENGTH don't fit, whatever
+-- else is wrong with them.
 abbrev pub ShowsRefusal : RData → State → ProtoError → Type 0
 ShowsRefusal value old e =
     RefusesRData value old e
@@ -88,7 +88,7 @@ pub record RefusesLater (r : Record) (old : State) (e : ProtoError) : Type 0 whe
 
 -- A record is refused. One that reads back is refused out of memory, or if its plain size would
 -- pass the maximum, which that of RDATA that exceed RDLENGTH always does. Of any other, what comes
--- before the RDATA is so too, and the RDATA for the cause that they show.
+-- before the RDATA is so too, and the RDATA by `ShowsRefusal`.
 pub record RefusesRecord (r : Record) (old : State) (e : ProtoError) : Type 0 where
   pub whole : ReadsBack r → old.maximum < 2 ^ 16 → IsRefusal old (plain r) e
   pub any : old.maximum < 2 ^ 16
@@ -148,7 +148,7 @@ pub record RefusesBehindLength (value : RData) (old : State) (e : ProtoError) : 
       ⊎ ((start : State) × SameModes old start × (start.offset ≡ old.offset + 2)
       × ShowsRefusal value start e)
 
--- The error that is shown of a cause for which an encoder refused RDATA.
+-- The error returned for the cause by which an encoder refused RDATA.
 pub record ShownError (value : RData) (s : State) (cause e : ProtoError) : Type 0 where
   pub is : (e ≡ cause) ⊎ (ExceedsRdlength value × (e ≡ MaxBufferSizeExceeded s.maximum))
   pub room : ExceedsRdlength value → IsMemory e ⊎ (e ≡ MaxBufferSizeExceeded s.maximum)

@@ -1,4 +1,4 @@
-//! Lists as they are to be (RFC 2136 3.7: an update is applied whole or not at all).
+//! Lists that are prepared beside stored ones, for updates that are applied whole (RFC 2136 3.7).
 
 ghost use Rattle.std.specs.Prelude.{◌≡◌, ◌<◌, ◌++◌, ◌∷◌, [], None, Some, OnErr, OnOk, length, remove, slice_get, slice_set};
 ghost use Rattle.zst_record.specs.Drafts.{Exchanges, IsDraft, drafted};
@@ -6,11 +6,11 @@ ghost use Rattle.zst_record.specs.Drafts.{Exchanges, IsDraft, drafted};
 use std::alloc::{AllocError, Global};
 use std::mem;
 
-/// A list as it is to be: items that are new, and items that are still where they are stored. What is stored stays as it is
-/// until `settle`, which can't be refused.
+/// A list that is prepared: new items, and items that are still stored elsewhere. Stored items stay unchanged until
+/// `settle`, which can't fail.
 #[derive(Drop)]
 pub struct Draft<T> {
-    // For each item its place among those stored, if it is there; then another one is here for it.
+    // For each item its index among the stored ones, if it is stored; `items` then has a placeholder.
     places: Vec<Option<usize>>,
     items: Vec<T>,
 }
@@ -27,7 +27,7 @@ impl<T: Drop> Draft<T> {
         }
     }
 
-    /// Puts a new item behind the others.
+    /// Appends a new item.
     pub fn push(&mut self, item: T) -> Result<(), AllocError>
         ensures places { OnOk result (self.new.places.items ≡ self.old.places.items ++ None ∷ []) }
         ensures items { OnOk result (self.new.items.items ≡ self.old.items.items ++ item ∷ []) }
@@ -36,7 +36,7 @@ impl<T: Drop> Draft<T> {
         self.push_at(None, item)
     }
 
-    /// Puts an item behind the others that is stored at a place, and this one there for it.
+    /// Appends the item that is stored at an index, with a placeholder.
     pub fn push_stored(&mut self, place: usize, stand_in: T) -> Result<(), AllocError>
         ensures places { OnOk result (self.new.places.items ≡ self.old.places.items ++ Some place ∷ []) }
         ensures items { OnOk result (self.new.items.items ≡ self.old.items.items ++ stand_in ∷ []) }
@@ -45,7 +45,7 @@ impl<T: Drop> Draft<T> {
         self.push_at(Some(place), stand_in)
     }
 
-    // Puts an item behind the others, and its place among those stored.
+    // Appends an item, and its index among the stored ones.
     fn push_at(&mut self, place: Option<usize>, item: T) -> Result<(), AllocError>
         ensures places { OnOk result (self.new.places.items ≡ self.old.places.items ++ place ∷ []) }
         ensures items { OnOk result (self.new.items.items ≡ self.old.items.items ++ item ∷ []) }
@@ -60,7 +60,7 @@ impl<T: Drop> Draft<T> {
         Ok(())
     }
 
-    /// Puts a new item in place of another.
+    /// Replaces an item by a new one.
     pub fn set(&mut self, at: usize, item: T)
         requires at { at < length self.old.items.items }
         requires long { length self.old.places.items ≡ length self.old.items.items }
@@ -71,7 +71,7 @@ impl<T: Drop> Draft<T> {
         mem::drop(mem::replace(&mut self.items[at], item));
     }
 
-    /// Takes an item out.
+    /// Removes an item.
     pub fn remove(&mut self, at: usize)
         requires at { at < length self.old.items.items }
         requires long { length self.old.places.items ≡ length self.old.items.items }
@@ -106,7 +106,7 @@ impl<T: Drop> Draft<T> {
     }
 }
 
-// Moves the stored items to where they are to be.
+// Swaps the stored items for their placeholders.
 fn move_in<T>(places: &[Option<usize>], items: &mut [T], stored: &mut [T])
     requires { IsDraft (length stored.old) places.now items.old }
     ensures { items.new ≡ drafted stored.old places.now items.old }

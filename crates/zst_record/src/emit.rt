@@ -114,8 +114,8 @@ fn emit_behind_length(encoder: &mut BinEncoder<'_>, rdata: &RData) -> Result<(),
     }
 }
 
-// The error that is shown of a cause for which RDATA were refused: those that exceed RDLENGTH don't fit, whatever else is
-// wrong with them, so that a list ends before their record.
+// The error returned where RDATA were refused: RDATA that exceed RDLENGTH don't fit, whatever else is wrong with them, so
+// that a section ends before their record.
 fn shown_error(encoder: &BinEncoder<'_>, rdata: &RData, cause: ProtoError) -> ProtoError
     ensures { ShownError rdata.now (state encoder.now) cause result }
 {
@@ -127,7 +127,7 @@ fn shown_error(encoder: &BinEncoder<'_>, rdata: &RData, cause: ProtoError) -> Pr
     ProtoError::MaxBufferSizeExceeded(maximum)
 }
 
-// Whether memory is wanting, or the maximum would be passed.
+// Whether the cause is memory, or the maximum that would be passed.
 fn wants_room(cause: &ProtoError, maximum: usize) -> bool
     ensures { IsTrue result ↔ (IsMemory cause.now ⊎ (cause.now ≡ MaxBufferSizeExceeded maximum)) }
 {

@@ -52,7 +52,7 @@ impl<T: Drop> OneOrMany<T> {
         *self = OneOrMany::One(item);
     }
 
-    /// These items, of which there is one at least.
+    /// These items, at least one.
     pub(crate) fn from_vec(items: Vec<T>) -> OneOrMany<T>
         requires { 0 < length items.items }
         ensures items { items_of result ≡ items.items }
@@ -67,7 +67,7 @@ impl<T: Drop> OneOrMany<T> {
         OneOrMany::Many(items)
     }
 
-    /// The list of a draft over the items. Others are left here.
+    /// Settles a draft over the items, which it leaves in any state.
     pub(crate) fn settle(&mut self, draft: Draft<T>) -> Vec<T>
         requires fits { FitsInMemory T.row }
         requires draft { IsDraft (length (items_of self.old)) draft.places.items draft.items.items }

@@ -260,8 +260,8 @@ impl RecordSet {
         true
     }
 
-    /// Puts the records of a draft over the set's, of which there is one at least, in place of these. The type and the class
-    /// are theirs. The signatures go. It takes no memory.
+    /// Replaces the records by those of a draft over them, at least one. Type and class become theirs, and the signatures
+    /// are dropped. It takes no memory.
     pub fn settle(&mut self, record_type: RecordType, draft: Draft<Record>)
         requires draft { IsDraft (length self.old.records) draft.places.items draft.items.items }
         requires held { IsHeld record_type false (drafted self.old.records draft.places.items draft.items.items) [] }
@@ -278,8 +278,8 @@ impl RecordSet {
         self.rrsigs.clear();
     }
 
-    /// Raises the serial number of the first record, if that is an SOA, by one; behind 2^32 - 1 comes 0 (RFC 2136 3.6). The
-    /// signatures go. It takes no memory.
+    /// Raises the serial number of an SOA by one; 0 follows 2^32 - 1 (RFC 2136 3.6). The signatures are dropped. It takes no
+    /// memory.
     pub fn raise_serial(&mut self)
         ensures { self.new ≡ raised_set self.old }
     {
@@ -287,7 +287,7 @@ impl RecordSet {
         self.rrsigs.clear();
     }
 
-    /// Puts signatures of the set in place of those that it has. It takes no memory.
+    /// Replaces the signatures by others of the set. It takes no memory.
     pub fn sign_with(&mut self, signatures: Vec<Record>)
         requires { AllByRecursion (λ r. is_signature_of self.old r ≡ true) signatures.items }
         ensures { self.new ≡ record self.old { signatures = signatures.items } }

@@ -48,7 +48,7 @@ other_flag a true same full = refl
 other_flag true false same full = same
 other_flag false false same full = full
 
--- A record under the name of its set, up to case.
+-- A record whose owner is that of its set, up to case.
 under : (set : RRset) (r : Record) → name_eq r.name set.name ≡ true → IsServable r → IsSoundUnder set.name.fqdn r
 under set r named servable =
     record { servable = servable; full = λ full. other_flag r.name.fqdn set.name.fqdn (first_holds (beq r.name.fqdn set.name.fqdn) _ named) full }
@@ -245,7 +245,7 @@ abbrev pub OutcomeReadsBack : Outcome → Type 0
 OutcomeReadsBack (answered answer) = AnswerReadsBack answer
 OutcomeReadsBack denied = Unit {0}
 
--- A record that leads to a name exceeds nothing, so its owner is fully qualified.
+-- A record with a target doesn't exceed RDLENGTH, so its owner is fully qualified.
 leading_full : (r : Record) (to : DomainName) → target_of r.rdata ≡ Some to → ReadsBackAlone r → r.name.fqdn ≡ true
 leading_full r to leads (inl (own, read)) = own.owner
 leading_full r to leads (inr far) = absurd (by r.rdata leads far)
@@ -258,7 +258,7 @@ leading_full r to leads (inr far) = absurd (by r.rdata leads far)
     by (rdata.SRV srv) leads far = far
     by other leads far = absurd (cc leads)
 
--- So is the owner of a set that leads to one.
+-- So is the owner of a set with a target.
 target_full : (fqdn : Bool) (rs : List Record) (to : DomainName) → AllByRecursion (IsSoundUnder fqdn) rs → first_target rs ≡ Some to → fqdn ≡ true
 target_full fqdn [] to all leads = absurd (cc leads)
 target_full fqdn (r ∷ rs) to all leads = all.0.full (leading_full r to leads all.0.servable.alone)
@@ -268,7 +268,7 @@ alias_back name alias None at full behind = record { answers = (at.back, tt); ad
 alias_back name alias (Some set) at full behind =
     record { answers = (flattened_back (lowercase_name name) (alias_ttl alias.records) set (λ same. at.full (full refl)) behind, tt); additionals = (at.back, tt) }
 
--- Something is behind an alias only where it leads to a name.
+-- An alias answers with a set of its target only if it has one.
 behind_leads : (sets : List RRset) (t : RecordType) (fqdn : Bool) (rs : List Record) → AllByRecursion (IsSoundUnder fqdn) rs → (target : Option DomainName) → first_target rs ≡ target → is_some (behind_alias sets t target) ≡ true → fqdn ≡ true
 behind_leads sets t fqdn rs all None leads some = absurd (true≢false (sym some))
 behind_leads sets t fqdn rs all (Some to) leads some = target_full fqdn rs to all leads
