@@ -87,6 +87,7 @@ zone = record {
   zone_type = kinds.Primary;
   axfr_policy = policies.AllowAll;
   nx_proof_kind = None;
+  guard = None;
   sets = set_of_start ∷ set_of_servers ∷ set_of_glue ∷ set_of_address ∷ [];
 }
 

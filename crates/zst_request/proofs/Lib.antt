@@ -1,2 +1,2 @@
+pub mod UpdateRows
 pub mod WorkedRows
-pub use Rattle.zst_handler.proofs.LookupOnce

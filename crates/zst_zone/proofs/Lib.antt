@@ -4,6 +4,7 @@ pub mod LowerNames
 pub mod Made
 pub mod Matches
 pub mod ReadBack
+pub mod EditedSets
 pub mod Stored
 pub mod Targets
 pub mod SeenKeys

@@ -2,9 +2,10 @@
 
 use crate::handler::InMemoryZoneHandler;
 use std::alloc::{AllocError, Global};
+use std::mem;
 use zst_request::{
     AuthLookup, AxfrPolicy, LookupControlFlow, LookupError, LookupOptions, Name, NameKey,
-    NxProofKind, RecordType, TSigResponseContext, ZoneHandler, ZoneRequest, ZoneType,
+    NxProofKind, RecordType, ResponseCode, TSigResponseContext, ZoneHandler, ZoneRequest, ZoneType,
 };
 
 impl<K: Drop> ZoneHandler for InMemoryZoneHandler<K> {
@@ -103,5 +104,15 @@ impl<K: Drop> ZoneHandler for InMemoryZoneHandler<K> {
         AllocError,
     > {
         Ok((last, None))
+    }
+    /// Refuses each: messages change a guarded zone alone.
+    fn update(
+        &mut self,
+        alloc: Global,
+        request: ZoneRequest<'_>,
+        now: u64,
+    ) -> Result<(Result<bool, ResponseCode>, Option<TSigResponseContext>), AllocError> {
+        mem::drop(request);
+        Ok((Err(ResponseCode::NotImp), None))
     }
 }

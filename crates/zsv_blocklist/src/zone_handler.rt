@@ -11,7 +11,7 @@ use std::alloc::{AllocError, Global};
 use std::mem;
 use zst_request::{
     AuthLookup, AxfrPolicy, BlocklistConsultAction, LookupControlFlow, LookupOptions,
-    LookupRecords, Name, NameKey, NxProofKind, RecordType, TSigResponseContext, ZoneHandler,
+    LookupRecords, Name, NameKey, NxProofKind, RecordType, ResponseCode, TSigResponseContext, ZoneHandler,
     ZoneRequest, ZoneType,
 };
 
@@ -109,6 +109,17 @@ impl ZoneHandler for BlocklistZoneHandler {
                 Err(refused)
             }
         }
+    }
+
+    /// Refuses each: a list is changed by its own calls.
+    fn update(
+        &mut self,
+        alloc: Global,
+        request: ZoneRequest<'_>,
+        now: u64,
+    ) -> Result<(Result<bool, ResponseCode>, Option<TSigResponseContext>), AllocError> {
+        mem::drop(request);
+        Ok((Err(ResponseCode::NotImp), None))
     }
 }
 

@@ -17,6 +17,7 @@ returns-clause-ok g c =
       zone_type = c.self.inside.zone_type;
       axfr_policy = c.self.inside.axfr_policy;
       nx_proof_kind = c.self.inside.nx_proof_kind;
+      guard = None;
       sets = c.self.inside.sets;
     } in
     subst (λ (z : Zone). OnOk c.upsert.result (Upserts z c.args.next (record before { sets = c.upsert.new.self }))) c.self.view_is
