@@ -2,7 +2,7 @@
 
 use authority_load::{
     AuthLookup, AxfrPolicy, InMemoryZoneHandler, LookupControlFlow, LookupOptions, NxProofKind,
-    ZoneType,
+    ResponseCode, ZoneType,
 };
 use authority_server::{Name, RecordType, ZoneHandler};
 use std::alloc::{AllocError, Global};
@@ -117,6 +117,17 @@ impl ZoneHandler for Handler {
         match self {
             Handler::Zone(zone) => zone.consult(alloc, name, record_type, options, last),
             Handler::Blocklist(list) => list.consult(alloc, name, record_type, options, last),
+        }
+    }
+    fn update(
+        &mut self,
+        alloc: Global,
+        request: ZoneRequest<'_>,
+        now: u64,
+    ) -> Result<(Result<bool, ResponseCode>, Option<TSigResponseContext>), AllocError> {
+        match self {
+            Handler::Zone(zone) => zone.update(alloc, request, now),
+            Handler::Blocklist(list) => list.update(alloc, request, now),
         }
     }
 }

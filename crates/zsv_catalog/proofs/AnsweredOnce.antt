@@ -4,7 +4,7 @@ use Rattle.std.specs.Prelude.{Option, Some, None, IsSome, option_map}
 use Rattle.drd_types.specs.dnw_decoder.Octets.{octets_16, octets_32}
 use Rattle.drd_types.specs.drd_opt.Entries.{entries_octets}
 use Rattle.zsv_catalog.proofs.PartsOnce.{SameParts, equal-parts, one-chain-parts}
-use Rattle.zsv_answer.specs.Responses.{with_edns}
+use Rattle.zsv_answer.specs.zsv_reply.Writing.{with_edns}
 use Rattle.zsv_answer.specs.zst_request.Views.{View}
 use Rattle.zsv_answer.specs.zst_request.dnw_codes.declared.record_type.RecordType.TheVariants.{AXFR}
 use Rattle.zsv_answer.specs.zst_request.dnw_codes.declared.record_type.RecordType.TheVariants as kind

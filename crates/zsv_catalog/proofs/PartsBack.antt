@@ -11,7 +11,7 @@ use Rattle.drd_types.specs.drd_opt.Reading.{HoldsEntries}
 use Rattle.zsv_answer.specs.Forwarding.{ForwardedParts, forwarded_error, forwarded_metadata, resolved_parts}
 use Rattle.zsv_answer.specs.Parts.{AtOrigin, AuthoritativeParts, BesideAnswer, ChainParts, DeniedParts, PartsAs, answer_records, is_referral}
 use Rattle.zsv_answer.specs.Resolution.{Resolution, answering, no_such_name, no_such_type, not_here, resolved}
-use Rattle.zsv_answer.specs.Responses.{error_parts, parts_with, reply_metadata}
+use Rattle.zsv_answer.specs.Responses.{parts_with}
 use Rattle.zsv_answer.specs.Shown.{hidden_but, is_shown, shown_if}
 use Rattle.zsv_answer.specs.zst_request.Views.{Blocked, Stored, View, zone_type_of}
 use Rattle.zsv_answer.specs.zst_request.dnw_codes.declared.record_type.RecordType.{RecordType}
@@ -24,7 +24,7 @@ use Rattle.zsv_answer.specs.zst_request.zst_codes.declared.settings.ZoneType.{Zo
 use Rattle.zsv_answer.specs.zst_request.zst_codes.declared.settings.ZoneType.TheVariants as zones
 use Rattle.zsv_answer.specs.zst_request.zst_handler.Lookups.{Outcome, answered, name_error, name_exists, out_of_zone}
 use Rattle.zsv_answer.specs.zsv_reply.Replies.{ReplyParts}
-use Rattle.zsv_answer.specs.zsv_reply.Writing.{AllReadBack}
+use Rattle.zsv_answer.specs.zsv_reply.Writing.{AllReadBack, error_parts, reply_metadata}
 use Rattle.zsv_answer.specs.zsv_reply.zst_record.Records.{IsServable}
 use Rattle.zsv_answer.specs.zsv_reply.zst_record.declared.records.Record.{Record}
 use Rattle.zsv_answer.specs.zsv_reply.zsv_message.Messages.{Message}

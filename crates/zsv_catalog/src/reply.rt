@@ -2,7 +2,8 @@
 
 ghost use Rattle.std.specs.Prelude.{◌≡◌, ◌≤◌, [], IfOk, IfSome, OnOk, length, option_copied};
 ghost use Rattle.zsv_answer.specs.Responses.{parts_of};
-ghost use Rattle.zsv_catalog.specs.Catalogs.{AnswersEdns, AnswersQuery, IsReplyEdns, KindParts, PlainParts, QueryParts, QuestionParts, RepliesBy, SendsWith, has_other_version, identifier, nsid_for};
+ghost use Rattle.zsv_answer.specs.zst_request.Requested.{asked_of, signed_by};
+ghost use Rattle.zsv_catalog.specs.Catalogs.{AnswersEdns, AnswersQuery, IsReplyEdns, KindParts, PlainParts, QueryParts, QuestionParts, RepliesBy, SendsWith, asked_of_query, has_other_version, identifier, nsid_for, signer_of};
 ghost use Rattle.zsv_catalog.specs.Chains.{views_of};
 
 use crate::chains::Chains;
@@ -17,8 +18,10 @@ use zsv_answer::{
     ZoneRequest, chain_response, error_response,
 };
 
-// What a signature says.
-fn tsig_of(signature: &TsigRecord) -> RequestTsig<'_> {
+// Who signed a message.
+fn tsig_of(signature: &TsigRecord) -> RequestTsig<'_>
+    ensures { signed_by result ≡ signer_of signature.now }
+{
     RequestTsig {
         key_name: &signature.name,
         algorithm: &signature.rdata.algorithm,
@@ -28,12 +31,14 @@ fn tsig_of(signature: &TsigRecord) -> RequestTsig<'_> {
 
 // A question as the handlers of its name are asked it. No signature is tested of a query.
 fn asked<'q>(
+    alloc: Global,
     message: &'q MessageRequest<'_>,
     question: &'q Query,
     src: SocketAddr,
 ) -> ZoneRequest<'q>
     ensures name { result.name.now ≡ question.now.name }
     ensures query_type { result.query_type ≡ question.now.query_type }
+    ensures beside { asked_of result ≡ asked_of_query message.now src }
 {
     let tsig = match message.signature() {
         Some(signature) => Some(tsig_of(signature)),
@@ -47,7 +52,7 @@ fn asked<'q>(
         tsig,
         verdict: TsigVerdict::UnknownKey,
         prerequisites: &[],
-        updates: &[],
+        updates: Vec::new(alloc),
     }
 }
 
@@ -72,7 +77,7 @@ fn question_response<'z, H: ZoneHandler>(
     if question.query_type == RecordType::AXFR {
         return Ok(error_response(metadata, ResponseCode::ServFail));
     }
-    let request = asked(message, question, src);
+    let request = asked(alloc, message, question, src);
     chain_response(handlers, alloc, &key, metadata, options, &request)
 }
 

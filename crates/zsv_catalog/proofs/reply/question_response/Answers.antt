@@ -4,7 +4,8 @@ use Rattle.std.proofs.lemmas.Option.{none-some}
 use Rattle.std.proofs.lemmas.Result.{IfOk-weaker}
 use Rattle.std.specs.Prelude.{IsSome, option_map, unwrap_or}
 use Rattle.zsv_answer.specs.Parts.{ChainParts}
-use Rattle.zsv_answer.specs.Responses.{error_parts, parts_of}
+use Rattle.zsv_answer.specs.Responses.{parts_of}
+use Rattle.zsv_answer.specs.zsv_reply.Writing.{error_parts}
 use Rattle.zsv_answer.specs.zst_request.Views.{View}
 use Rattle.zsv_answer.specs.zst_request.dnw_codes.declared.record_type.RecordType.{RecordType}
 use Rattle.zsv_answer.specs.zst_request.dnw_name.DomainName.{DomainName}
