@@ -39,7 +39,7 @@ use Rattle.zsv_answer.specs.zsv_reply.zsv_message.zsv_parts.declared.header.OpCo
 use Rattle.zsv_answer.specs.zsv_reply.zsv_message.zsv_parts.declared.header.OpCode.TheVariants as operations
 use Rattle.zsv_answer.specs.zsv_reply.zsv_message.zsv_parts.declared.question.Query.{Query}
 use Rattle.zsv_catalog.specs.Catalogs.{AnswersEdns, KindParts, OperationParts, PartsOf, PlainParts, QueryParts, QuestionParts, asks_for_dnssec, asks_for_nsid, has_other_version, identifier, nsid_for}
-use Rattle.zsv_catalog.specs.Chains.{chain_for}
+use Rattle.zsv_chains.specs.Chains.{chain_for}
 use Rattle.zsv_catalog.specs.ReadingBack.{ChainReadsBack, ChainsReadBack, ViewReadsBack}
 use Rattle.zsv_catalog.proofs.ResolvedBack.{ResolutionReadsBack, answering_back, for_back, resolves_back}
 use Rattle.zsv_catalog.proofs.ShownBack.{OutcomeReadsBack, append_back, filter_back, lookup_back, sets_shown_back, zone_sound}

@@ -30,7 +30,7 @@ use Rattle.zsv_answer.specs.zsv_reply.zsv_message.zsv_parts.declared.question.Qu
 use Rattle.zsv_answer.specs.zsv_reply.zsv_message.zsv_parts.declared.tsig.TsigRecord.{TsigRecord}
 use Rattle.zsv_answer.specs.zsv_reply.zsv_message.zsv_parts.zst_codes.ResponseCode.{high_bits}
 use Rattle.zsv_answer.specs.zsv_request.declared.protocol.Protocol.{Protocol}
-use Rattle.zsv_catalog.specs.Chains.{chain_for}
+use Rattle.zsv_chains.specs.Chains.{chain_for}
 use Rattle.zsv_catalog.specs.ReadingBack.{ChainsReadBack}
 
 -- ---- what handlers are asked

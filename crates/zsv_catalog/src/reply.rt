@@ -4,19 +4,18 @@ ghost use Rattle.std.specs.Prelude.{◌≡◌, ◌≤◌, [], IfOk, IfSome, OnOk
 ghost use Rattle.zsv_answer.specs.Responses.{parts_of};
 ghost use Rattle.zsv_answer.specs.zst_request.Requested.{asked_of, signed_by};
 ghost use Rattle.zsv_catalog.specs.Catalogs.{AnswersEdns, AnswersQuery, IsReplyEdns, KindParts, PlainParts, QueryParts, QuestionParts, RepliesBy, SendsWith, asked_of_query, has_other_version, identifier, nsid_for, signer_of};
-ghost use Rattle.zsv_catalog.specs.Chains.{views_of};
+ghost use Rattle.zsv_chains.specs.Chains.{views_of};
 
-use crate::chains::Chains;
 use drd_types::{EdnsCode, EdnsOption, NSIDPayload};
 use std::alloc::{AllocError, Global};
 use std::mem;
 use std::net::SocketAddr;
-use zst_key::NameKey;
 use zsv_answer::{
     Edns, LookupOptions, MessageRequest, MessageType, OpCode, Protocol, Query, RecordType,
     RequestTsig, Response, ResponseCode, ResponseInfo, TsigRecord, TsigVerdict, ZoneHandler,
     ZoneRequest, chain_response, error_response,
 };
+use zsv_chains::{Chains, NameKey};
 
 // Who signed a message.
 fn tsig_of(signature: &TsigRecord) -> RequestTsig<'_>
