@@ -7,7 +7,6 @@ use Rattle.drd_types.specs.declared.EdnsCode.TheVariants.{NSID}
 use Rattle.drd_types.specs.declared.EdnsOption.TheVariants as option_with
 use Rattle.drd_types.specs.drd_opt.Entries.{Entry, raw_of}
 use Rattle.zsv_answer.specs.Parts.{ChainParts}
-use Rattle.zsv_answer.specs.Responses.{Sends, SendsParts}
 use Rattle.zsv_answer.specs.zst_request.Updating.{Asked, SignedBy}
 use Rattle.zsv_answer.specs.zst_request.Views.{View}
 use Rattle.zsv_answer.specs.zst_request.dnw_codes.declared.record_type.RecordType.TheVariants.{AXFR}
@@ -17,7 +16,7 @@ use Rattle.zsv_answer.specs.zst_request.zst_codes.declared.response_code.Respons
 use Rattle.zsv_answer.specs.zst_request.zst_codes.declared.response_code.ResponseCode.TheVariants as responses
 use Rattle.zsv_answer.specs.zst_request.zst_codes.declared.settings.TsigVerdict.TheVariants as verdicts
 use Rattle.zsv_answer.specs.zsv_reply.Replies.{ReplyParts}
-use Rattle.zsv_answer.specs.zsv_reply.Writing.{AllReadBack, error_parts, with_edns}
+use Rattle.zsv_answer.specs.zsv_reply.Writing.{AllReadBack, Sends, SendsParts, error_parts, with_edns}
 use Rattle.zsv_answer.specs.zsv_reply.zsv_message.Messages.{Message}
 use Rattle.zsv_answer.specs.zsv_reply.zsv_message.zst_edns.declared.edns.Edns.{Edns}
 use Rattle.zsv_answer.specs.zsv_reply.zsv_message.zsv_parts.declared.header.Header.{Header}

@@ -23,6 +23,8 @@ use Rattle.zsv_request.specs.zsv_message.zsv_parts.zst_codes.declared.response_c
 use Rattle.zsv_request.specs.zsv_message.zsv_parts.Headers.{FitsOpCode, header_of, reserved_bit}
 use Rattle.zsv_request.specs.zsv_message.zsv_parts.Questions.{Asked}
 use Rattle.zsv_request.specs.zsv_message.zsv_parts.SignatureRecords.{TsigReadsBack, TsigRecordAt}
+use Rattle.zsv_request.specs.Requests.{limit_of}
+use Rattle.zsv_request.specs.declared.protocol.Protocol.{Protocol}
 use Rattle.zst_pointing.specs.Pointing.{ArePointing}
 use Rattle.zsv_reply.specs.declared.fronts.Kept.{Kept}
 use Rattle.zsv_reply.specs.declared.written_reply.WrittenRecords.{WrittenRecords}
@@ -207,3 +209,15 @@ pub record IsEncoded (info : Header) (reply : List ℕ) (parts : ReplyParts) (as
   pub whole : 12 + length asked.octets ≤ limit
       → IsEmitted (leaves_room asked) info reply parts asked limit
   pub bare : limit < 12 + length asked.octets → IsBare info reply parts.metadata.id
+
+-- The octets of a reply of these parts, and its header: within the limit of the transport whatever
+-- the records are, and the reply to the questions if each record reads back.
+pub record SendsParts (parts : ReplyParts) (asked : Asked) (transport : Protocol) (info : Header)
+    (reply : List ℕ) : Type 0 where
+  pub within : length reply ≤ limit_of transport parts.edns
+  pub stands : AllReadBack parts → IsEncoded info reply parts asked (limit_of transport parts.edns)
+
+-- The same, of these parts and options.
+abbrev pub Sends : ReplyParts → Option Edns → Asked → Protocol → Header → List ℕ → Type 0
+Sends parts edns asked transport info reply =
+    SendsParts (with_edns edns parts) asked transport info reply
