@@ -19,6 +19,16 @@ own-order Greater e = absurd (cc e)
 equals-itself : (name : DomainName) → name_eq name name ≡ true
 equals-itself name = name_eq-by_cmp name name ∙ own-order (name_cmp name name) (name_total.antisymm name name)
 
+second-true : (a b : Bool) → (a && b) ≡ true → b ≡ true
+second-true true b e = e
+second-true false b e = absurd (true≢false (sym e))
+
+same-length : (xs ys : List (List ℕ)) → pointwise label_eq xs ys ≡ true → length xs ≡ length ys
+same-length [] [] e = refl
+same-length [] (y ∷ ys) e = absurd (true≢false (sym e))
+same-length (x ∷ xs) [] e = absurd (true≢false (sym e))
+same-length (x ∷ xs) (y ∷ ys) e = ap suc (same-length xs ys (second-true (label_eq x y) (pointwise label_eq xs ys) e))
+
 module _ {X : Type 0} (at : DomainName → Option X) where
   -- Here, or further up.
   pub here_or_above : (fqdn : Bool) (label : List ℕ) (labels : List (List ℕ)) (e : DomainName × X) → nearest_from at fqdn (label ∷ labels) ≡ Some e
@@ -55,3 +65,19 @@ module _ {X : Type 0} (at : DomainName → Option X) where
       by : (o : Option X) → at (domain_name fqdn (label ∷ labels)) ≡ o → or_else (option_map (λ x. (domain_name fqdn (label ∷ labels), x)) o) (nearest_from at fqdn labels) ≡ Some e → at e.0 ≡ Some e.1
       by None there more = found_there fqdn labels e more
       by (Some x) there is = let same : (domain_name fqdn (label ∷ labels), x) ≡ e = cc is in subst (λ (p : DomainName × X). at p.0 ≡ Some p.1) same there
+
+  -- A name that is the one found, up to case, is that one.
+  pub reached : (fqdn : Bool) (labels : List (List ℕ)) (e : DomainName × X) → nearest_from at fqdn labels ≡ Some e → name_eq (domain_name fqdn labels) e.0 ≡ true → domain_name fqdn labels ≡ e.0
+  reached fqdn [] e near same = by (at (domain_name fqdn [])) near
+    where
+      by : (o : Option X) → option_map (λ x. (domain_name fqdn [], x)) o ≡ Some e → domain_name fqdn [] ≡ e.0
+      by None is = absurd (cc is)
+      by (Some x) is = cc is
+  reached fqdn (label ∷ labels) e near same = by (at (domain_name fqdn (label ∷ labels))) near
+    where
+      by : (o : Option X) → or_else (option_map (λ x. (domain_name fqdn (label ∷ labels), x)) o) (nearest_from at fqdn labels) ≡ Some e → domain_name fqdn (label ∷ labels) ≡ e.0
+      by None more =
+          let less : length e.0.labels ≤ length labels = found_short at fqdn labels e more in
+          let long : suc (length labels) ≡ length e.0.labels = same-length (label ∷ labels) e.0.labels (second-true (beq fqdn e.0.fqdn) (pointwise label_eq (label ∷ labels) e.0.labels) same) in
+          absurd (omega (arith, less, long))
+      by (Some x) is = cc is

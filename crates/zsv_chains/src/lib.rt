@@ -5,7 +5,8 @@
 
 pub use zst_key::{KeyRef, NameKey};
 pub use zst_request::{
-    Name, ResponseCode, TSigResponseContext, ZoneHandler, ZoneRequest, ZoneType,
+    LowerName, Name, Record, RecordType, RequestTsig, ResponseCode, TSigResponseContext,
+    TsigVerdict, ZoneHandler, ZoneRequest, ZoneType,
 };
 
 mod chains;
