@@ -55,6 +55,7 @@ pub struct InMemoryZoneHandler<K> {
 }
 
 impl<K> Model for InMemoryZoneHandler<K> {
+    ghost use Rattle.std.specs.Prelude.{None};
     ghost use Rattle.zst_map.specs.zst_handler.Zones.{Zone};
     ghost use Rattle.zst_zone.specs.Answering.{IsKept};
 
