@@ -46,8 +46,8 @@ Adds old r new =
     && same_record_type (type_of r.rdata) record_type then Some
     (set_with (rrset_at old name record_type) r) else rrset_at old name record_type)
 
--- Who may have a zone whole beside whom the zone itself lets (RFC 5936, section 5), and whether
--- messages may change it (RFC 2136, section 3.3).
+-- What guards a zone: a transfer policy that is asked before the zone's own (RFC 5936, section 5),
+-- and whether messages may change the zone (RFC 2136, section 3.3).
 pub record Guard : Type 0 where
   pub axfr_policy : AxfrPolicy
   pub allow_update : Bool
