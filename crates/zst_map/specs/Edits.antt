@@ -21,7 +21,8 @@ abbrev pub CanEdit : Edit → RRset → Type 0
 CanEdit (edits.Settle record_type draft) set =
     IsDraft (length set.records) draft.places.items draft.items.items
     × IsHeld record_type false (drafted set.records draft.places.items draft.items.items) []
-    × (name_eq (first_name (drafted set.records draft.places.items draft.items.items)) set.name ≡ true)
+    × (name_eq (first_name (drafted set.records draft.places.items draft.items.items)) set.name
+    ≡ true)
     × (same_record_type record_type set.record_type ≡ true)
 CanEdit edits.RaiseSerial set = Unit {0}
 CanEdit (edits.Sign signatures) set =

@@ -53,7 +53,8 @@ changes_by at_apex sets r other = false
 -- The sets after it.
 abbrev pub left_by : Bool → List RRset → Record → DNSClass → List RRset
 left_by at_apex sets r classes.IN =
-    if is_added sets r then with_set sets (upserted (set_of_type (type_of r.rdata) sets) r) else sets
+    if is_added sets r then with_set sets (upserted (set_of_type (type_of r.rdata) sets) r)
+    else sets
 left_by at_apex sets r classes.ANY = filter (λ set. not (is_deleted at_apex r set)) sets
 left_by at_apex sets r classes.NONE = flat_map (taken_from r) sets
 left_by at_apex sets r other = sets

@@ -75,10 +75,7 @@ impl<H: ZoneHandler> Chains<H> {
         key: KeyRef<'_>,
         request: ZoneRequest<'_>,
         now: u64,
-    ) -> Result<
-        Option<(Result<bool, ResponseCode>, Option<TSigResponseContext>)>,
-        AllocError,
-    >
+    ) -> Result<Option<(Result<bool, ResponseCode>, Option<TSigResponseContext>)>, AllocError>
         ensures told { IfOk result (λ given. UpdatesChain (views_of H.view self.old.chains) key.entry (asked_of request.entry) now
             (option_map answer_of given) (views_of H.view self.new.chains)) }
         ensures err { OnErr result (views_of H.view self.new.chains ≡ views_of H.view self.old.chains) }
