@@ -1,0 +1,2 @@
+pub mod DraftedRecords
+pub mod Found

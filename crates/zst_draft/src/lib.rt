@@ -22,5 +22,6 @@ mod zone;
 
 pub use zone::ZoneDraft;
 
+
 #[cfg(test)]
 mod tests;
