@@ -45,6 +45,13 @@ pub record IsOwnerDraft (stored : Stored) (drafts : List SetDraft) : Type 0 wher
   pub differ : TypesDiffer drafts
   pub all : AllDrafted stored drafts
 
+-- Each of these sets is left as it is.
+abbrev pub AreAsStored : List RRset → List SetDraft → Type 0
+AreAsStored [] [] = Unit {0}
+AreAsStored (set ∷ sets) (draft ∷ drafts) =
+    (draft.record_type ≡ set.record_type) × (draft.records ≡ None) × AreAsStored sets drafts
+AreAsStored sets drafts = ⊥
+
 -- The drafts are of these sets, which are by rising type.
 pub record DraftsSets (stored : Stored) (drafts : List SetDraft) (sets : List RRset) : Type 0 where
   pub rise : TypesRise sets
