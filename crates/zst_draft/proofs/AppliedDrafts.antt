@@ -43,7 +43,7 @@ pub changes_more : (stored : Stored) (es : List SetDraft) (f : SetDraft) → IsO
     → Changes stored es f.record_type (set_in (stored f.record_type) f) (es ++ f ∷ [])
 changes_more stored es f is none of = record { is = owner_more stored es f is of none; sets = λ t. drafted_more stored es f t none }
 
-type_alike : (k u t : RecordType) → same_record_type k u ≡ true → same_record_type k t ≡ same_record_type u t
+pub type_alike : (k u t : RecordType) → same_record_type k u ≡ true → same_record_type k t ≡ same_record_type u t
 type_alike k u t same = ap (λ (n : ℕ). n == record_type_number t) (eqb-true (record_type_number k) (record_type_number u) same)
 
 turned : (t u : RecordType) → same_record_type t u ≡ true → same_record_type u t ≡ true

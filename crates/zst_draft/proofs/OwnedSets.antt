@@ -24,10 +24,10 @@ use Rattle.zst_draft.proofs.Names.{chained, flipped}
 use Rattle.zst_draft.proofs.OwnerSets.{all_kept}
 use Rattle.zst_draft.proofs.TakenRecords.{all_without, respelled}
 
-abbrev IsOwned : DomainName → RRset → Type 0
+abbrev pub IsOwned : DomainName → RRset → Type 0
 IsOwned name set = IsStored set × (name_eq name set.name ≡ true)
 
-found_owned : (P : RRset → Type 0) (t : RecordType) (sets : List RRset) (s : RRset) → AllByRecursion P sets → set_of_type t sets ≡ Some s → P s
+pub found_owned : (P : RRset → Type 0) (t : RecordType) (sets : List RRset) (s : RRset) → AllByRecursion P sets → set_of_type t sets ≡ Some s → P s
 found_owned P t [] s all e = let h : ⊥ = cc in absurd h
 found_owned P t (x ∷ sets) s all e = by (same_record_type x.record_type t) e (found_owned P t sets s all.1)
   where

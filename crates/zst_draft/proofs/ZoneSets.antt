@@ -46,7 +46,7 @@ at_number sets name t u same = ap (λ (n : ℕ). by sets n) (eqb-true (record_ty
 pub by_number : (sets : List RRset) (name : DomainName) → IsByNumber (rrset_at sets name)
 by_number sets name = λ t u same. at_number sets name t u same
 
-drafted_alike : (first second : Stored) (es : List SetDraft) (t : RecordType) → ((u : RecordType) → first u ≡ second u) → drafted_in first es t ≡ drafted_in second es t
+pub drafted_alike : (first second : Stored) (es : List SetDraft) (t : RecordType) → ((u : RecordType) → first u ≡ second u) → drafted_in first es t ≡ drafted_in second es t
 drafted_alike first second [] t same = refl
 drafted_alike first second (e ∷ es) t same =
     ap (λ (o : Option RRset). cond (is_draft_of t e) (set_in o e) (drafted_in first es t)) (same e.record_type)
