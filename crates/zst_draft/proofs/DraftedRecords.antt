@@ -2,7 +2,7 @@
 use Rattle.std.proofs.Common.{◌≡◌, ◌∙◌, ℕ, ◌+◌, ◌<◌, ◌≤◌, ◌++◌, suc, zero, refl, sym, ap, subst, arith, length, drop, take}
 use Rattle.std.specs.Prelude.{List, [], ◌∷◌, Option, Some, None, Result, Ok, Err, OnOk, get_or, set, slice_get}
 use Rattle.std.specs.List.{remove}
-use Rattle.std.proofs.lemmas.List.{length-append, length-set, length_push}
+use Rattle.std.proofs.lemmas.List.{length-set, length_push, take_all, take_more}
 use Rattle.std.proofs.lemmas.List.Edits.{length-remove}
 use Rattle.zst_map.specs.zst_record.Drafts.{IsDraft, Rise, drafted, picked}
 use Rattle.zst_map.specs.zst_record.declared.draft.Draft.{Draft}
@@ -147,6 +147,36 @@ pub record IsOverFirst (stored : List Record) (i : ℕ) (draft : RecordsDraft) :
   pub len : draft.len ≡ length draft.list.items.items
   pub rise : Rise 0 i draft.list.places.items
   pub are : records_in stored (Some draft) ≡ take i stored
+
+pub over_none : (stored : List Record) (draft : RecordsDraft) → ((count : ℕ) → IsRecordsDraft count draft) → ((others : List Record) → records_in others (Some draft) ≡ []) → IsOverFirst stored 0 draft
+over_none stored draft is none = record { long = (is 0).list.long; len = (is 0).len; rise = (is 0).list.rise; are = none stored }
+
+pub over_more : (stored : List Record) (i : ℕ) (old new : RecordsDraft) (x : Record) → i < length stored → new.list.places.items ≡ old.list.places.items ++ Some i ∷ []
+    → new.list.items.items ≡ old.list.items.items ++ x ∷ [] → new.len ≡ length new.list.items.items → IsOverFirst stored i old → IsOverFirst stored (i + 1) new
+over_more stored i old new x small places items len is = record {
+  long =
+      let p = ap length places ∙ length_push old.list.places.items (Some i) in
+      let y = ap length items ∙ length_push old.list.items.items x in
+      omega (arith, p, y, is.long);
+  len = len;
+  rise = subst (Rise 0 (i + 1)) (sym places) (rise_stored 0 i old.list.places.items (omega arith) is.rise);
+  are =
+      ap (λ (p : List (Option ℕ)). drafted stored p new.list.items.items) places
+      ∙ ap (λ (y : List Record). drafted stored (old.list.places.items ++ Some i ∷ []) y) items
+      ∙ drafted_stored stored old.list.places.items old.list.items.items i x is.long
+      ∙ ap (λ (l : List Record). l ++ get_or stored i x ∷ []) is.are
+      ∙ sym (take_more stored i x small);
+}
+
+pub record IsOverAll (stored : List Record) (draft : RecordsDraft) : Type 0 where
+  pub is : IsRecordsDraft (length stored) draft
+  pub are : records_in stored (Some draft) ≡ stored
+
+pub over_all : (stored : List Record) (i : ℕ) (draft : RecordsDraft) → i ≡ length stored → IsOverFirst stored i draft → IsOverAll stored draft
+over_all stored i draft all is = record {
+  is = record { list = record { long = is.long; rise = subst (λ (n : ℕ). Rise 0 n draft.list.places.items) all is.rise }; len = is.len };
+  are = is.are ∙ take_all i stored (omega (arith, all));
+}
 
 -- ---- answers
 pub on_ok : {T E A B P : Type 0} (r : Result T E) → (A → B → P) → OnOk r A → OnOk r B → OnOk r P
