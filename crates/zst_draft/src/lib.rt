@@ -23,5 +23,3 @@ mod zone;
 pub use zone::ZoneDraft;
 
 
-#[cfg(test)]
-mod tests;
