@@ -1,4 +1,4 @@
--- The definitions of updates computed on worked rows: which code an update is told, and what it leaves of a zone.
+-- The definitions of updates computed on worked rows: the code that answers an update, and the zone after it.
 use Rattle.std.proofs.Common.{◌≡◌, ℕ, true, false, List, [], ◌∷◌, refl}
 use Rattle.std.specs.Prelude.{Bool, codes, pos, None, Some, Option}
 use Rattle.std.specs.declared.net.SocketAddr.{SocketAddr}
@@ -45,8 +45,8 @@ address last = rdata.MX (record { preference = last; exchange = below (codes "h"
 abbrev soa : ℕ → RData
 soa serial = rdata.SOA (record { mname = below (codes "ns"); rname = below (codes "admin"); serial = serial; refresh = pos 3600; retry = pos 1800; expire = pos 604800; minimum = 86400 })
 
-abbrev start : ℕ → RRset
-start serial = one example 3600 (soa serial)
+abbrev soa_set : ℕ → RRset
+soa_set serial = one example 3600 (soa serial)
 
 abbrev servers : RRset
 servers = one example 3600 (rdata.NS (record { 0 = record { fqdn = true; labels = codes "ns" ∷ codes "example" ∷ codes "org" ∷ [] } }))
@@ -64,11 +64,13 @@ zone_of serial = record {
   axfr_policy = policies.AllowAll;
   nx_proof_kind = None;
   guard = Some (record { axfr_policy = policies.AllowAll; allow_update = true });
-  sets = servers ∷ start serial ∷ mail ∷ www ∷ [];
+  sets = servers ∷ soa_set serial ∷ mail ∷ www ∷ [];
 }
 
 abbrev asks : SocketAddr → List Record → List Record → Asked
 asks source prerequisites updates = record {
+  name = example;
+  query_type = types.SOA;
   id = 4660;
   source = source;
   signed = Some (record { key_name = example; algorithm = example; mac = [] });
@@ -114,8 +116,8 @@ bad_signature source = refl
 unsigned : (source : SocketAddr) → update_refused (zone_of 1) (record (asks source [] []) { signed = None }) ≡ Some told.Refused
 unsigned source = refl
 
-no_start : (source : SocketAddr) → update_refused (record (zone_of 1) { sets = www ∷ [] }) (asks source [] (entry (below (codes "b")) classes.IN 60 (address 9) ∷ [])) ≡ Some told.ServFail
-no_start source = refl
+no_soa : (source : SocketAddr) → update_refused (record (zone_of 1) { sets = www ∷ [] }) (asks source [] (entry (below (codes "b")) classes.IN 60 (address 9) ∷ [])) ≡ Some told.ServFail
+no_soa source = refl
 
 -- ---- the zone after it
 abbrev adds_b : List Record
@@ -124,31 +126,31 @@ adds_b = entry (below (codes "b")) classes.IN 60 (address 9) ∷ []
 added : updated (zone_of 1) true adds_b (below (codes "b")) ≡ one (below (codes "b")) 60 (address 9) ∷ []
 added = refl
 
-raised_by_it : updated (zone_of 1) true adds_b example ≡ servers ∷ start 2 ∷ mail ∷ []
+raised_by_it : updated (zone_of 1) true adds_b example ≡ servers ∷ soa_set 2 ∷ mail ∷ []
 raised_by_it = refl
 
 others_stay : updated (zone_of 1) true adds_b (below (codes "www")) ≡ www ∷ []
 others_stay = refl
 
 -- A record that is there changes nothing, and raises nothing.
-repeated : updated (zone_of 1) true (entry (below (codes "www")) classes.IN 3600 (address 1) ∷ []) example ≡ servers ∷ start 1 ∷ mail ∷ []
+repeated : updated (zone_of 1) true (entry (below (codes "www")) classes.IN 3600 (address 1) ∷ []) example ≡ servers ∷ soa_set 1 ∷ mail ∷ []
 repeated = refl
 
--- All sets of the start go but SOA and NS.
-start_stays : updated (zone_of 1) true (without_data example classes.ANY types.ANY ∷ []) example ≡ servers ∷ start 2 ∷ []
-start_stays = refl
+-- All sets of the apex go but SOA and NS.
+apex_stays : updated (zone_of 1) true (without_data example classes.ANY types.ANY ∷ []) example ≡ servers ∷ soa_set 2 ∷ []
+apex_stays = refl
 
 -- The greatest serial number goes round.
-round : updated (zone_of 4294967295) true (without_data example classes.ANY types.MX ∷ []) example ≡ servers ∷ start 0 ∷ []
+round : updated (zone_of 4294967295) true (without_data example classes.ANY types.MX ∷ []) example ≡ servers ∷ soa_set 0 ∷ []
 round = refl
 
 -- The last record of a set takes the set with it; the last name server stays.
 taken : updated (zone_of 1) true (entry (below (codes "www")) classes.NONE 0 (address 1) ∷ []) (below (codes "www")) ≡ []
 taken = refl
 
-last_server_stays : updated (zone_of 1) true (entry example classes.NONE 0 (rdata.NS (record { 0 = record { fqdn = true; labels = codes "ns" ∷ codes "example" ∷ codes "org" ∷ [] } })) ∷ []) example ≡ servers ∷ start 1 ∷ mail ∷ []
+last_server_stays : updated (zone_of 1) true (entry example classes.NONE 0 (rdata.NS (record { 0 = record { fqdn = true; labels = codes "ns" ∷ codes "example" ∷ codes "org" ∷ [] } })) ∷ []) example ≡ servers ∷ soa_set 1 ∷ mail ∷ []
 last_server_stays = refl
 
 -- Added and deleted again, it was changed all the same.
-undone : updated (zone_of 1) true (entry (below (codes "b")) classes.IN 60 (address 9) ∷ without_data (below (codes "b")) classes.ANY types.MX ∷ []) example ≡ servers ∷ start 2 ∷ mail ∷ []
+undone : updated (zone_of 1) true (entry (below (codes "b")) classes.IN 60 (address 9) ∷ without_data (below (codes "b")) classes.ANY types.MX ∷ []) example ≡ servers ∷ soa_set 2 ∷ mail ∷ []
 undone = refl

@@ -16,16 +16,16 @@ use Rattle.zst_handler.specs.Zones.{AreInOrder, AreStored, Zone}
 use Rattle.zst_request.specs.Prerequisites.{asks_any}
 
 -- ---- one record, and the sets of its owner, by rising type
--- At a zone's start SOA and NS stay (RFC 2136, sections 3.4.2.3 and 7.13).
+-- At the apex SOA and NS stay (RFC 2136, section 3.4.2.3).
 abbrev pub stays : Bool → RRset → Bool
-stays at_start set =
-    at_start
+stays at_apex set =
+    at_apex
     && (same_record_type set.record_type kind.SOA || same_record_type set.record_type kind.NS)
 
 -- A record of class ANY deletes a set: the one of its type, or any.
 abbrev pub is_deleted : Bool → Record → RRset → Bool
-is_deleted at_start r set =
-    (asks_any r || same_record_type set.record_type (type_of r.rdata)) && not (stays at_start set)
+is_deleted at_apex r set =
+    (asks_any r || same_record_type set.record_type (type_of r.rdata)) && not (stays at_apex set)
 
 -- One of class NONE is taken out of the set of its type, if that may lose it.
 abbrev pub is_taken_from : Record → RRset → Bool
@@ -45,18 +45,18 @@ is_added sets r =
 
 -- Whether a record changes the sets of its owner.
 abbrev pub changes_by : Bool → List RRset → Record → DNSClass → Bool
-changes_by at_start sets r classes.IN = is_added sets r
-changes_by at_start sets r classes.ANY = list_any (is_deleted at_start r) sets
-changes_by at_start sets r classes.NONE = list_any (is_taken_from r) sets
-changes_by at_start sets r other = false
+changes_by at_apex sets r classes.IN = is_added sets r
+changes_by at_apex sets r classes.ANY = list_any (is_deleted at_apex r) sets
+changes_by at_apex sets r classes.NONE = list_any (is_taken_from r) sets
+changes_by at_apex sets r other = false
 
 -- The sets after it.
 abbrev pub left_by : Bool → List RRset → Record → DNSClass → List RRset
-left_by at_start sets r classes.IN =
+left_by at_apex sets r classes.IN =
     if is_added sets r then with_set sets (upserted (set_of_type (type_of r.rdata) sets) r) else sets
-left_by at_start sets r classes.ANY = filter (λ set. not (is_deleted at_start r set)) sets
-left_by at_start sets r classes.NONE = flat_map (taken_from r) sets
-left_by at_start sets r other = sets
+left_by at_apex sets r classes.ANY = filter (λ set. not (is_deleted at_apex r set)) sets
+left_by at_apex sets r classes.NONE = flat_map (taken_from r) sets
+left_by at_apex sets r other = sets
 
 -- ---- records, one after the other, and the sets of all names
 -- What a zone stores: for each name its sets.
@@ -80,11 +80,11 @@ any_changes origin at [] = false
 any_changes origin at (r ∷ rs) = changes origin at r || any_changes origin (applied origin at r) rs
 
 -- ---- the serial number (RFC 2136, section 3.6)
-abbrev pub if_start_raised : RRset → RRset
-if_start_raised set = if same_record_type set.record_type kind.SOA then raised_set set else set
+abbrev pub if_soa_raised : RRset → RRset
+if_soa_raised set = if same_record_type set.record_type kind.SOA then raised_set set else set
 
 abbrev pub raised : DomainName → Owned → Owned
-raised origin at name = if name_eq origin name then map if_start_raised (at name) else at name
+raised origin at name = if name_eq origin name then map if_soa_raised (at name) else at name
 
 -- ---- the zone
 -- What an update leaves of what a zone stores: its records applied one after the other, and where

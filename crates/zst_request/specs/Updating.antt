@@ -1,4 +1,4 @@
--- What an update is told, and what it leaves of a zone: RFC 2136, section 3; RFC 8945, section 5.
+-- What an update is answered, and the zone after it: RFC 2136, section 3; RFC 8945, section 5.
 use Rattle.std.specs.Prelude.{◌≡◌, ℕ, Bool, true, false, not, ◌&&◌, List, [], Option, Some, None, Result, Ok, Err, is_some, option_map, if◌then◌else◌}
 use Rattle.std.specs.declared.net.SocketAddr.{SocketAddr}
 use Rattle.zst_key.specs.Ancestors.{or_else}
@@ -6,6 +6,7 @@ use Rattle.zst_codes.specs.declared.response_code.ResponseCode.{ResponseCode}
 use Rattle.zst_codes.specs.declared.response_code.ResponseCode.TheVariants as codes
 use Rattle.zst_codes.specs.declared.settings.TsigVerdict.{TsigVerdict}
 use Rattle.zst_codes.specs.declared.settings.TsigVerdict.TheVariants as verdicts
+use Rattle.zst_handler.specs.dnw_codes.declared.record_type.RecordType.{RecordType}
 use Rattle.zst_handler.specs.dnw_codes.declared.record_type.RecordType.TheVariants as kind
 use Rattle.zst_handler.specs.dnw_name.DomainName.{DomainName}
 use Rattle.zst_handler.specs.zst_record.declared.records.Record.{Record}
@@ -22,9 +23,12 @@ pub record SignedBy : Type 0 where
   pub algorithm : DomainName
   pub mac : List ℕ
 
--- A request for a handler: its identifier, where it came from, who signed it if anybody did, what
--- the test of that says, what is asked of the zone first, and what is to be changed.
+-- A request for a handler: the name and the type of its question, its identifier, where it came
+-- from, who signed it if anybody did, what the test of that says, what is asked of the zone first,
+-- and what is to be changed.
 pub record Asked : Type 0 where
+  pub name : DomainName
+  pub query_type : RecordType
   pub id : ℕ
   pub source : SocketAddr
   pub signed : Option SignedBy
@@ -46,23 +50,24 @@ permission_refused (Some guard) signed verdict =
     or_else (refused_if (not (guard.allow_update && is_some signed)) codes.Refused)
     (refused_if (not (is_good verdict)) codes.NotAuth)
 
--- Without a start a zone has no serial number that could be raised.
-abbrev pub start_refused : Zone → List Record → Option ResponseCode
-start_refused zone rs =
+-- Without an SOA at the apex a zone has no serial number that could be raised.
+abbrev pub soa_refused : Zone → List Record → Option ResponseCode
+soa_refused zone rs =
     refused_if (any_changes zone.origin (sets_of_name zone.sets) rs
     && not (is_some (rrset_at zone.sets zone.origin kind.SOA))) codes.ServFail
 
--- Why an update is refused: by permission, by what it asks first, by its form, or for want of a
--- start, whichever is first.
+-- Why an update is refused: by permission, by its prerequisites, by its form, or because the zone
+-- has no SOA, whichever is first.
 abbrev pub update_refused : Zone → Asked → Option ResponseCode
 update_refused zone asked =
     or_else (permission_refused zone.guard asked.signed asked.verdict)
     (or_else (prerequisites_refused zone asked.prerequisites)
     (or_else (first_refused (prescan_refused zone.origin) asked.updates)
-    (start_refused zone asked.updates)))
+    (soa_refused zone asked.updates)))
 
--- ---- what it is told, and what it leaves
--- Records are changed as a whole: none, or all, told whether one of them changed something.
+-- ---- the answer, and the zone after it
+-- Records are applied as a whole: none, or all, and the answer says whether one of them changed
+-- something.
 abbrev pub ChangesBy : Option ResponseCode → Bool → Zone → List Record → Result Bool ResponseCode
     → Zone → Type 0
 ChangesBy (Some code) increment old rs told new = (told ≡ Err code) × (new ≡ old)
@@ -86,8 +91,8 @@ pub record SigningContext : Type 0 where
   pub request_mac : List ℕ
   pub error : ℕ
 
--- BADSIG, BADKEY, BADTIME (RFC 8945, section 3). The first two are answered without the request's
--- signature (RFC 8945, section 5.3.2).
+-- BADSIG, BADKEY, BADTIME (RFC 8945, section 3). The first two leave nothing that the reply's
+-- signature could go with: it has no MAC then (RFC 8945, section 5.3.2).
 abbrev pub tsig_error : TsigVerdict → ℕ
 tsig_error verdicts.Good = 0
 tsig_error verdicts.BadSignature = 16
@@ -114,7 +119,7 @@ abbrev pub zone_takes : Option Guard → Bool
 zone_takes None = false
 zone_takes (Some guard) = guard.allow_update
 
--- Once a signature was looked at, the reply is signed, whatever its code.
+-- Where a signature was tested the reply is signed, whatever its code.
 abbrev pub takes_updates : View → Bool
 takes_updates (Stored zone) = zone_takes zone.guard
 takes_updates (Blocked blocklist) = false
