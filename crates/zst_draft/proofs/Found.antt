@@ -1,5 +1,5 @@
 -- The first element that passes a test, found by going through a list.
-use Rattle.std.proofs.Common.{◌≡◌, ◌∙◌, ℕ, ◌+◌, ◌<◌, ◌≤◌, refl, sym, ap, arith, length, drop}
+use Rattle.std.proofs.Common.{◌≡◌, ◌∙◌, ℕ, ◌+◌, ◌<◌, ◌≤◌, suc, zero, refl, sym, ap, arith, length, drop}
 use Rattle.std.specs.Prelude.{Bool, true, false, not, ◌||◌, List, [], ◌∷◌, Option, Some, None, cond, get_or, nat_lt, position, slice_get}
 use Rattle.std.specs.List.{list_any, position_or_len}
 use Rattle.std.proofs.lemmas.Bool.{ltb-false, lt-ltb, le-ltb}
@@ -40,3 +40,9 @@ module _ {X : Type 0} (p : X → Bool) where
 
   pub any_none : (xs : List X) (i : ℕ) → length xs ≤ i → list_any p xs ≡ list_any p (drop i xs) → false ≡ list_any p xs
   any_none xs i end whole = sym (whole ∙ ap (list_any p) (drop_all i xs end))
+
+-- What is read by its index is there.
+pub there_at : {X : Type 0} (xs : List X) (at : ℕ) (x : X) → at < length xs → x ≡ get_or xs at x → slice_get xs at ≡ Some x
+there_at [] at x below e = absurd (omega (arith, below))
+there_at (z ∷ xs) zero x below e = ap (λ (v : _). Some v) (sym e)
+there_at (z ∷ xs) (suc at) x below e = there_at xs at x (omega (arith, below)) e

@@ -11,10 +11,11 @@ use Rattle.zst_map.specs.drd_rdata.Types.{type_of}
 use Rattle.zst_map.specs.zst_handler.Updates.{joins, upserted}
 use Rattle.zst_map.specs.zst_handler.Zones.{IsStored}
 use Rattle.zst_map.specs.zst_record.Drafts.{drafted}
-use Rattle.zst_map.specs.zst_record.RecordSets.{RRset, first_class, first_name, held_set, is_single, keeps_last, left_of, loses, none_left, put_record, removed, takes, with_one, without}
+use Rattle.zst_map.specs.zst_record.RecordSets.{IsHeld, RRset, first_class, first_name, held_set, is_single, keeps_last, left_of, loses, none_left, put_record, removed, takes, with_one, without}
 use Rattle.zst_map.specs.zst_record.declared.records.Record.{Record}
 use Rattle.zst_map.proofs.PutRecords.{alone_is, set_put_is}
 use Rattle.zst_draft.specs.SetDrafts.{IsDraftOf, IsRecordsDraft, IsSetBy, filled, has_records, if_some_left, is_filled_by, joined, loses_in, lost_in, records_in, records_of, set_by}
+use Rattle.zst_draft.specs.Settling.{IsOverStored, IsSetOf}
 use Rattle.zst_draft.specs.declared.records.RecordsDraft.{RecordsDraft}
 use Rattle.zst_draft.proofs.DraftedRecords.{length_records}
 use Rattle.zst_draft.proofs.TakenRecords.{FoundEqual}
@@ -196,6 +197,35 @@ one_taken o t (s ∷ rs) r i held keeps at =
     })
 
 -- ---- the set is taken for the zone
-pub has_filled : (t : RecordType) (d : Option RecordsDraft) → has_records d ≡ false → IsDraftOf [] d → set_by None t d ≡ None
-has_filled t None e is = refl
-has_filled t (Some draft) e is = ap (filled t) (none_drafted [] draft is (eqb-true draft.len 0 (not_not (draft.len == 0) e)))
+held_of : (key : DomainName) (t : RecordType) (rs : List Record) → 0 < length rs → IsSetOf key (filled t rs) → IsHeld t false rs []
+held_of key t [] some is = absurd (omega (arith, some))
+held_of key t (r ∷ rs) some is = record { filled = some; is = is.0.is }
+
+-- The set of a draft that has records.
+pub record TakenSet (t : RecordType) (draft : RecordsDraft) : Type 0 where
+  pub held : IsHeld t false (records_in [] (Some draft)) []
+  pub set : filled t (records_in [] (Some draft)) ≡ Some (held_set t false (records_in [] (Some draft)) [])
+
+pub taken_set : (key : DomainName) (t : RecordType) (draft : RecordsDraft) → IsRecordsDraft 0 draft → has_records (Some draft) ≡ true → IsSetOf key (set_by None t (Some draft)) → TakenSet t draft
+taken_set key t draft is has of =
+    let some : 0 < draft.len = above_none draft.len (eqb-false draft.len 0 (not_false (draft.len == 0) has)) in
+    let long : length (records_in [] (Some draft)) ≡ draft.len = length_records [] draft is in
+    let full : 0 < length (records_in [] (Some draft)) = omega (arith, some, long) in
+    record {
+      held = held_of key t (records_in [] (Some draft)) full of;
+      set = filled_some t (records_in [] (Some draft)) (long_some (records_in [] (Some draft)) full);
+    }
+
+pub none_taken : (t : RecordType) (d : Option RecordsDraft) → has_records d ≡ false → IsOverStored None d → set_by None t d ≡ None
+none_taken t None e is = refl
+none_taken t (Some draft) e is = ap (filled t) (none_drafted [] draft is (eqb-true draft.len 0 (not_not (draft.len == 0) e)))
+
+-- ---- what adding a record does with a set
+pub begun_set : (o : Option RRset) (r : Record) → o ≡ None → Some (upserted None r) ≡ cond (joins o r) (Some (upserted o r)) o
+begun_set o r none = subst (λ (u : Option RRset). Some (upserted None r) ≡ cond (joins u r) (Some (upserted u r)) u) (sym none) refl
+
+pub kept_set : (o : Option RRset) (r : Record) → joins o r ≡ false → o ≡ cond (joins o r) (Some (upserted o r)) o
+kept_set o r none = ap (λ (b : Bool). cond b (Some (upserted o r)) o) (sym none)
+
+pub joined_set : (o now : Option RRset) (r : Record) → joins o r ≡ true → now ≡ Some (upserted o r) → now ≡ cond (joins o r) (Some (upserted o r)) o
+joined_set o now r some is = is ∙ ap (λ (b : Bool). cond b (Some (upserted o r)) o) (sym some)

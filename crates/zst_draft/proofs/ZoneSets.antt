@@ -1,8 +1,9 @@
 -- The drafts of a zone, name by name, and what a record of an update makes of them.
 use Rattle.std.proofs.Common.{◌≡◌, ℕ, ◌<◌, refl, ap, sym, ◌∙◌, arith, subst}
 use Rattle.std.specs.Prelude.{Bool, true, false, ◌&&◌, ◌||◌, ◌==◌, List, [], ◌∷◌, ◌++◌, Option, Some, None, cond, filter, find}
-use Rattle.std.specs.BTreeMap.{BTreeMap, get}
+use Rattle.std.specs.BTreeMap.{BTreeMap, get, is_at}
 use Rattle.std.specs.List.{AllByRecursion}
+use Rattle.std.specs.Map.{lookup}
 use Rattle.std.specs.Ordering.{MatchOrdering, is_eq, nat_cmp, ordering_then}
 use Rattle.std.specs.declared.cmp.Ordering.{Ordering}
 use Rattle.std.specs.declared.cmp.Ordering.TheVariants.{Less, Equal, Greater}
@@ -205,6 +206,23 @@ over_name sets key es order all left =
       };
       alike = record { rise = rise; alike = λ t. alike_as stored own es t left each };
     }
+
+pub left_more : (sets : List RRset) (es : List SetDraft) (s : RRset) (e : SetDraft) → AreAsStored sets es → e.record_type ≡ s.record_type → e.records ≡ None → AreAsStored (sets ++ s ∷ []) (es ++ e ∷ [])
+left_more [] [] s e left kind none = (kind, none, tt)
+left_more [] (f ∷ es) s e left kind none = absurd left
+left_more (u ∷ sets) [] s e left kind none = absurd left
+left_more (u ∷ sets) (f ∷ es) s e left kind none = (left.0, left.1, left_more sets es s e left.2 kind none)
+
+-- ---- a new draft
+pub new_zone : (zone : Zone) (draft : ZoneDraft) → draft.owners.entries ≡ [] → AreInOrder zone.sets → AreStored zone.sets → DraftsZone zone draft (sets_of_name zone.sets)
+new_zone zone draft none order stored = record {
+  each = λ name. subst (IsDraftAt zone.sets name) (sym (nothing name)) tt;
+  alike = λ name. subst (λ (o : Option OwnerDraft). DraftsAt zone.sets name o (sets_of_name zone.sets name)) (sym (nothing name)) refl;
+  owned = λ name. name_owned name zone.sets stored;
+}
+  where
+    nothing : (name : DomainName) → get name_cmp draft.owners name ≡ None
+    nothing name = ap (lookup (is_at (name_cmp name))) none
 
 -- ---- the map of owners
 name_alike : (sets : List RRset) (a b : DomainName) → name_eq a b ≡ true → (u : RecordType) → rrset_at sets b u ≡ rrset_at sets a u
