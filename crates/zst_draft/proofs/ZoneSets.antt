@@ -1,7 +1,7 @@
 -- The drafts of a zone, name by name, and what a record of an update makes of them.
 use Rattle.std.proofs.Common.{◌≡◌, ℕ, ◌<◌, refl, ap, sym, ◌∙◌, arith, subst}
 use Rattle.std.specs.Prelude.{Bool, true, false, ◌&&◌, ◌||◌, ◌==◌, List, [], ◌∷◌, ◌++◌, Option, Some, None, cond, filter, find}
-use Rattle.std.specs.BTreeMap.{BTreeMap, get, is_at}
+use Rattle.std.specs.BTreeMap.{Updates, get, is_at}
 use Rattle.std.specs.List.{AllByRecursion}
 use Rattle.std.specs.Map.{lookup}
 use Rattle.std.specs.Ordering.{MatchOrdering, is_eq, nat_cmp, ordering_then}
@@ -27,7 +27,7 @@ use Rattle.zst_map.proofs.NamedSets.{type_among}
 use Rattle.zst_request.specs.Applied.{Owned, all_applied, any_changes, applied, changes, changes_by, left_by}
 use Rattle.zst_draft.specs.OwnerDrafts.{AllDrafted, Applies, AreAsStored, DraftsSets, IsOwnerDraft, Stored, TypesDiffer, drafted_in, is_draft_of}
 use Rattle.zst_draft.specs.SetDrafts.{IsSetBy, IsSetDraft, set_by, set_in}
-use Rattle.zst_draft.specs.ZoneDrafts.{AreOwned, DraftsAt, DraftsZone, IsDraftAt}
+use Rattle.zst_draft.specs.ZoneDrafts.{AreOwned, Begins, DraftsAt, DraftsZone, IsDraftAt}
 use Rattle.zst_draft.specs.declared.owner.OwnerDraft.{OwnerDraft}
 use Rattle.zst_draft.specs.declared.records.RecordsDraft.{RecordsDraft}
 use Rattle.zst_draft.specs.declared.set.SetDraft.{SetDraft}
@@ -267,3 +267,57 @@ applied_owner zone old new key r first last at_start changed at keyed start put 
     owned : (name : DomainName) (b : Bool) → name_eq r.name name ≡ b → AreOwned name (cond b (left_by (name_eq r.name zone.origin) (at name) r r.dns_class) (at name))
     owned name true same = left_owned name (name_eq r.name zone.origin) (at name) r r.dns_class (drafts.owned name) same
     owned name false same = drafts.owned name
+
+get_same : (es : List (DomainName × OwnerDraft)) (a b : DomainName) → name_eq a b ≡ true → lookup (is_at (name_cmp a)) es ≡ lookup (is_at (name_cmp b)) es
+get_same [] a b same = refl
+get_same (e ∷ es) a b same =
+    ap (λ (c : Bool). cond c (Some e.1) (lookup (is_at (name_cmp a)) es)) (sym (name_eq-by_cmp a e.0) ∙ name_eq_equiv.congr a b e.0 same ∙ name_eq-by_cmp b e.0)
+    ∙ ap (cond (is_eq (name_cmp b e.0)) (Some e.1)) (get_same es a b same)
+
+own_key : (key name : DomainName) (r : Record) → key ≡ lowercase_name r.name → name_eq r.name name ≡ true → name_eq name key ≡ true
+own_key key name r keyed same =
+    flipped key name (ap (λ (n : DomainName). name_eq n name) keyed ∙ eq_lower (type_of r.rdata) r.name name ∙ same)
+
+pub applied_found : (zone : Zone) (old new : ZoneDraft) (key : DomainName) (r : Record) (first last : OwnerDraft) (at_start changed : Bool) (at : Owned)
+    → key ≡ lowercase_name r.name → at_start ≡ name_eq r.name zone.origin → get name_cmp old.owners key ≡ Some first → Updates name_cmp old.owners new.owners key (Some last)
+    → Applies (rrset_at zone.sets key) first.sets.items at_start r r.dns_class changed last.sets.items
+    → DraftsZone zone old at → (changed ≡ changes zone.origin at r) × DraftsZone zone new (applied zone.origin at r)
+applied_found zone old new key r first last at_start changed at keyed start found put applies drafts =
+    applied_owner zone old new key r first last at_start changed at keyed start put.0 applies from drafts
+  where
+    from : (name : DomainName) → name_eq r.name name ≡ true → DraftsSets (rrset_at zone.sets key) first.sets.items (at name)
+    from name same =
+        let own = own_key key name r keyed same in
+        drafts_alike (rrset_at zone.sets name) (rrset_at zone.sets key) first.sets.items (at name) (λ u. sym (rrset_same zone.sets name key u own))
+        (subst (λ (o : Option OwnerDraft). DraftsAt zone.sets name o (at name)) (get_same old.owners.entries name key own ∙ found) (drafts.alike name))
+
+pub applied_begun : (zone : Zone) (old new : ZoneDraft) (key : DomainName) (r : Record) (at_start changed : Bool) (at : Owned)
+    → key ≡ lowercase_name r.name → at_start ≡ name_eq r.name zone.origin → get name_cmp old.owners key ≡ None → Begins zone.sets old.owners key at_start r changed new.owners
+    → DraftsZone zone old at → (changed ≡ changes zone.origin at r) × DraftsZone zone new (applied zone.origin at r)
+applied_begun zone old new key r at_start changed at keyed start none begins drafts =
+    applied_owner zone old new key r begins.first begins.last at_start changed at keyed start begins.put.0 begins.applies from drafts
+  where
+    from : (name : DomainName) → name_eq r.name name ≡ true → DraftsSets (rrset_at zone.sets key) begins.first.sets.items (at name)
+    from name same =
+        let own = own_key key name r keyed same in
+        let stored : at name ≡ sets_of_name zone.sets name = subst (λ (o : Option OwnerDraft). DraftsAt zone.sets name o (at name)) (get_same old.owners.entries name key own ∙ none) (drafts.alike name) in
+        subst (DraftsSets (rrset_at zone.sets key) begins.first.sets.items) (sym (stored ∙ sets_same zone.sets name key own)) begins.alike
+
+-- ---- records, one after the other
+pub applied_more : (origin : DomainName) (at : Owned) (rs : List Record) (r : Record) → all_applied origin at (rs ++ r ∷ []) ≡ applied origin (all_applied origin at rs) r
+applied_more origin at [] r = refl
+applied_more origin at (s ∷ rs) r = applied_more origin (applied origin at s) rs r
+
+or_assoc : (a b c : Bool) → (a || (b || c)) ≡ ((a || b) || c)
+or_assoc true b c = refl
+or_assoc false b c = refl
+
+or_false : (b : Bool) → (b || false) ≡ b
+or_false true = refl
+or_false false = refl
+
+pub changes_more : (origin : DomainName) (at : Owned) (rs : List Record) (r : Record) → any_changes origin at (rs ++ r ∷ []) ≡ (any_changes origin at rs || changes origin (all_applied origin at rs) r)
+changes_more origin at [] r = or_false (changes origin at r)
+changes_more origin at (s ∷ rs) r =
+    ap (λ (b : Bool). changes origin at s || b) (changes_more origin (applied origin at s) rs r)
+    ∙ or_assoc (changes origin at s) (any_changes origin (applied origin at s) rs) (changes origin (all_applied origin (applied origin at s) rs) r)
