@@ -9,6 +9,7 @@ pub mod Stored
 pub mod Targets
 pub mod SeenKeys
 pub mod Told
+mod Unguarded
 pub use Rattle.zst_map.proofs.dnw_name_lemmas
 pub use Rattle.zst_map.proofs.drd_words_lemmas
 pub use Rattle.zst_map.proofs.drd_rdata_lemmas

@@ -55,6 +55,7 @@ pub struct InMemoryZoneHandler<K> {
 }
 
 impl<K> Model for InMemoryZoneHandler<K> {
+    ghost use Rattle.std.specs.Prelude.{None};
     ghost use Rattle.zst_map.specs.zst_handler.Zones.{Zone};
     ghost use Rattle.zst_zone.specs.Answering.{IsKept};
 
@@ -146,11 +147,21 @@ impl<K> InMemoryZoneHandler<K> {
         self.zone_type
     }
 
-    /// Who may transfer the zone.
+    /// Who may transfer the zone. A zone in memory has no guard.
     pub fn axfr_policy(&self) -> AxfrPolicy
-        ensures { result ≡ self.now.axfr_policy }
+        ensures value { result ≡ self.now.axfr_policy }
+        ensures guard { self.now.guard ≡ None }
     {
         self.axfr_policy
+    }
+
+    // The code that answers an update: a zone in memory has no guard, so no message changes it.
+    pub(crate) fn update_code(&self) -> ResponseCode
+        ensures code { result ≡ ResponseCode.NotImp }
+        ensures guard { self.now.guard ≡ None }
+    {
+        let _origin = &self.origin;
+        ResponseCode::NotImp
     }
 
     /// How the zone proves that a name is absent, if it does.

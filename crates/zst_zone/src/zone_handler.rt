@@ -113,6 +113,6 @@ impl<K: Drop> ZoneHandler for InMemoryZoneHandler<K> {
         now: u64,
     ) -> Result<(Result<bool, ResponseCode>, Option<TSigResponseContext>), AllocError> {
         mem::drop(request);
-        Ok((Err(ResponseCode::NotImp), None))
+        Ok((Err(self.update_code()), None))
     }
 }

@@ -159,7 +159,15 @@ pub updated_chain : {H : Type 0} (view : H → View) (chains : List (DomainName 
 updated_chain view chains name old new left asked moment answer is updates after =
     let found : chain_at (views_of view chains) name ≡ Some (map view old.items) = at_views view chains name ∙ ap (option_map (views view)) is in
     subst (λ (o : Option (List View)). UpdatesFound (views_of view chains) name o asked moment answer left) (sym found)
-    (map view new.items, (updates, after))
+    (map view new.items, updates, after)
+
+unset : {X : Type 0} (test : DomainName → Bool) (es : List (DomainName × X)) (w : X) → lookup test es ≡ None → set_value test es w ≡ es
+unset test [] w none = refl
+unset test (e ∷ es) w none = by (test e.0) none (unset test es w)
+  where
+    by : (b : Bool) → cond b (Some e.1) (lookup test es) ≡ None → (lookup test es ≡ None → set_value test es w ≡ es) → cond b ((e.0, w) ∷ es) (e ∷ set_value test es w) ≡ e ∷ es
+    by true gone more = absurd (cc gone)
+    by false gone more = ap (λ l. e ∷ l) (more gone)
 
 pub no_chain : {H : Type 0} (view : H → View) (chains new : List (DomainName × Vec H Global)) (name : DomainName) (w : Vec H Global) (asked : Asked) (moment : ℕ) → chain_at chains name ≡ None
     → new ≡ set_value (λ other. is_eq (name_cmp name other)) chains w
@@ -168,14 +176,6 @@ no_chain view chains new name w asked moment none after =
     let found : chain_at (views_of view chains) name ≡ None = at_views view chains name ∙ ap (option_map (views view)) none in
     subst (λ (o : Option (List View)). UpdatesFound (views_of view chains) name o asked moment None (views_of view new)) (sym found)
     (refl, ap (views_of view) (after ∙ unset (λ other. is_eq (name_cmp name other)) chains w none))
-  where
-    unset : (test : DomainName → Bool) (es : List (DomainName × Vec _ Global)) (w : Vec _ Global) → lookup test es ≡ None → set_value test es w ≡ es
-    unset test [] w none = refl
-    unset test (e ∷ es) w none = by (test e.0) none (unset test es w)
-      where
-        by : (b : Bool) → cond b (Some e.1) (lookup test es) ≡ None → (lookup test es ≡ None → set_value test es w ≡ es) → cond b ((e.0, w) ∷ es) (e ∷ set_value test es w) ≡ e ∷ es
-        by true gone more = absurd (cc gone)
-        by false gone more = ap (λ (l : List _). e ∷ l) (more gone)
 
 -- Handlers that mean what they meant leave the chains.
 pub kept_chain : {H : Type 0} (view : H → View) (chains : List (DomainName × Vec H Global)) (name : DomainName) (old new : Vec H Global) (left : List (DomainName × List View))

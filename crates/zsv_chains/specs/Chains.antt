@@ -5,7 +5,7 @@ use Rattle.std.specs.BTreeMap.{insert_entry}
 use Rattle.std.specs.Map.{remove_entry, set_value}
 use Rattle.std.specs.Ordering.{is_eq}
 use Rattle.std.proofs.Common.{Vec, Global}
-use Rattle.zst_key.specs.Ancestors.{nearest_in, up}
+use Rattle.zst_key.specs.Ancestors.{nearest_in}
 use Rattle.zst_key.specs.Sorted.{entry_at}
 use Rattle.zst_key.specs.dnw_name.DomainName.{DomainName, lowercase_name, name_cmp}
 use Rattle.zst_request.specs.Requested.{context_of}
@@ -26,14 +26,6 @@ chain_for chains name =
 -- The name from a name up that is the nearest one with a chain, and the chain.
 abbrev pub entry_for : {X : Type 0} → List (DomainName × X) → DomainName → Option (DomainName × X)
 entry_for chains name = nearest_in (chain_at chains) (lowercase_name name)
-
--- A name in lower case went up as many labels to the nearest one with a chain, or there is none.
-abbrev pub GoesToRegistered : {X : Type 0} → List (DomainName × X) → DomainName → Option ℕ
-    → DomainName → Type 0
-GoesToRegistered chains old None new = nearest_in (chain_at chains) old ≡ None
-GoesToRegistered {X} chains old (Some levels) new =
-    (chain : X) × (new ≡ up old levels) × (nearest_in (chain_at chains) old ≡ Some (new, chain))
-    × (chain_at chains new ≡ Some chain)
 
 -- A chain in place of the one under a name.
 abbrev pub with_chain : {X : Type 0} → List (DomainName × X) → DomainName → X

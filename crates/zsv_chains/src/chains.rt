@@ -4,7 +4,7 @@ ghost use Rattle.std.specs.Prelude.{◌≡◌, [], IfOk, OnErr, OnOk, map, optio
 ghost use Rattle.zst_key.specs.Ancestors.{nearest_in};
 ghost use Rattle.zst_key.specs.dnw_name.DomainName.{lowercase_name};
 ghost use Rattle.zst_request.specs.Requested.{asked_of};
-ghost use Rattle.zsv_chains.specs.Chains.{GoesToRegistered, UpdatesChain, UpdatesFirst, answer_of, chain_at, chain_for, views_of, with_chain, without_chain};
+ghost use Rattle.zsv_chains.specs.Chains.{UpdatesChain, UpdatesFirst, answer_of, chain_at, chain_for, views_of, with_chain, without_chain};
 
 use std::alloc::{AllocError, Global};
 use std::mem;
@@ -45,20 +45,6 @@ impl<H: Drop> Chains<H> {
             Some(entry) => Some(&entry.1),
             None => None,
         }
-    }
-
-    /// Goes up from a name to the nearest one under which a chain is registered, and tells how many labels up that is; `None`
-    /// where there is no such name. It takes no memory.
-    pub fn to_registered(&self, key: &mut NameKey) -> Option<usize>
-        ensures { GoesToRegistered self.now.chains key.old result key.new }
-    {
-        let (registered, _) = self.chains.nearest(key.borrow())?;
-        let mut levels = 0;
-        'levels: while *key != *registered {
-            key.to_parent();
-            levels += 1;
-        }
-        Some(levels)
     }
 
     /// Puts a chain in place of the one under a name, which is dropped.

@@ -1,5 +1,5 @@
 use Rattle.std.proofs.Common.{subst}
-use Rattle.std.specs.Prelude.{OnOk}
+use Rattle.std.specs.Prelude.{None, OnOk}
 use Rattle.zst_map.specs.zst_handler.Updates.{Upserts}
 use Rattle.zst_map.specs.zst_handler.Zones.{Zone}
 use Rattle.zst_zone.proofs.Stored.{kept_updated, upserts_to}
