@@ -1,6 +1,6 @@
 -- A record of an update, by its class, and the drafts of its owner.
 use Rattle.std.proofs.Common.{◌≡◌, ℕ, refl, ap, sym, ◌∙◌, subst}
-use Rattle.std.specs.Prelude.{Bool, true, false, not, ◌&&◌, ◌||◌, ◌==◌, List, [], ◌∷◌, ◌++◌, Option, Some, None, cond, filter, find, set, slice_get}
+use Rattle.std.specs.Prelude.{Bool, true, false, not, ◌&&◌, ◌||◌, ◌==◌, List, [], ◌∷◌, ◌++◌, Option, Some, None, cond, filter, find, position, set, slice_get}
 use Rattle.std.specs.List.{AllByRecursion, flat_map, list_any}
 use Rattle.std.proofs.lemmas.Bool.{eq-eqb, eqb-true, true≢false}
 use Rattle.zst_map.specs.dnw_codes.declared.dns_class.DNSClass.{DNSClass}
@@ -284,3 +284,88 @@ deleted_in stored at_start r olds news changed is answer all = record {
         ∙ sym (drafted_deleted stored at_start r olds news t all is.each);
   };
 }
+
+-- ---- as the code goes
+-- The draft at a place is that of the type.
+record FoundDraft (stored : Stored) (es : List SetDraft) (k : RecordType) (e : SetDraft) : Type 0 where
+  kind_is : same_record_type e.record_type k ≡ true
+  drafted : drafted_in stored es k ≡ set_in (stored e.record_type) e
+
+found_draft : (stored : Stored) (es : List SetDraft) (k : RecordType) (i : ℕ) (e : SetDraft) → Some i ≡ position (is_draft_of k) es → slice_get es i ≡ Some e → FoundDraft stored es k e
+found_draft stored es k i e place at =
+    let found : find (is_draft_of k) es ≡ Some e = (place_found (is_draft_of k) es i place).0 ∙ at in
+    record { kind_is = found_passes (is_draft_of k) es e found; drafted = drafted_found stored es k e found }
+
+pub add_applies : (stored : Stored) (es : List SetDraft) (i : ℕ) (e f : SetDraft) (r : Record) (changed : Bool) → IsByNumber stored → IsOwnerDraft stored es → keeps_out es (type_of r.rdata) ≡ false
+    → Some i ≡ position (is_draft_of (type_of r.rdata)) es → slice_get es i ≡ Some e → IsSetDraft (stored e.record_type) f → same_record_type f.record_type e.record_type ≡ true
+    → changed ≡ joins (set_in (stored e.record_type) e) r
+    → set_in (stored e.record_type) f ≡ cond (joins (set_in (stored e.record_type) e) r) (Some (upserted (set_in (stored e.record_type) e) r)) (set_in (stored e.record_type) e)
+    → Applies stored es false r classes.IN changed (set es i f)
+add_applies stored es i e f r changed numbered is kept place at of kind_is answer set_is =
+    let found = found_draft stored es (type_of r.rdata) i e place at in
+    joined_in stored es (set es i f) r changed (set_in (stored e.record_type) f) is kept
+    (answer ∙ ap (λ (o : Option RRset). joins o r) (sym found.drafted))
+    (set_is ∙ ap (λ (o : Option RRset). cond (joins o r) (Some (upserted o r)) o) (sym found.drafted))
+    (changes_as stored es (set es i f) e.record_type (type_of r.rdata) (set_in (stored e.record_type) f) found.kind_is (changes_at stored es i e f numbered is at kind_is of))
+
+pub begin_applies : (stored : Stored) (es : List SetDraft) (f : SetDraft) (r : Record) → IsOwnerDraft stored es → keeps_out es (type_of r.rdata) ≡ false
+    → None ≡ position (is_draft_of (type_of r.rdata)) es → f.record_type ≡ type_of r.rdata → IsSetDraft (stored f.record_type) f → set_in (stored f.record_type) f ≡ Some (upserted None r)
+    → Applies stored es false r classes.IN true (es ++ f ∷ [])
+begin_applies stored es f r is kept place kind_is of set_is =
+    let none : find (is_draft_of (type_of r.rdata)) es ≡ None = none_found (is_draft_of (type_of r.rdata)) es place in
+    let drafted : drafted_in stored es (type_of r.rdata) ≡ None = drafted_none stored es (type_of r.rdata) none in
+    joined_in stored es (es ++ f ∷ []) r true (set_in (stored f.record_type) f) is kept
+    (ap (λ (o : Option RRset). joins o r) (sym drafted))
+    (set_is ∙ ap (λ (o : Option RRset). cond (joins o r) (Some (upserted o r)) o) (sym drafted))
+    (subst (λ (t : RecordType). Changes stored es t (set_in (stored f.record_type) f) (es ++ f ∷ [])) kind_is
+    (changes_more stored es f is (subst (λ (t : RecordType). find (is_draft_of t) es ≡ None) (sym kind_is) none) of))
+
+pub take_applies : (stored : Stored) (es : List SetDraft) (i : ℕ) (e f : SetDraft) (r : Record) (changed : Bool) → IsByNumber stored → IsOwnerDraft stored es
+    → Some i ≡ position (is_draft_of (type_of r.rdata)) es → slice_get es i ≡ Some e → IsSetDraft (stored e.record_type) f → f.record_type ≡ e.record_type
+    → changed ≡ loses_in (set_in (stored e.record_type) e) r → set_in (stored e.record_type) f ≡ lost_in (set_in (stored e.record_type) e) r
+    → Applies stored es false r classes.NONE changed (set es i f)
+take_applies stored es i e f r changed numbered is place at of kind_is answer set_is =
+    let found = found_draft stored es (type_of r.rdata) i e place at in
+    let same : same_record_type f.record_type e.record_type ≡ true = eq-eqb (record_type_number f.record_type) (record_type_number e.record_type) (ap record_type_number kind_is) in
+    taken_in stored es (set es i f) r changed
+    (answer ∙ ap (λ (o : Option RRset). loses_in o r) (sym found.drafted))
+    (subst (λ (o : Option RRset). Changes stored es (type_of r.rdata) o (set es i f)) (set_is ∙ ap (λ (o : Option RRset). lost_in o r) (sym found.drafted))
+    (changes_as stored es (set es i f) e.record_type (type_of r.rdata) (set_in (stored e.record_type) f) found.kind_is (changes_at stored es i e f numbered is at same of)))
+
+pub none_applies : (stored : Stored) (es : List SetDraft) (r : Record) → IsOwnerDraft stored es → None ≡ position (is_draft_of (type_of r.rdata)) es → Applies stored es false r classes.NONE false es
+none_applies stored es r is place =
+    let drafted : drafted_in stored es (type_of r.rdata) ≡ None = drafted_none stored es (type_of r.rdata) (none_found (is_draft_of (type_of r.rdata)) es place) in
+    taken_in stored es es r false (ap (λ (o : Option RRset). loses_in o r) (sym drafted))
+    (none_changes stored es (type_of r.rdata) (lost_in (drafted_in stored es (type_of r.rdata)) r) is (ap (λ (o : Option RRset). lost_in o r) drafted ∙ sym drafted))
+
+-- The start matters to class ANY alone.
+pub in_applies : (stored : Stored) (old new : List SetDraft) (at_start : Bool) (r : Record) (class : DNSClass) (changed : Bool) → class ≡ classes.IN → Applies stored old false r classes.IN changed new
+    → Applies stored old at_start r class changed new
+in_applies stored old new at_start r class changed same applies =
+    subst (λ (c : DNSClass). Applies stored old at_start r c changed new) (sym same) (record { is = applies.is; changes = applies.changes; leaves = applies.leaves })
+
+pub none_class_applies : (stored : Stored) (old new : List SetDraft) (at_start : Bool) (r : Record) (class : DNSClass) (changed : Bool) → class ≡ classes.NONE → Applies stored old false r classes.NONE changed new
+    → Applies stored old at_start r class changed new
+none_class_applies stored old new at_start r class changed same applies =
+    subst (λ (c : DNSClass). Applies stored old at_start r c changed new) (sym same) (record { is = applies.is; changes = applies.changes; leaves = applies.leaves })
+
+-- Records of other classes change nothing.
+record IsOther (class : DNSClass) : Type 0 where
+  changes : (at_start : Bool) (sets : List RRset) (r : Record) → changes_by at_start sets r class ≡ false
+  leaves : (at_start : Bool) (sets : List RRset) (r : Record) → left_by at_start sets r class ≡ sets
+
+is_other : (class : DNSClass) → (class ≡ classes.IN → ⊥) → (class ≡ classes.ANY → ⊥) → (class ≡ classes.NONE → ⊥) → IsOther class
+is_other classes.IN a b c = absurd (a refl)
+is_other classes.ANY a b c = absurd (b refl)
+is_other classes.NONE a b c = absurd (c refl)
+is_other other a b c = record { changes = λ at_start sets r. refl; leaves = λ at_start sets r. refl }
+
+pub other_applies : (stored : Stored) (es : List SetDraft) (at_start : Bool) (r : Record) (class : DNSClass) → IsOwnerDraft stored es
+    → (class ≡ classes.IN → ⊥) → (class ≡ classes.ANY → ⊥) → (class ≡ classes.NONE → ⊥) → Applies stored es at_start r class false es
+other_applies stored es at_start r class is a b c =
+    let other = is_other class a b c in
+    record {
+      is = is;
+      changes = λ sets drafts. sym (other.changes at_start sets r);
+      leaves = λ sets drafts. subst (DraftsSets stored es) (sym (other.leaves at_start sets r)) drafts;
+    }

@@ -14,7 +14,7 @@ use Rattle.zst_map.proofs.ZoneOnce.{sets_once}
 use Rattle.zst_draft.specs.Settling.{LeadsBack, Returns}
 use Rattle.zst_draft.proofs.AppliedDrafts.{type_alike}
 use Rattle.zst_draft.proofs.Names.{eq_lower}
-use Rattle.zst_draft.proofs.ZoneSets.{by_number}
+use Rattle.zst_draft.proofs.DraftedZones.{by_number}
 
 none_there : (now : List RRset) (owner n : DomainName) (t u : RecordType) → rrset_at now owner t ≡ None → (name_eq n owner && same_record_type t u) ≡ true → rrset_at now n u ≡ None
 none_there now owner n t u none e =

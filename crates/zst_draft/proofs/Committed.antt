@@ -34,7 +34,7 @@ use Rattle.zst_draft.proofs.Names.{flipped}
 use Rattle.zst_draft.proofs.OwnedSets.{IsOwned, found_owned}
 use Rattle.zst_draft.proofs.OwnerSets.{owner_once}
 use Rattle.zst_draft.proofs.Settled.{apart_flipped, away_flipped as type_apart}
-use Rattle.zst_draft.proofs.ZoneSets.{drafted_alike, name_rises}
+use Rattle.zst_draft.proofs.DraftedZones.{drafted_alike, name_rises}
 
 -- ---- one owner
 over_by : (stored : Option RRset) (t : RecordType) (d : Option RecordsDraft) → IsSetBy stored t d → IsOverStored stored d

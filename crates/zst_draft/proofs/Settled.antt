@@ -18,7 +18,7 @@ use Rattle.zst_draft.specs.declared.owner.OwnerDraft.{OwnerDraft}
 use Rattle.zst_draft.specs.declared.records.RecordsDraft.{RecordsDraft}
 use Rattle.zst_draft.specs.declared.set.SetDraft.{SetDraft}
 use Rattle.zst_draft.proofs.DraftedTypes.{IsByNumber, all_set, differ_set, drafted_found, drafted_none, drafted_set, each_got, found_passes}
-use Rattle.zst_draft.proofs.ZoneSets.{by_number, drafted_alike}
+use Rattle.zst_draft.proofs.DraftedZones.{by_number, drafted_alike}
 use Rattle.zst_draft.proofs.Names.{flipped}
 
 -- ---- one set

@@ -1,4 +1,4 @@
-use Rattle.zst_draft.proofs.ZoneSets.{new_zone}
+use Rattle.zst_draft.proofs.DraftedZones.{new_zone}
 use Rattle.zst_draft.proofs.zone.ZoneDraft.new.Goals as goal
 
 pub returns : goal.returns
