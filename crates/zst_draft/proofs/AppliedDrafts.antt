@@ -46,7 +46,7 @@ changes_more stored es f is none of = record { is = owner_more stored es f is of
 pub type_alike : (k u t : RecordType) → same_record_type k u ≡ true → same_record_type k t ≡ same_record_type u t
 type_alike k u t same = ap (λ (n : ℕ). n == record_type_number t) (eqb-true (record_type_number k) (record_type_number u) same)
 
-turned : (t u : RecordType) → same_record_type t u ≡ true → same_record_type u t ≡ true
+pub turned : (t u : RecordType) → same_record_type t u ≡ true → same_record_type u t ≡ true
 turned t u same = eq-eqb (record_type_number u) (record_type_number t) (sym (eqb-true (record_type_number t) (record_type_number u) same))
 
 pub changes_as : (stored : Stored) (old new : List SetDraft) (k u : RecordType) (now : Option RRset) → same_record_type k u ≡ true → Changes stored old k now new → Changes stored old u now new

@@ -1,6 +1,6 @@
 -- What the steps of a draft make of its records, and that it stays one.
 use Rattle.std.proofs.Common.{◌≡◌, ◌∙◌, ℕ, ◌+◌, ◌<◌, ◌≤◌, ◌++◌, suc, zero, refl, sym, ap, subst, arith, length, drop, take}
-use Rattle.std.specs.Prelude.{List, [], ◌∷◌, Option, Some, None, Result, Ok, Err, OnOk, get_or, set, slice_get}
+use Rattle.std.specs.Prelude.{List, [], ◌∷◌, Option, Some, None, Result, Ok, Err, IfOk, OnOk, get_or, set, slice_get}
 use Rattle.std.specs.List.{remove}
 use Rattle.std.proofs.lemmas.List.{length-set, length_push, take_all, take_more}
 use Rattle.std.proofs.lemmas.List.Edits.{length-remove}
@@ -182,3 +182,19 @@ over_all stored i draft all is = record {
 pub on_ok : {T E A B P : Type 0} (r : Result T E) → (A → B → P) → OnOk r A → OnOk r B → OnOk r P
 on_ok (Ok x) f a b = f a b
 on_ok (Err e) f a b = tt
+
+pub all_three : {T E A B D : Type 0} (r : Result T E) (P Q : T → Type 0) → ((x : T) → P x → A → B → D → Q x) → IfOk r P → OnOk r A → OnOk r B → OnOk r D → IfOk r Q
+all_three (Ok x) P Q f p a b d = f x p a b d
+all_three (Err e) P Q f p a b d = tt
+
+pub if_ok : {T E : Type 0} (r : Result T E) (P Q : T → Type 0) → ((x : T) → P x → Q x) → IfOk r P → IfOk r Q
+if_ok (Ok x) P Q f p = f x p
+if_ok (Err e) P Q f p = tt
+
+pub ok_on : {T E Q : Type 0} (r : Result T E) (P : T → Type 0) → ((x : T) → P x → Q) → IfOk r P → OnOk r Q
+ok_on (Ok x) P f p = f x p
+ok_on (Err e) P f p = tt
+
+pub on_ok_one : {T E A P : Type 0} (r : Result T E) → (A → P) → OnOk r A → OnOk r P
+on_ok_one (Ok x) f a = f a
+on_ok_one (Err e) f a = tt

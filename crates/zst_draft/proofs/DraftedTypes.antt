@@ -1,6 +1,6 @@
 -- The drafts of an owner, type by type, and what a record of an update makes of them.
 use Rattle.std.proofs.Common.{◌≡◌, ◌⊎◌, inl, inr, ℕ, ◌+◌, ◌<◌, ◌≤◌, suc, zero, refl, ap, sym, ◌∙◌, arith, length, subst}
-use Rattle.std.specs.Prelude.{Bool, true, false, not, ◌&&◌, ◌||◌, ◌==◌, List, [], ◌∷◌, ◌++◌, Option, Some, None, cond, filter, find, nat_lt, position, set, slice_get}
+use Rattle.std.specs.Prelude.{Bool, true, false, not, ◌&&◌, ◌||◌, ◌==◌, List, [], ◌∷◌, ◌++◌, Option, Some, None, IfSome, cond, filter, find, nat_lt, position, set, slice_get}
 use Rattle.std.specs.List.{AllByRecursion, flat_map, list_any, position_or_len}
 use Rattle.std.proofs.lemmas.Bool.{and_parts, eq-eqb, eqb-false, eqb-true, ltb-false, ltb-true, ne_eqb, true≢false}
 use Rattle.zst_map.specs.dnw_codes.declared.dns_class.DNSClass.{DNSClass}
@@ -94,6 +94,11 @@ module _ {X : Type 0} (p : X → Bool) where
       by : (b : Bool) → p y ≡ b → cond b (Some y) (find p xs) ≡ Some x → (find p xs ≡ Some x → p x ≡ true) → p x ≡ true
       by true is e more = let same : y ≡ x = cc in sym (ap p same) ∙ is
       by false is e more = more e
+
+-- A place that is found is one of the list.
+pub place_below : {X : Type 0} (p : X → Bool) (xs : List X) (o : Option ℕ) (n : ℕ) → o ≡ position p xs → length xs ≡ n → IfSome o (λ at. at < n)
+place_below p xs None n e long = tt
+place_below p xs (Some i) n e long = subst (λ (m : ℕ). i < m) long (place_found p xs i e).1
 
 -- ---- types by their numbers
 abbrev number : SetDraft → ℕ

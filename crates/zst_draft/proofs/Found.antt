@@ -46,3 +46,8 @@ pub there_at : {X : Type 0} (xs : List X) (at : ℕ) (x : X) → at < length xs 
 there_at [] at x below e = absurd (omega (arith, below))
 there_at (z ∷ xs) zero x below e = ap (λ (v : _). Some v) (sym e)
 there_at (z ∷ xs) (suc at) x below e = there_at xs at x (omega (arith, below)) e
+
+pub there_or : {X : Type 0} (xs : List X) (at : ℕ) (d x : X) → at < length xs → x ≡ get_or xs at d → slice_get xs at ≡ Some x
+there_or [] at d x below e = absurd (omega (arith, below))
+there_or (z ∷ xs) zero d x below e = ap (λ (v : _). Some v) (sym e)
+there_or (z ∷ xs) (suc at) d x below e = there_or xs at d x (omega (arith, below)) e

@@ -12,3 +12,4 @@ pub mod SetDrafts
 pub mod Settled
 pub mod TakenRecords
 pub mod DraftedZones
+pub mod Edited

@@ -5,7 +5,7 @@ use Rattle.std.specs.List.{list_any, remove}
 use Rattle.std.proofs.lemmas.Bool.{true≢false, eqb-true, eqb-false}
 use Rattle.zst_map.specs.dnw_codes.declared.dns_class.DNSClass.{DNSClass}
 use Rattle.zst_map.specs.dnw_codes.declared.record_type.RecordType.{RecordType}
-use Rattle.zst_map.specs.dnw_name.DomainName.{DomainName}
+use Rattle.zst_map.specs.dnw_name.DomainName.{DomainName, name_eq}
 use Rattle.zst_map.specs.drd_rdata.Order.{rdata_eq}
 use Rattle.zst_map.specs.drd_rdata.Types.{type_of}
 use Rattle.zst_map.specs.zst_handler.Updates.{joins, upserted}
@@ -229,3 +229,28 @@ kept_set o r none = ap (λ (b : Bool). cond b (Some (upserted o r)) o) (sym none
 
 pub joined_set : (o now : Option RRset) (r : Record) → joins o r ≡ true → now ≡ Some (upserted o r) → now ≡ cond (joins o r) (Some (upserted o r)) o
 joined_set o now r some is = is ∙ ap (λ (b : Bool). cond b (Some (upserted o r)) o) (sym some)
+
+-- ---- in the zone
+-- The set of a draft over none is of the draft's type.
+filled_type : (t : RecordType) (rs : List Record) (s : RRset) → filled t rs ≡ Some s → s.record_type ≡ t
+filled_type t [] s e = let h : ⊥ = cc in absurd h
+filled_type t (r ∷ rs) s e = let same : s ≡ held_set t false (r ∷ rs) [] = cc in ap (λ (u : RRset). u.record_type) same
+
+pub type_taken : (t : RecordType) (d : Option RecordsDraft) (s : RRset) → set_by None t d ≡ Some s → s.record_type ≡ t
+type_taken t None s e = let h : ⊥ = cc in absurd h
+type_taken t (Some draft) s e = filled_type t (records_in [] (Some draft)) s e
+
+pub filled_taken : (key : DomainName) (s : RRset) (o : Option RRset) → o ≡ Some s → IsSetOf key o → IsStored s × (name_eq key s.name ≡ true)
+filled_taken key s None e is = let h : ⊥ = cc in absurd h
+filled_taken key s (Some u) e is = let same : u ≡ s = cc in subst (λ (v : RRset). IsStored v × (name_eq key v.name ≡ true)) same is
+
+none_of_filled : (t : RecordType) (rs : List Record) → filled t rs ≡ None → length rs ≡ 0
+none_of_filled t [] e = refl
+none_of_filled t (r ∷ rs) e = let h : ⊥ = cc in absurd h
+
+pub empty_taken : (t : RecordType) (draft : RecordsDraft) → IsRecordsDraft 0 draft → set_by None t (Some draft) ≡ None → draft.len ≡ 0
+empty_taken t draft is none = sym (length_records [] draft is) ∙ none_of_filled t (records_in [] (Some draft)) none
+
+pub filled_long_some : (t : RecordType) (rs : List Record) → (length rs ≡ 0 → ⊥) → filled t rs ≡ Some (held_set t false rs [])
+filled_long_some t [] some = absurd (some refl)
+filled_long_some t (r ∷ rs) some = refl

@@ -32,7 +32,16 @@ settle-requires-clause-held c =
 
 pub returns-clause-set : goal.returns-clause-set
 returns-clause-set c =
+    let records : c.args.self.now.records ≡ Some c.in-Some.draft = sym c.take.ensures.value ∙ c.in-Some.is in
+    let is_taken : TakenSet c.args.self.now.record_type c.in-Some.draft =
+    taken_set c.requires.set.0 c.args.self.now.record_type c.in-Some.draft
+    (subst (IsOverStored None) records c.requires.draft)
+    (sym (ap has_records records) ∙ sym c.has_records.ensures ∙ c.if-not-has_records.false)
+    (subst (λ (d : Option RecordsDraft). IsSetOf c.requires.set.0 (set_by None c.args.self.now.record_type d)) records c.requires.set.1) in
+    let same : drafted c.new-set.result.records c.into_list.result.places.items c.into_list.result.items.items ≡ records_in [] (Some c.in-Some.draft) =
+    ap (λ (set : RRset). drafted set.records c.into_list.result.places.items c.into_list.result.items.items) c.new-set.ensures
+    ∙ ap (λ (list : Draft Record). drafted [] list.places.items list.items.items) c.into_list.ensures in
     ap Some c.settle.ensures
-    ∙ ap (λ (l : List Record). Some (held_set c.args.self.now.record_type false l [])) (same_list c)
-    ∙ sym (taken c).set
-    ∙ ap (set_by None c.args.self.now.record_type) (sym (sym c.take.ensures.value ∙ c.in-Some.is))
+    ∙ ap (λ (l : List Record). Some (held_set c.args.self.now.record_type false l [])) same
+    ∙ sym is_taken.set
+    ∙ ap (set_by None c.args.self.now.record_type) (sym records)
