@@ -1,6 +1,7 @@
 -- What the records of a draft are of the set of their type.
 use Rattle.std.proofs.Common.{◌≡◌, ◌∙◌, ℕ, ◌+◌, ◌<◌, refl, sym, ap, subst, arith, length}
-use Rattle.std.specs.Prelude.{Bool, true, false, not, ◌&&◌, ◌==◌, List, [], ◌∷◌, Option, Some, None, cond}
+use Rattle.std.specs.Prelude.{Bool, true, false, not, ◌&&◌, ◌==◌, List, [], ◌∷◌, Option, Some, None, IsSome, cond, is_some, option_copied}
+use Rattle.std.specs.Borrow.{Bor}
 use Rattle.std.specs.List.{list_any, remove}
 use Rattle.std.proofs.lemmas.Bool.{true≢false, eqb-true, eqb-false}
 use Rattle.zst_map.specs.dnw_codes.declared.dns_class.DNSClass.{DNSClass}
@@ -254,3 +255,12 @@ empty_taken t draft is none = sym (length_records [] draft is) ∙ none_of_fille
 pub filled_long_some : (t : RecordType) (rs : List Record) → (length rs ≡ 0 → ⊥) → filled t rs ≡ Some (held_set t false rs [])
 filled_long_some t [] some = absurd (some refl)
 filled_long_some t (r ∷ rs) some = refl
+
+-- What is looked up in the zone isn't there.
+pub none_is : (stored : Option RRset) (found : Option (Bor RRset)) (some : Bool) → option_copied found ≡ stored → some ≡ is_some found → some ≡ false → stored ≡ None
+none_is stored None some e is none = sym e
+none_is stored (Some x) some e is none = absurd (true≢false (sym is ∙ none))
+
+pub some_is : (stored : Option RRset) (found : Option (Bor RRset)) (some : Bool) → option_copied found ≡ stored → some ≡ is_some found → some ≡ true → IsSome stored
+some_is stored None some e is there = absurd (true≢false (sym there ∙ is))
+some_is stored (Some x) some e is there = subst IsSome e refl

@@ -135,7 +135,7 @@ module _ (P Q : SetDraft → Type 0) (e f : SetDraft) (moves : (d : SetDraft) �
   moved_first (d ∷ es) (suc i) at differ all is =
       (moves d (each_got (λ other. is_draft_of d.record_type other ≡ false) es i e differ.0 at) all.0, moved_first es i at differ.1 all.1 is)
 
-same_kind : (t u : RecordType) → t ≡ u → same_record_type t u ≡ true
+pub same_kind : (t u : RecordType) → t ≡ u → same_record_type t u ≡ true
 same_kind t u same = eq-eqb (record_type_number t) (record_type_number u) (ap record_type_number same)
 
 pub same_but : (old new : Zone) (key : DomainName) (e f : SetDraft) → Settles old key e new f → SameBut e.record_type (rrset_at new.sets key) (rrset_at old.sets key)
@@ -338,7 +338,7 @@ value_done sets [] key owner name t can done = by (name_eq name key) refl
 value_done sets (p ∷ xs) key owner name t can done =
     ap (cond (name_eq name p.0) (drafted_in (rrset_at sets p.0) p.1.sets.items t)) (value_done sets xs key owner name t can done)
 
-all_before : (P : DomainName × OwnerDraft → Type 0) (xs : Drafted) (p : DomainName × OwnerDraft) → AllByRecursion P (xs ++ p ∷ []) → AllByRecursion P xs × P p
+pub all_before : (P : DomainName × OwnerDraft → Type 0) (xs : Drafted) (p : DomainName × OwnerDraft) → AllByRecursion P (xs ++ p ∷ []) → AllByRecursion P xs × P p
 all_before P [] p all = (tt, all.0)
 all_before P (x ∷ xs) p all = let more = all_before P xs p all.1 in ((all.0, more.0), more.1)
 

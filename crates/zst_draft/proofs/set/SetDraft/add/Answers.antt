@@ -44,4 +44,4 @@ returns-clause-set c =
     ∙ sym (ap (λ (l : List Record). takes (held_set t false (records_in l d) []) c.args.next) c.stored_records-stored.ensures) ∙ sym c.takes.ensures ∙ c.if-not-takes.false in
     let records : records_in (records_of stored) (Some c.in_ok-draft.draft) ≡ joined t (records_in (records_of stored) d) c.args.next =
     subst (λ (l : List Record). records_in l (Some c.in_ok-draft.draft) ≡ joined t (records_in l d) c.args.next) c.stored_records-stored.ensures c.in_ok-draft.ensures.records in
-    ?
+    joined_set (set_in stored c.args.self.now) _ c.args.next joins_it (ap (filled t) records ∙ joined_held (set_in stored c.args.self.now) t (records_in (records_of stored) d) c.args.next held long)
