@@ -69,6 +69,8 @@ zone_of serial = record {
 
 abbrev asks : SocketAddr → List Record → List Record → Asked
 asks source prerequisites updates = record {
+  name = example;
+  query_type = types.SOA;
   id = 4660;
   source = source;
   signed = Some (record { key_name = example; algorithm = example; mac = [] });

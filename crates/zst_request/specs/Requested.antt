@@ -14,6 +14,8 @@ signed_by tsig = record {
 
 abbrev pub asked_of : ZoneRequest → Asked
 asked_of request = record {
+  name = request.name.now;
+  query_type = request.query_type;
   id = request.id;
   source = request.source;
   signed = option_map signed_by request.tsig;

@@ -6,6 +6,7 @@ use Rattle.zst_codes.specs.declared.response_code.ResponseCode.{ResponseCode}
 use Rattle.zst_codes.specs.declared.response_code.ResponseCode.TheVariants as codes
 use Rattle.zst_codes.specs.declared.settings.TsigVerdict.{TsigVerdict}
 use Rattle.zst_codes.specs.declared.settings.TsigVerdict.TheVariants as verdicts
+use Rattle.zst_handler.specs.dnw_codes.declared.record_type.RecordType.{RecordType}
 use Rattle.zst_handler.specs.dnw_codes.declared.record_type.RecordType.TheVariants as kind
 use Rattle.zst_handler.specs.dnw_name.DomainName.{DomainName}
 use Rattle.zst_handler.specs.zst_record.declared.records.Record.{Record}
@@ -22,9 +23,12 @@ pub record SignedBy : Type 0 where
   pub algorithm : DomainName
   pub mac : List ℕ
 
--- A request for a handler: its identifier, where it came from, who signed it if anybody did, what
--- the test of that says, what is asked of the zone first, and what is to be changed.
+-- A request for a handler: the name and the type of its question, its identifier, where it came
+-- from, who signed it if anybody did, what the test of that says, what is asked of the zone first,
+-- and what is to be changed.
 pub record Asked : Type 0 where
+  pub name : DomainName
+  pub query_type : RecordType
   pub id : ℕ
   pub source : SocketAddr
   pub signed : Option SignedBy

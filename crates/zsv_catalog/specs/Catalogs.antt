@@ -37,10 +37,11 @@ use Rattle.zsv_catalog.specs.ReadingBack.{ChainsReadBack}
 abbrev pub signer_of : TsigRecord → SignedBy
 signer_of r = record { key_name = r.name; algorithm = r.rdata.algorithm; mac = r.rdata.mac.items }
 
--- What is asked beside the question of a query: no signature is tested of it, and it changes
--- nothing.
-abbrev pub asked_of_query : Message → SocketAddr → Asked
-asked_of_query request source = record {
+-- A question of a query: no signature is tested of it, and it changes nothing.
+abbrev pub asked_of_query : Message → SocketAddr → Query → Asked
+asked_of_query request source q = record {
+  name = q.name;
+  query_type = q.query_type;
   id = request.metadata.id;
   source = source;
   signed = option_map signer_of request.signature;

@@ -35,9 +35,7 @@ fn asked<'q>(
     question: &'q Query,
     src: SocketAddr,
 ) -> ZoneRequest<'q>
-    ensures name { result.name.now ≡ question.now.name }
-    ensures query_type { result.query_type ≡ question.now.query_type }
-    ensures beside { asked_of result ≡ asked_of_query message.now src }
+    ensures { asked_of result ≡ asked_of_query message.now src question.now }
 {
     let tsig = match message.signature() {
         Some(signature) => Some(tsig_of(signature)),
