@@ -72,8 +72,10 @@ module _ (keys : Keys) (request : Message) (source : SocketAddr) (octets : List 
     where
   -- What a handler is asked. The registered name of the zone, the signature, all octets of the
   -- message and the moment are what the keys are asked with.
-  abbrev pub asked_of_update : DomainName → Asked
-  asked_of_update zone = record {
+  abbrev pub asked_of_update : Query → DomainName → Asked
+  asked_of_update q zone = record {
+    name = q.name;
+    query_type = q.query_type;
     id = request.metadata.id;
     source = source;
     signed = option_map signer_of request.signature;
@@ -83,22 +85,22 @@ module _ (keys : Keys) (request : Message) (source : SocketAddr) (octets : List 
   }
 
   -- The first handler of the chain found decides; where there is none the server fails.
-  abbrev pub ChainUpdates : List (DomainName × List View) → Option (DomainName × List View) → Given
-      → Type 0
-  ChainUpdates chains None given =
+  abbrev pub ChainUpdates : List (DomainName × List View) → Query
+      → Option (DomainName × List View) → Given → Type 0
+  ChainUpdates chains q None given =
       given ≡ only chains (error_parts request.metadata responses.ServFail)
-  ChainUpdates chains (Some (zone, [])) given =
+  ChainUpdates chains q (Some (zone, [])) given =
       given ≡ only chains (error_parts request.metadata responses.ServFail)
-  ChainUpdates chains (Some (zone, view ∷ views)) given =
+  ChainUpdates chains q (Some (zone, view ∷ views)) given =
       (code : ResponseCode) × (left : View)
-      × HandlesUpdate (zone_type_of view) view (asked_of_update zone) moment code given.context left
+      × HandlesUpdate (zone_type_of view) view (asked_of_update q zone) moment code given.context left
       × (given.plain ≡ told_parts request.metadata code)
       × (given.chains ≡ with_chain_at chains zone (left ∷ views))
 
   -- The zone section names the zone by the type SOA, or is a format error (RFC 2136, section 2.3).
-  abbrev pub ZoneUpdates : Bool → List (DomainName × List View) → DomainName → Given → Type 0
-  ZoneUpdates true chains name given = ChainUpdates chains (entry_for chains name) given
-  ZoneUpdates false chains name given =
+  abbrev pub ZoneUpdates : Bool → List (DomainName × List View) → Query → Given → Type 0
+  ZoneUpdates true chains q given = ChainUpdates chains q (entry_for chains q.name) given
+  ZoneUpdates false chains q given =
       given ≡ only chains (error_parts request.metadata responses.FormErr)
 
   -- It names one zone.
@@ -106,6 +108,6 @@ module _ (keys : Keys) (request : Message) (source : SocketAddr) (octets : List 
   GivesUpdate chains [] given =
       given ≡ only chains (error_parts request.metadata responses.FormErr)
   GivesUpdate chains (q ∷ []) given =
-      ZoneUpdates (same_record_type q.query_type types.SOA) chains q.name given
+      ZoneUpdates (same_record_type q.query_type types.SOA) chains q given
   GivesUpdate chains (q ∷ r ∷ qs) given =
       given ≡ only chains (error_parts request.metadata responses.FormErr)

@@ -8,7 +8,6 @@ ghost use Rattle.zsv_update.specs.Updates.{asked_of_update, signer_of, verdict_o
 
 use crate::suite::TsigSuite;
 use std::alloc::{AllocError, Global};
-use std::net::SocketAddr;
 use zsv_chains::{
     Chains, LowerName, Name, NameKey, RecordType, RequestTsig, ResponseCode, TSigResponseContext,
     TsigVerdict, ZoneHandler, ZoneRequest, ZoneType,
@@ -74,32 +73,33 @@ fn told_by_first<S: TsigSuite, H: ZoneHandler>(
     chains: &mut Chains<H>,
     alloc: Global,
     message: &mut MessageRequest<'_>,
-    source: Source<'_>,
+    received: Received<'_>,
     key: &NameKey,
     zone: &LowerName,
 ) -> Result<Option<(Result<bool, ResponseCode>, Option<TSigResponseContext>)>, AllocError>
-    ensures told { IfOk result (λ given. UpdatesChain (views_of H.view chains.old.chains) key.now
-        (asked_of_update (S.keys suite.now) message.old source.entry.address source.entry.octets.now source.entry.now zone.now) source.entry.now
+    requires { IsSome (first_question message.old) }
+    ensures told { IfOk result (λ given. (q : Question) → message.old.asked.questions ≡ q ∷ [] → UpdatesChain (views_of H.view chains.old.chains) key.now
+        (asked_of_update (S.keys suite.now) message.old received.entry.source received.entry.octets.now received.entry.now q zone.now) received.entry.now
         (option_map answer_of given) (views_of H.view chains.new.chains)) }
     ensures err { OnErr result (views_of H.view chains.new.chains ≡ views_of H.view chains.old.chains) }
-    ensures message { record message.new { authorities = [] } ≡ record message.old { authorities = [] } }
+    ensures message { message.new ≡ record message.old { authorities = [] } }
 {
     let updates = message.take_authorities(alloc);
     let tsig = match message.signature() {
         Some(signature) => Some(tsig_of(signature)),
         None => None,
     };
-    let verdict = verdict_on(suite, zone, message.signature(), source.octets, source.now);
+    let verdict = verdict_on(suite, zone, message.signature(), received.octets, received.now);
+    let question = &message.queries().queries()[0];
     let request = ZoneRequest {
-        name: zone.as_name(),
-        query_type: RecordType::SOA,
+        name: &question.name,
+        query_type: question.query_type,
         id: message.metadata().id,
-        source: source.address,
+        source: received.source,
         tsig,
         verdict,
         prerequisites: message.answers(),
         updates,
     };
-    chains.update_first(alloc, key.borrow(), request, source.now)
+    chains.update_first(alloc, key.borrow(), request, received.now)
 }
-
