@@ -12,7 +12,7 @@ use zsv_chains::{
     Chains, LowerName, Name, NameKey, RecordType, RequestTsig, ResponseCode, TSigResponseContext,
     TsigVerdict, ZoneHandler, ZoneRequest, ZoneType,
 };
-use zsv_reply::{MessageRequest, Query, TsigRecord};
+use zsv_reply::{MessageRequest, MessageType, Metadata, OpCode, TsigRecord};
 
 /// Who signed a message.
 pub fn tsig_of(signature: &TsigRecord) -> RequestTsig<'_>
@@ -102,4 +102,119 @@ fn told_by_first<S: TsigSuite, H: ZoneHandler>(
         updates,
     };
     chains.update_first(alloc, key.borrow(), request, received.now)
+}
+
+/// What an update came to: what the header of its reply says, what the reply is signed with, and whether it was accepted.
+#[derive(Drop)]
+pub(crate) struct Decided {
+    /// What the header of the reply says.
+    pub(crate) metadata: Metadata,
+    /// What the reply is signed with, if it is.
+    pub(crate) context: Option<TSigResponseContext>,
+    /// Whether the update was accepted.
+    pub(crate) applied: bool,
+}
+
+// An error, which nobody signs.
+fn refused(metadata: Metadata) -> Decided
+    ensures { result ≡ record { metadata = metadata; context = None; applied = false } }
+{
+    Decided {
+        metadata,
+        context: None,
+        applied: false,
+    }
+}
+
+// The header of an error, which repeats the identifier, the operation, RD and CD.
+fn error_header(request: Metadata, response_code: ResponseCode) -> Metadata
+    ensures { bare_parts result ≡ error_parts request response_code }
+{
+    let mut metadata = Metadata::response_from_request(&request);
+    metadata.response_code = response_code;
+    metadata
+}
+
+// The header of what a handler decides, which repeats the identifier alone (RFC 2136 section 3.8).
+fn told_header(request: Metadata, response_code: ResponseCode) -> Metadata
+    ensures { bare_parts result ≡ told_parts request response_code }
+{
+    let mut metadata = Metadata::new(request.id, MessageType::Response, OpCode::Update);
+    metadata.response_code = response_code;
+    metadata
+}
+
+// The code of what a handler tells.
+fn told_code(told: Result<bool, ResponseCode>) -> ResponseCode
+    ensures { result ≡ told_code told }
+{
+    match told {
+        Ok(_) => ResponseCode::NoError,
+        Err(code) => code,
+    }
+}
+
+// Has the first handler of the chain under a key decide, and tells what that comes to.
+fn decide_by_first<S: TsigSuite, H: ZoneHandler>(
+    suite: &S,
+    chains: &mut Chains<H>,
+    alloc: Global,
+    message: &mut MessageRequest<'_>,
+    received: Received<'_>,
+    key: &NameKey,
+    zone: &LowerName,
+) -> Result<Decided, AllocError>
+    requires one { IsOne message.old.asked.questions }
+    requires chain { IsSomeAnd (chain_at (views_of H.view chains.old.chains) key.now) (λ chain. first_zone_type chain ≡ Some ZoneType.Primary) }
+    requires zone { zone.now ≡ key.now }
+    ensures decided { IfOk result (λ d. DecidesFirst (S.keys suite.now) message.old received.entry (views_of H.view chains.old.chains) key.now
+        (given_of d (views_of H.view chains.new.chains))) }
+    ensures accepted { IfOk result (λ d. IsDecided (views_of H.view chains.old.chains) d (views_of H.view chains.new.chains)) }
+    ensures err { OnErr result (views_of H.view chains.new.chains ≡ views_of H.view chains.old.chains) }
+    ensures message { message.new ≡ record message.old { authorities = [] } }
+{
+    let metadata = message.metadata();
+    let told = told_by_first(suite, chains, alloc, message, received, key, zone)?;
+    let Some((told, context)) = told else {
+        return Ok(refused(error_header(metadata, ResponseCode::ServFail)));
+    };
+    Ok(Decided {
+        applied: told.is_ok(),
+        metadata: told_header(metadata, told_code(told)),
+        context,
+    })
+}
+
+/// Decides an update: of all handlers the first one of the chain for the zone's name alone may change its zone.
+pub(crate) fn decide<S: TsigSuite, H: ZoneHandler>(
+    suite: &S,
+    chains: &mut Chains<H>,
+    alloc: Global,
+    message: &mut MessageRequest<'_>,
+    received: Received<'_>,
+) -> Result<Decided, AllocError>
+    ensures decided { IfOk result (λ d. GivesUpdate (S.keys suite.now) message.old received.entry.source received.entry.octets.now received.entry.now
+        (views_of H.view chains.old.chains) message.old.asked.questions (given_of d (views_of H.view chains.new.chains))) }
+    ensures accepted { IfOk result (λ d. IsDecided (views_of H.view chains.old.chains) d (views_of H.view chains.new.chains)) }
+    ensures err { OnErr result (views_of H.view chains.new.chains ≡ views_of H.view chains.old.chains) }
+    ensures message { record message.new { authorities = [] } ≡ record message.old { authorities = [] } }
+{
+    let metadata = message.metadata();
+    let [question] = message.queries().queries() else {
+        return Ok(refused(error_header(metadata, ResponseCode::FormErr)));
+    };
+    if question.query_type != RecordType::SOA {
+        return Ok(refused(error_header(metadata, ResponseCode::FormErr)));
+    }
+    let Some((key, zone)) = registered(chains, alloc, &question.name)? else {
+        return Ok(refused(error_header(metadata, ResponseCode::ServFail)));
+    };
+    match first_type(chains, &key) {
+        Some(ZoneType::Primary) => {
+            decide_by_first(suite, chains, alloc, message, received, &key, &zone)
+        }
+        Some(ZoneType::Secondary) => Ok(refused(told_header(metadata, ResponseCode::NotImp))),
+        Some(ZoneType::External) => Ok(refused(told_header(metadata, ResponseCode::NotAuth))),
+        None => Ok(refused(error_header(metadata, ResponseCode::ServFail))),
+    }
 }
