@@ -22,5 +22,7 @@ first_zone_type [] = None
 first_zone_type (view ∷ views) = Some (zone_type_of view)
 
 -- An update that was accepted is answered NoError; one that wasn't changed nothing.
-abbrev pub IsDecided : List (DomainName × List View) → Decided → List (DomainName × List View) → Type 0
-IsDecided old decided new = Settled old decided.applied decided.metadata.response_code new
+pub record IsDecided (old : List (DomainName × List View)) (decided : Decided)
+    (new : List (DomainName × List View)) : Type 0 where
+  pub accepted : decided.applied ≡ true → decided.metadata.response_code ≡ responses.NoError
+  pub unchanged : decided.applied ≡ false → new ≡ old

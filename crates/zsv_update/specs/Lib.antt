@@ -1,3 +1,4 @@
+pub mod Deciding
 pub mod Keys
 pub mod Options
 pub mod Signing
