@@ -41,6 +41,7 @@ first_zone name =
       zone_type = kinds.Primary;
       axfr_policy = policies.AllowAll;
       nx_proof_kind = None;
+      guard = None;
       sets = [];
     }
 

@@ -49,6 +49,7 @@ bare_zone name kind =
       zone_type = kind;
       axfr_policy = policies.Deny;
       nx_proof_kind = None;
+      guard = None;
       sets = [];
     }
 

@@ -1,8 +1,13 @@
 //! The two kinds of handlers of a linked server.
 
+ghost use Rattle.std.specs.Prelude.{◌≡◌, None, Ok, Err, IfOk, OnErr, option_map};
+ghost use Rattle.authority_server.specs.zsv_catalog.zsv_answer.zst_request.Requested.{asked_of, context_of};
+ghost use Rattle.authority_server.specs.zsv_catalog.zsv_answer.zst_request.Updating.{UpdatesView, update_context};
+ghost use Rattle.authority_handle.specs.Worlds.{view_of};
+
 use authority_load::{
     AuthLookup, AxfrPolicy, InMemoryZoneHandler, LookupControlFlow, LookupOptions, NxProofKind,
-    ZoneType,
+    ResponseCode, ZoneType,
 };
 use authority_server::{Name, RecordType, ZoneHandler};
 use std::alloc::{AllocError, Global};
@@ -117,6 +122,24 @@ impl ZoneHandler for Handler {
         match self {
             Handler::Zone(zone) => zone.consult(alloc, name, record_type, options, last),
             Handler::Blocklist(list) => list.consult(alloc, name, record_type, options, last),
+        }
+    }
+
+    /// Refuses each, as zones in memory and blocklists do.
+    fn update(
+        &mut self,
+        alloc: Global,
+        request: ZoneRequest<'_>,
+        now: u64,
+    ) -> Result<(Result<bool, ResponseCode>, Option<TSigResponseContext>), AllocError>
+        ensures refused { result ≡ Ok (Err ResponseCode.NotImp, None) }
+        ensures told { IfOk result (λ given. UpdatesView (view_of self.old) (asked_of request.entry) given.0 (view_of self.new)) }
+        ensures context { IfOk result (λ given. option_map context_of given.1 ≡ update_context (view_of self.old) (asked_of request.entry) now) }
+        ensures err { OnErr result (view_of self.new ≡ view_of self.old) }
+    {
+        match self {
+            Handler::Zone(zone) => zone.update(alloc, request, now),
+            Handler::Blocklist(list) => list.update(alloc, request, now),
         }
     }
 }

@@ -11,12 +11,11 @@ use Rattle.zsv_catalog.proofs.zsv_answer_lemmas.zsv_reply_lemmas.Fits.{fits_requ
 use Rattle.zsv_catalog.proofs.Replied.{Repeated, own, plain_id, repeated_of}
 use Rattle.zsv_catalog.proofs.zsv_answer_lemmas.zsv_reply_lemmas.HeaderLaws.{fits_same}
 use Rattle.zsv_catalog.proofs.zsv_answer_lemmas.zsv_reply_lemmas.Written.{reply_of_encoded}
-use Rattle.zsv_catalog.specs.zsv_answer.Responses.{Sends, error_parts}
 use Rattle.zsv_catalog.specs.zsv_answer.zst_request.zst_codes.declared.response_code.ResponseCode.{ResponseCode}
 use Rattle.zsv_catalog.specs.zsv_answer.zst_request.zst_codes.declared.response_code.ResponseCode.TheVariants as responses
 use Rattle.zsv_catalog.specs.zsv_answer.zsv_reply.Replies.{IsReply, ReplyParts}
 use Rattle.zsv_catalog.specs.zsv_answer.zsv_reply.zsv_message.zsv_parts.Headers.{FitsOpCode}
-use Rattle.zsv_catalog.specs.zsv_answer.zsv_reply.Writing.{AllReadBack, IsEncoded}
+use Rattle.zsv_catalog.specs.zsv_answer.zsv_reply.Writing.{AllReadBack, IsEncoded, Sends, error_parts}
 use Rattle.zsv_catalog.specs.zsv_answer.zsv_reply.zsv_message.Messages.{IsMessage, Message}
 use Rattle.zsv_catalog.specs.zsv_answer.zsv_reply.zsv_message.zst_edns.declared.edns.Edns.{Edns}
 use Rattle.zsv_catalog.specs.zsv_answer.zsv_reply.zsv_message.zsv_parts.Questions.{Asked}

@@ -37,7 +37,7 @@ use Rattle.zsv_catalog.specs.Catalogs.{AnswersEdns, PartsOf, QueryParts, Questio
 use Rattle.zsv_catalog.specs.Chains.{chain_for}
 use Rattle.zsv_catalog.specs.zsv_answer.Parts.{AtOrigin, AuthoritativeParts, ChainParts, PartsAs}
 use Rattle.zsv_catalog.specs.zsv_answer.Resolution.{Resolution, Resolves, outcome_shown}
-use Rattle.zsv_catalog.specs.zsv_answer.Responses.{with_edns}
+use Rattle.zsv_catalog.specs.zsv_answer.zsv_reply.Writing.{with_edns}
 use Rattle.zsv_catalog.specs.zsv_answer.zst_request.Views.{Stored, View, zone_type_of}
 
 abbrev example : DomainName
@@ -87,6 +87,7 @@ zone = record {
   zone_type = kinds.Primary;
   axfr_policy = policies.AllowAll;
   nx_proof_kind = None;
+  guard = None;
   sets = set_of_start ∷ set_of_servers ∷ set_of_glue ∷ set_of_address ∷ [];
 }
 

@@ -6,11 +6,10 @@ use Rattle.authority_server.specs.declared.server.Authority.{Authority}
 use Rattle.authority_server.specs.Serving.{GivesParts, World, WorldReadsBack}
 use Rattle.zsv_access.specs.Access.{no_networks}
 use Rattle.zsv_catalog.specs.Chains.{views_of, with_chain, without_chain}
-use Rattle.zsv_catalog.specs.zsv_answer.Responses.{SendsParts}
 use Rattle.zsv_catalog.specs.zsv_answer.zst_request.Views.{View}
 use Rattle.zsv_catalog.specs.zsv_answer.zst_request.dnw_name.DomainName.{DomainName}
 use Rattle.zsv_catalog.specs.zsv_answer.zsv_reply.Replies.{ReplyParts}
-use Rattle.zsv_catalog.specs.zsv_answer.zsv_reply.Writing.{AllReadBack}
+use Rattle.zsv_catalog.specs.zsv_answer.zsv_reply.Writing.{AllReadBack, SendsParts}
 use Rattle.zsv_catalog.specs.zsv_answer.zsv_reply.zsv_message.Messages.{Message}
 use Rattle.zsv_catalog.specs.zsv_answer.zsv_reply.zsv_message.zsv_parts.declared.header.Header.{Header}
 use Rattle.zsv_catalog.specs.zsv_answer.zsv_request.declared.protocol.Protocol.{Protocol}

@@ -7,12 +7,11 @@ use Rattle.zsv_access.specs.Access.{is_allowed}
 use Rattle.zsv_access.specs.declared.access.AccessControl.{AccessControl}
 use Rattle.zsv_catalog.specs.Catalogs.{PartsOf}
 use Rattle.zsv_catalog.specs.ReadingBack.{ChainsReadBack}
-use Rattle.zsv_catalog.specs.zsv_answer.Responses.{error_parts}
 use Rattle.zsv_catalog.specs.zsv_answer.zst_request.Views.{View}
 use Rattle.zsv_catalog.specs.zsv_answer.zst_request.dnw_name.DomainName.{DomainName}
 use Rattle.zsv_catalog.specs.zsv_answer.zst_request.zst_codes.declared.response_code.ResponseCode.TheVariants as responses
 use Rattle.zsv_catalog.specs.zsv_answer.zsv_reply.Replies.{IsReply, ReplyParts}
-use Rattle.zsv_catalog.specs.zsv_answer.zsv_reply.Writing.{AllReadBack}
+use Rattle.zsv_catalog.specs.zsv_answer.zsv_reply.Writing.{AllReadBack, error_parts}
 use Rattle.zsv_catalog.specs.zsv_answer.zsv_reply.zsv_message.Messages.{IsMessage, Message}
 use Rattle.zsv_catalog.specs.zsv_answer.zsv_request.Requests.{limit_of}
 use Rattle.zsv_catalog.specs.zsv_answer.zsv_request.declared.protocol.Protocol.{Protocol}

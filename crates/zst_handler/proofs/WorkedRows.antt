@@ -71,7 +71,7 @@ abbrev sets : List RRset
 sets = start ∷ own_servers ∷ www ∷ cut ∷ glue ∷ c1 ∷ c2 ∷ to_www ∷ []
 
 abbrev zone_of : List RRset → Zone
-zone_of ss = record { origin = example; zone_type = kinds.Primary; axfr_policy = policies.AllowAll; nx_proof_kind = None; sets = ss }
+zone_of ss = record { origin = example; zone_type = kinds.Primary; axfr_policy = policies.AllowAll; nx_proof_kind = None; guard = None; sets = ss }
 
 abbrev zone : Zone
 zone = zone_of sets

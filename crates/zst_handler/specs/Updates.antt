@@ -1,11 +1,11 @@
 -- What changes the sets of a zone: RFC 2136, section 3.4.2.
-use Rattle.std.specs.Prelude.{◌≡◌, Bool, true, false, not, ◌&&◌, ◌||◌, List, Option, Some, None, if◌then◌else◌}
+use Rattle.std.specs.Prelude.{◌≡◌, Bool, true, false, not, ◌&&◌, ◌||◌, List, [], ◌∷◌, Option, Some, None, find, nat_lt, if◌then◌else◌}
 use Rattle.std.specs.List.{list_any}
 use Rattle.zst_record.specs.dnw_codes.declared.dns_class.DNSClass.TheVariants.{IN}
 use Rattle.zst_record.specs.dnw_codes.declared.record_type.RecordType.{RecordType}
 use Rattle.zst_record.specs.dnw_codes.declared.record_type.RecordType.TheVariants as kind
 use Rattle.zst_record.specs.dnw_codes.DNSClass.{same_class}
-use Rattle.zst_record.specs.dnw_codes.RecordType.{same_record_type}
+use Rattle.zst_record.specs.dnw_codes.RecordType.{record_type_number, same_record_type}
 use Rattle.zst_record.specs.dnw_name.DomainName.{DomainName, name_eq}
 use Rattle.zst_record.specs.drd_rdata.Types.{type_of}
 use Rattle.zst_record.specs.declared.records.Record.{Record}
@@ -65,3 +65,24 @@ pub record Upserts (old : Zone) (r : Record) (new : Zone) : Type 0 where
   pub changed : upsert_changes old.sets r ≡ true → ZoneReplaces old r.name (type_of r.rdata)
       (Some (upserted (rrset_at old.sets r.name (type_of r.rdata)) r)) new
   pub unchanged : upsert_changes old.sets r ≡ false → new ≡ old
+
+-- ---- the sets of one owner
+-- The sets of one owner with this one, by rising type, in place of the one of its type.
+abbrev pub with_set : List RRset → RRset → List RRset
+with_set [] new = new ∷ []
+with_set (set ∷ sets) new =
+    if nat_lt (record_type_number set.record_type) (record_type_number new.record_type) then set
+    ∷ with_set sets new
+    else if same_record_type set.record_type new.record_type then new ∷ sets
+    else new ∷ set ∷ sets
+
+-- The one of a type.
+abbrev pub set_of_type : RecordType → List RRset → Option RRset
+set_of_type record_type sets = find (λ set. same_record_type set.record_type record_type) sets
+
+-- The sets of one owner without that of a type.
+abbrev pub without_type : List RRset → RecordType → List RRset
+without_type [] record_type = []
+without_type (set ∷ sets) record_type =
+    if same_record_type set.record_type record_type then sets
+    else set ∷ without_type sets record_type

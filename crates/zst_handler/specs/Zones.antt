@@ -1,6 +1,6 @@
 -- A zone: a finite map from owner and type to the set of records stored there (RFC 1035, section
 -- 4.3.2).
-use Rattle.std.specs.Prelude.{◌≡◌, Bool, false, List, [], ◌∷◌, Option, Some, ◌&&◌, find, if◌then◌else◌}
+use Rattle.std.specs.Prelude.{◌≡◌, Bool, false, List, [], ◌∷◌, Option, Some, None, ◌&&◌, find, if◌then◌else◌}
 use Rattle.std.specs.List.{AllByRecursion, list_any}
 use Rattle.std.specs.Ordering.{nat_cmp, on, then_cmp}
 use Rattle.std.specs.declared.cmp.Ordering.{Ordering}
@@ -46,13 +46,20 @@ Adds old r new =
     && same_record_type (type_of r.rdata) record_type then Some
     (set_with (rrset_at old name record_type) r) else rrset_at old name record_type)
 
+-- What guards a zone: a transfer policy that is asked before the zone's own (RFC 5936, section 5),
+-- and whether messages may change the zone (RFC 2136, section 3.3).
+pub record Guard : Type 0 where
+  pub axfr_policy : AxfrPolicy
+  pub allow_update : Bool
+
 -- What a stored zone means: where it begins, how it may be used, and its sets, which every zone has
--- in order.
+-- in order. Without a guard no message changes it.
 pub record Zone : Type 0 where
   pub origin : DomainName
   pub zone_type : ZoneType
   pub axfr_policy : AxfrPolicy
   pub nx_proof_kind : Option NxProofKind
+  pub guard : Option Guard
   pub sets : List RRset
 
 -- A zone without records.
@@ -63,6 +70,7 @@ empty_zone name settings =
       zone_type = settings.zone_type;
       axfr_policy = settings.axfr_policy;
       nx_proof_kind = settings.nx_proof_kind;
+      guard = None;
       sets = [];
     }
 

@@ -1,3 +1,4 @@
+pub use Rattle.zst_record.specs.Drafts
 pub use Rattle.zst_record.specs.Lending
 pub use Rattle.zst_record.specs.OneOrMany
 pub use Rattle.zst_record.specs.Records

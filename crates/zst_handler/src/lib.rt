@@ -9,7 +9,7 @@ pub use zst_edns::{
     ResponseCode, Salt, SaltLenError, ZoneType,
 };
 pub use zst_record::{
-    ANAME, CNAME, DNSClass, LowerName, MX, NS, Name, OneOrMany, ProtoError, RData, Record,
+    ANAME, CNAME, DNSClass, Draft, LowerName, MX, NS, Name, OneOrMany, ProtoError, RData, Record,
     RecordRef, RecordSet, RecordType, RrKey, RrsetRecords, SOA, SRV, push,
 };
 

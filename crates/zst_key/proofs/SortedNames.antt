@@ -3,7 +3,7 @@ use Rattle.std.proofs.Common.{◌≡◌, ℕ, zero, suc, ◌-◌, ◌<◌, ◌�
 use Rattle.std.specs.Prelude.{Option, Some, None, Result, Ok, Err, OnOk, OnErr, IsSome, is_some, cond, slice_get, slice_index_or, slice_set}
 use Rattle.std.specs.List.{AllByRecursion, AllWithin}
 use Rattle.std.specs.List.Sorted.{IsPartitionedBy, IsStrictlySortedBy}
-use Rattle.std.specs.Map.{keys_of, remove_entry}
+use Rattle.std.specs.Map.{keys_of, remove_entry, set_value}
 use Rattle.std.specs.BTreeMap.{insert_entry}
 use Rattle.std.specs.Ordering.{is_eq, is_gt, is_le, is_lt, match_ordering, ordering_reverse}
 use Rattle.std.specs.declared.cmp.Ordering.{Ordering}
@@ -242,6 +242,37 @@ module _ {X : Type 0} where
       let after : name_cmp key e.0 ≡ Greater = before-found key e es i sorted (omega (arith, lt)) is in
       ap (λ (l : List (DomainName × X)). e ∷ l) (replaced key v es i d (sorted_tail name_cmp e.0 (keys_of es) sorted) (omega (arith, lt)) is)
       ∙ ap (λ (o : Ordering). match_ordering o ((key, v) ∷ e ∷ es) ((e.0, v) ∷ es) (e ∷ insert_entry name_cmp es key v)) (sym after)
+
+  -- No other entry takes the value.
+  pub put : (key : DomainName) (v : X) (es : List (DomainName × X)) (i : ℕ) (d : DomainName × X) → IsStrictlySortedBy name_cmp (keys_of es) → i < length es
+      → ((d : DomainName × X) → name_cmp (slice_index_or es i d).0 key ≡ Equal)
+      → slice_set es i ((slice_index_or es i d).0, v) ≡ set_value (λ other. is_eq (name_cmp key other)) es v
+  put key v [] i d sorted lt is = absurd (omega (arith, lt))
+  put key v (e ∷ es) zero d sorted lt is =
+      let same : is_eq (name_cmp key e.0) ≡ true = eq-swapped key e.0 ∙ ap is_eq (is e) in
+      ap (λ (b : Bool). cond b ((e.0, v) ∷ es) (e ∷ set_value (λ other. is_eq (name_cmp key other)) es v)) (sym same)
+  put key v (e ∷ es) (suc i) d sorted lt is =
+      let after = not-eq (name_cmp key e.0) (before-found key e es i sorted (omega (arith, lt)) is) in
+      ap (λ (l : List (DomainName × X)). e ∷ l) (put key v es i d (sorted_tail name_cmp e.0 (keys_of es) sorted) (omega (arith, lt)) is)
+      ∙ ap (λ (b : Bool). cond b ((e.0, v) ∷ es) (e ∷ set_value (λ other. is_eq (name_cmp key other)) es v)) (sym after)
+
+  pub kept-unput : (key : DomainName) (v : X) (es : List (DomainName × X)) → entry_at es key ≡ None → set_value (λ other. is_eq (name_cmp key other)) es v ≡ es
+  kept-unput key v [] none = refl
+  kept-unput key v (e ∷ es) none =
+      let apart = none-first key e es none in
+      ap (λ (b : Bool). cond b ((e.0, v) ∷ es) (e ∷ set_value (λ other. is_eq (name_cmp key other)) es v)) (eq-swapped key e.0 ∙ apart.0)
+      ∙ ap (λ (l : List (DomainName × X)). e ∷ l) (kept-unput key v es apart.1)
+
+  same-keys : (test : DomainName → Bool) (v : X) (es : List (DomainName × X)) → keys_of (set_value test es v) ≡ keys_of es
+  same-keys test v [] = refl
+  same-keys test v (e ∷ es) = by (test e.0) (same-keys test v es)
+    where
+      by : (b : Bool) → keys_of (set_value test es v) ≡ keys_of es → keys_of (cond b ((e.0, v) ∷ es) (e ∷ set_value test es v)) ≡ e.0 ∷ keys_of es
+      by true later = refl
+      by false later = ap (λ (l : List DomainName). e.0 ∷ l) later
+
+  pub put-sorted : (test : DomainName → Bool) (v : X) (es : List (DomainName × X)) → IsStrictlySortedBy name_cmp (keys_of es) → IsStrictlySortedBy name_cmp (keys_of (set_value test es v))
+  put-sorted test v es sorted = subst (λ (l : List DomainName). IsStrictlySortedBy name_cmp l) (sym (same-keys test v es)) sorted
 
   -- The entry of a name is taken out.
   pub removed : (key : DomainName) (es : List (DomainName × X)) (i : ℕ) → IsStrictlySortedBy name_cmp (keys_of es) → i < length es

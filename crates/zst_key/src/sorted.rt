@@ -2,7 +2,7 @@
 ghost use Rattle.std.specs.Prelude.{◌≡◌, ◌<◌, ◌≤◌, ◌∷◌, ◌++◌, ◌&&◌, OnErr, OnOk, [], drop, false, option_map, slice_index_or, slice_set, take, true, vec_len};
 ghost use Rattle.std.specs.Bool.{beq};
 ghost use Rattle.std.specs.BTreeMap.{insert_entry};
-ghost use Rattle.std.specs.Map.{keys_of, remove_entry};
+ghost use Rattle.std.specs.Map.{keys_of, remove_entry, set_value};
 ghost use Rattle.std.specs.Ordering.{is_eq};
 ghost use Rattle.std.specs.List.Sorted.{IsStrictlySortedBy};
 ghost use Rattle.dnw_name.specs.DomainName.{is_at_or_below, lowercase_name, name_cmp};
@@ -171,12 +171,13 @@ fn value_of<K: Drop, V>(entry: (K, V)) -> V
     entry.1
 }
 
-// Puts a value in place of that of the entry at an index, which is dropped.
-fn replace_at<K, V: Drop>(entries: &mut Vec<(K, V)>, at: usize, value: V)
+// Puts a value in place of that of the entry at an index, and returns that.
+fn replace_at<K, V: Drop>(entries: &mut Vec<(K, V)>, at: usize, value: V) -> V
     requires { at < vec_len entries.old }
-    ensures { (d : K × V) → entries.new.items ≡ slice_set entries.old.items at ((slice_index_or entries.old.items at d).0, value) }
+    ensures value { (d : K × V) → result ≡ (slice_index_or entries.old.items at d).1 }
+    ensures after { (d : K × V) → entries.new.items ≡ slice_set entries.old.items at ((slice_index_or entries.old.items at d).0, value) }
 {
-    mem::drop(mem::replace(&mut entries[at].1, value));
+    mem::replace(&mut entries[at].1, value)
 }
 
 // Inserts an item at an index.
@@ -248,10 +249,25 @@ impl<V: Drop> NameList<V> {
         match self.find(&key.borrow()) {
             Ok(at) => {
                 mem::drop(key);
-                replace_at(&mut self.entries, at, value);
+                mem::drop(replace_at(&mut self.entries, at, value));
                 Ok(())
             }
             Err(at) => insert_at(&mut self.entries, at, (key, value)),
+        }
+    }
+
+    /// Puts a value in place of the one under a name, and returns that; where there is none, the value is dropped. It takes
+    /// no memory.
+    pub fn replace(&mut self, key: &KeyRef<'_>, value: V) -> Option<V>
+        ensures value { result ≡ entry_at self.old key.now }
+        ensures after { self.new ≡ set_value (λ other. is_eq (name_cmp key.now other)) self.old value }
+    {
+        match self.find(key) {
+            Ok(at) => Some(replace_at(&mut self.entries, at, value)),
+            Err(_) => {
+                mem::drop(value);
+                None
+            }
         }
     }
 

@@ -1,12 +1,12 @@
 -- With a set that is put, and its owner marked, the owners of all sets are still marked; without one they are, too.
-use Rattle.std.proofs.Common.{◌≡◌, refl, ap, sym, ◌∙◌}
+use Rattle.std.proofs.Common.{◌≡◌, ◌==◌, ℕ, refl, ap, sym, ◌∙◌}
 use Rattle.std.specs.Prelude.{Bool, true, false, not, ◌&&◌, ◌||◌, List, [], ◌∷◌, Option, Some, None, cond, is_some, IsSome, find}
 use Rattle.std.specs.Bool.{beq}
 use Rattle.std.specs.BTreeMap.{BTreeMap, get}
-use Rattle.std.proofs.lemmas.Bool.{and_parts, true≢false}
+use Rattle.std.proofs.lemmas.Bool.{and_parts, eqb-true, true≢false}
 use Rattle.zst_handler.specs.dnw_codes.declared.record_type.RecordType.{RecordType}
 use Rattle.zst_handler.specs.dnw_codes.declared.record_type.RecordType.TheVariants as types
-use Rattle.zst_handler.specs.dnw_codes.RecordType.{same_record_type}
+use Rattle.zst_handler.specs.dnw_codes.RecordType.{record_type_number, same_record_type}
 use Rattle.zst_handler.specs.dnw_name.DomainName.{DomainName, is_wildcard, lowercase_name, name_cmp, name_eq}
 use Rattle.zst_handler.specs.zst_record.RecordSets.{RRset}
 use Rattle.zst_handler.specs.zst_record.RecordLaws.{name_eq_equiv}
@@ -165,3 +165,18 @@ none_indexed index = record {
   stars = λ name t some. absurd (true≢false (sym some));
   absolute = λ none name t some. absurd (true≢false (sym some));
 }
+
+-- A set that takes the place of one that is there needs no more marks.
+pub with_edited : (index : Index) (before after : List RRset) (owner : DomainName) (kind : RecordType) (old set : RRset) → rrset_at before owner kind ≡ Some old → Replaces before owner kind (Some set) after → IsIndexed index before → IsIndexed index after
+with_edited index before after owner kind old set there replaces is =
+    let typed = λ (name : DomainName) (t : RecordType) (same : same_record_type kind t ≡ true).
+    ap (λ (n : ℕ). find (λ (s : RRset). name_eq name s.name && record_type_number s.record_type == n) before) (eqb-true (record_type_number kind) (record_type_number t) same) in
+    let was = λ (name : DomainName) (t : RecordType) (some : IsSome (rrset_at after name t)).
+    split before after owner kind (Some set) name t (IsSome (rrset_at before name t)) replaces some
+    (λ named same. ap is_some (sym (typed name t same) ∙ sym (rrset_same before name owner kind named) ∙ there)) (λ some. some) in
+    record {
+      uncut = λ none name some. remains before after owner kind set name types.SOA replaces (is.uncut none name (was name types.NS some));
+      cuts = λ name some. is.cuts name (was name types.NS some);
+      stars = λ name t some. is.stars name t (was (star name) t some);
+      absolute = λ none name t some. is.absolute none name t (was name t some);
+    }

@@ -18,9 +18,9 @@ use Rattle.zst_handler.specs.zst_record.RecordLaws.{name_eq_equiv}
 use Rattle.zst_handler.specs.zst_record.RecordSets.{RRset}
 use Rattle.zst_handler.specs.zst_record.declared.one_or_many.OneOrMany.{OneOrMany}
 use Rattle.zst_handler.specs.Lookups.{sets_of_name}
-use Rattle.zst_handler.specs.Updates.{Replaces}
+use Rattle.zst_handler.specs.Updates.{Replaces, set_of_type}
 use Rattle.zst_handler.specs.Zones.{AreInOrder, rrset_at}
-use Rattle.zst_map.specs.Changes.{made, owner_of, set_of_type, type_in, with_change}
+use Rattle.zst_map.specs.Changes.{made, owner_of, type_in, with_change}
 use Rattle.zst_map.specs.declared.change.Change.{Change}
 use Rattle.zst_key.specs.Ancestors.{nearest_in}
 use Rattle.zst_key.specs.NameKeys.{name_key}
@@ -38,7 +38,7 @@ abbrev pub Owner : Type 0
 Owner = DomainName × Unit {0}
 
 -- ---- names that are equal are asked for alike
-alike_keys : (a b : DomainName) → name_eq a b ≡ true → name_key a ≡ name_key b
+pub alike_keys : (a b : DomainName) → name_eq a b ≡ true → name_key a ≡ name_key b
 alike_keys a b e = same_octets (name_key a) (name_key b) (same_key a b ∙ e)
 
 same_test : (a b x : DomainName) → name_eq a b ≡ true → name_eq a x ≡ name_eq b x

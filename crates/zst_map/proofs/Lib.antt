@@ -1,3 +1,4 @@
+pub mod Edited
 pub mod Entries
 pub mod Indexed
 pub mod Kept

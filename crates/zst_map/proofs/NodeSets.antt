@@ -14,7 +14,8 @@ use Rattle.zst_handler.specs.zst_record.RecordLaws.{name_eq_equiv}
 use Rattle.zst_handler.specs.drd_rdata.Order.{rdata_eq}
 use Rattle.zst_handler.specs.dnw_codes.DNSClass.{same_class}
 use Rattle.zst_handler.specs.zst_record.RecordSets.{RRset, first_of_put, is_single, takes, with_one}
-use Rattle.zst_map.specs.Changes.{alters, is_only, made, owner_of, set_of_type, type_in, with_change, with_set, without_type}
+use Rattle.zst_handler.specs.Updates.{set_of_type, with_set, without_type}
+use Rattle.zst_map.specs.Changes.{alters, is_only, made, owner_of, type_in, with_change}
 use Rattle.zst_map.specs.ZoneMaps.{place_from, IsOwnedAt, IsNode, TypesRise}
 use Rattle.zst_map.specs.declared.change.Change.{Change}
 use Rattle.zst_map.specs.declared.change.Change.TheVariants as changes
@@ -333,7 +334,7 @@ owned_made key (changes.Upsert r) (Some s) at of = by (takes s r)
 owned_made key (changes.Put new) o at of = record { owner = at }
 
 -- ---- a node with a change of its owner
-found_of : (P : RRset → Type 0) (t : RecordType) (sets : List RRset) (s : RRset) → AllByRecursion P sets → find (is_of_type t) sets ≡ Some s → P s
+pub found_of : (P : RRset → Type 0) (t : RecordType) (sets : List RRset) (s : RRset) → AllByRecursion P sets → find (is_of_type t) sets ≡ Some s → P s
 found_of P t [] s all e = let h : ⊥ = cc in absurd h
 found_of P t (x ∷ sets) s all e = by (is_of_type t x) e (found_of P t sets s all.1)
   where
@@ -341,7 +342,7 @@ found_of P t (x ∷ sets) s all e = by (is_of_type t x) e (found_of P t sets s a
     by true e more = let g : x ≡ s = cc in subst P g all.0
     by false e more = more e
 
-found_type : (t : RecordType) (sets : List RRset) (s : RRset) → find (is_of_type t) sets ≡ Some s → code_of s ≡ record_type_number t
+pub found_type : (t : RecordType) (sets : List RRset) (s : RRset) → find (is_of_type t) sets ≡ Some s → code_of s ≡ record_type_number t
 found_type t [] s e = let h : ⊥ = cc in absurd h
 found_type t (x ∷ sets) s e = by (is_of_type t x) refl e (found_type t sets s)
   where

@@ -12,9 +12,9 @@ use Rattle.zst_handler.specs.dnw_name.NameOrderLaws.{name_eq-by_cmp}
 use Rattle.zst_handler.specs.zst_record.RecordLaws.{name_eq_equiv}
 use Rattle.zst_handler.specs.zst_record.RecordSets.{RRset}
 use Rattle.zst_key.specs.NameKeys.{name_key}
-use Rattle.zst_handler.specs.Updates.{Replaces}
+use Rattle.zst_handler.specs.Updates.{Replaces, set_of_type, without_type}
 use Rattle.zst_handler.specs.Zones.{rrset_at}
-use Rattle.zst_map.specs.Changes.{is_only, set_of_type, without_type}
+use Rattle.zst_map.specs.Changes.{is_only}
 use Rattle.zst_map.specs.ZoneMaps.{IsNode}
 use Rattle.zst_map.proofs.Entries.{IsZone, sets_of}
 use Rattle.zst_map.proofs.Keys.{same_key}

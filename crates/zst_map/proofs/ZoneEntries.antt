@@ -16,9 +16,9 @@ use Rattle.zst_handler.specs.dnw_name.DomainName.{DomainName, name_eq}
 use Rattle.zst_handler.specs.dnw_codes.RecordType.{same_record_type}
 use Rattle.zst_key.specs.NameKeys.{name_key}
 use Rattle.zst_handler.specs.zst_record.RecordSets.{RRset}
-use Rattle.zst_handler.specs.Updates.{Replaces}
+use Rattle.zst_handler.specs.Updates.{Replaces, set_of_type}
 use Rattle.zst_handler.specs.Zones.{rrset_at}
-use Rattle.zst_map.specs.Changes.{made, owner_of, set_of_type, type_in, with_change}
+use Rattle.zst_map.specs.Changes.{made, owner_of, type_in, with_change}
 use Rattle.zst_map.specs.declared.change.Change.{Change}
 use Rattle.zst_map.specs.ZoneMaps.{IsNode}
 use Rattle.zst_map.proofs.Entries.{IsZone, sets_of}

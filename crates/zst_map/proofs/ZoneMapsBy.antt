@@ -19,7 +19,8 @@ use Rattle.zst_handler.specs.Zones.{rrset_at}
 use Rattle.zst_map.specs.ZoneMaps.{exists_alike}
 use Rattle.zst_map.proofs.Entries.{IsZone, sets_of}
 use Rattle.zst_map.proofs.Keys.{begins, begins-starts_with}
-use Rattle.zst_map.specs.Changes.{owner_of, set_of_type, type_in}
+use Rattle.zst_handler.specs.Updates.{set_of_type}
+use Rattle.zst_map.specs.Changes.{owner_of, type_in}
 use Rattle.zst_map.specs.declared.change.Change.{Change}
 use Rattle.zst_map.proofs.ZoneEntries.{at_key, key_cmp, node_sets, stored_at}
 use Rattle.zst_map.proofs.NamedSets.{named_in}

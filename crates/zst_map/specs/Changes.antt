@@ -1,7 +1,8 @@
 -- What changes at an owner, and what its sets are then.
-use Rattle.std.specs.Prelude.{Bool, true, false, List, [], ◌∷◌, Option, Some, None, find, nat_lt, if◌then◌else◌}
+use Rattle.std.specs.Prelude.{Bool, true, false, List, [], ◌∷◌, Option, Some, None, if◌then◌else◌}
 use Rattle.zst_handler.specs.dnw_codes.declared.record_type.RecordType.{RecordType}
-use Rattle.zst_handler.specs.dnw_codes.RecordType.{record_type_number, same_record_type}
+use Rattle.zst_handler.specs.dnw_codes.RecordType.{same_record_type}
+use Rattle.zst_handler.specs.Updates.{set_of_type, with_set}
 use Rattle.zst_handler.specs.dnw_name.DomainName.{DomainName}
 use Rattle.zst_handler.specs.drd_rdata.Types.{type_of}
 use Rattle.zst_handler.specs.zst_record.RecordSets.{RRset, inserted, set_of, set_with, takes}
@@ -31,18 +32,7 @@ abbrev pub alters : Change → Option RRset → Bool
 alters (changes.Upsert r) (Some set) = takes set r
 alters change set = true
 
--- The sets of one owner with this one, by rising type, in place of the one of its type.
-abbrev pub with_set : List RRset → RRset → List RRset
-with_set [] new = new ∷ []
-with_set (set ∷ sets) new =
-    if nat_lt (record_type_number set.record_type) (record_type_number new.record_type) then set
-    ∷ with_set sets new
-    else if same_record_type set.record_type new.record_type then new ∷ sets
-    else new ∷ set ∷ sets
-
-abbrev pub set_of_type : RecordType → List RRset → Option RRset
-set_of_type record_type sets = find (λ set. same_record_type set.record_type record_type) sets
-
+-- The sets of one owner after a change.
 abbrev pub with_change : List RRset → Change → List RRset
 with_change sets change = with_set sets (made change (set_of_type (type_in change) sets))
 
@@ -51,10 +41,3 @@ with_change sets change = with_set sets (made change (set_of_type (type_in chang
 abbrev pub is_only : List RRset → RecordType → Bool
 is_only (set ∷ []) record_type = same_record_type set.record_type record_type
 is_only sets record_type = false
-
--- The sets of one owner without that of a type.
-abbrev pub without_type : List RRset → RecordType → List RRset
-without_type [] record_type = []
-without_type (set ∷ sets) record_type =
-    if same_record_type set.record_type record_type then sets
-    else set ∷ without_type sets record_type

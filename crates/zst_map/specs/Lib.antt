@@ -1,4 +1,5 @@
 pub mod Changes
+pub mod Edits
 pub mod Indexes
 pub mod Searches
 pub mod ZoneMaps

@@ -5,20 +5,22 @@
 #![tactic(auto)]
 
 pub use zst_handler::{
-    AnswerSet, AuthLookup, AxfrPolicy, DNSClass, LookupControlFlow, LookupError, LookupOptions,
-    LookupRecords, LookupRecordsIter, LowerName, Name, Nsec3HashAlgorithm, NxProofKind, ProtoError,
-    RData, Record, RecordRef, RecordSet, RecordType, ResponseCode, RrKey, RrsetRecords, Salt,
-    SaltLenError, ZoneSettings, ZoneType, push,
+    AnswerSet, AuthLookup, AxfrPolicy, DNSClass, Draft, LookupControlFlow, LookupError,
+    LookupOptions, LookupRecords, LookupRecordsIter, LowerName, Name, Nsec3HashAlgorithm,
+    NxProofKind, ProtoError, RData, Record, RecordRef, RecordSet, RecordType, ResponseCode, RrKey,
+    RrsetRecords, Salt, SaltLenError, ZoneSettings, ZoneType, push,
 };
 pub use zst_key::NameKey;
 
 mod apart;
 mod change;
+mod edit;
 mod index;
 mod iter;
 mod map;
 mod node;
 mod zone_sets;
 
+pub use edit::Edit;
 pub use iter::ZoneSetsIter;
 pub use zone_sets::{Match, Search, ZoneSets};

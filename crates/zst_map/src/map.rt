@@ -10,13 +10,16 @@ ghost use Rattle.zst_handler.specs.dnw_name.DomainName.{DomainName, lowercase_na
 ghost use Rattle.zst_handler.specs.Lookups.{sets_of_name};
 ghost use Rattle.zst_handler.specs.Updates.{Replaces};
 ghost use Rattle.zst_handler.specs.Zones.{AreInOrder, rrset_at};
+ghost use Rattle.zst_handler.specs.zst_record.RecordSets.{RRset};
 ghost use Rattle.zst_map.specs.Changes.{alters, made, owner_of, type_in};
+ghost use Rattle.zst_map.specs.Edits.{CanEdit, edited};
 ghost use Rattle.zst_key.specs.Ancestors.{nearest_in};
 ghost use Rattle.zst_map.specs.ZoneMaps.{IsPlace, exists_alike, held, owned};
 
 use crate::change::Change;
+use crate::edit::Edit;
 use crate::index::insert_key;
-use crate::node::{change_node, is_only, only, take_out};
+use crate::node::{change_node, edit_node, is_only, only, take_out};
 use std::alloc::{AllocError, Global};
 use std::collections::{BTreeMap, HashMap};
 use std::hash::Hash;
@@ -144,6 +147,20 @@ impl ZoneMap {
         let set = change.into_set(alloc);
         put_owner(&mut self.owners, &mut self.nodes, key, OneOrMany::One(set))?;
         Ok(true)
+    }
+
+    /// Changes the set of an owner, which has this key, and a type where it is.
+    pub(crate) fn edit(&mut self, key: &NameKey, record_type: RecordType, edit: Edit)
+        requires { (set : RRset) × (rrset_at self.old key.now record_type ≡ Some set) × CanEdit edit set }
+        ensures others { (set : RRset) → rrset_at self.old key.now record_type ≡ Some set → CanEdit edit set
+            → Replaces self.old key.now record_type (Some (edited edit set)) self.new }
+        ensures ordered { AreInOrder self.new }
+    {
+        let Some(node) = self.nodes.get_mut(key) else {
+            mem::drop(edit);
+            return;
+        };
+        edit_node(node, record_type, edit);
     }
 
     /// Takes out the set of an owner, which has this key, and a type.

@@ -8,13 +8,17 @@ ghost use Rattle.zst_handler.specs.zst_record.OneOrMany.{items_of};
 ghost use Rattle.zst_handler.specs.zst_record.RecordSets.{RRset};
 ghost use Rattle.zst_handler.specs.Found.{cut_at, here, is_address};
 ghost use Rattle.zst_handler.specs.Lookups.{sets_of_name};
-ghost use Rattle.zst_map.specs.Changes.{alters, is_only, made, owner_of, set_of_type, type_in, with_change, without_type};
+ghost use Rattle.zst_handler.specs.Updates.{set_of_type, with_set, without_type};
+ghost use Rattle.zst_map.specs.Changes.{alters, is_only, made, owner_of, type_in, with_change};
+ghost use Rattle.zst_map.specs.Edits.{CanEdit, edited};
 ghost use Rattle.zst_map.specs.Searches.{lent};
 ghost use Rattle.zst_map.specs.ZoneMaps.{TypesRise, place_from};
 
 use crate::change::Change;
+use crate::edit::Edit;
 use std::alloc::{AllocError, Global};
 use std::cmp::Ordering;
+use std::mem;
 use zst_handler::{OneOrMany, RecordSet, RecordType};
 
 /// The set of a type.
@@ -107,6 +111,31 @@ fn change_at(
     match sets {
         OneOrMany::One(set) => change.apply(set),
         OneOrMany::Many(sets) => change.apply(&mut sets[place]),
+    }
+}
+
+/// Changes the set of a type, which is there, where it is.
+pub(crate) fn edit_node(sets: &mut OneOrMany<RecordSet>, record_type: RecordType, edit: Edit)
+    requires there { (set : RRset) × (set_of_type record_type (items_of sets.old) ≡ Some set) × CanEdit edit set }
+    requires rise { TypesRise (items_of sets.old) }
+    ensures { (set : RRset) → set_of_type record_type (items_of sets.old) ≡ Some set → CanEdit edit set
+        → items_of sets.new ≡ with_set (items_of sets.old) (edited edit set) }
+{
+    match place_of(sets.as_slice(), record_type) {
+        Ok(place) => edit_at(sets, place, edit),
+        Err(_) => mem::drop(edit),
+    }
+}
+
+// Changes the set at a place.
+fn edit_at(sets: &mut OneOrMany<RecordSet>, place: usize, edit: Edit)
+    requires place { place < length (items_of sets.old) }
+    requires can { (set : RRset) → slice_get (items_of sets.old) place ≡ Some set → CanEdit edit set }
+    ensures { (set : RRset) → slice_get (items_of sets.old) place ≡ Some set → items_of sets.new ≡ slice_set (items_of sets.old) place (edited edit set) }
+{
+    match sets {
+        OneOrMany::One(set) => edit.apply(set),
+        OneOrMany::Many(sets) => edit.apply(&mut sets[place]),
     }
 }
 

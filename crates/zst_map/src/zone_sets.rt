@@ -12,12 +12,15 @@ ghost use Rattle.zst_handler.specs.Found.{above, cut_at, cut_found, delegation, 
 ghost use Rattle.zst_handler.specs.Lookups.{sets_of_name};
 ghost use Rattle.zst_handler.specs.Updates.{Replaces, upsert_changes, upserted};
 ghost use Rattle.zst_handler.specs.Zones.{Adds, AreInOrder, exists_in, rrset_at};
+ghost use Rattle.zst_handler.specs.zst_record.RecordSets.{RRset};
 ghost use Rattle.zst_map.specs.Changes.{alters, made, owner_of, type_in};
+ghost use Rattle.zst_map.specs.Edits.{CanEdit, edited};
 ghost use Rattle.zst_map.specs.Searches.{IsSearch, lent, looked_for, match_set, sought_in};
 ghost use Rattle.zst_map.specs.ZoneMaps.{IsPlace, exists_alike, owned};
 
 use crate::apart::is_kept_out;
 use crate::change::Change;
+use crate::edit::Edit;
 use crate::index::Index;
 use crate::iter::ZoneSetsIter;
 use crate::map::{Place, ZoneMap};
@@ -235,6 +238,16 @@ impl ZoneSets {
             return Err(AllocError);
         }
         self.sets.change(alloc, key, change)
+    }
+
+    /// Changes the set of a type at the name of a key, which is there, where it is. It takes no memory.
+    pub fn edit(&mut self, key: &NameKey, record_type: RecordType, edit: Edit)
+        requires { (set : RRset) × (rrset_at self.old key.now record_type ≡ Some set) × CanEdit edit set }
+        ensures others { (set : RRset) → rrset_at self.old key.now record_type ≡ Some set → CanEdit edit set
+            → Replaces self.old key.now record_type (Some (edited edit set)) self.new }
+        ensures ordered { AreInOrder self.new }
+    {
+        self.sets.edit(key, record_type, edit);
     }
 
     /// Takes out the set of a type at the name of a key.

@@ -112,7 +112,7 @@ is_single record_type =
 abbrev pub inserted : RRset → Record → RRset
 inserted set r = with_one (is_single set.record_type) set r
 
--- No record may be taken out: an SOA, or the last NS (RFC 2136, section 3.4.2.4).
+-- No record may be taken out: an SOA, or the last NS of any owner (RFC 2136, section 3.4.2.7).
 abbrev pub keeps_last : RRset → Bool
 keeps_last set =
     same_record_type set.record_type kind.SOA

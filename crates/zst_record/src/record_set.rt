@@ -238,7 +238,7 @@ impl RecordSet {
     }
 
     /// Takes out the record with equal data, of the set's owner and type, and tells whether that was done; then the
-    /// signatures go. Neither an SOA is taken out, nor the last NS (RFC 2136 section 3.4.2.4).
+    /// signatures go. Neither an SOA is taken out, nor the last NS (RFC 2136 section 3.4.2.7).
     pub fn remove(&mut self, record: &Record) -> bool
         ensures done { result ≡ loses self.old record.now }
         ensures set { self.new ≡ (if loses self.old record.now then removed self.old record.now else self.old) }

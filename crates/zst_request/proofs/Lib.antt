@@ -1,2 +1,3 @@
+pub mod UpdateRows
 pub mod WorkedRows
 pub use Rattle.zst_handler.proofs.LookupOnce

@@ -1,12 +1,10 @@
 -- What handlers answer, by what they mean.
-use Rattle.std.specs.Prelude.{◌≡◌, Bool, true, false, [], Option, Some, None, Result, Ok, Err, if◌then◌else◌}
+use Rattle.std.specs.Prelude.{◌≡◌, Bool, true, false, [], Option, Some, None, Ok, Err, if◌then◌else◌}
 use Rattle.std.specs.declared.io.Error.{Error}
 use Rattle.zst_codes.specs.declared.lookup_control_flow.LookupControlFlow.{LookupControlFlow}
 use Rattle.zst_codes.specs.declared.lookup_control_flow.LookupControlFlow.TheVariants as flows
 use Rattle.zst_codes.specs.declared.lookup_error.LookupError.{LookupError}
 use Rattle.zst_codes.specs.declared.lookup_error.LookupError.TheVariants as errors
-use Rattle.zst_codes.specs.declared.response_code.ResponseCode.{ResponseCode}
-use Rattle.zst_codes.specs.declared.response_code.ResponseCode.TheVariants as codes
 use Rattle.zst_handler.specs.Answers.{LookupAnswers, additionals_in, answers_in, authorities_in}
 use Rattle.zst_handler.specs.declared.auth_lookup.AuthLookup.{AuthLookup}
 use Rattle.zst_handler.specs.declared.lookup_options.LookupOptions.{LookupOptions}
@@ -75,7 +73,3 @@ Consults (Blocked blocklist) name record_type last flow =
 -- There are no proofs of absence here: reading them fails.
 abbrev pub LacksProof : Flow → Type 0
 LacksProof flow = (cause : Error) × (flow ≡ flows.Continue (Err (errors.Io cause)))
-
--- What an update is told, and what is left (RFC 2136, section 3). No handler takes one yet.
-abbrev pub Updates : View → Result Bool ResponseCode → View → Type 0
-Updates old told new = (told ≡ Err codes.NotImp) × (new ≡ old)

@@ -1,7 +1,11 @@
+pub mod Applied
 pub mod AxfrRecords
 pub mod Blocking
 pub mod Handling
+pub mod Prerequisites
+pub mod Requested
 pub mod Transfers
+pub mod Updating
 pub mod Views
 pub use Rattle.zst_handler.specs.dnw_codes
 pub use Rattle.zst_handler.specs.dnw_name

@@ -1,5 +1,5 @@
 -- What a handler means: a zone that is stored, or names that are blocked.
-use Rattle.std.specs.Prelude.{ℕ, Bool, List, Option, None}
+use Rattle.std.specs.Prelude.{ℕ, Bool, List, Option, Some, None}
 use Rattle.std.specs.declared.net.ipv4_addr.Ipv4Addr.{Ipv4Addr}
 use Rattle.std.specs.declared.net.ipv6_addr.Ipv6Addr.{Ipv6Addr}
 use Rattle.zst_codes.specs.declared.nx_proof.NxProofKind.{NxProofKind}
@@ -8,7 +8,7 @@ use Rattle.zst_codes.specs.declared.settings.AxfrPolicy.TheVariants.{Deny}
 use Rattle.zst_codes.specs.declared.settings.ZoneType.{ZoneType}
 use Rattle.zst_codes.specs.declared.settings.ZoneType.TheVariants.{External}
 use Rattle.zst_handler.specs.dnw_name.DomainName.{DomainName}
-use Rattle.zst_handler.specs.Zones.{Zone}
+use Rattle.zst_handler.specs.Zones.{Guard, Zone}
 use Rattle.zst_request.specs.declared.blocklist.BlocklistConsultAction.{BlocklistConsultAction}
 
 -- A list of names that are blocked, and its settings: whether a wildcard among the names stands for
@@ -39,9 +39,14 @@ abbrev pub zone_type_of : View → ZoneType
 zone_type_of (Stored zone) = zone.zone_type
 zone_type_of (Blocked blocklist) = External
 
+-- A guard's policy stands before the zone's own.
+abbrev pub outer_policy : AxfrPolicy → Option Guard → AxfrPolicy
+outer_policy own None = own
+outer_policy own (Some guard) = guard.axfr_policy
+
 -- Nobody may transfer a list of them.
 abbrev pub axfr_policy_of : View → AxfrPolicy
-axfr_policy_of (Stored zone) = zone.axfr_policy
+axfr_policy_of (Stored zone) = outer_policy zone.axfr_policy zone.guard
 axfr_policy_of (Blocked blocklist) = Deny
 
 abbrev pub nx_proof_kind_of : View → Option NxProofKind

@@ -4,8 +4,8 @@ use std::net::SocketAddr;
 use zst_codes::TsigVerdict;
 use zst_handler::{Name, Record, RecordType};
 
-/// What a handler is asked.
-#[derive(Clone, Copy)]
+/// What a handler is asked. It owns the records of an update, so that a zone that takes them copies none.
+#[derive(Drop)]
 pub struct ZoneRequest<'a> {
     /// The name that is asked for; of an update, the zone's.
     pub name: &'a Name,
@@ -22,7 +22,7 @@ pub struct ZoneRequest<'a> {
     /// What an update asks of the zone first (RFC 2136 section 2.4).
     pub prerequisites: &'a [Record],
     /// What an update changes (RFC 2136 section 2.5).
-    pub updates: &'a [Record],
+    pub updates: Vec<Record>,
 }
 
 /// What the signature of a request says (RFC 8945 section 4.2).

@@ -1,8 +1,10 @@
 //! What a server asks of the handler of a zone.
 
-ghost use Rattle.std.specs.Prelude.{◌≡◌, false, IfOk, IsNone, OnErr, option_copied};
+ghost use Rattle.std.specs.Prelude.{◌≡◌, false, IfOk, IsNone, OnErr, option_copied, option_map};
 ghost use Rattle.zst_handler.specs.dnw_name.DomainName.{lowercase_name};
-ghost use Rattle.zst_request.specs.Handling.{AnswersQuestion, Consults, HandlerAnswers, LacksProof, Updates};
+ghost use Rattle.zst_request.specs.Handling.{AnswersQuestion, Consults, HandlerAnswers, LacksProof};
+ghost use Rattle.zst_request.specs.Requested.{asked_of, context_of};
+ghost use Rattle.zst_request.specs.Updating.{UpdatesView, update_context};
 ghost use Rattle.zst_request.specs.Views.{View, axfr_policy_of, nx_proof_kind_of, origin_of, zone_type_of};
 
 use crate::request::{TSigResponseContext, ZoneRequest};
@@ -174,20 +176,19 @@ pub trait ZoneHandler: Drop {
         Ok(no_proof("this handler has no NSEC3 records"))
     }
 
-    /// Updates the zone (RFC 2136), and tells whether that changed it, or why it wasn't done. The moment is given in
-    /// seconds since 1970. No handler takes updates yet: the code is NotImp.
+    /// Updates the zone (RFC 2136), and tells whether that changed it, or by which code it is refused; then the zone is as it
+    /// was. A zone that takes no updates, and a list of blocked names, answer NotImp. The moment is given in seconds since
+    /// 1970.
+    // No body fits every handler: a guarded zone does more than refuse.
     fn update(
         &mut self,
         alloc: Global,
-        request: &ZoneRequest<'_>,
+        request: ZoneRequest<'_>,
         now: u64,
     ) -> Result<(Result<bool, ResponseCode>, Option<TSigResponseContext>), AllocError>
-        ensures answer { IfOk result (λ given. Updates (view self.old) given.0 (view self.new)) }
-        ensures context { IfOk result (λ given. IsNone given.1) }
-        ensures err { OnErr result (view self.new ≡ view self.old) }
-    {
-        Ok((Err(ResponseCode::NotImp), None))
-    }
+        ensures told { IfOk result (λ given. UpdatesView (view self.old) (asked_of request.entry) given.0 (view self.new)) }
+        ensures context { IfOk result (λ given. option_map context_of given.1 ≡ update_context (view self.old) (asked_of request.entry) now) }
+        ensures err { OnErr result (view self.new ≡ view self.old) };
 }
 
 // There are no records that prove that a name is absent, for a reason in words.
@@ -327,7 +328,7 @@ impl ZoneHandler for Box<dyn ZoneHandler> {
     fn update(
         &mut self,
         alloc: Global,
-        request: &ZoneRequest<'_>,
+        request: ZoneRequest<'_>,
         now: u64,
     ) -> Result<(Result<bool, ResponseCode>, Option<TSigResponseContext>), AllocError> {
         (**self).update(alloc, request, now)

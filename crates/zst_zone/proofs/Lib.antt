@@ -4,10 +4,12 @@ pub mod LowerNames
 pub mod Made
 pub mod Matches
 pub mod ReadBack
+pub mod EditedSets
 pub mod Stored
 pub mod Targets
 pub mod SeenKeys
 pub mod Told
+mod Unguarded
 pub use Rattle.zst_map.proofs.dnw_name_lemmas
 pub use Rattle.zst_map.proofs.drd_words_lemmas
 pub use Rattle.zst_map.proofs.drd_rdata_lemmas

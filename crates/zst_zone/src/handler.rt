@@ -7,7 +7,8 @@ ghost use Rattle.zst_map.specs.zst_handler.Lookups.{denial};
 ghost use Rattle.zst_map.specs.dnw_codes.declared.dns_class.DNSClass.TheVariants.{IN};
 ghost use Rattle.zst_map.specs.dnw_codes.RecordType.{same_record_type};
 ghost use Rattle.zst_map.specs.dnw_codes.declared.record_type.RecordType.TheVariants as types;
-ghost use Rattle.zst_map.specs.zst_record.RecordSets.{none_left};
+ghost use Rattle.zst_map.specs.Edits.{CanEdit, edited};
+ghost use Rattle.zst_map.specs.zst_record.RecordSets.{RRset, none_left};
 ghost use Rattle.zst_map.specs.zst_handler.Updates.{Upserts, ZoneReplaces, upsert_changes};
 ghost use Rattle.zst_map.specs.zst_handler.Zones.{exists_in, rrset_at, empty_zone, AddsTo, AreInOrder, AreStored, ZoneReadsBack};
 ghost use Rattle.zst_zone.specs.Makings.{PutsAll, RefusesAll, first_refusal, is_own_key, refusal};
@@ -21,9 +22,9 @@ use std::marker::{Model, PhantomData};
 use std::mem;
 use thiserror::Error;
 use zst_map::{
-    AuthLookup, AxfrPolicy, DNSClass, LookupControlFlow, LookupError, LookupOptions, Name, NameKey,
-    NxProofKind, RData, Record, RecordSet, RecordType, ResponseCode, RrKey, Search, ZoneSets,
-    ZoneSettings, ZoneType,
+    AuthLookup, AxfrPolicy, DNSClass, Edit, LookupControlFlow, LookupError, LookupOptions, Name,
+    NameKey, NxProofKind, RData, Record, RecordSet, RecordType, ResponseCode, RrKey, Search,
+    ZoneSets, ZoneSettings, ZoneType,
 };
 
 /// Why a zone is not changed or made. The numbers are stable; 3 is free.
@@ -54,12 +55,13 @@ pub struct InMemoryZoneHandler<K> {
 }
 
 impl<K> Model for InMemoryZoneHandler<K> {
+    ghost use Rattle.std.specs.Prelude.{None};
     ghost use Rattle.zst_map.specs.zst_handler.Zones.{Zone};
     ghost use Rattle.zst_zone.specs.Answering.{IsKept};
 
     ghost Value = { Zone };
 
-    ghost view = { λ zone. record { origin = zone.origin; zone_type = zone.zone_type; axfr_policy = zone.axfr_policy; nx_proof_kind = zone.nx_proof_kind; sets = zone.sets } };
+    ghost view = { λ zone. record { origin = zone.origin; zone_type = zone.zone_type; axfr_policy = zone.axfr_policy; nx_proof_kind = zone.nx_proof_kind; guard = None; sets = zone.sets } };
 
     ghost invariant = { λ zone. IsKept zone.origin zone.origin_key zone.sets };
 }
@@ -145,11 +147,21 @@ impl<K> InMemoryZoneHandler<K> {
         self.zone_type
     }
 
-    /// Who may transfer the zone.
+    /// Who may transfer the zone. A zone in memory has no guard.
     pub fn axfr_policy(&self) -> AxfrPolicy
-        ensures { result ≡ self.now.axfr_policy }
+        ensures value { result ≡ self.now.axfr_policy }
+        ensures guard { self.now.guard ≡ None }
     {
         self.axfr_policy
+    }
+
+    // The code that answers an update: a zone in memory has no guard, so no message changes it.
+    pub(crate) fn update_code(&self) -> ResponseCode
+        ensures code { result ≡ ResponseCode.NotImp }
+        ensures guard { self.now.guard ≡ None }
+    {
+        let _origin = &self.origin;
+        ResponseCode::NotImp
     }
 
     /// How the zone proves that a name is absent, if it does.
@@ -420,8 +432,35 @@ impl<K> InMemoryZoneHandler<K> {
             mem::drop(set);
             return Err(AllocError);
         };
+        self.put_at(alloc, key, set)
+    }
+
+    /// Puts a set that has records, and whose owner has this key, in place of the one of its owner and type.
+    pub fn put_at(&mut self, alloc: Global, key: NameKey, set: RecordSet) -> Result<(), AllocError>
+        requires key { key ≡ lowercase_name set.name }
+        requires filled { none_left set.records ≡ false }
+        ensures ok { OnOk result (ZoneReplaces self.old set.name set.record_type (Some set) self.new) }
+        ensures err { OnErr result (self.new ≡ self.old) }
+    {
         let _held = set.as_slice();
         self.sets.put(alloc, key, set)
+    }
+
+    /// Changes the set of an owner, which has this key, and a type where it is. It takes no memory.
+    pub fn edit_at(&mut self, key: &NameKey, record_type: RecordType, edit: Edit)
+        requires { (set : RRset) × (rrset_at self.old.sets key.now record_type ≡ Some set) × CanEdit edit set }
+        ensures { (set : RRset) → rrset_at self.old.sets key.now record_type ≡ Some set → CanEdit edit set
+            → ZoneReplaces self.old key.now record_type (Some (edited edit set)) self.new }
+    {
+        self.sets.edit(key, record_type, edit);
+    }
+
+    /// Takes out the set of an owner, which has this key, and a type. It takes no memory.
+    pub fn remove_at(&mut self, key: &NameKey, record_type: RecordType) -> Option<RecordSet>
+        ensures value { result ≡ rrset_at self.old.sets key.now record_type }
+        ensures set { ZoneReplaces self.old key.now record_type None self.new }
+    {
+        self.sets.remove(key, record_type)
     }
 
     /// Takes out the set of an owner and a type.
@@ -431,7 +470,7 @@ impl<K> InMemoryZoneHandler<K> {
         ensures err { OnErr result (self.new ≡ self.old) }
     {
         let key = NameKey::of(alloc, &at.name)?;
-        Ok(self.sets.remove(&key, at.record_type))
+        Ok(self.remove_at(&key, at.record_type))
     }
 
     /// Takes out all sets.

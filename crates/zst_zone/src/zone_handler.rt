@@ -1,10 +1,16 @@
 //! A zone in memory, as a server asks its handler.
 
+ghost use Rattle.std.specs.Prelude.{◌≡◌, None, Ok, Err, IfOk, OnErr, option_map};
+ghost use Rattle.zst_request.specs.Requested.{asked_of, context_of};
+ghost use Rattle.zst_request.specs.Updating.{UpdatesView, update_context};
+ghost use Rattle.zst_request.specs.Views.{Stored};
+
 use crate::handler::InMemoryZoneHandler;
 use std::alloc::{AllocError, Global};
+use std::mem;
 use zst_request::{
     AuthLookup, AxfrPolicy, LookupControlFlow, LookupError, LookupOptions, Name, NameKey,
-    NxProofKind, RecordType, TSigResponseContext, ZoneHandler, ZoneRequest, ZoneType,
+    NxProofKind, RecordType, ResponseCode, TSigResponseContext, ZoneHandler, ZoneRequest, ZoneType,
 };
 
 impl<K: Drop> ZoneHandler for InMemoryZoneHandler<K> {
@@ -103,5 +109,21 @@ impl<K: Drop> ZoneHandler for InMemoryZoneHandler<K> {
         AllocError,
     > {
         Ok((last, None))
+    }
+
+    /// Refuses each: messages change a guarded zone alone. It takes no memory.
+    fn update(
+        &mut self,
+        alloc: Global,
+        request: ZoneRequest<'_>,
+        now: u64,
+    ) -> Result<(Result<bool, ResponseCode>, Option<TSigResponseContext>), AllocError>
+        ensures refused { result ≡ Ok (Err ResponseCode.NotImp, None) }
+        ensures told { IfOk result (λ given. UpdatesView (Stored self.old) (asked_of request.entry) given.0 (Stored self.new)) }
+        ensures context { IfOk result (λ given. option_map context_of given.1 ≡ update_context (Stored self.old) (asked_of request.entry) now) }
+        ensures err { OnErr result (Stored self.new ≡ Stored self.old) }
+    {
+        mem::drop(request);
+        Ok((Err(self.update_code()), None))
     }
 }

@@ -7,7 +7,8 @@ use Rattle.zst_request.specs.dnw_codes.declared.record_type.RecordType.{RecordTy
 use Rattle.zst_request.specs.zst_codes.declared.response_code.ResponseCode.{ResponseCode}
 use Rattle.zst_request.specs.zst_codes.declared.response_code.ResponseCode.TheVariants as responses
 use Rattle.zsv_answer.specs.Resolution.{Resolution, no_such_name, no_such_type, not_here, resolved}
-use Rattle.zsv_answer.specs.Responses.{parts_with, reply_metadata}
+use Rattle.zsv_answer.specs.Responses.{parts_with}
+use Rattle.zsv_reply.specs.Writing.{reply_metadata}
 use Rattle.zsv_answer.specs.Shown.{hidden_but, shown_if}
 
 -- The header says that recursion is available.

@@ -17,7 +17,8 @@ use Rattle.zst_request.specs.zst_handler.Answers.{sets_shown}
 use Rattle.zst_request.specs.zst_handler.Lookups.{IsLookup, Outcome, answered}
 use Rattle.zsv_answer.specs.Forwarding.{ForwardedParts}
 use Rattle.zsv_answer.specs.Resolution.{Resolution, Resolves, answering, no_such_name, no_such_type, not_here, resolved}
-use Rattle.zsv_answer.specs.Responses.{error_parts, parts_with, reply_metadata}
+use Rattle.zsv_answer.specs.Responses.{parts_with}
+use Rattle.zsv_reply.specs.Writing.{error_parts, reply_metadata}
 
 -- ---- what stands as authority
 -- The records that a lookup answers with, signatures only where they are asked for (RFC 4035,

@@ -1,48 +1,15 @@
 -- The headers and lists of replies: RFC 1035, section 4.1.1.
 use Rattle.std.specs.Prelude.{ℕ, ◌≤◌, Bool, true, false, not, ◌&&◌, List, [], ◌++◌, length, Option, None, if◌then◌else◌}
 use Rattle.zsv_reply.specs.Replies.{ReplyParts}
-use Rattle.zsv_reply.specs.Writing.{AllReadBack, IsEncoded}
 use Rattle.zsv_reply.specs.zst_record.declared.records.Record.{Record}
 use Rattle.zsv_reply.specs.zsv_message.zst_edns.declared.edns.Edns.{Edns}
-use Rattle.zsv_reply.specs.zsv_message.zsv_parts.Questions.{Asked}
-use Rattle.zsv_reply.specs.zsv_message.zsv_parts.declared.header.Header.{Header}
-use Rattle.zsv_reply.specs.zsv_message.zsv_parts.declared.header.MessageType.TheVariants as messages
 use Rattle.zsv_reply.specs.zsv_message.zsv_parts.declared.header.Metadata.{Metadata}
-use Rattle.zsv_request.specs.Requests.{limit_of}
-use Rattle.zsv_request.specs.declared.protocol.Protocol.{Protocol}
-use Rattle.zst_request.specs.zst_codes.declared.response_code.ResponseCode.{ResponseCode}
 use Rattle.zst_request.specs.zst_handler.Answers.{additionals_in, answers_in, is_lent, lends_all, records_in}
 use Rattle.zst_request.specs.zst_handler.declared.lookup_records.LookupRecords.{LookupRecords}
 use Rattle.zst_request.specs.zst_handler.declared.lookup_records.LookupRecords.TheVariants as lookups
 use Rattle.zsv_answer.specs.Shown.{shown_if}
 use Rattle.zsv_answer.specs.declared.response.OneList.{OneList}
 use Rattle.zsv_answer.specs.declared.response.Response.{Response}
-
--- The header of a reply repeats the identifier, the operation, RD and CD.
-abbrev pub reply_metadata : Metadata → Bool → ResponseCode → Metadata
-reply_metadata m authoritative code = record {
-  id = m.id;
-  message_type = messages.Response;
-  op_code = m.op_code;
-  authoritative = authoritative;
-  truncation = false;
-  recursion_desired = m.recursion_desired;
-  recursion_available = false;
-  authentic_data = false;
-  checking_disabled = m.checking_disabled;
-  response_code = code;
-}
-
--- An error has no records.
-abbrev pub error_parts : Metadata → ResponseCode → ReplyParts
-error_parts m code = record {
-  metadata = reply_metadata m false code;
-  answers = [];
-  authorities = [];
-  additionals = [];
-  edns = None;
-  signature = None;
-}
 
 -- The records that answer; those of a referral stand as authority, before those beside.
 abbrev pub parts_with : Metadata → Bool → List Record → List Record → List Record → ReplyParts
@@ -54,22 +21,6 @@ parts_with m referral records additionals beside = record {
   edns = None;
   signature = None;
 }
-
--- With these options.
-abbrev pub with_edns : Option Edns → ReplyParts → ReplyParts
-with_edns edns parts = record parts { edns = edns }
-
--- The octets of a reply of these parts, and its header: within the limit of the transport whatever
--- the records are, and the reply to the questions if each record reads back.
-pub record SendsParts (parts : ReplyParts) (asked : Asked) (transport : Protocol) (info : Header)
-    (reply : List ℕ) : Type 0 where
-  pub within : length reply ≤ limit_of transport parts.edns
-  pub stands : AllReadBack parts → IsEncoded info reply parts asked (limit_of transport parts.edns)
-
--- The same, of these parts and options.
-abbrev pub Sends : ReplyParts → Option Edns → Asked → Protocol → Header → List ℕ → Type 0
-Sends parts edns asked transport info reply =
-    SendsParts (with_edns edns parts) asked transport info reply
 
 -- What a response holds: of an answer that is forwarded the records that are shown, and nothing
 -- that goes with them.

@@ -1,5 +1,7 @@
 pub use Rattle.zst_request.specs.Blocking
 pub use Rattle.zst_request.specs.Handling
+pub use Rattle.zst_request.specs.Requested
+pub use Rattle.zst_request.specs.Updating
 pub use Rattle.zst_request.specs.Views
 pub use Rattle.zst_request.specs.declared
 pub use Rattle.zst_request.specs.dnw_codes

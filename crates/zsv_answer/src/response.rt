@@ -3,9 +3,9 @@
 ghost use Rattle.std.specs.Prelude.{◌≡◌, List, [], false, length, IfOk, None, Some, if◌then◌else◌, option_copied, IfSome};
 ghost use Rattle.zst_request.specs.zst_codes.declared.response_code.ResponseCode.TheVariants as responses;
 ghost use Rattle.zst_request.specs.zst_handler.Answers.{additionals_in, answers_in, records_in};
-ghost use Rattle.zsv_answer.specs.Responses.{Sends, error_parts, has_no_authority, lends_records, list_parts, parts_of, parts_with, reply_metadata};
+ghost use Rattle.zsv_answer.specs.Responses.{has_no_authority, lends_records, list_parts, parts_of, parts_with};
 ghost use Rattle.zsv_answer.specs.Shown.{shown_if};
-ghost use Rattle.zsv_answer.specs.zsv_reply.Writing.{AreWritten, IsEncoded};
+ghost use Rattle.zsv_answer.specs.zsv_reply.Writing.{AreWritten, IsEncoded, Sends, error_parts, reply_metadata};
 ghost use Rattle.zsv_answer.specs.zsv_reply.zst_pointing.Pointing.{ArePointing};
 ghost use Rattle.zsv_answer.specs.zsv_reply.zsv_message.zsv_parts.Questions.{Asked};
 ghost use Rattle.zsv_answer.specs.zsv_reply.zst_record.declared.records.Record.{Record as Entry};

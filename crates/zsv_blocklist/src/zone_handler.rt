@@ -1,9 +1,12 @@
 //! A list of blocked names, as a server asks its handler.
 
-ghost use Rattle.std.specs.Prelude.{◌≡◌, IfOk};
+ghost use Rattle.std.specs.Prelude.{◌≡◌, None, Ok, Err, IfOk, OnErr, option_map};
 ghost use Rattle.zst_request.specs.Blocking.{blocked_answer};
 ghost use Rattle.zst_request.specs.Handling.{Blocks, enforced_answer, is_enforced};
 ghost use Rattle.zst_request.specs.dnw_name.DomainName.{lowercase_name};
+ghost use Rattle.zst_request.specs.Requested.{asked_of, context_of};
+ghost use Rattle.zst_request.specs.Updating.{UpdatesView, update_context};
+ghost use Rattle.zst_request.specs.Views.{Blocked};
 ghost use Rattle.zsv_blocklist.specs.Answers.{ShowsIf};
 
 use crate::handler::BlocklistZoneHandler;
@@ -11,8 +14,8 @@ use std::alloc::{AllocError, Global};
 use std::mem;
 use zst_request::{
     AuthLookup, AxfrPolicy, BlocklistConsultAction, LookupControlFlow, LookupOptions,
-    LookupRecords, Name, NameKey, NxProofKind, RecordType, TSigResponseContext, ZoneHandler,
-    ZoneRequest, ZoneType,
+    LookupRecords, Name, NameKey, NxProofKind, RecordType, ResponseCode, TSigResponseContext,
+    ZoneHandler, ZoneRequest, ZoneType,
 };
 
 impl ZoneHandler for BlocklistZoneHandler {
@@ -109,6 +112,22 @@ impl ZoneHandler for BlocklistZoneHandler {
                 Err(refused)
             }
         }
+    }
+
+    /// Refuses each: a list is changed by its own calls. It takes no memory.
+    fn update(
+        &mut self,
+        alloc: Global,
+        request: ZoneRequest<'_>,
+        now: u64,
+    ) -> Result<(Result<bool, ResponseCode>, Option<TSigResponseContext>), AllocError>
+        ensures refused { result ≡ Ok (Err ResponseCode.NotImp, None) }
+        ensures told { IfOk result (λ given. UpdatesView (Blocked self.old) (asked_of request.entry) given.0 (Blocked self.new)) }
+        ensures context { IfOk result (λ given. option_map context_of given.1 ≡ update_context (Blocked self.old) (asked_of request.entry) now) }
+        ensures err { OnErr result (Blocked self.new ≡ Blocked self.old) }
+    {
+        mem::drop(request);
+        Ok((Err(ResponseCode::NotImp), None))
     }
 }
 

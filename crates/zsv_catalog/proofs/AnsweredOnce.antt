@@ -4,7 +4,7 @@ use Rattle.std.specs.Prelude.{Option, Some, None, IsSome, option_map}
 use Rattle.drd_types.specs.dnw_decoder.Octets.{octets_16, octets_32}
 use Rattle.drd_types.specs.drd_opt.Entries.{entries_octets}
 use Rattle.zsv_catalog.proofs.PartsOnce.{SameParts, equal-parts, one-chain-parts}
-use Rattle.zsv_answer.specs.Responses.{with_edns}
+use Rattle.zsv_answer.specs.zsv_reply.Writing.{with_edns}
 use Rattle.zsv_answer.specs.zst_request.Views.{View}
 use Rattle.zsv_answer.specs.zst_request.dnw_codes.declared.record_type.RecordType.TheVariants.{AXFR}
 use Rattle.zsv_answer.specs.zst_request.dnw_codes.declared.record_type.RecordType.TheVariants as kind
@@ -23,7 +23,7 @@ use Rattle.zsv_answer.specs.zsv_reply.zsv_message.zsv_parts.declared.header.OpCo
 use Rattle.zsv_answer.specs.zsv_reply.zsv_message.zsv_parts.declared.header.OpCode.TheVariants as operations
 use Rattle.zsv_answer.specs.zsv_reply.zsv_message.zsv_parts.declared.question.Query.{Query}
 use Rattle.zsv_catalog.specs.Catalogs.{AnswersEdns, IsReplyEdns, KindParts, OperationParts, PartsOf, PlainParts, QueryParts, QuestionParts, asks_for_dnssec, has_other_version, nsid_for}
-use Rattle.zsv_catalog.specs.Chains.{chain_for}
+use Rattle.zsv_chains.specs.Chains.{chain_for}
 
 module _ (chains : List (DomainName × List View)) (m : Metadata) (dnssec_ok : Bool) where
   one-question : (q : Query) (a b : ReplyParts) → QuestionParts chains m dnssec_ok q a → QuestionParts chains m dnssec_ok q b → SameParts a b

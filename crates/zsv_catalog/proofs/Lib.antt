@@ -1,7 +1,7 @@
 pub mod AnsweredOnce
 pub mod Asked
 mod BlockedBack
-pub mod Chained
+pub use Rattle.zsv_chains.proofs.Chained
 mod Named
 pub mod PartsBack
 pub mod PartsOnce

@@ -29,7 +29,8 @@ use Rattle.zsv_answer.specs.zst_request.zst_handler.Zones.{Zone}
 use Rattle.zsv_answer.specs.Forwarding.{ForwardedParts, forwarded_metadata, resolved_parts}
 use Rattle.zsv_answer.specs.Parts.{AtOrigin, AuthoritativeParts, BesideAnswer, ChainParts, DeniedParts, PartsAs, answer_records, begins_with_ns, is_referral}
 use Rattle.zsv_answer.specs.Resolution.{GivesBlocked, ListResolves, Resolution, Resolves, ZoneResolves, answering, enforced, no_such_name, no_such_type, not_here, outcome_shown, resolved}
-use Rattle.zsv_answer.specs.Responses.{parts_with, reply_metadata}
+use Rattle.zsv_answer.specs.Responses.{parts_with}
+use Rattle.zsv_answer.specs.zsv_reply.Writing.{reply_metadata}
 use Rattle.zsv_answer.specs.Shown.{hidden_but, is_dnssec_record, is_shown, shown_if, shown_to}
 
 -- ---- the same in octets

@@ -20,7 +20,7 @@ use Rattle.zsv_answer.specs.zsv_reply.zsv_message.zsv_parts.declared.header.OpCo
 use Rattle.zsv_answer.specs.zsv_reply.zsv_message.zsv_parts.declared.header.OpCode.TheVariants as operations
 use Rattle.zsv_answer.specs.zsv_reply.zsv_message.zsv_parts.declared.question.Query.{Query}
 use Rattle.zsv_catalog.specs.Catalogs.{KindParts, OperationParts, PlainParts, QueryParts, QuestionParts, asks_for_dnssec, has_other_version}
-use Rattle.zsv_catalog.specs.Chains.{chain_for}
+use Rattle.zsv_chains.specs.Chains.{chain_for}
 
 -- What a reply repeats of its request.
 abbrev pub Repeated : Type 0

@@ -2,19 +2,21 @@
 -- sections 6 and 7.
 use Rattle.std.specs.Prelude.{◌≡◌, ℕ, Bool, true, false, List, [], ◌∷◌, Option, Some, None, IsSome, nat_lt, ◌==◌, unwrap_or, option_map, if◌then◌else◌}
 use Rattle.std.specs.List.{list_any}
+use Rattle.std.specs.declared.net.SocketAddr.{SocketAddr}
 use Rattle.drd_types.specs.declared.EdnsCode.TheVariants.{NSID}
 use Rattle.drd_types.specs.declared.EdnsOption.TheVariants as option_with
 use Rattle.drd_types.specs.drd_opt.Entries.{Entry, raw_of}
 use Rattle.zsv_answer.specs.Parts.{ChainParts}
-use Rattle.zsv_answer.specs.Responses.{Sends, SendsParts, error_parts, with_edns}
+use Rattle.zsv_answer.specs.zst_request.Updating.{Asked, SignedBy}
 use Rattle.zsv_answer.specs.zst_request.Views.{View}
 use Rattle.zsv_answer.specs.zst_request.dnw_codes.declared.record_type.RecordType.TheVariants.{AXFR}
 use Rattle.zsv_answer.specs.zst_request.dnw_codes.RecordType.{same_record_type}
 use Rattle.zsv_answer.specs.zst_request.dnw_name.DomainName.{DomainName}
 use Rattle.zsv_answer.specs.zst_request.zst_codes.declared.response_code.ResponseCode.{ResponseCode}
 use Rattle.zsv_answer.specs.zst_request.zst_codes.declared.response_code.ResponseCode.TheVariants as responses
+use Rattle.zsv_answer.specs.zst_request.zst_codes.declared.settings.TsigVerdict.TheVariants as verdicts
 use Rattle.zsv_answer.specs.zsv_reply.Replies.{ReplyParts}
-use Rattle.zsv_answer.specs.zsv_reply.Writing.{AllReadBack}
+use Rattle.zsv_answer.specs.zsv_reply.Writing.{AllReadBack, Sends, SendsParts, error_parts, with_edns}
 use Rattle.zsv_answer.specs.zsv_reply.zsv_message.Messages.{Message}
 use Rattle.zsv_answer.specs.zsv_reply.zsv_message.zst_edns.declared.edns.Edns.{Edns}
 use Rattle.zsv_answer.specs.zsv_reply.zsv_message.zsv_parts.declared.header.Header.{Header}
@@ -24,11 +26,31 @@ use Rattle.zsv_answer.specs.zsv_reply.zsv_message.zsv_parts.declared.header.Mess
 use Rattle.zsv_answer.specs.zsv_reply.zsv_message.zsv_parts.declared.header.OpCode.{OpCode}
 use Rattle.zsv_answer.specs.zsv_reply.zsv_message.zsv_parts.declared.header.OpCode.TheVariants as operations
 use Rattle.zsv_answer.specs.zsv_reply.zsv_message.zsv_parts.declared.question.Query.{Query}
+use Rattle.zsv_answer.specs.zsv_reply.zsv_message.zsv_parts.declared.tsig.TsigRecord.{TsigRecord}
 use Rattle.zsv_answer.specs.zsv_reply.zsv_message.zsv_parts.zst_codes.ResponseCode.{high_bits}
 use Rattle.zsv_answer.specs.zsv_request.declared.protocol.Protocol.{Protocol}
-use Rattle.zsv_catalog.specs.Chains.{chain_for}
+use Rattle.zsv_chains.specs.Chains.{chain_for}
 use Rattle.zsv_catalog.specs.ReadingBack.{ChainsReadBack}
 
+-- ---- what handlers are asked
+-- Who signed a message, by its TSIG (RFC 8945, section 4.2).
+abbrev pub signer_of : TsigRecord → SignedBy
+signer_of r = record { key_name = r.name; algorithm = r.rdata.algorithm; mac = r.rdata.mac.items }
+
+-- A question of a query: no signature is tested of it, and it changes nothing.
+abbrev pub asked_of_query : Message → SocketAddr → Query → Asked
+asked_of_query request source q = record {
+  name = q.name;
+  query_type = q.query_type;
+  id = request.metadata.id;
+  source = source;
+  signed = option_map signer_of request.signature;
+  verdict = verdicts.UnknownKey;
+  prerequisites = [];
+  updates = [];
+}
+
+-- ---- what a reply holds
 -- One question: refused where there is no chain for the name; transfers are not served.
 pub record QuestionParts (chains : List (DomainName × List View)) (m : Metadata) (dnssec_ok : Bool)
     (q : Query) (parts : ReplyParts) : Type 0 where

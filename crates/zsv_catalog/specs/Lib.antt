@@ -1,5 +1,5 @@
 pub mod Catalogs
-pub mod Chains
+pub use Rattle.zsv_chains.specs.Chains
 pub mod ReadingBack
 pub mod Sinks
 pub mod zsv_answer

@@ -1,13 +1,12 @@
 //! A catalog of handlers.
 
 ghost use Rattle.std.specs.Prelude.{◌≡◌, ◌≤◌, ℕ, false, List, [], IfErr, IfOk, None, OnErr, OnOk, is_some, length, option_copied, option_map};
-ghost use Rattle.zst_key.specs.dnw_name.DomainName.{lowercase_name};
+ghost use Rattle.zsv_chains.specs.zst_key.dnw_name.DomainName.{lowercase_name};
 ghost use Rattle.zsv_answer.specs.zsv_reply.zsv_message.zsv_parts.declared.header.Header.{Header};
 ghost use Rattle.zsv_catalog.specs.Catalogs.{AnswersQuery, RepliesBy};
-ghost use Rattle.zsv_catalog.specs.Chains.{chain_at, chain_for, views_of, with_chain, without_chain};
+ghost use Rattle.zsv_chains.specs.Chains.{chain_at, chain_for, views_of, with_chain, without_chain};
 ghost use Rattle.zsv_catalog.specs.Sinks.{HandsOver};
 
-use crate::chains::Chains;
 use crate::handler::RequestHandler;
 use crate::reply::{lookup_by, reply_by};
 use crate::sink::{ResponseHandler, ServiceFault, hand_over};
@@ -15,6 +14,7 @@ use drd_types::NSIDPayload;
 use std::alloc::{AllocError, Global};
 use std::net::SocketAddr;
 use zsv_answer::{Edns, MessageRequest, Name, Protocol, Request, ResponseInfo, ZoneHandler};
+use zsv_chains::Chains;
 
 /// Zones of one server: chains of handlers, each under the name from which on it answers. `S` verifies and signs messages.
 /// Handlers of several kinds, `H`, stand in boxes (`Box<dyn ZoneHandler>`); where all are of one kind, they need none.

@@ -15,16 +15,15 @@ pub use zsv_answer::{
     TsigVerdict, UpdateRequest, ZoneHandler, ZoneRequest, ZoneType, encode_error, encode_refusal,
     error_response,
 };
+pub use zsv_chains::Chains;
 
 mod catalog;
-mod chains;
 mod handler;
 mod reply;
 mod sink;
 mod suite;
 
 pub use catalog::Catalog;
-pub use chains::Chains;
 pub use handler::RequestHandler;
 pub use sink::{ResponseHandler, SendFault, ServiceFault};
 pub use suite::{NoSuite, SignFault, TsigSuite};

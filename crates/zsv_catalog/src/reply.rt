@@ -2,23 +2,25 @@
 
 ghost use Rattle.std.specs.Prelude.{◌≡◌, ◌≤◌, [], IfOk, IfSome, OnOk, length, option_copied};
 ghost use Rattle.zsv_answer.specs.Responses.{parts_of};
-ghost use Rattle.zsv_catalog.specs.Catalogs.{AnswersEdns, AnswersQuery, IsReplyEdns, KindParts, PlainParts, QueryParts, QuestionParts, RepliesBy, SendsWith, has_other_version, identifier, nsid_for};
-ghost use Rattle.zsv_catalog.specs.Chains.{views_of};
+ghost use Rattle.zsv_answer.specs.zst_request.Requested.{asked_of, signed_by};
+ghost use Rattle.zsv_catalog.specs.Catalogs.{AnswersEdns, AnswersQuery, IsReplyEdns, KindParts, PlainParts, QueryParts, QuestionParts, RepliesBy, SendsWith, asked_of_query, has_other_version, identifier, nsid_for, signer_of};
+ghost use Rattle.zsv_chains.specs.Chains.{views_of};
 
-use crate::chains::Chains;
 use drd_types::{EdnsCode, EdnsOption, NSIDPayload};
 use std::alloc::{AllocError, Global};
 use std::mem;
 use std::net::SocketAddr;
-use zst_key::NameKey;
 use zsv_answer::{
     Edns, LookupOptions, MessageRequest, MessageType, OpCode, Protocol, Query, RecordType,
     RequestTsig, Response, ResponseCode, ResponseInfo, TsigRecord, TsigVerdict, ZoneHandler,
     ZoneRequest, chain_response, error_response,
 };
+use zsv_chains::{Chains, NameKey};
 
-// What a signature says.
-fn tsig_of(signature: &TsigRecord) -> RequestTsig<'_> {
+// Who signed a message.
+fn tsig_of(signature: &TsigRecord) -> RequestTsig<'_>
+    ensures { signed_by result ≡ signer_of signature.now }
+{
     RequestTsig {
         key_name: &signature.name,
         algorithm: &signature.rdata.algorithm,
@@ -28,12 +30,12 @@ fn tsig_of(signature: &TsigRecord) -> RequestTsig<'_> {
 
 // A question as the handlers of its name are asked it. No signature is tested of a query.
 fn asked<'q>(
+    alloc: Global,
     message: &'q MessageRequest<'_>,
     question: &'q Query,
     src: SocketAddr,
 ) -> ZoneRequest<'q>
-    ensures name { result.name.now ≡ question.now.name }
-    ensures query_type { result.query_type ≡ question.now.query_type }
+    ensures { asked_of result ≡ asked_of_query message.now src question.now }
 {
     let tsig = match message.signature() {
         Some(signature) => Some(tsig_of(signature)),
@@ -47,7 +49,7 @@ fn asked<'q>(
         tsig,
         verdict: TsigVerdict::UnknownKey,
         prerequisites: &[],
-        updates: &[],
+        updates: Vec::new(alloc),
     }
 }
 
@@ -72,7 +74,7 @@ fn question_response<'z, H: ZoneHandler>(
     if question.query_type == RecordType::AXFR {
         return Ok(error_response(metadata, ResponseCode::ServFail));
     }
-    let request = asked(message, question, src);
+    let request = asked(alloc, message, question, src);
     chain_response(handlers, alloc, &key, metadata, options, &request)
 }
 

@@ -15,12 +15,16 @@ use Rattle.zsv_request.specs.zsv_message.zst_record.Records.{IsServable, plain}
 use Rattle.zsv_request.specs.zsv_message.Messages.{OptAt}
 use Rattle.zsv_request.specs.zsv_message.zst_edns.Writing.{EdnsReadsBack, opt_octets}
 use Rattle.zsv_request.specs.zsv_message.zst_edns.declared.edns.Edns.{Edns}
+use Rattle.zsv_request.specs.zsv_message.zsv_parts.declared.header.MessageType.TheVariants as messages
 use Rattle.zsv_request.specs.zsv_message.zsv_parts.declared.header.Metadata.{Metadata}
 use Rattle.zsv_request.specs.zsv_message.zsv_parts.declared.header.Header.{Header}
 use Rattle.zsv_request.specs.zsv_message.zsv_parts.declared.tsig.TsigRecord.{TsigRecord}
+use Rattle.zsv_request.specs.zsv_message.zsv_parts.zst_codes.declared.response_code.ResponseCode.{ResponseCode}
 use Rattle.zsv_request.specs.zsv_message.zsv_parts.Headers.{FitsOpCode, header_of, reserved_bit}
 use Rattle.zsv_request.specs.zsv_message.zsv_parts.Questions.{Asked}
 use Rattle.zsv_request.specs.zsv_message.zsv_parts.SignatureRecords.{TsigReadsBack, TsigRecordAt}
+use Rattle.zsv_request.specs.Requests.{limit_of}
+use Rattle.zsv_request.specs.declared.protocol.Protocol.{Protocol}
 use Rattle.zst_pointing.specs.Pointing.{ArePointing}
 use Rattle.zsv_reply.specs.declared.fronts.Kept.{Kept}
 use Rattle.zsv_reply.specs.declared.written_reply.WrittenRecords.{WrittenRecords}
@@ -36,6 +40,29 @@ bare_parts m = record {
   edns = None;
   signature = None;
 }
+
+-- The header of a reply repeats the identifier, the operation, RD and CD.
+abbrev pub reply_metadata : Metadata → Bool → ResponseCode → Metadata
+reply_metadata m authoritative code = record {
+  id = m.id;
+  message_type = messages.Response;
+  op_code = m.op_code;
+  authoritative = authoritative;
+  truncation = false;
+  recursion_desired = m.recursion_desired;
+  recursion_available = false;
+  authentic_data = false;
+  checking_disabled = m.checking_disabled;
+  response_code = code;
+}
+
+-- An error has no records.
+abbrev pub error_parts : Metadata → ResponseCode → ReplyParts
+error_parts m code = bare_parts (reply_metadata m false code)
+
+-- With these options.
+abbrev pub with_edns : Option Edns → ReplyParts → ReplyParts
+with_edns edns parts = record parts { edns = edns }
 
 -- What a reply holds that has answers and records of authority behind its questions, and options.
 abbrev pub written_parts : Metadata → List Record → List Record → Option Edns → ReplyParts
@@ -182,3 +209,15 @@ pub record IsEncoded (info : Header) (reply : List ℕ) (parts : ReplyParts) (as
   pub whole : 12 + length asked.octets ≤ limit
       → IsEmitted (leaves_room asked) info reply parts asked limit
   pub bare : limit < 12 + length asked.octets → IsBare info reply parts.metadata.id
+
+-- The octets of a reply of these parts, and its header: within the limit of the transport whatever
+-- the records are, and the reply to the questions if each record reads back.
+pub record SendsParts (parts : ReplyParts) (asked : Asked) (transport : Protocol) (info : Header)
+    (reply : List ℕ) : Type 0 where
+  pub within : length reply ≤ limit_of transport parts.edns
+  pub stands : AllReadBack parts → IsEncoded info reply parts asked (limit_of transport parts.edns)
+
+-- The same, of these parts and options.
+abbrev pub Sends : ReplyParts → Option Edns → Asked → Protocol → Header → List ℕ → Type 0
+Sends parts edns asked transport info reply =
+    SendsParts (with_edns edns parts) asked transport info reply

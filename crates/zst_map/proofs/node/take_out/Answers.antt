@@ -6,7 +6,8 @@ use Rattle.zst_handler.specs.dnw_name.DomainName.{domain_name}
 use Rattle.zst_handler.specs.dnw_codes.RecordType.{record_type_number}
 use Rattle.zst_handler.specs.zst_record.OneOrMany.{items_of}
 use Rattle.zst_handler.specs.zst_record.RecordSets.{RRset, empty_set}
-use Rattle.zst_map.specs.Changes.{is_only, set_of_type}
+use Rattle.zst_handler.specs.Updates.{set_of_type}
+use Rattle.zst_map.specs.Changes.{is_only}
 use Rattle.zst_map.specs.ZoneMaps.{place_from}
 use Rattle.zst_map.proofs.NodeSets.{FoundHere, MissedHere, found_here, got_at, missed_here, none_without}
 use Rattle.zst_map.proofs.node.take_out.Goals as goal

@@ -1,11 +1,12 @@
 use Rattle.std.proofs.Common.{◌≡◌, ◌∙◌, Bool, false, Option, Some, None, ap, refl, subst}
 use Rattle.std.proofs.lemmas.Result.{IfOk-weaker}
 use Rattle.std.specs.Prelude.{option_copied}
-use Rattle.zsv_answer.specs.Responses.{Sends, parts_of}
+use Rattle.zsv_answer.specs.Responses.{parts_of}
+use Rattle.zsv_answer.specs.zsv_reply.Writing.{Sends}
 use Rattle.zsv_answer.specs.zsv_reply.zsv_message.zst_edns.declared.edns.Edns.{Edns}
 use Rattle.zsv_answer.specs.zsv_reply.zsv_message.zsv_parts.Questions.{Asked, IsSection}
 use Rattle.zsv_catalog.specs.Catalogs.{QueryParts, asks_for_dnssec}
-use Rattle.zsv_catalog.specs.Chains.{views_of}
+use Rattle.zsv_chains.specs.Chains.{views_of}
 use Rattle.zsv_catalog.proofs.PartsBack.{query_back, section_full}
 use Rattle.zsv_catalog.proofs.reply.lookup_by.Goals as goal
 

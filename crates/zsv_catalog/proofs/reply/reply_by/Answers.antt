@@ -1,10 +1,11 @@
 use Rattle.std.proofs.Common.{refl, subst}
 use Rattle.std.proofs.lemmas.Result.{IfOk-weaker}
 use Rattle.std.specs.Prelude.{option_copied}
-use Rattle.zsv_answer.specs.Responses.{parts_of, with_edns}
+use Rattle.zsv_answer.specs.Responses.{parts_of}
+use Rattle.zsv_answer.specs.zsv_reply.Writing.{with_edns}
 use Rattle.zsv_answer.specs.zsv_reply.zsv_message.zsv_parts.Questions.{IsSection}
 use Rattle.zsv_catalog.specs.Catalogs.{PartsOf}
-use Rattle.zsv_catalog.specs.Chains.{views_of}
+use Rattle.zsv_chains.specs.Chains.{views_of}
 use Rattle.zsv_catalog.proofs.PartsBack.{parts_back}
 use Rattle.zsv_catalog.proofs.reply.reply_by.Goals as goal
 

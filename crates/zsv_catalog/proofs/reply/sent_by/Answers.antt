@@ -1,7 +1,8 @@
 use Rattle.std.proofs.Common.{subst}
 use Rattle.std.proofs.lemmas.Result.{IfOk-weaker}
 use Rattle.std.specs.Prelude.{Option, option_copied}
-use Rattle.zsv_answer.specs.Responses.{Sends, parts_of}
+use Rattle.zsv_answer.specs.Responses.{parts_of}
+use Rattle.zsv_answer.specs.zsv_reply.Writing.{Sends}
 use Rattle.zsv_answer.specs.zsv_reply.zsv_message.zst_edns.declared.edns.Edns.{Edns}
 use Rattle.zsv_answer.specs.zsv_reply.zsv_message.zsv_parts.Questions.{Asked}
 use Rattle.zsv_catalog.specs.Catalogs.{AnswersEdns, nsid_for}

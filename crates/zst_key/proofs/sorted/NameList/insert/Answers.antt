@@ -17,7 +17,7 @@ returns-in-Ok-clause-ok g c =
     let d : DomainName × g.row.V.Denot = (c.args.key, c.args.value) in
     let sorted = subst (λ es. IsStrictlySortedBy name_cmp (keys_of es)) c.self.view_is c.self.invariant in
     let found : IsFound key es (Ok at) = subst (λ (k : DomainName). IsFound k es (Ok at)) c.borrow.ensures c.in-Ok.ensures in
-    c.replace_at.ensures d
+    c.replace_at.ensures.after d
     ∙ ap (λ es. slice_set es at ((slice_index_or es at d).0, c.args.value)) c.self.view_is
     ∙ replaced key c.args.value es at d sorted found.0 found.1
 

@@ -1,5 +1,5 @@
 use Rattle.std.proofs.Common.{subst}
-use Rattle.std.specs.Prelude.{OnOk}
+use Rattle.std.specs.Prelude.{None, OnOk}
 use Rattle.zst_map.specs.zst_handler.Updates.{Upserts}
 use Rattle.zst_map.specs.zst_handler.Zones.{Zone}
 use Rattle.zst_zone.proofs.Stored.{kept_updated, upserts_to}
@@ -17,6 +17,7 @@ returns-clause-ok g c =
       zone_type = c.self.inside.zone_type;
       axfr_policy = c.self.inside.axfr_policy;
       nx_proof_kind = c.self.inside.nx_proof_kind;
+      guard = None;
       sets = c.self.inside.sets;
     } in
     subst (λ (z : Zone). OnOk c.upsert.result (Upserts z c.args.next (record before { sets = c.upsert.new.self }))) c.self.view_is

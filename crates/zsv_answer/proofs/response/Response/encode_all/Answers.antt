@@ -2,13 +2,13 @@ use Rattle.std.proofs.Common.{◌≡◌, ◌∙◌, ◌≤◌, Bor, List, [], Op
 use Rattle.std.specs.Prelude.{option_copied, if◌then◌else◌}
 use Rattle.zst_request.specs.zst_handler.Answers.{answers_in, records_in}
 use Rattle.zsv_reply.proofs.Lending.{lent_yielded}
-use Rattle.zsv_reply.specs.Writing.{IsEncoded}
+use Rattle.zsv_reply.specs.Writing.{IsEncoded, with_edns}
 use Rattle.zsv_reply.specs.zst_record.declared.records.Record.{Record}
 use Rattle.zsv_reply.specs.zsv_message.zsv_parts.Questions.{Asked}
 use Rattle.zsv_request.specs.Requests.{limit_of}
 use Rattle.zsv_reply.specs.zsv_message.zst_edns.declared.edns.Edns.{Edns}
 use Rattle.zsv_answer.proofs.Pointing.{both_ok}
-use Rattle.zsv_answer.specs.Responses.{parts_of, with_edns}
+use Rattle.zsv_answer.specs.Responses.{parts_of}
 use Rattle.zsv_answer.specs.Shown.{shown_if}
 use Rattle.zsv_answer.proofs.response.Response.encode_all.Goals as goal
 

@@ -2,8 +2,8 @@ use Rattle.std.proofs.Common.{◌≡◌, subst}
 use Rattle.std.specs.Prelude.{option_map}
 use Rattle.zst_key.specs.Ancestors.{nearest_in}
 use Rattle.zst_key.specs.dnw_name.DomainName.{DomainName}
-use Rattle.zsv_catalog.specs.Chains.{chain_at}
-use Rattle.zsv_catalog.proofs.chains.Chains.find.Goals as goal
+use Rattle.zsv_chains.specs.Chains.{chain_at}
+use Rattle.zsv_chains.proofs.chains.Chains.find.Goals as goal
 
 pub returns : goal.returns
 returns g c =

@@ -2,8 +2,8 @@ use Rattle.std.proofs.Common.{◌≡◌, ◌∙◌, List, Option, Some, Vec, Glo
 use Rattle.std.specs.Prelude.{option_map}
 use Rattle.zst_key.specs.Ancestors.{nearest_in}
 use Rattle.zst_key.specs.dnw_name.DomainName.{DomainName}
-use Rattle.zsv_catalog.specs.Chains.{chain_at}
-use Rattle.zsv_catalog.proofs.chains.Chains.find_at.Goals as goal
+use Rattle.zsv_chains.specs.Chains.{chain_at}
+use Rattle.zsv_chains.proofs.chains.Chains.find_at.Goals as goal
 
 abbrev items_of : {H : Type 0} → Option (DomainName × Vec H Global) → Option (List H)
 items_of found = option_map (λ chain. chain.items) (option_map (λ entry. entry.1) found)

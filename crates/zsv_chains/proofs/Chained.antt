@@ -1,16 +1,18 @@
 -- The chain for a name, by handlers and by what they mean.
-use Rattle.std.proofs.Common.{◌≡◌, ◌∙◌, Vec, Global, refl, sym, ap, map}
+use Rattle.std.proofs.Common.{◌≡◌, ◌∙◌, ℕ, Vec, Global, refl, sym, ap, subst, map}
 use Rattle.std.specs.Prelude.{Bool, true, false, cond, List, [], ◌∷◌, Option, Some, None, option_map}
 use Rattle.std.specs.BTreeMap.{insert_entry}
 use Rattle.std.specs.List.{AllByRecursion}
-use Rattle.std.specs.Map.{remove_entry}
+use Rattle.std.specs.Map.{lookup, remove_entry, set_value}
+use Rattle.std.proofs.lemmas.Map.Steps.{set_value_same}
 use Rattle.std.specs.Ordering.{is_eq, match_ordering}
 use Rattle.std.specs.declared.cmp.Ordering.{Ordering}
 use Rattle.std.specs.declared.cmp.Ordering.TheVariants.{Less, Equal, Greater}
 use Rattle.zst_key.specs.Ancestors.{nearest_from, or_else}
 use Rattle.zst_key.specs.dnw_name.DomainName.{DomainName, domain_name, lowercase_name, name_cmp}
-use Rattle.zsv_answer.specs.zst_request.Views.{View}
-use Rattle.zsv_catalog.specs.Chains.{chain_at, chain_for, views_of, with_chain, without_chain}
+use Rattle.zst_request.specs.Updating.{Asked}
+use Rattle.zst_request.specs.Views.{View}
+use Rattle.zsv_chains.specs.Chains.{Answer, UpdatesChain, UpdatesFirst, UpdatesFound, chain_at, chain_for, views_of, with_chain, with_chain_at, without_chain}
 
 -- ---- functions over what is found
 map_cond : {X Y : Type 0} (f : X → Y) (b : Bool) (x : X) (o : Option X) (p : Option Y) → p ≡ option_map f o → cond b (Some (f x)) p ≡ option_map f (cond b (Some x) o)
@@ -119,3 +121,67 @@ module _ {X : Type 0} (P : X → Type 0) where
       → AllByRecursion (λ (e : DomainName × X). P e.1) (remove_entry test chains)
   all_removed [] test all = tt
   all_removed (e ∷ chains) test all = one_of_two (test e.0) chains (e ∷ remove_entry test chains) all.1 (all.0, all_removed chains test all.1)
+
+-- ---- the first handler of one chain updates its zone
+set_views : {H : Type 0} (view : H → View) (test : DomainName → Bool) (chains : List (DomainName × Vec H Global)) (w : Vec H Global)
+    → views_of view (set_value test chains w) ≡ set_value test (views_of view chains) (map view w.items)
+set_views view test [] w = refl
+set_views view test (e ∷ es) w = by (test e.0) (set_views view test es w)
+  where
+    by : (b : Bool) → views_of view (set_value test es w) ≡ set_value test (views_of view es) (map view w.items)
+        → views_of view (cond b ((e.0, w) ∷ es) (e ∷ set_value test es w))
+        ≡ cond b ((e.0, map view w.items) ∷ views_of view es) ((e.0, map view e.1.items) ∷ set_value test (views_of view es) (map view w.items))
+    by true more = refl
+    by false more = ap (λ (l : List (DomainName × List View)). (e.0, map view e.1.items) ∷ l) more
+
+-- A value that was put in between leaves no trace.
+set_twice : {X : Type 0} (test : DomainName → Bool) (es : List (DomainName × X)) (v w : X) → set_value test (set_value test es v) w ≡ set_value test es w
+set_twice test [] v w = refl
+set_twice test (e ∷ es) v w = by (test e.0) refl (set_twice test es v w)
+  where
+    by : (b : Bool) → test e.0 ≡ b → set_value test (set_value test es v) w ≡ set_value test es w
+        → set_value test (cond b ((e.0, v) ∷ es) (e ∷ set_value test es v)) w ≡ cond b ((e.0, w) ∷ es) (e ∷ set_value test es w)
+    by true is more = ap (λ (b : Bool). cond b ((e.0, w) ∷ es) ((e.0, v) ∷ set_value test es w)) is
+    by false is more = ap (λ (b : Bool). cond b ((e.0, w) ∷ set_value test es v) (e ∷ set_value test (set_value test es v) w)) is ∙ ap (λ (l : List _). e ∷ l) more
+
+-- Out and back in: the chain under a name is what was put back.
+pub put_back : {H : Type 0} (view : H → View) (chains : List (DomainName × Vec H Global)) (name : DomainName) (empty : Vec H Global) (w : Vec H Global)
+    → views_of view (set_value (λ other. is_eq (name_cmp name other)) (set_value (λ other. is_eq (name_cmp name other)) chains empty) w)
+    ≡ with_chain_at (views_of view chains) name (map view w.items)
+put_back view chains name empty w =
+    ap (views_of view) (set_twice (λ other. is_eq (name_cmp name other)) chains empty w)
+    ∙ set_views view (λ other. is_eq (name_cmp name other)) chains w
+
+pub updated_chain : {H : Type 0} (view : H → View) (chains : List (DomainName × Vec H Global)) (name : DomainName) (old new : Vec H Global) (left : List (DomainName × List View))
+    (asked : Asked) (moment : ℕ) (answer : Option Answer) → chain_at chains name ≡ Some old → UpdatesFirst (map view old.items) asked moment answer (map view new.items)
+    → left ≡ with_chain_at (views_of view chains) name (map view new.items)
+    → UpdatesChain (views_of view chains) name asked moment answer left
+updated_chain view chains name old new left asked moment answer is updates after =
+    let found : chain_at (views_of view chains) name ≡ Some (map view old.items) = at_views view chains name ∙ ap (option_map (views view)) is in
+    subst (λ (o : Option (List View)). UpdatesFound (views_of view chains) name o asked moment answer left) (sym found)
+    (map view new.items, updates, after)
+
+unset : {X : Type 0} (test : DomainName → Bool) (es : List (DomainName × X)) (w : X) → lookup test es ≡ None → set_value test es w ≡ es
+unset test [] w none = refl
+unset test (e ∷ es) w none = by (test e.0) none (unset test es w)
+  where
+    by : (b : Bool) → cond b (Some e.1) (lookup test es) ≡ None → (lookup test es ≡ None → set_value test es w ≡ es) → cond b ((e.0, w) ∷ es) (e ∷ set_value test es w) ≡ e ∷ es
+    by true gone more = absurd (cc gone)
+    by false gone more = ap (λ l. e ∷ l) (more gone)
+
+pub no_chain : {H : Type 0} (view : H → View) (chains new : List (DomainName × Vec H Global)) (name : DomainName) (w : Vec H Global) (asked : Asked) (moment : ℕ) → chain_at chains name ≡ None
+    → new ≡ set_value (λ other. is_eq (name_cmp name other)) chains w
+    → UpdatesChain (views_of view chains) name asked moment None (views_of view new)
+no_chain view chains new name w asked moment none after =
+    let found : chain_at (views_of view chains) name ≡ None = at_views view chains name ∙ ap (option_map (views view)) none in
+    subst (λ (o : Option (List View)). UpdatesFound (views_of view chains) name o asked moment None (views_of view new)) (sym found)
+    (refl, ap (views_of view) (after ∙ unset (λ other. is_eq (name_cmp name other)) chains w none))
+
+-- Handlers that mean what they meant leave the chains.
+pub kept_chain : {H : Type 0} (view : H → View) (chains : List (DomainName × Vec H Global)) (name : DomainName) (old new : Vec H Global) (left : List (DomainName × List View))
+    → chain_at chains name ≡ Some old → map view new.items ≡ map view old.items → left ≡ with_chain_at (views_of view chains) name (map view new.items)
+    → left ≡ views_of view chains
+kept_chain view chains name old new left is same after =
+    after ∙ ap (with_chain_at (views_of view chains) name) same
+    ∙ set_value_same (λ other. is_eq (name_cmp name other)) (views_of view chains) (map view old.items)
+    (at_views view chains name ∙ ap (option_map (views view)) is)

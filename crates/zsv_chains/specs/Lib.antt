@@ -1,0 +1,3 @@
+pub mod Chains
+pub mod zst_key
+pub mod zst_request
