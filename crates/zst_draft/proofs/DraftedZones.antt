@@ -229,13 +229,13 @@ name_alike : (sets : List RRset) (a b : DomainName) → name_eq a b ≡ true →
 name_alike sets a b same u = rrset_same sets a b u same
 
 -- What is applied to an owner's drafts is applied to the zone's.
-pub applied_owner : (zone : Zone) (old new : ZoneDraft) (key : DomainName) (r : Record) (first last : OwnerDraft) (at_start changed : Bool) (at : Owned)
-    → key ≡ lowercase_name r.name → at_start ≡ name_eq r.name zone.origin
+pub applied_owner : (zone : Zone) (old new : ZoneDraft) (key : DomainName) (r : Record) (first last : OwnerDraft) (at_apex changed : Bool) (at : Owned)
+    → key ≡ lowercase_name r.name → at_apex ≡ name_eq r.name zone.origin
     → ((q : DomainName) → get name_cmp new.owners q ≡ cond (is_eq (name_cmp key q)) (Some last) (get name_cmp old.owners q))
-    → Applies (rrset_at zone.sets key) first.sets.items at_start r r.dns_class changed last.sets.items
+    → Applies (rrset_at zone.sets key) first.sets.items at_apex r r.dns_class changed last.sets.items
     → ((name : DomainName) → name_eq r.name name ≡ true → DraftsSets (rrset_at zone.sets key) first.sets.items (at name))
     → DraftsZone zone old at → (changed ≡ changes zone.origin at r) × DraftsZone zone new (applied zone.origin at r)
-applied_owner zone old new key r first last at_start changed at keyed start put applies from drafts = (
+applied_owner zone old new key r first last at_apex changed at keyed start put applies from drafts = (
   applies.changes (at r.name) (from r.name (name_eq_equiv.refl r.name)) ∙ ap (λ (b : Bool). changes_by b (at r.name) r r.dns_class) start,
   record {
     each = λ name. subst (IsDraftAt zone.sets name) (sym (put name ∙ ap (λ (b : Bool). cond b (Some last) (get name_cmp old.owners name)) (key_is (type_of r.rdata) key r.name name keyed)))
@@ -278,12 +278,12 @@ own_key : (key name : DomainName) (r : Record) → key ≡ lowercase_name r.name
 own_key key name r keyed same =
     flipped key name (ap (λ (n : DomainName). name_eq n name) keyed ∙ eq_lower (type_of r.rdata) r.name name ∙ same)
 
-pub applied_found : (zone : Zone) (old new : ZoneDraft) (key : DomainName) (r : Record) (first last : OwnerDraft) (at_start changed : Bool) (at : Owned)
-    → key ≡ lowercase_name r.name → at_start ≡ name_eq r.name zone.origin → get name_cmp old.owners key ≡ Some first → Updates name_cmp old.owners new.owners key (Some last)
-    → Applies (rrset_at zone.sets key) first.sets.items at_start r r.dns_class changed last.sets.items
+pub applied_found : (zone : Zone) (old new : ZoneDraft) (key : DomainName) (r : Record) (first last : OwnerDraft) (at_apex changed : Bool) (at : Owned)
+    → key ≡ lowercase_name r.name → at_apex ≡ name_eq r.name zone.origin → get name_cmp old.owners key ≡ Some first → Updates name_cmp old.owners new.owners key (Some last)
+    → Applies (rrset_at zone.sets key) first.sets.items at_apex r r.dns_class changed last.sets.items
     → DraftsZone zone old at → (changed ≡ changes zone.origin at r) × DraftsZone zone new (applied zone.origin at r)
-applied_found zone old new key r first last at_start changed at keyed start found put applies drafts =
-    applied_owner zone old new key r first last at_start changed at keyed start put.0 applies from drafts
+applied_found zone old new key r first last at_apex changed at keyed start found put applies drafts =
+    applied_owner zone old new key r first last at_apex changed at keyed start put.0 applies from drafts
   where
     from : (name : DomainName) → name_eq r.name name ≡ true → DraftsSets (rrset_at zone.sets key) first.sets.items (at name)
     from name same =
@@ -291,11 +291,11 @@ applied_found zone old new key r first last at_start changed at keyed start foun
         drafts_alike (rrset_at zone.sets name) (rrset_at zone.sets key) first.sets.items (at name) (λ u. sym (rrset_same zone.sets name key u own))
         (subst (λ (o : Option OwnerDraft). DraftsAt zone.sets name o (at name)) (get_same old.owners.entries name key own ∙ found) (drafts.alike name))
 
-pub applied_begun : (zone : Zone) (old new : ZoneDraft) (key : DomainName) (r : Record) (at_start changed : Bool) (at : Owned)
-    → key ≡ lowercase_name r.name → at_start ≡ name_eq r.name zone.origin → get name_cmp old.owners key ≡ None → Begins zone.sets old.owners key at_start r changed new.owners
+pub applied_begun : (zone : Zone) (old new : ZoneDraft) (key : DomainName) (r : Record) (at_apex changed : Bool) (at : Owned)
+    → key ≡ lowercase_name r.name → at_apex ≡ name_eq r.name zone.origin → get name_cmp old.owners key ≡ None → Begins zone.sets old.owners key at_apex r changed new.owners
     → DraftsZone zone old at → (changed ≡ changes zone.origin at r) × DraftsZone zone new (applied zone.origin at r)
-applied_begun zone old new key r at_start changed at keyed start none begins drafts =
-    applied_owner zone old new key r begins.first begins.last at_start changed at keyed start begins.put.0 begins.applies from drafts
+applied_begun zone old new key r at_apex changed at keyed start none begins drafts =
+    applied_owner zone old new key r begins.first begins.last at_apex changed at keyed start begins.put.0 begins.applies from drafts
   where
     from : (name : DomainName) → name_eq r.name name ≡ true → DraftsSets (rrset_at zone.sets key) begins.first.sets.items (at name)
     from name same =

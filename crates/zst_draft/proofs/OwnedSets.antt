@@ -123,8 +123,8 @@ taken_owned name (s ∷ sets) r all = by (is_taken_from r s) (none_left (removed
     by false c e more = (all.0, more)
 
 -- ---- by class
-pub left_owned : (name : DomainName) (at_start : Bool) (sets : List RRset) (r : Record) (class : DNSClass) → AreOwned name sets → name_eq r.name name ≡ true → AreOwned name (left_by at_start sets r class)
-left_owned name at_start sets r classes.IN all own = added_owned name sets r all own
-left_owned name at_start sets r classes.ANY all own = all_kept (IsOwned name) (λ set. not (is_deleted at_start r set)) sets all
-left_owned name at_start sets r classes.NONE all own = taken_owned name sets r all
-left_owned name at_start sets r other all own = all
+pub left_owned : (name : DomainName) (at_apex : Bool) (sets : List RRset) (r : Record) (class : DNSClass) → AreOwned name sets → name_eq r.name name ≡ true → AreOwned name (left_by at_apex sets r class)
+left_owned name at_apex sets r classes.IN all own = added_owned name sets r all own
+left_owned name at_apex sets r classes.ANY all own = all_kept (IsOwned name) (λ set. not (is_deleted at_apex r set)) sets all
+left_owned name at_apex sets r classes.NONE all own = taken_owned name sets r all
+left_owned name at_apex sets r other all own = all

@@ -15,10 +15,10 @@ returns-in-Some-clause-changed g c =
     let there = c.in-Some.ensures.value in
     if_ok c.apply.result _ _
     (λ changed applies. λ at drafts.
-    (applied_found c.args.zone.now c.args.self.now (record { owners = c.get_mut.follows.lender w }) c.in-Ok.key c.args.change c.in-Some.owner.now w c.eq-at_start.result changed at
-    c.in-Ok.ensures.key (c.eq-at_start.ensures ∙ ap (name_eq c.args.change.name) c.origin.ensures.value) (sym there)
+    (applied_found c.args.zone.now c.args.self.now (record { owners = c.get_mut.follows.lender w }) c.in-Ok.key c.args.change c.in-Some.owner.now w c.eq-at_apex.result changed at
+    c.in-Ok.ensures.key (c.eq-at_apex.ensures ∙ ap (name_eq c.args.change.name) c.origin.ensures.value) (sym there)
     ((c.get_mut.follows.holds w).3 (sym (ap is_some there)))
-    (subst (λ (sets : List RRset). Applies (rrset_at sets c.in-Ok.key) c.in-Some.owner.now.sets.items c.eq-at_start.result c.args.change c.args.change.dns_class changed w.sets.items) c.records-sets.ensures applies)
+    (subst (λ (sets : List RRset). Applies (rrset_at sets c.in-Ok.key) c.in-Some.owner.now.sets.items c.eq-at_apex.result c.args.change c.args.change.dns_class changed w.sets.items) c.records-sets.ensures applies)
     drafts).0)
     c.apply.ensures
 
@@ -28,9 +28,9 @@ returns-in-Some-clause-applied g c =
     let there = c.in-Some.ensures.value in
     ok_on c.apply.result _
     (λ changed applies. λ at drafts.
-    (applied_found c.args.zone.now c.args.self.now (record { owners = c.get_mut.follows.lender w }) c.in-Ok.key c.args.change c.in-Some.owner.now w c.eq-at_start.result changed at
-    c.in-Ok.ensures.key (c.eq-at_start.ensures ∙ ap (name_eq c.args.change.name) c.origin.ensures.value) (sym there)
+    (applied_found c.args.zone.now c.args.self.now (record { owners = c.get_mut.follows.lender w }) c.in-Ok.key c.args.change c.in-Some.owner.now w c.eq-at_apex.result changed at
+    c.in-Ok.ensures.key (c.eq-at_apex.ensures ∙ ap (name_eq c.args.change.name) c.origin.ensures.value) (sym there)
     ((c.get_mut.follows.holds w).3 (sym (ap is_some there)))
-    (subst (λ (sets : List RRset). Applies (rrset_at sets c.in-Ok.key) c.in-Some.owner.now.sets.items c.eq-at_start.result c.args.change c.args.change.dns_class changed w.sets.items) c.records-sets.ensures applies)
+    (subst (λ (sets : List RRset). Applies (rrset_at sets c.in-Ok.key) c.in-Some.owner.now.sets.items c.eq-at_apex.result c.args.change c.args.change.dns_class changed w.sets.items) c.records-sets.ensures applies)
     drafts).1)
     c.apply.ensures
