@@ -1,10 +1,12 @@
 use Rattle.std.proofs.Common.{◌≡◌, ◌∙◌, ap, subst, sym}
 use Rattle.std.specs.Prelude.{List, Some, is_some}
+use Rattle.std.specs.BTreeMap.{BTreeMap}
 use Rattle.zst_map.specs.dnw_name.DomainName.{DomainName, name_eq}
 use Rattle.zst_map.specs.zst_handler.Zones.{rrset_at}
 use Rattle.zst_map.specs.zst_record.RecordSets.{RRset}
 use Rattle.zst_draft.specs.OwnerDrafts.{Applies}
 use Rattle.zst_draft.specs.ZoneDrafts.{Begins}
+use Rattle.zst_draft.specs.declared.owner.OwnerDraft.{OwnerDraft}
 use Rattle.zst_draft.proofs.DraftedRecords.{if_ok, ok_on}
 use Rattle.zst_draft.proofs.DraftedZones.{applied_begun, applied_found}
 use Rattle.zst_draft.proofs.zone.ZoneDraft.apply.Goals as goal
@@ -34,3 +36,25 @@ returns-in-Some-clause-applied g c =
     (subst (λ (sets : List RRset). Applies (rrset_at sets c.in-Ok.key) c.in-Some.owner.now.sets.items c.eq-at_apex.result c.args.change c.args.change.dns_class changed w.sets.items) c.records-sets.ensures applies)
     drafts).1)
     c.apply.ensures
+
+pub returns-clause-changed : goal.returns-clause-changed
+returns-clause-changed g c =
+    if_ok c.begin.result _ _
+    (λ changed begins. λ at drafts.
+    (applied_begun c.args.zone.now c.args.self.now c.begin.new.self c.in-Ok.key c.args.change c.eq-at_apex.result changed at
+    c.in-Ok.ensures.key (c.eq-at_apex.ensures ∙ ap (name_eq c.args.change.name) c.origin.ensures.value) (sym c.in_default.ensures.value)
+    (subst (λ (owners : BTreeMap DomainName OwnerDraft). Begins c.args.zone.now.sets owners c.in-Ok.key c.eq-at_apex.result c.args.change changed c.begin.new.self.owners) c.get_mut.follows.holds-at-none
+    (subst (λ (sets : List RRset). Begins sets _ c.in-Ok.key c.eq-at_apex.result c.args.change changed c.begin.new.self.owners) c.records-sets.ensures begins))
+    drafts).0)
+    c.begin.ensures
+
+pub returns-clause-applied : goal.returns-clause-applied
+returns-clause-applied g c =
+    ok_on c.begin.result _
+    (λ changed begins. λ at drafts.
+    (applied_begun c.args.zone.now c.args.self.now c.begin.new.self c.in-Ok.key c.args.change c.eq-at_apex.result changed at
+    c.in-Ok.ensures.key (c.eq-at_apex.ensures ∙ ap (name_eq c.args.change.name) c.origin.ensures.value) (sym c.in_default.ensures.value)
+    (subst (λ (owners : BTreeMap DomainName OwnerDraft). Begins c.args.zone.now.sets owners c.in-Ok.key c.eq-at_apex.result c.args.change changed c.begin.new.self.owners) c.get_mut.follows.holds-at-none
+    (subst (λ (sets : List RRset). Begins sets _ c.in-Ok.key c.eq-at_apex.result c.args.change changed c.begin.new.self.owners) c.records-sets.ensures begins))
+    drafts).1)
+    c.begin.ensures
