@@ -47,9 +47,9 @@ pub returns-in_ok-push-in-None : goal.returns-in_ok-push-in-None
 returns-in_ok-push-in-None c =
     let es = c.args.self.now.sets.items in
     let stored = rrset_at c.args.sets.now c.args.key.now in
-    let draft = c.in_ok-draft.draft in
-    subst (Applies stored es false c.args.next classes.IN true) (sym c.in_ok-push.ensures.ok)
+    let draft = c.in_ok-draft-in-None.draft in
+    subst (Applies stored es false c.args.next classes.IN true) (sym c.in_ok-push-in-None.ensures.ok)
     (begin_applies stored es draft c.args.next c.requires
     (ap (keeps_out es) (sym c.record_type-record_type.ensures) ∙ sym c.keeps_out.ensures ∙ c.if-keeps_out.false)
     (c.in-None.ensures ∙ ap (λ (t : RecordType). position (is_draft_of t) es) c.record_type-record_type.ensures)
-    c.in_ok-draft.ensures.kind (c.in_ok-draft.ensures.draft (stored draft.record_type)) (c.in_ok-draft.ensures.set (stored draft.record_type)))
+    c.in_ok-draft-in-None.ensures.kind (c.in_ok-draft-in-None.ensures.draft (stored draft.record_type)) (c.in_ok-draft-in-None.ensures.set (stored draft.record_type)))

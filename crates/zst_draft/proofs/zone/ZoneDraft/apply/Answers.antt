@@ -42,7 +42,7 @@ returns-clause-changed g c =
     if_ok c.begin.result _ _
     (λ changed begins. λ at drafts.
     (applied_begun c.args.zone.now c.args.self.now c.begin.new.self c.in-Ok.key c.args.change c.eq-at_apex.result changed at
-    c.in-Ok.ensures.key (c.eq-at_apex.ensures ∙ ap (name_eq c.args.change.name) c.origin.ensures.value) (sym c.in_default.ensures.value)
+    c.in-Ok.ensures.key (c.eq-at_apex.ensures ∙ ap (name_eq c.args.change.name) c.origin.ensures.value) (sym c.in_default-get_mut.ensures.value)
     (subst (λ (owners : BTreeMap DomainName OwnerDraft). Begins c.args.zone.now.sets owners c.in-Ok.key c.eq-at_apex.result c.args.change changed c.begin.new.self.owners) c.get_mut.follows.holds-at-none
     (subst (λ (sets : List RRset). Begins sets _ c.in-Ok.key c.eq-at_apex.result c.args.change changed c.begin.new.self.owners) c.records-sets.ensures begins))
     drafts).0)
@@ -53,7 +53,7 @@ returns-clause-applied g c =
     ok_on c.begin.result _
     (λ changed begins. λ at drafts.
     (applied_begun c.args.zone.now c.args.self.now c.begin.new.self c.in-Ok.key c.args.change c.eq-at_apex.result changed at
-    c.in-Ok.ensures.key (c.eq-at_apex.ensures ∙ ap (name_eq c.args.change.name) c.origin.ensures.value) (sym c.in_default.ensures.value)
+    c.in-Ok.ensures.key (c.eq-at_apex.ensures ∙ ap (name_eq c.args.change.name) c.origin.ensures.value) (sym c.in_default-get_mut.ensures.value)
     (subst (λ (owners : BTreeMap DomainName OwnerDraft). Begins c.args.zone.now.sets owners c.in-Ok.key c.eq-at_apex.result c.args.change changed c.begin.new.self.owners) c.get_mut.follows.holds-at-none
     (subst (λ (sets : List RRset). Begins sets _ c.in-Ok.key c.eq-at_apex.result c.args.change changed c.begin.new.self.owners) c.records-sets.ensures begins))
     drafts).1)
