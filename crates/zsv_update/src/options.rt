@@ -1,0 +1,83 @@
+//! The options of replies (RFC 6891 section 6, RFC 5001).
+
+ghost use Rattle.std.specs.Prelude.{◌≡◌, [], IfOk, OnOk, option_copied};
+ghost use Rattle.zsv_update.specs.Options.{AnswersEdns, IsReplyEdns, has_other_version, identifier, nsid_for};
+
+use drd_types::{EdnsCode, EdnsOption, NSIDPayload};
+use std::alloc::{AllocError, Global};
+use zsv_reply::{Edns, ResponseCode};
+
+/// Whether a request has EDNS of another version than the one that is served.
+pub fn has_other_version(edns: Option<&Edns>) -> bool
+    ensures { result ≡ has_other_version (option_copied edns.entry) }
+{
+    match edns {
+        Some(edns) => edns.version() > 0,
+        None => false,
+    }
+}
+
+// A copy of an NSID.
+fn copy_of(alloc: Global, nsid: &NSIDPayload) -> Result<NSIDPayload, AllocError>
+    ensures { IfOk result (λ copy. copy ≡ nsid.now) }
+{
+    match NSIDPayload::new(Vec::from_slice(alloc, nsid.as_ref())?) {
+        Ok(copy) => Ok(copy),
+        Err(_) => Err(AllocError),
+    }
+}
+
+// Tells the server's identifier among the options of a reply, which has none yet, where it has one and is asked for it.
+fn identify(
+    alloc: Global,
+    edns: &mut Edns,
+    asked: &Edns,
+    nsid: Option<&NSIDPayload>,
+) -> Result<(), AllocError>
+    requires { edns.old.options.options.items ≡ [] }
+    ensures options { OnOk result (edns.new.options.options.items ≡ identifier asked.now (option_copied nsid.entry)) }
+    ensures others { OnOk result (edns.new ≡ record edns.old { options = edns.new.options }) }
+{
+    let Some(payload) = nsid else {
+        return Ok(());
+    };
+    if asked.option(EdnsCode::NSID).is_none() {
+        return Ok(());
+    }
+    let copy = copy_of(alloc, payload)?;
+    edns.options_mut().insert(EdnsOption::NSID(copy))
+}
+
+// The options of a reply: the upper bits of its code, DO and the payload as they were asked, and the server's identifier where
+// it has one and is asked for it.
+fn edns_of(
+    alloc: Global,
+    asked: &Edns,
+    nsid: Option<&NSIDPayload>,
+    response_code: ResponseCode,
+) -> Result<Edns, AllocError>
+    ensures { IfOk result (IsReplyEdns asked.now (option_copied nsid.entry) response_code) }
+{
+    let mut edns = Edns::new(alloc);
+    edns.set_rcode_high(response_code.high());
+    edns.set_dnssec_ok(asked.flags().dnssec_ok);
+    edns.set_max_payload(asked.max_payload());
+    identify(alloc, &mut edns, asked, nsid)?;
+    Ok(edns)
+}
+
+/// The options of a reply, where the request has some. Who asks in another version is not told the identifier.
+pub fn reply_edns(
+    alloc: Global,
+    asked: Option<&Edns>,
+    nsid: Option<&NSIDPayload>,
+    response_code: ResponseCode,
+) -> Result<Option<Edns>, AllocError>
+    ensures { IfOk result (AnswersEdns (option_copied asked.entry) (nsid_for (option_copied asked.entry) (option_copied nsid.entry)) response_code) }
+{
+    let Some(asked) = asked else {
+        return Ok(None);
+    };
+    let nsid = if asked.version() > 0 { None } else { nsid };
+    Ok(Some(edns_of(alloc, asked, nsid, response_code)?))
+}
