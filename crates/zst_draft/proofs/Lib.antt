@@ -1,0 +1,15 @@
+pub mod AppliedDrafts
+pub mod Backing
+pub mod Committed
+pub mod DraftedRecords
+pub mod DraftedTypes
+pub mod Found
+pub mod Loops
+pub mod Names
+pub mod OwnedSets
+pub mod OwnerSets
+pub mod SetDrafts
+pub mod Settled
+pub mod TakenRecords
+pub mod DraftedZones
+pub mod Edited

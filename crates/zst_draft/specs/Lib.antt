@@ -1,0 +1,14 @@
+pub mod OwnerDrafts
+pub mod SetDrafts
+pub mod Settling
+pub mod ZoneDrafts
+pub use Rattle.zst_zone.specs.dnw_codes
+pub use Rattle.zst_zone.specs.dnw_name
+pub use Rattle.zst_zone.specs.drd_names
+pub use Rattle.zst_zone.specs.drd_rdata
+pub use Rattle.zst_zone.specs.drd_words
+pub use Rattle.zst_zone.specs.zst_codes
+pub use Rattle.zst_zone.specs.zst_handler
+pub use Rattle.zst_zone.specs.zst_key
+pub use Rattle.zst_zone.specs.zst_record
+pub mod zst_request

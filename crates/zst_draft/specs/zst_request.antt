@@ -1,0 +1,10 @@
+pub use Rattle.zst_request.specs.Applied
+pub use Rattle.zst_request.specs.AxfrRecords
+pub use Rattle.zst_request.specs.Blocking
+pub use Rattle.zst_request.specs.Handling
+pub use Rattle.zst_request.specs.Prerequisites
+pub use Rattle.zst_request.specs.Requested
+pub use Rattle.zst_request.specs.Transfers
+pub use Rattle.zst_request.specs.Updating
+pub use Rattle.zst_request.specs.Views
+pub use Rattle.zst_request.specs.declared

@@ -1,0 +1,134 @@
+//! A zone, prepared beside the stored one.
+
+ghost use Rattle.std.specs.Prelude.{◌≡◌, ◌||◌, Some, IfOk, OnErr, OnOk};
+ghost use Rattle.std.specs.BTreeMap.{Updates};
+ghost use Rattle.zst_map.specs.zst_handler.Lookups.{sets_of_name};
+ghost use Rattle.zst_map.specs.zst_handler.Zones.{AreInOrder, AreStored, Zone};
+ghost use Rattle.zst_request.specs.Applied.{LeavesZone, Owned, all_applied, any_changes, applied, changes};
+ghost use Rattle.zst_draft.specs.ZoneDrafts.{Begins, DraftsZone, IsDraftOfZone};
+
+use crate::commit::commit_owners;
+use crate::owner::OwnerDraft;
+use std::alloc::{AllocError, Global};
+use std::collections::BTreeMap;
+use std::mem;
+use zst_zone::{InMemoryZoneHandler, NameKey, Record, ZoneSets};
+
+/// What an update is to leave of a zone. The zone is read only, until `commit`.
+#[derive(Drop)]
+pub struct ZoneDraft {
+    /// The owners that records of the update name.
+    owners: BTreeMap<NameKey, OwnerDraft>,
+}
+
+impl ZoneDraft {
+    /// The zone as it is stored.
+    pub fn new(alloc: Global) -> ZoneDraft
+        ensures { (zone : Zone) → AreInOrder zone.sets → AreStored zone.sets → DraftsZone zone result (sets_of_name zone.sets) }
+    {
+        ZoneDraft {
+            owners: BTreeMap::new(alloc),
+        }
+    }
+
+    /// Applies a record of an update of the zone, and tells whether it changes what those before it leave (RFC 2136 section
+    /// 3.4.2). Out of memory, the draft is of no use any more.
+    pub fn apply<K>(
+        &mut self,
+        zone: &InMemoryZoneHandler<K>,
+        alloc: Global,
+        change: Record,
+    ) -> Result<bool, AllocError>
+        requires { IsDraftOfZone zone.now self.old }
+        ensures changed { IfOk result (λ changed. (at : Owned) → DraftsZone zone.now self.old at → changed ≡ changes zone.now.origin at change) }
+        ensures applied { OnOk result ((at : Owned) → DraftsZone zone.now self.old at → DraftsZone zone.now self.new (applied zone.now.origin at change)) }
+    {
+        let Ok(key) = NameKey::of(alloc, &change.name) else {
+            mem::drop(change);
+            return Err(AllocError);
+        };
+        let at_start = change.name == *zone.origin();
+        let sets = zone.records();
+        if let Some(owner) = self.owners.get_mut(&key) {
+            return owner.apply(alloc, sets, &key, at_start, change);
+        }
+        self.begin(alloc, sets, key, at_start, change)
+    }
+
+    // Applies a record to the stored sets of its owner, which has this key.
+    fn begin(
+        &mut self,
+        alloc: Global,
+        sets: &ZoneSets,
+        key: NameKey,
+        at_start: bool,
+        change: Record,
+    ) -> Result<bool, AllocError>
+        requires ordered { AreInOrder sets.now }
+        requires stored { AreStored sets.now }
+        ensures { IfOk result (λ changed. Begins sets.now self.old.owners key at_start change changed self.new.owners) }
+    {
+        let Ok(mut owner) = OwnerDraft::over(alloc, sets, &key) else {
+            mem::drop(change);
+            mem::drop(key);
+            return Err(AllocError);
+        };
+        let changed = owner.apply(alloc, sets, &key, at_start, change)?;
+        put(&mut self.owners, key, owner)?;
+        Ok(changed)
+    }
+
+    /// Applies the records of an update in order, and tells whether one changes what those before it leave.
+    pub fn apply_all<K>(
+        &mut self,
+        zone: &InMemoryZoneHandler<K>,
+        alloc: Global,
+        records: Vec<Record>,
+    ) -> Result<bool, AllocError>
+        requires { IsDraftOfZone zone.now self.old }
+        ensures changed { IfOk result (λ changed. (at : Owned) → DraftsZone zone.now self.old at → changed ≡ any_changes zone.now.origin at records.items) }
+        ensures applied { OnOk result ((at : Owned) → DraftsZone zone.now self.old at → DraftsZone zone.now self.new (all_applied zone.now.origin at records.items)) }
+    {
+        let mut changed = false;
+        for change in records {
+            let more = self.apply(zone, alloc, change)?;
+            changed = either(changed, more);
+        }
+        Ok(changed)
+    }
+
+    /// Puts into the zone what the draft is of, wholly or, out of memory, not at all.
+    pub fn commit<K>(
+        self,
+        zone: &mut InMemoryZoneHandler<K>,
+        alloc: Global,
+    ) -> Result<(), AllocError>
+        requires { IsDraftOfZone zone.old self }
+        ensures ok { OnOk result ((at : Owned) → DraftsZone zone.old self at → LeavesZone zone.old at zone.new) }
+        ensures err { OnErr result (zone.new ≡ zone.old) }
+    {
+        // (wakes the invariants: owners and sets are in order, and no set is empty)
+        let _count = self.owners.len();
+        let _before = zone.origin();
+        commit_owners(alloc, self.owners, zone)?;
+        let _after = zone.origin();
+        Ok(())
+    }
+}
+
+// Puts a value under a key.
+fn put<K: Ord + Drop, V: Drop>(map: &mut BTreeMap<K, V>, key: K, value: V) -> Result<(), AllocError>
+    ensures { OnOk result (Updates K.cmp map.old map.new key (Some value)) }
+{
+    match map.insert(key, value) {
+        Ok(_) => Ok(()),
+        Err(_) => Err(AllocError),
+    }
+}
+
+// Whether one of two tests holds.
+fn either(first: bool, second: bool) -> bool
+    ensures { result ≡ (first || second) }
+{
+    first || second
+}
