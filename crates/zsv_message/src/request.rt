@@ -1,6 +1,6 @@
 //! Messages that are read (RFC 1035 section 4.1, RFC 6891 section 6.1, RFC 8945 section 4.2).
 
-ghost use Rattle.std.specs.Prelude.{◌≡◌, ◌≤◌, option_copied};
+ghost use Rattle.std.specs.Prelude.{◌≡◌, ◌≤◌, [], option_copied};
 ghost use Rattle.zsv_sections.specs.zsv_parts.Headers.{FitsOpCode};
 ghost use Rattle.zsv_message.specs.Messages.{ReadsMessage, bare_message, counts_no_records, edns_version, is_update, joined_metadata, payload_taken};
 
@@ -8,6 +8,7 @@ use crate::additionals::Additionals;
 use crate::records::HeldRecords;
 use std::alloc::Global;
 use std::marker::Model;
+use std::mem;
 use zst_edns::Edns;
 use zsv_sections::{
     BinDecoder, DecodeError, Header, HeaderCounts, Metadata, OpCode, Placing, Queries, Record,
@@ -150,6 +151,17 @@ impl<'m> MessageRequest<'m> {
         match self.held.first() {
             Some(held) => &held.authorities,
             None => &[],
+        }
+    }
+
+    /// Takes the records of the authority section out, of an update what it changes; all else stays.
+    pub fn take_authorities(&mut self, alloc: Global) -> Vec<Record>
+        ensures value { result.items ≡ self.old.authorities }
+        ensures after { self.new ≡ record self.old { authorities = [] } }
+    {
+        match self.held.first_mut() {
+            Some(held) => mem::replace(&mut held.authorities, Vec::new(alloc)),
+            None => Vec::new(alloc),
         }
     }
 
