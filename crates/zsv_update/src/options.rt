@@ -7,7 +7,7 @@ use drd_types::{EdnsCode, EdnsOption, NSIDPayload};
 use std::alloc::{AllocError, Global};
 use zsv_reply::{Edns, ResponseCode};
 
-/// Whether a request has EDNS of another version than the one that is served.
+/// Tests for EDNS of another version than 0, which alone is served.
 pub fn has_other_version(edns: Option<&Edns>) -> bool
     ensures { result ≡ has_other_version (option_copied edns.entry) }
 {
@@ -27,7 +27,7 @@ fn copy_of(alloc: Global, nsid: &NSIDPayload) -> Result<NSIDPayload, AllocError>
     }
 }
 
-// Tells the server's identifier among the options of a reply, which has none yet, where it has one and is asked for it.
+// Puts the server's NSID into the options of a reply, if it has one and is asked for it.
 fn identify(
     alloc: Global,
     edns: &mut Edns,
@@ -48,8 +48,8 @@ fn identify(
     edns.options_mut().insert(EdnsOption::NSID(copy))
 }
 
-// The options of a reply: the upper bits of its code, DO and the payload as they were asked, and the server's identifier where
-// it has one and is asked for it.
+// The options of a reply: the upper bits of its code, DO and the payload of the request, and the server's NSID if it has one
+// and is asked for it.
 fn edns_of(
     alloc: Global,
     asked: &Edns,
@@ -66,7 +66,7 @@ fn edns_of(
     Ok(edns)
 }
 
-/// The options of a reply, where the request has some. Who asks in another version is not told the identifier.
+/// The options of a reply, if the request has some. Replies to EDNS of another version have no NSID.
 pub fn reply_edns(
     alloc: Global,
     asked: Option<&Edns>,

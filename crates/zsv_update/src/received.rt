@@ -1,14 +1,14 @@
-//! How a message came.
+//! How a message arrived.
 
 use std::net::SocketAddr;
 use zsv_reply::Protocol;
 
-/// How a message came: from where, in which octets, by which transport, and when.
+/// How a message arrived: from where, in which octets, by which transport, and when.
 #[derive(Clone, Copy)]
 pub struct Received<'m> {
-    /// Where it came from.
+    /// The source.
     pub source: SocketAddr,
-    /// All its octets.
+    /// All octets of the message.
     pub octets: &'m [u8],
     /// The transport.
     pub protocol: Protocol,

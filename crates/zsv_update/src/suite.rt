@@ -1,8 +1,7 @@
-//! What tests and makes signatures by keys that are shared (RFC 8945).
+//! Keys that a server shares with others (RFC 8945).
 
-ghost use Rattle.std.specs.Prelude.{◌≡◌, None, Some, IfErr, IfOk, option_map, IfSome};
+ghost use Rattle.std.specs.Prelude.{◌≡◌, None, Some, Err, IfErr, IfOk, IfSome, option_map};
 ghost use Rattle.zsv_chains.specs.zst_request.Requested.{context_of};
-ghost use Rattle.zsv_chains.specs.zst_request.zst_codes.declared.settings.TsigVerdict.TheVariants as verdicts;
 ghost use Rattle.zsv_reply.specs.zsv_message.zsv_parts.SignatureRecords.{TsigReadsBack};
 ghost use Rattle.zsv_update.specs.Keys.{Keys, signature_of};
 
@@ -22,17 +21,17 @@ pub enum SignFault {
     OutOfMemory,
 }
 
-/// Tests the signatures of requests, and signs replies, by keys that it shares with their senders (RFC 8945 section 5). What
-/// it answers is a function of what it is handed, want of memory apart. A contract sees it as `Keys`.
+/// Tests the signatures of requests, and signs replies, with keys that a server shares with others (RFC 8945 section 5). Its
+/// answers are functions of the arguments, unless it is out of memory. A contract sees it as `Keys`.
 pub trait TsigSuite {
     ghost keys: { Self → Keys };
 
-    /// What the test of a message's signature says, whose octets are handed over as they came, for a zone and at a moment,
-    /// in seconds since 1970.
+    /// The verdict on the signature of a message for a zone, over all octets of the message and at a moment, in seconds since
+    /// 1970.
     fn verify(&self, zone: &LowerName, tsig: &TsigRecord, octets: &[u8], now: u64) -> TsigVerdict
         ensures { result ≡ (keys self.now).verdict zone.now (signature_of tsig.now) octets.now now };
 
-    /// The signature of a reply with these octets. It reads back when it is written.
+    /// The signature of a reply with these octets, which reads back when it is written.
     fn sign(
         &self,
         alloc: Global,
@@ -66,16 +65,19 @@ impl TsigSuite for NoSuite {
     fn sign(
         &self,
         _alloc: Global,
-        _context: &TSigResponseContext,
-        _octets: &[u8],
+        context: &TSigResponseContext,
+        octets: &[u8],
     ) -> Result<TsigRecord, SignFault>
         ensures never { result ≡ Err SignFault.Failed }
+        ensures back { IfOk result TsigReadsBack }
+        ensures signed { IfOk result (λ tsig. no_keys.signature (context_of context.now) octets.now ≡ Some (signature_of tsig)) }
+        ensures failed { IfErr result (λ fault. fault ≡ SignFault.Failed → no_keys.signature (context_of context.now) octets.now ≡ None) }
     {
         Err(SignFault::Failed)
     }
 }
 
-/// The signature of a reply with these octets; `None` where no key signs it.
+/// The signature of a reply with these octets; `None` if no key signs it.
 pub fn sign_octets<S: TsigSuite>(
     suite: &S,
     alloc: Global,
