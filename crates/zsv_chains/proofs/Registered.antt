@@ -1,5 +1,5 @@
 -- Going up from a name to the nearest one with a chain.
-use Rattle.std.proofs.Common.{◌≡◌, ◌∙◌, ℕ, zero, suc, ◌-◌, ◌<◌, ◌≤◌, Bool, true, false, List, [], ◌∷◌, drop, length, refl, ap, sym, subst, arith}
+use Rattle.std.proofs.Common.{◌≡◌, ◌∙◌, ℕ, zero, suc, ◌-◌, ◌<◌, ◌≤◌, Bool, true, false, List, [], ◌∷◌, Vec, Global, drop, length, map, refl, ap, sym, subst, arith}
 use Rattle.std.specs.Prelude.{Option, Some, None, not, option_map}
 use Rattle.std.specs.Ordering.{is_eq, ordering_reverse}
 use Rattle.std.specs.Str.{str_to_ascii_lowercase}
@@ -8,11 +8,13 @@ use Rattle.std.specs.declared.cmp.Ordering.TheVariants.{Less, Equal, Greater}
 use Rattle.std.proofs.lemmas.Bool.{true≢false}
 use Rattle.std.proofs.lemmas.List.{drop-map, length-drop, length-map}
 use Rattle.zst_key.proofs.KeyLemmas.{eq-below}
-use Rattle.zst_key.proofs.NamesAbove.{above-shorter, name_total}
-use Rattle.zst_key.specs.Ancestors.{nearest_from, or_else, parent, up}
+use Rattle.zst_key.proofs.NamesAbove.{above-shorter, name_total, nearest-here}
+use Rattle.zst_key.specs.Ancestors.{nearest_from, nearest_in, or_else, parent, up}
 use Rattle.zst_key.specs.dnw_name.DomainName.{DomainName, domain_name, lowercase_name, name_cmp, name_eq}
 use Rattle.zst_key.specs.dnw_name.NameOrderLaws.{name_eq-by_cmp}
-use Rattle.zsv_chains.specs.Chains.{IsSelfOrAncestor, chain_at, entry_for}
+use Rattle.zst_request.specs.Views.{View}
+use Rattle.zsv_chains.proofs.Chained.{at_views}
+use Rattle.zsv_chains.specs.Chains.{IsSelfOrAncestor, chain_at, entry_for, views_of}
 
 pub is_false : (b : Bool) → not b ≡ true → b ≡ false
 is_false true e = absurd (true≢false (sym e))
@@ -108,3 +110,14 @@ module _ {X : Type 0} (at : DomainName → Option X) where
 
 pub entry_there : {X : Type 0} (chains : List (DomainName × X)) (name : DomainName) (e : DomainName × X) → entry_for chains name ≡ Some e → chain_at chains e.0 ≡ Some e.1
 entry_there chains name e is = found_there (chain_at chains) (lowercase_name name).fqdn (lowercase_name name).labels e is
+
+-- The chain that is found for a name that has one itself.
+pub found_itself : {H : Type 0} (view : H → View) (chains : List (DomainName × Vec H Global)) (name : DomainName) (found : Option (List H)) (chain : List View)
+    → found ≡ option_map (λ handlers. handlers.items) (option_map (λ entry. entry.1) (nearest_in (chain_at chains) name)) → chain_at (views_of view chains) name ≡ Some chain
+    → option_map (map view) found ≡ Some chain
+found_itself view chains name found chain is there = by (chain_at chains name) refl (sym (at_views view chains name) ∙ there)
+  where
+    by : (o : Option (Vec _ Global)) → chain_at chains name ≡ o → option_map (λ (handlers : Vec _ Global). map view handlers.items) o ≡ Some chain → option_map (map view) found ≡ Some chain
+    by None at none = absurd (cc none)
+    by (Some handlers) at same =
+        ap (option_map (map view)) (is ∙ ap (λ (o : Option (DomainName × Vec _ Global)). option_map (λ (h : Vec _ Global). h.items) (option_map (λ (entry : DomainName × Vec _ Global). entry.1) o)) (nearest-here (chain_at chains) name handlers at)) ∙ same

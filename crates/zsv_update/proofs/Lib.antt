@@ -1,0 +1,4 @@
+pub mod Decided
+pub mod EdnsBack
+pub mod Named
+pub mod Signed

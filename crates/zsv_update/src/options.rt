@@ -1,7 +1,9 @@
 //! The options of replies (RFC 6891 section 6, RFC 5001).
 
-ghost use Rattle.std.specs.Prelude.{◌≡◌, [], IfOk, OnOk, option_copied};
-ghost use Rattle.zsv_update.specs.Options.{AnswersEdns, IsReplyEdns, has_other_version, identifier, nsid_for};
+ghost use Rattle.std.specs.List.{AllByRecursion};
+ghost use Rattle.std.specs.Prelude.{◌≡◌, ◌≤◌, [], true, IfOk, IfSome, OnOk, length, option_copied, option_to_list};
+ghost use Rattle.zsv_reply.specs.zsv_message.zst_edns.Writing.{EdnsReadsBack};
+ghost use Rattle.zsv_update.specs.Options.{AnswersEdns, IsReplyEdns, asks_for_nsid, has_other_version, identifier, nsid_for};
 
 use drd_types::{EdnsCode, EdnsOption, NSIDPayload};
 use std::alloc::{AllocError, Global};
@@ -19,7 +21,8 @@ pub fn has_other_version(edns: Option<&Edns>) -> bool
 
 // A copy of an NSID.
 fn copy_of(alloc: Global, nsid: &NSIDPayload) -> Result<NSIDPayload, AllocError>
-    ensures { IfOk result (λ copy. copy ≡ nsid.now) }
+    ensures copy { IfOk result (λ copy. copy ≡ nsid.now) }
+    ensures within { length nsid.now ≤ 65531 }
 {
     match NSIDPayload::new(Vec::from_slice(alloc, nsid.as_ref())?) {
         Ok(copy) => Ok(copy),
@@ -37,6 +40,7 @@ fn identify(
     requires { edns.old.options.options.items ≡ [] }
     ensures options { OnOk result (edns.new.options.options.items ≡ identifier asked.now (option_copied nsid.entry)) }
     ensures others { OnOk result (edns.new ≡ record edns.old { options = edns.new.options }) }
+    ensures within { OnOk result (asks_for_nsid asked.now ≡ true → IfSome (option_copied nsid.entry) (λ payload. length payload ≤ 65531)) }
 {
     let Some(payload) = nsid else {
         return Ok(());
@@ -56,7 +60,8 @@ fn edns_of(
     nsid: Option<&NSIDPayload>,
     response_code: ResponseCode,
 ) -> Result<Edns, AllocError>
-    ensures { IfOk result (IsReplyEdns asked.now (option_copied nsid.entry) response_code) }
+    ensures answers { IfOk result (IsReplyEdns asked.now (option_copied nsid.entry) response_code) }
+    ensures back { IfOk result EdnsReadsBack }
 {
     let mut edns = Edns::new(alloc);
     edns.set_rcode_high(response_code.high());
@@ -73,7 +78,8 @@ pub fn reply_edns(
     nsid: Option<&NSIDPayload>,
     response_code: ResponseCode,
 ) -> Result<Option<Edns>, AllocError>
-    ensures { IfOk result (AnswersEdns (option_copied asked.entry) (nsid_for (option_copied asked.entry) (option_copied nsid.entry)) response_code) }
+    ensures answers { IfOk result (AnswersEdns (option_copied asked.entry) (nsid_for (option_copied asked.entry) (option_copied nsid.entry)) response_code) }
+    ensures back { IfOk result (λ edns. AllByRecursion EdnsReadsBack (option_to_list edns)) }
 {
     let Some(asked) = asked else {
         return Ok(None);

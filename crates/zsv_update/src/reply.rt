@@ -27,9 +27,10 @@ fn encode_bare(
         queries.now protocol sent.0 sent.1.items) }
 {
     let mut response = MessageResponseBuilder::new(queries, edns).build_no_records(metadata);
-    if let Some(signature) = signature {
-        response.set_signature(signature);
-    }
+    let Some(signature) = signature else {
+        return response.encode(alloc, protocol);
+    };
+    response.set_signature(signature);
     response.encode(alloc, protocol)
 }
 
