@@ -1,6 +1,5 @@
-use Rattle.std.proofs.Common.{◌≡◌, ◌∙◌, ◌-◌, Bool, true, false, ap, length, subst, sym, arith}
+use Rattle.std.proofs.Common.{◌≡◌, ◌∙◌, false, ap, length, subst, sym, arith}
 use Rattle.std.proofs.lemmas.List.{length-drop}
-use Rattle.std.specs.Prelude.{not}
 use Rattle.zst_key.specs.dnw_name.DomainName.{DomainName, name_eq}
 use Rattle.zsv_chains.specs.Chains.{IsSelfOrAncestor}
 use Rattle.zsv_chains.proofs.Registered.{is_false, one_up}

@@ -1,10 +1,10 @@
-use Rattle.std.proofs.Common.{◌≡◌, ◌∙◌, ◌-◌, ℕ, Option, Some, Vec, Global, ap, drop, length, sym, subst}
+use Rattle.std.proofs.Common.{◌≡◌, ◌∙◌, ◌-◌, ℕ, Some, Vec, Global, ap, drop, length, sym, subst}
 use Rattle.std.proofs.lemmas.List.{length-map}
 use Rattle.std.specs.Prelude.{option_map}
 use Rattle.std.specs.Str.{str_to_ascii_lowercase}
 use Rattle.zst_key.specs.Ancestors.{nearest_in}
 use Rattle.zst_key.specs.dnw_name.DomainName.{DomainName, domain_name, lowercase_name}
-use Rattle.zsv_chains.specs.Chains.{IsSelfOrAncestor, chain_at, entry_for}
+use Rattle.zsv_chains.specs.Chains.{IsSelfOrAncestor, chain_at}
 use Rattle.zsv_chains.proofs.Registered.{found_above, trimmed}
 use Rattle.zsv_chains.proofs.chains.Chains.registered.Goals as goal
 
