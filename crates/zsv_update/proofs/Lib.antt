@@ -5,4 +5,5 @@ pub mod EdnsBack
 pub mod Named
 pub mod RaisedBack
 pub mod ReadAdditions
+pub mod ServedBack
 pub mod Signed

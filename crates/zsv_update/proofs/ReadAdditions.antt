@@ -15,7 +15,6 @@ use Rattle.zsv_chains.specs.zst_request.zst_record.Records.{IsOwnClass, IsOwnTyp
 use Rattle.zsv_chains.specs.zst_request.zst_record.declared.records.Record.{Record}
 use Rattle.zsv_reply.specs.zsv_message.Messages.{IsMessage, Message}
 use Rattle.zsv_reply.specs.zsv_message.Sections.{PlacedRecords, is_opt, is_signature, misplaced, past}
-use Rattle.zsv_reply.specs.zsv_message.declared.placing.Placing.{Placing}
 use Rattle.zsv_update.specs.ReadingBack.{AdditionsAreServable, IsServableIfAdded}
 
 -- ---- the type of a number
@@ -57,8 +56,8 @@ of_zones kind.TSIG e = absurd (cc e)
 of_zones other e = refl
 
 -- Options and signatures stand among the additional records alone.
-before_additional : (at : Placing) (r : Record) → at.is_additional ≡ false → misplaced at r ≡ None → belongs_to_message (type_of r.rdata) ≡ false
-before_additional at r before may = of_zones (type_of r.rdata) (stays_out at.is_signed at.is_additional (is_opt r || is_signature r) _ _ _ _ before may)
+before_additional : (at : _) (r : Record) → misplaced at r ≡ None → at.is_additional ≡ false → belongs_to_message (type_of r.rdata) ≡ false
+before_additional at r may before = of_zones (type_of r.rdata) (stays_out at.is_signed at.is_additional (is_opt r || is_signature r) _ _ _ _ before may)
 
 -- ---- one record
 empty_data : (t : RecordType) (value : RData) → belongs_to_message t ≡ false → IsEmptyOf t value → is_update0 value ≡ true
@@ -82,11 +81,12 @@ read_servable message place r end at zones class has = record {
   of_zones = zones;
 }
 
-placed_servable : (at : Placing) (message : List ℕ) (place : ℕ) (rs : List Record) (end : ℕ) → at.is_additional ≡ false → PlacedRecords at message place rs end → AdditionsAreServable rs
-placed_servable at message place [] end before there = tt
-placed_servable at message place (r ∷ rs) end before (next, here, may, later) =
-    (read_servable message place r next here (before_additional at r before may), placed_servable (past at r) message next rs end before later)
+placed_servable : (at : _) (message : List ℕ) (place : ℕ) (rs : List Record) (end : ℕ) → PlacedRecords at message place rs end → at.is_additional ≡ false → AdditionsAreServable rs
+placed_servable at message place [] end there before = tt
+placed_servable at message place (r ∷ rs) end (next, here, may, later) before =
+    (read_servable message place r next here (before_additional at r may before), placed_servable (past at r) message next rs end later before)
 
 -- ---- the message
+-- What an update that was read adds is servable.
 pub authorities_servable : (octets : List ℕ) (request : Message) → IsMessage octets request → AdditionsAreServable request.authorities
-authorities_servable octets request is = placed_servable _ octets is.answers_end request.authorities is.authorities_end refl is.authorities.0
+authorities_servable octets request is = placed_servable _ octets is.answers_end request.authorities is.authorities_end is.authorities.0 refl
