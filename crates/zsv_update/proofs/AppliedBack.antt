@@ -4,7 +4,7 @@ use Rattle.std.specs.Prelude.{Bool, true, false, not, ◌&&◌, cond, nat_lt, Li
 use Rattle.std.specs.List.{AllByRecursion, flat_map}
 use Rattle.zsv_chains.specs.zst_key.Ancestors.{or_else}
 use Rattle.zsv_chains.specs.zst_request.Applied.{LeavesZone, Owned, all_applied, any_changes, applied, if_filled, if_soa_raised, is_added, is_deleted, is_taken_from, left_by, raised, taken_from, updated}
-use Rattle.zsv_chains.specs.zst_request.Prerequisites.{asks_any, asks_transfer, first_refused, has_data, is_well_formed, prerequisites_refused, prescan_refused, refused_if}
+use Rattle.zsv_chains.specs.zst_request.Prerequisites.{first_refused, has_data, is_well_formed, prerequisites_refused, prescan_refused, refused_if}
 use Rattle.zsv_chains.specs.zst_request.Updating.{Asked, ChangesBy, UpdatesView, permission_refused, soa_refused, update_refused}
 use Rattle.zsv_chains.specs.zst_request.Views.{Blocked, Stored, View}
 use Rattle.zsv_chains.specs.zst_request.dnw_codes.RecordType.{record_type_number, same_record_type}

@@ -2,7 +2,6 @@
 use Rattle.std.proofs.Common.{◌≡◌, ap, subst, sym, ℕ}
 use Rattle.std.specs.Prelude.{Bool, true, false, cond, List, [], ◌∷◌, Option, Some, None, IfSome, option_map}
 use Rattle.std.specs.List.{AllByRecursion}
-use Rattle.std.specs.Map.{lookup, set_value}
 use Rattle.std.specs.Ordering.{is_eq}
 use Rattle.std.specs.declared.net.SocketAddr.{SocketAddr}
 use Rattle.zsv_chains.specs.Chains.{chain_at, entry_for, with_chain_at}
@@ -17,7 +16,7 @@ use Rattle.zsv_chains.specs.zst_request.zst_codes.declared.response_code.Respons
 use Rattle.zsv_chains.specs.zst_request.zst_codes.declared.settings.ZoneType.{ZoneType}
 use Rattle.zsv_chains.specs.zst_request.zst_codes.declared.settings.ZoneType.TheVariants as zones
 use Rattle.zsv_reply.specs.Replies.{ReplyParts}
-use Rattle.zsv_reply.specs.zsv_message.Messages.{IsMessage, Message}
+use Rattle.zsv_reply.specs.zsv_message.Messages.{Message}
 use Rattle.zsv_reply.specs.zsv_message.zsv_parts.declared.question.Query.{Query}
 use Rattle.zsv_update.specs.Keys.{Keys}
 use Rattle.zsv_update.specs.ReadingBack.{AdditionsAreServable, ChainReadsBack, ChainsReadBack, ViewReadsBack}

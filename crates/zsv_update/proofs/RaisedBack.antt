@@ -1,9 +1,8 @@
 -- An SOA with the next serial number is servable if the old one is.
-use Rattle.std.proofs.Common.{inl, inr, ◌≡◌, ◌<◌, ◌++◌, ℕ, List, [], ◌∷◌, length, refl, subst, arith}
+use Rattle.std.proofs.Common.{inl, inr, ◌<◌, ◌++◌, ℕ, List, [], ◌∷◌, length, refl, arith}
 use Rattle.std.proofs.lemmas.List.{length-append}
 use Rattle.std.specs.List.{AllByRecursion}
 use Rattle.drd_types.proofs.drd_fields_lemmas.ReadableLaws.{fields_alone, in_own_octets, name_takes}
-use Rattle.drd_types.specs.drd_fields.Fields.{Field, long, name}
 use Rattle.drd_types.specs.drd_fields.Readable.{StandAlone}
 use Rattle.drd_types.specs.drd_fields.Writing.{fields_octets}
 use Rattle.zsv_chains.specs.zst_request.dnw_name.DomainName.{DomainName, name_octets}

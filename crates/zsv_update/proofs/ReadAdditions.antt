@@ -1,17 +1,15 @@
 -- Records of a message that was read, outside its additional section, are servable if an update adds them.
-use Rattle.std.proofs.Common.{inl, inr, ◌≡◌, ◌∙◌, ◌^◌, ◌<◌, ◌⊎◌, ℕ, ap, refl, subst, sym, arith}
+use Rattle.std.proofs.Common.{inl, inr, ◌≡◌, ◌∙◌, ◌^◌, ◌<◌, ℕ, ap, refl, subst, sym, arith}
 use Rattle.std.proofs.lemmas.Bool.{true≢false}
 use Rattle.std.specs.Prelude.{◌==◌, ◌+◌, Bool, true, false, not, ◌&&◌, ◌||◌, cond, List, [], ◌∷◌, Option, Some, None, find, unwrap_or}
-use Rattle.std.specs.List.{AllByRecursion, list_all}
-use Rattle.zsv_chains.specs.zst_request.Prerequisites.{has_data}
+use Rattle.std.specs.List.{list_all}
 use Rattle.zsv_chains.specs.zst_request.dnw_codes.RecordType.{named_record_types, record_type_number, record_type_of, same_record_type}
-use Rattle.zsv_chains.specs.zst_request.dnw_codes.declared.dns_class.DNSClass.TheVariants.{IN}
 use Rattle.zsv_chains.specs.zst_request.dnw_codes.declared.record_type.RecordType.{RecordType}
 use Rattle.zsv_chains.specs.zst_request.dnw_codes.declared.record_type.RecordType.TheVariants as kind
 use Rattle.zsv_chains.specs.zst_request.drd_rdata.Reading.{IsEmptyOf, IsReadable, ReadsAs}
 use Rattle.zsv_chains.specs.zst_request.drd_rdata.Types.{is_update0, type_of}
 use Rattle.zsv_chains.specs.zst_request.drd_rdata.declared.rdata.RData.{RData}
-use Rattle.zsv_chains.specs.zst_request.zst_record.Records.{IsOwnClass, IsOwnType, IsServable, RecordAt, belongs_to_message}
+use Rattle.zsv_chains.specs.zst_request.zst_record.Records.{IsOwnClass, IsOwnType, RecordAt, belongs_to_message}
 use Rattle.zsv_chains.specs.zst_request.zst_record.declared.records.Record.{Record}
 use Rattle.zsv_reply.specs.zsv_message.Messages.{IsMessage, Message}
 use Rattle.zsv_reply.specs.zsv_message.Sections.{PlacedRecords, is_opt, is_signature, misplaced, past}

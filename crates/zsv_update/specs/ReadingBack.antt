@@ -1,6 +1,6 @@
 -- Which zones can be served: what their replies hold can be read by whom these reach; and which
 -- updates leave them so.
-use Rattle.std.specs.Prelude.{◌≡◌, ℕ, ◌≤◌, true, List, Option, IfSome, length}
+use Rattle.std.specs.Prelude.{◌≡◌, ◌≤◌, true, List, IfSome, length}
 use Rattle.std.specs.List.{AllByRecursion}
 use Rattle.zsv_chains.specs.zst_request.Prerequisites.{has_data}
 use Rattle.zsv_chains.specs.zst_request.Views.{Blocked, Stored, View}
