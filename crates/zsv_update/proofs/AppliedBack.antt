@@ -29,11 +29,11 @@ use Rattle.zsv_update.proofs.RaisedBack.{raised_back}
 
 -- ---- lists
 module _ {X : Type 0} (P : X → Type 0) where
-  pub all_joined : (xs ys : List X) → AllByRecursion P xs → AllByRecursion P ys → AllByRecursion P (xs ++ ys)
+  all_joined : (xs ys : List X) → AllByRecursion P xs → AllByRecursion P ys → AllByRecursion P (xs ++ ys)
   all_joined [] ys first second = second
   all_joined (x ∷ xs) ys first second = (first.0, all_joined xs ys first.1 second)
 
-  pub all_filtered : (test : X → Bool) (xs : List X) → AllByRecursion P xs → AllByRecursion P (filter test xs)
+  all_filtered : (test : X → Bool) (xs : List X) → AllByRecursion P xs → AllByRecursion P (filter test xs)
   all_filtered test [] all = tt
   all_filtered test (x ∷ xs) all = by (test x) (all_filtered test xs all.1)
     where
@@ -41,7 +41,7 @@ module _ {X : Type 0} (P : X → Type 0) where
       by true more = (all.0, more)
       by false more = more
 
-  pub if_found : (test : X → Bool) (xs : List X) → AllByRecursion P xs → IfSome (find test xs) P
+  if_found : (test : X → Bool) (xs : List X) → AllByRecursion P xs → IfSome (find test xs) P
   if_found test [] all = tt
   if_found test (x ∷ xs) all = by (test x) (if_found test xs all.1)
     where

@@ -52,10 +52,10 @@ module _ {X : Type 0} (P : X → Type 0) (chains : List (DomainName × X)) (all 
       (named name (chain_at chains name) (at_name name)) (nearest fqdn labels)
 
   -- The chain found for a name is one of them.
-  pub entry_holds : (name : DomainName) → IfSome (entry_for chains name) (λ (e : DomainName × X). P e.1)
+  entry_holds : (name : DomainName) → IfSome (entry_for chains name) (λ (e : DomainName × X). P e.1)
   entry_holds name = nearest (lowercase_name name).fqdn (lowercase_name name).labels
 
-  pub all_with : (name : DomainName) (chain : X) → P chain → AllByRecursion (λ (e : DomainName × X). P e.1) (with_chain_at chains name chain)
+  all_with : (name : DomainName) (chain : X) → P chain → AllByRecursion (λ (e : DomainName × X). P e.1) (with_chain_at chains name chain)
   all_with name chain new = by chains all
     where
       by : (es : List (DomainName × X)) → AllByRecursion (λ (e : DomainName × X). P e.1) es → AllByRecursion (λ (e : DomainName × X). P e.1) (with_chain_at es name chain)

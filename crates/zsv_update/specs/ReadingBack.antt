@@ -1,5 +1,5 @@
--- Which zones can be served: what their replies hold can be read by whom these reach; and which
--- updates leave them so.
+-- Which zones can be served: receivers can read all that their replies hold; and which updates leave
+-- zones that can.
 use Rattle.std.specs.Prelude.{◌≡◌, ◌≤◌, true, List, IfSome, length}
 use Rattle.std.specs.List.{AllByRecursion}
 use Rattle.zsv_chains.specs.zst_request.Prerequisites.{has_data}
@@ -22,10 +22,11 @@ ChainReadsBack chain = AllByRecursion ViewReadsBack chain
 abbrev pub ChainsReadBack : List (DomainName × List View) → Type 0
 ChainsReadBack chains = AllByRecursion (λ entry. ChainReadsBack entry.1) chains
 
--- An update adds its records of class IN, which have RDATA (RFC 2136, section 2.5.1); the others
--- only delete. Such a record can be served.
+-- A record can be served if an update adds it, as it does one of class IN with RDATA (RFC 2136,
+-- section 2.5.1). Records of the other classes delete.
 abbrev pub IsServableIfAdded : Record → Type 0
 IsServableIfAdded r = r.dns_class ≡ IN → has_data r ≡ true → IsServable r
 
+-- Each record that an update adds can be served.
 abbrev pub AdditionsAreServable : List Record → Type 0
 AdditionsAreServable updates = AllByRecursion IsServableIfAdded updates
