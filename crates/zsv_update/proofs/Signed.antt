@@ -26,7 +26,7 @@ both_ok P Q R (Ok x) joined p q = joined x p q
 both_ok P Q R (Err e) joined p q = tt
 
 -- ---- what a response without records holds
-abbrev Empties : Type 0
+abbrev pub Empties : Type 0
 Empties = MessageResponse (Once (Bor Record)) (Once (Bor Record)) (Once (Bor Record)) (Once (Bor Record))
 
 abbrev pub HoldsEmpty : Empties → ReplyParts → Type 0

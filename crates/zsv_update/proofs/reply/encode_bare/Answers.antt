@@ -18,7 +18,7 @@ returns-in_default c =
     let held : HoldsEmpty response parts =
     subst (λ (e : Option Edns). HoldsEmpty response (signed_parts m e None)) (sym (ap (λ (r : Empties). option_copied r.edns) made.is))
     (unsigned_held m c.new.result.queries c.new.result.edns response made) in
-    let unsigned : None ≡ option_copied c.args.signature = ? in
+    let unsigned : None ≡ option_copied c.args.signature = sym (ap option_copied c.in_default.is) in
     both_ok _ _ _ c.encode.result (λ sent told fits.
     let sends : SendsParts parts response.queries.now c.args.protocol sent.0 sent.1.items = record { within = fits; stands = λ back. told parts held back } in
     subst (λ (s : Option TsigRecord). SendsParts (signed_parts m (option_copied c.args.edns) s) c.args.queries.now c.args.protocol sent.0 sent.1.items) unsigned
@@ -41,7 +41,7 @@ returns c =
     let held : HoldsEmpty signed parts =
     subst (λ (e : Option Edns). HoldsEmpty signed (signed_parts m e (Some tsig))) (sym kept)
     (signed_held m c.new.result.queries c.new.result.edns response signed c.in-Some.signature made set) in
-    let is : Some tsig ≡ option_copied c.args.signature = ? in
+    let is : Some tsig ≡ option_copied c.args.signature = sym (ap option_copied c.in-Some.is) in
     both_ok _ _ _ c.encode-2.result (λ sent told fits.
     let sends : SendsParts parts signed.queries.now c.args.protocol sent.0 sent.1.items = record { within = fits; stands = λ back. told parts held back } in
     subst (λ (s : Option TsigRecord). SendsParts (signed_parts m (option_copied c.args.edns) s) c.args.queries.now c.args.protocol sent.0 sent.1.items) is
