@@ -6,7 +6,7 @@ use Rattle.std.specs.Ordering.{is_eq}
 use Rattle.std.specs.Prelude.{Option, Some, None, Result, Ok, Err, is_ok, not, option_map, slice_get}
 use Rattle.std.specs.declared.net.SocketAddr.{SocketAddr}
 use Rattle.zsv_chains.proofs.Chained.{entry_views}
-use Rattle.zsv_chains.specs.Chains.{Answer, UpdatesChain, UpdatesFirst, UpdatesFound, chain_at, entry_for, views_of, with_chain_at}
+use Rattle.zsv_chains.specs.Chains.{Answer, UpdatesFirst, UpdatesFound, chain_at, entry_for, views_of, with_chain_at}
 use Rattle.zsv_chains.specs.zst_key.dnw_name.DomainName.{name_cmp}
 use Rattle.zsv_chains.specs.zst_request.Requested.{context_of}
 use Rattle.zsv_chains.specs.zst_request.Updating.{Asked, ChangesBy, UpdatesView, update_refused}

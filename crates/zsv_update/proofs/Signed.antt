@@ -1,8 +1,8 @@
 -- Replies without records, signed or not.
-use Rattle.std.proofs.Common.{◌≡◌, List, [], ◌∷◌, Bor, ap, refl, subst, sym}
+use Rattle.std.proofs.Common.{◌≡◌, Bor, refl, subst, sym}
 use Rattle.std.specs.Iterator.Adapters.{once_steps}
 use Rattle.std.specs.List.{AllByRecursion}
-use Rattle.std.specs.Prelude.{Option, Some, None, Result, Ok, Err, IfOk, IfSome, option_copied, option_map, option_to_list}
+use Rattle.std.specs.Prelude.{Option, Some, None, Result, Ok, Err, IfOk, IfSome, option_copied, option_to_list}
 use Rattle.std.specs.declared.iter.Once.{Once}
 use Rattle.zsv_reply.proofs.Lending.{empty_held}
 use Rattle.zsv_reply.specs.Building.{BuildsEmpty}

@@ -1,6 +1,6 @@
-use Rattle.std.proofs.Common.{◌≡◌, ◌∙◌, List, Option, Some, None, ap, map, subst, sym}
+use Rattle.std.proofs.Common.{◌≡◌, ◌∙◌, Option, Some, None, ap, map, subst, sym}
 use Rattle.std.proofs.lemmas.Option.{none-some}
-use Rattle.std.specs.Prelude.{option_map, slice_get}
+use Rattle.std.specs.Prelude.{option_map}
 use Rattle.zsv_chains.proofs.Registered.{found_itself}
 use Rattle.zsv_chains.specs.Chains.{chain_at}
 use Rattle.zsv_chains.specs.zst_key.Ancestors.{nearest_in}
