@@ -1,11 +1,12 @@
 -- The outcome of an update, by its chain and its first handler.
-use Rattle.std.proofs.Common.{◌≡◌, ◌∙◌, ℕ, List, [], ◌∷◌, Bool, true, false, ap, cc, map, refl, subst, sym}
+use Rattle.std.proofs.Common.{◌≡◌, ◌∙◌, ◌<◌, ◌≤◌, ℕ, List, [], ◌∷◌, Vec, Global, Bool, true, false, ap, get_or, length, map, refl, subst, sym, arith}
 use Rattle.std.proofs.lemmas.Bool.{true≢false}
 use Rattle.std.proofs.lemmas.Map.Steps.{set_value_same}
 use Rattle.std.specs.Ordering.{is_eq}
-use Rattle.std.specs.Prelude.{Option, Some, None, Result, Ok, Err, is_ok, option_map, slice_get, unwrap_or}
+use Rattle.std.specs.Prelude.{Option, Some, None, Result, Ok, Err, is_ok, not, option_map, slice_get}
 use Rattle.std.specs.declared.net.SocketAddr.{SocketAddr}
-use Rattle.zsv_chains.specs.Chains.{Answer, UpdatesChain, UpdatesFirst, UpdatesFound, chain_at, entry_for, with_chain_at}
+use Rattle.zsv_chains.proofs.Chained.{entry_views}
+use Rattle.zsv_chains.specs.Chains.{Answer, UpdatesFirst, UpdatesFound, chain_at, entry_for, views_of, with_chain_at}
 use Rattle.zsv_chains.specs.zst_key.dnw_name.DomainName.{name_cmp}
 use Rattle.zsv_chains.specs.zst_request.Requested.{context_of}
 use Rattle.zsv_chains.specs.zst_request.Updating.{Asked, ChangesBy, UpdatesView, update_refused}
@@ -37,6 +38,35 @@ first_kind view (h ∷ hs) = refl
 
 pub some_same : {X : Type 0} (x y : X) → Some x ≡ Some y → x ≡ y
 some_same x y e = cc e
+
+-- ---- the question and the chain found
+pub one_question : (qs : List Query) (q : Query) → 1 ≤ length qs → length qs < 2 → q ≡ get_or qs 0 q → qs ≡ q ∷ []
+one_question [] q some few is = absurd (omega (arith, some))
+one_question (x ∷ []) q some few is = ap (λ (y : Query). y ∷ []) (sym is)
+one_question (x ∷ y ∷ ys) q some few is = absurd (omega (arith, few))
+
+pub is_true : (b : Bool) → not b ≡ false → b ≡ true
+is_true true e = refl
+is_true false e = absurd (true≢false e)
+
+module _ {H : Type 0} (view : H → View) (chains : List (DomainName × Vec H Global)) (name : DomainName) where
+  pub found_entry : (key : DomainName) → Some key ≡ option_map (λ entry. entry.0) (entry_for chains name) → (chain : List View) × (entry_for (views_of view chains) name ≡ Some (key, chain))
+  found_entry key is = by (entry_for chains name) is (entry_views view chains name)
+    where
+      by : (o : Option (DomainName × Vec H Global)) → Some key ≡ option_map (λ entry. entry.0) o
+          → entry_for (views_of view chains) name ≡ option_map (λ (entry : DomainName × Vec H Global). (entry.0, map view entry.1.items)) o
+          → (chain : List View) × (entry_for (views_of view chains) name ≡ Some (key, chain))
+      by None none found = absurd (cc none)
+      by (Some e) some found = (map view e.1.items, found ∙ ap (λ (n : DomainName). Some (n, map view e.1.items)) (sym (some_same key e.0 some)))
+
+  pub no_entry : None ≡ option_map (λ entry. entry.0) (entry_for chains name) → entry_for (views_of view chains) name ≡ None
+  no_entry is = by (entry_for chains name) is (entry_views view chains name)
+    where
+      by : (o : Option (DomainName × Vec H Global)) → None ≡ option_map (λ entry. entry.0) o
+          → entry_for (views_of view chains) name ≡ option_map (λ (entry : DomainName × Vec H Global). (entry.0, map view entry.1.items)) o
+          → entry_for (views_of view chains) name ≡ None
+      by None none found = found
+      by (Some e) some found = absurd (cc some)
 
 -- ---- unsigned refusals
 abbrev given_with : Metadata → Option TSigResponseContext → Chained → Given

@@ -1,8 +1,8 @@
 -- Replies without records, signed or not.
-use Rattle.std.proofs.Common.{◌≡◌, List, [], ◌∷◌, Bor, ap, cc, refl, subst, sym}
+use Rattle.std.proofs.Common.{◌≡◌, Bor, refl, subst, sym}
 use Rattle.std.specs.Iterator.Adapters.{once_steps}
 use Rattle.std.specs.List.{AllByRecursion}
-use Rattle.std.specs.Prelude.{Option, Some, None, Result, Ok, Err, IfOk, IfSome, option_copied, option_map, option_to_list}
+use Rattle.std.specs.Prelude.{Option, Some, None, Result, Ok, Err, IfOk, IfSome, option_copied, option_to_list}
 use Rattle.std.specs.declared.iter.Once.{Once}
 use Rattle.zsv_reply.proofs.Lending.{empty_held}
 use Rattle.zsv_reply.specs.Building.{BuildsEmpty}
@@ -12,7 +12,7 @@ use Rattle.zsv_reply.specs.Writing.{AllReadBack, bare_parts, with_edns}
 use Rattle.zsv_reply.specs.declared.message_response.MessageResponse.{MessageResponse}
 use Rattle.zsv_reply.specs.zsv_message.zst_edns.Writing.{EdnsReadsBack}
 use Rattle.zsv_reply.specs.zsv_message.zst_edns.declared.edns.Edns.{Edns}
-use Rattle.zsv_reply.specs.zsv_message.zst_record.declared.records.Record.{Record}
+use Rattle.zsv_reply.specs.zst_record.declared.records.Record.{Record}
 use Rattle.zsv_reply.specs.zsv_message.zsv_parts.Questions.{Asked}
 use Rattle.zsv_reply.specs.zsv_message.zsv_parts.SignatureRecords.{TsigReadsBack}
 use Rattle.zsv_reply.specs.zsv_message.zsv_parts.declared.header.Metadata.{Metadata}
@@ -26,7 +26,7 @@ both_ok P Q R (Ok x) joined p q = joined x p q
 both_ok P Q R (Err e) joined p q = tt
 
 -- ---- what a response without records holds
-abbrev Empties : Type 0
+abbrev pub Empties : Type 0
 Empties = MessageResponse (Once (Bor Record)) (Once (Bor Record)) (Once (Bor Record)) (Once (Bor Record))
 
 abbrev pub HoldsEmpty : Empties → ReplyParts → Type 0

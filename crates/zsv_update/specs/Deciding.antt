@@ -1,5 +1,5 @@
 -- The outcome of an update, as the server holds it.
-use Rattle.std.specs.Prelude.{◌≡◌, ℕ, Bool, true, false, List, [], ◌∷◌, Option, Some, None, is_ok, option_map}
+use Rattle.std.specs.Prelude.{◌≡◌, ℕ, true, false, List, [], ◌∷◌, Option, Some, None, is_ok, option_map}
 use Rattle.zsv_chains.specs.Chains.{Answer, UpdatesChain}
 use Rattle.zsv_chains.specs.zst_request.Requested.{context_of}
 use Rattle.zsv_chains.specs.zst_request.Updating.{Asked}
