@@ -21,7 +21,7 @@ mod catalog;
 mod handler;
 mod reply;
 mod sink;
-mod suite;
+
 
 pub use catalog::Catalog;
 pub use handler::RequestHandler;
