@@ -14,7 +14,7 @@ use Rattle.zsv_update.specs.Replying.{RefusesUpdate, RepliesWith}
 use Rattle.zsv_update.specs.Updates.{with_updates}
 use Rattle.zsv_update.specs.declared.update.ServiceFault.{ServiceFault}
 use Rattle.zsv_update.specs.declared.update.ServiceFault.TheVariants.{OutOfMemory}
-use Rattle.zsv_catalog.specs.Catalogs.{RefusesBy, RepliesBy}
+use Rattle.zsv_catalog.specs.Catalogs.{RefusesBy, RepliesBy, is_served_update}
 
 -- A copy of a record: the same owner, class and time to live, and equal data.
 pub record IsCopy (r copy : Record) : Type 0 where
@@ -32,7 +32,8 @@ AreCopies rs copies = ⊥
 abbrev pub RepliesToRequest : List (DomainName × List View) → Option (List ℕ) → Keys → Requested → ℕ
     → Header → List ℕ → List (DomainName × List View) → Type 0
 RepliesToRequest chains nsid keys request moment info reply new =
-    (updates : List Record) × AreCopies request.message.authorities updates
+    (updates : List Record)
+    × (is_served_update request.message ≡ true → AreCopies request.message.authorities updates)
     × RepliesBy chains nsid keys (with_updates request.message updates) request.source request.octets
     moment request.transport info reply new
 

@@ -15,15 +15,14 @@ pub use zsv_answer::{
     TsigVerdict, UpdateRequest, ZoneHandler, ZoneRequest, ZoneType, encode_error, encode_refusal,
     error_response,
 };
-pub use zsv_chains::Chains;
+pub use zsv_update::{Chains, NoSuite, Received, ServiceFault, SignFault, TsigSuite};
 
 mod catalog;
+mod copies;
 mod handler;
 mod reply;
 mod sink;
 
-
 pub use catalog::Catalog;
 pub use handler::RequestHandler;
-pub use sink::{ResponseHandler, SendFault, ServiceFault};
-pub use suite::{NoSuite, SignFault, TsigSuite};
+pub use sink::{ResponseHandler, SendFault};

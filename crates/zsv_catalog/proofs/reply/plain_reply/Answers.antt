@@ -5,9 +5,9 @@ use Rattle.zsv_answer.specs.Responses.{parts_of}
 use Rattle.zsv_answer.specs.zsv_reply.Writing.{with_edns}
 use Rattle.zsv_answer.specs.zsv_reply.zsv_message.zsv_parts.Questions.{IsSection}
 use Rattle.zsv_catalog.specs.Catalogs.{PartsOf}
-use Rattle.zsv_chains.specs.Chains.{views_of}
+use Rattle.zsv_update.specs.zsv_chains.Chains.{views_of}
 use Rattle.zsv_catalog.proofs.PartsBack.{parts_back}
-use Rattle.zsv_catalog.proofs.reply.reply_by.Goals as goal
+use Rattle.zsv_catalog.proofs.reply.plain_reply.Goals as goal
 
 pub returns : goal.returns
 returns g c =
