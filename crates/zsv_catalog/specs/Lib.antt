@@ -4,3 +4,4 @@ pub mod ReadingBack
 pub mod Requests
 pub mod Sinks
 pub mod zsv_answer
+pub mod zsv_update
