@@ -9,17 +9,17 @@ ghost use Rattle.zsv_catalog.specs.zsv_answer.zst_request.dnw_name.DomainName.{l
 ghost use Rattle.zsv_catalog.specs.zsv_answer.zsv_reply.Writing.{IsEncoded, error_parts};
 ghost use Rattle.zsv_catalog.specs.zsv_answer.zsv_request.Requests.{limit_of};
 ghost use Rattle.zsv_catalog.specs.zsv_answer.zsv_reply.zsv_message.zsv_parts.dnw_decoder.Reading.{IsWantOfMemory};
-ghost use Rattle.authority_server.specs.Serving.{Serves, WorldReadsBack};
-ghost use Rattle.authority_server.specs.Servers.{SendsReply, chains_of, no_zones, with_zones, without_zones, world_of};
-ghost use Rattle.authority_server.specs.Runs.{octets_of, received_of, ServesNext, ServesFront};
+ghost use Rattle.authority_server.specs.Serving.{Refuses, Serves, WorldReadsBack};
+ghost use Rattle.authority_server.specs.Servers.{AreUnguarded, RefusesReply, SendsReply, arrived, chains_of, error_of, no_zones, with_zones, without_zones, world_of};
+ghost use Rattle.authority_server.specs.Runs.{octets_of, received_of, ServesNext, ServesFront, StopsServing};
 
 use std::alloc::{AllocError, Global};
 use std::net::SocketAddr;
 use thiserror::Error;
 use zsv_access::AccessControl;
 use zsv_catalog::{
-    BareRequest, Catalog, DecodeError, MessageRequest, NSIDPayload, Name, Protocol, ResponseCode,
-    ResponseInfo, ZoneHandler, encode_error, encode_refusal,
+    BareRequest, Catalog, DecodeError, MessageRequest, NSIDPayload, Name, Protocol, Received,
+    ResponseCode, ResponseInfo, ServiceFault, TsigSuite, ZoneHandler, encode_error, encode_refusal,
 };
 
 /// A message as it came.
@@ -272,12 +272,15 @@ impl<S: TsigSuite, H: ZoneHandler> Authority<S, H> {
         arrivals: &[Arrival<'_>],
         answers: &mut Vec<Option<Vec<u8>>>,
     ) -> Result<(), ServeError>
-        ensures served { ServesFront (world_of S.keys H.view self.old)
+        ensures served { OnOk result (ServesFront (world_of S.keys H.view self.old)
             (map received_of arrivals.now) (map octets_of answers.old.items) (map octets_of answers.new.items)
-            (world_of S.keys H.view self.new) }
+            (world_of S.keys H.view self.new)) }
         ensures all { OnOk result (length answers.new.items ≡ length answers.old.items + length arrivals.now) }
-        ensures refused { IfErr result (λ e. (e ≡ ServeError.OutOfMemory false) × (0 < length arrivals.now)) }
-        ensures unchanged { self.new ≡ self.old }
+        ensures refused { IfErr result (λ e. StopsServing (world_of S.keys H.view self.old)
+            (map received_of arrivals.now) (map octets_of answers.old.items) (map octets_of answers.new.items) e
+            (world_of S.keys H.view self.new)) }
+        ensures back { WorldReadsBack (world_of S.keys H.view self.old) → WorldReadsBack (world_of S.keys H.view self.new) }
+        ensures fixed { AreUnguarded (world_of S.keys H.view self.old).chains → world_of S.keys H.view self.new ≡ world_of S.keys H.view self.old }
     {
         if answers.try_reserve(arrivals.len()).is_err() {
             return Err(ServeError::OutOfMemory { applied: false });
