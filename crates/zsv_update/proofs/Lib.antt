@@ -1,5 +1,10 @@
+pub mod AppliedBack
+pub mod ChainsBack
 pub mod Decided
 pub mod EdnsBack
 pub mod Named
+pub mod RaisedBack
+pub mod ReadAdditions
+pub mod ServedBack
 pub mod Signed
 pub mod zsv_chains_lemmas

@@ -1,6 +1,7 @@
 pub mod Deciding
 pub mod Keys
 pub mod Options
+pub mod ReadingBack
 pub mod Replying
 pub mod Signing
 pub mod Updates
