@@ -1,5 +1,5 @@
 -- Replies without records, signed or not.
-use Rattle.std.proofs.Common.{◌≡◌, List, [], ◌∷◌, Bor, ap, cc, refl, subst, sym}
+use Rattle.std.proofs.Common.{◌≡◌, List, [], ◌∷◌, Bor, ap, refl, subst, sym}
 use Rattle.std.specs.Iterator.Adapters.{once_steps}
 use Rattle.std.specs.List.{AllByRecursion}
 use Rattle.std.specs.Prelude.{Option, Some, None, Result, Ok, Err, IfOk, IfSome, option_copied, option_map, option_to_list}
@@ -12,7 +12,7 @@ use Rattle.zsv_reply.specs.Writing.{AllReadBack, bare_parts, with_edns}
 use Rattle.zsv_reply.specs.declared.message_response.MessageResponse.{MessageResponse}
 use Rattle.zsv_reply.specs.zsv_message.zst_edns.Writing.{EdnsReadsBack}
 use Rattle.zsv_reply.specs.zsv_message.zst_edns.declared.edns.Edns.{Edns}
-use Rattle.zsv_reply.specs.zsv_message.zst_record.declared.records.Record.{Record}
+use Rattle.zsv_reply.specs.zst_record.declared.records.Record.{Record}
 use Rattle.zsv_reply.specs.zsv_message.zsv_parts.Questions.{Asked}
 use Rattle.zsv_reply.specs.zsv_message.zsv_parts.SignatureRecords.{TsigReadsBack}
 use Rattle.zsv_reply.specs.zsv_message.zsv_parts.declared.header.Metadata.{Metadata}

@@ -16,7 +16,7 @@ use Rattle.zsv_chains.specs.zst_request.zst_codes.declared.settings.ZoneType.The
 use Rattle.zsv_reply.specs.Replies.{ReplyParts}
 use Rattle.zsv_reply.specs.Writing.{bare_parts, error_parts}
 use Rattle.zsv_reply.specs.zsv_message.Messages.{Message}
-use Rattle.zsv_reply.specs.zsv_message.zst_record.declared.records.Record.{Record}
+use Rattle.zsv_reply.specs.zst_record.declared.records.Record.{Record}
 use Rattle.zsv_reply.specs.zsv_message.zsv_parts.Headers.{plain_metadata}
 use Rattle.zsv_reply.specs.zsv_message.zsv_parts.declared.header.Metadata.{Metadata}
 use Rattle.zsv_reply.specs.zsv_message.zsv_parts.declared.header.MessageType.TheVariants as messages
