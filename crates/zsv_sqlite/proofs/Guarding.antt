@@ -106,13 +106,14 @@ unmet_view zone asked code permitted e =
 
 pub applied_view : (old new : Zone) (asked : Asked) (answer : Result Bool ResponseCode) → permission_refused old.guard asked.signed asked.verdict ≡ None → asked_first old asked ≡ None
     → ChangesBy (soa_refused old asked.updates) true old asked.updates answer new → UpdatesView (Stored old) asked answer (Stored new)
-applied_view old new asked answer permitted e changes =
-    (new,
-    subst (λ (o : Option ResponseCode). ChangesBy o true old asked.updates answer new)
-    (sym (between (permission_refused old.guard asked.signed asked.verdict) (prerequisites_refused old asked.prerequisites) (first_refused (prescan_refused old.origin) asked.updates)
-    (soa_refused old asked.updates) permitted e))
-    changes,
-    refl)
+applied_view old new asked answer permitted e changes = (
+  new,
+  subst (λ (o : Option ResponseCode). ChangesBy o true old asked.updates answer new)
+      (sym (between (permission_refused old.guard asked.signed asked.verdict) (prerequisites_refused old asked.prerequisites) (first_refused (prescan_refused old.origin) asked.updates)
+      (soa_refused old asked.updates) permitted e))
+      changes,
+  refl,
+)
 
 -- Records that pass the prescan, where prerequisites and prescan refuse nothing.
 pub second_none : (first second : Option ResponseCode) → or_else first second ≡ None → second ≡ None

@@ -44,10 +44,11 @@ above_raised n (s ∷ sets) all = (subst (λ (t : RecordType). n < record_type_n
 
 rise_raised : (sets : List RRset) → TypesRise sets → TypesRise (map if_soa_raised sets)
 rise_raised [] rise = tt
-rise_raised (s ∷ sets) rise =
-    (subst (λ (t : RecordType). AllByRecursion (λ later. record_type_number t < record_type_number later.record_type) (map if_soa_raised sets)) (sym (raised_type s))
-    (above_raised (record_type_number s.record_type) sets rise.0),
-    rise_raised sets rise.1)
+rise_raised (s ∷ sets) rise = (
+  subst (λ (t : RecordType). AllByRecursion (λ later. record_type_number t < record_type_number later.record_type) (map if_soa_raised sets)) (sym (raised_type s))
+      (above_raised (record_type_number s.record_type) sets rise.0),
+  rise_raised sets rise.1,
+)
 
 pub type_raised : (t : RecordType) (sets : List RRset) → set_of_type t (map if_soa_raised sets) ≡ option_map if_soa_raised (set_of_type t sets)
 type_raised t [] = refl
@@ -168,9 +169,11 @@ has_soa zone = is_some (rrset_at zone.sets zone.origin kind.SOA)
 pub changes_raised : (old between new : Zone) (rs : List Record) → changed old rs ≡ true → has_soa old ≡ true → LeavesZone old (all_applied old.origin (sets_of_name old.sets) rs) between
     → LeavesZone between (raised between.origin (sets_of_name between.sets)) new → ChangesBy (soa_refused old rs) true old rs (Ok true) new
 changes_raised old between new rs some soa first second =
-    subst (λ (o : Option ResponseCode). ChangesBy o true old rs (Ok true) new) (sym accepted)
-    (ap Ok (sym some), subst (λ (b : Bool). LeavesZone old (cond b (raised old.origin (all_applied old.origin (sets_of_name old.sets) rs)) (all_applied old.origin (sets_of_name old.sets) rs)) new) (sym some)
-    (then_raised old between new (all_applied old.origin (sets_of_name old.sets) rs) first second))
+    subst (λ (o : Option ResponseCode). ChangesBy o true old rs (Ok true) new) (sym accepted) (
+      ap Ok (sym some),
+      subst (λ (b : Bool). LeavesZone old (cond b (raised old.origin (all_applied old.origin (sets_of_name old.sets) rs)) (all_applied old.origin (sets_of_name old.sets) rs)) new) (sym some)
+          (then_raised old between new (all_applied old.origin (sets_of_name old.sets) rs) first second),
+    )
   where
     accepted : soa_refused old rs ≡ None
     accepted =

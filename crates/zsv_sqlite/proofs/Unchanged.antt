@@ -80,13 +80,14 @@ none_raised false zone rs none = refl
 pub stays_as : (increment : Bool) (zone : Zone) (rs : List Record) → AreInOrder zone.sets → AreStored zone.sets → changed zone rs ≡ false
     → ChangesBy (cond increment (soa_refused zone rs) None) increment zone rs (Ok false) zone
 stays_as increment zone rs ordered stored none =
-    subst (λ (o : Option ResponseCode). ChangesBy o increment zone rs (Ok false) zone) (sym (none_refused increment zone rs none))
-    (ap Ok (sym (none_raised increment zone rs none)),
-    record {
-      sets = λ name. sym (all_kept zone.origin rs (sets_of_name zone.sets) (λ a b same. sets_same zone.sets a b same) none name)
-          ∙ ap (λ (b : Bool). (cond b (raised zone.origin (all_applied zone.origin (sets_of_name zone.sets) rs)) (all_applied zone.origin (sets_of_name zone.sets) rs)) name)
-          (sym (none_raised increment zone rs none));
-      ordered = ordered;
-      stored = stored;
-      rest = refl;
-    })
+    subst (λ (o : Option ResponseCode). ChangesBy o increment zone rs (Ok false) zone) (sym (none_refused increment zone rs none)) (
+      ap Ok (sym (none_raised increment zone rs none)),
+      record {
+        sets = λ name. sym (all_kept zone.origin rs (sets_of_name zone.sets) (λ a b same. sets_same zone.sets a b same) none name)
+            ∙ ap (λ (b : Bool). (cond b (raised zone.origin (all_applied zone.origin (sets_of_name zone.sets) rs)) (all_applied zone.origin (sets_of_name zone.sets) rs)) name)
+            (sym (none_raised increment zone rs none));
+        ordered = ordered;
+        stored = stored;
+        rest = refl;
+      },
+    )

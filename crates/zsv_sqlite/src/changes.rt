@@ -1,10 +1,10 @@
 //! The records of an update, applied to a zone (RFC 2136 section 3.4.2).
 
-ghost use Rattle.std.specs.Prelude.{◌≡◌, None, IfOk, OnErr, if◌then◌else◌};
+ghost use Rattle.std.specs.Prelude.{◌≡◌, IfOk, OnErr};
 ghost use Rattle.zst_map.specs.dnw_name.DomainName.{lowercase_name};
 ghost use Rattle.zst_map.specs.zst_handler.Lookups.{sets_of_name};
 ghost use Rattle.zst_request.specs.Applied.{LeavesZone, raised};
-ghost use Rattle.zst_request.specs.Updating.{ChangesBy, soa_refused};
+ghost use Rattle.zsv_sqlite.specs.Guarded.{AppliesAll};
 
 use std::alloc::{AllocError, Global};
 use std::mem;
@@ -18,7 +18,7 @@ pub(crate) fn apply_changes<K>(
     changes: Vec<Record>,
     increment: bool,
 ) -> Result<Result<bool, ResponseCode>, AllocError>
-    ensures ok { IfOk result (λ answer. ChangesBy (if increment then soa_refused zone.old changes.items else None) increment zone.old changes.items answer zone.new) }
+    ensures ok { IfOk result (λ answer. AppliesAll increment zone.old changes.items answer zone.new) }
     ensures err { OnErr result (zone.new ≡ zone.old) }
 {
     // (wakes the order of the sets)
@@ -32,11 +32,7 @@ pub(crate) fn apply_changes<K>(
         mem::drop(draft);
         return Ok(Ok(false));
     }
-    if !increment {
-        draft.commit(zone, alloc)?;
-        return Ok(Ok(false));
-    }
-    if zone.apex(RecordType::SOA).is_none() {
+    if increment && zone.apex(RecordType::SOA).is_none() {
         mem::drop(draft);
         return Ok(Err(ResponseCode::ServFail));
     }
@@ -45,6 +41,9 @@ pub(crate) fn apply_changes<K>(
         return Err(AllocError);
     };
     draft.commit(zone, alloc)?;
+    if !increment {
+        return Ok(Ok(false));
+    }
     raise_serial(zone, &apex);
     Ok(Ok(true))
 }

@@ -1,14 +1,14 @@
 //! A zone kept in memory, with a guard that says who may transfer and change it.
 
-ghost use Rattle.std.specs.Prelude.{◌≡◌, [], not, None, Ok, Err, IfOk, IsOk, OnErr, option_map, if◌then◌else◌};
+ghost use Rattle.std.specs.Prelude.{◌≡◌, [], not, None, Ok, Err, IfOk, IsOk, OnErr, option_map};
 ghost use Rattle.std.specs.Borrow.{sem};
 ghost use Rattle.zst_request.specs.Prerequisites.{first_refused, prerequisites_refused, prescan_refused, refused_if};
-ghost use Rattle.zst_request.specs.Requested.{asked_of, context_of, signed_by};
-ghost use Rattle.zst_request.specs.Updating.{ChangesBy, is_good, permission_refused, soa_refused, update_context};
+ghost use Rattle.zst_request.specs.Requested.{asked_of, context_of};
+ghost use Rattle.zst_request.specs.Updating.{ChangesBy, is_good, soa_refused, update_context};
 ghost use Rattle.zst_request.specs.Views.{Stored};
 ghost use Rattle.zst_request.specs.zst_codes.declared.response_code.ResponseCode.TheVariants as codes;
 ghost use Rattle.zst_map.specs.zst_key.Ancestors.{or_else};
-ghost use Rattle.zsv_sqlite.specs.Guarded.{LendsZone, guarded_zone, unless_refused};
+ghost use Rattle.zsv_sqlite.specs.Guarded.{AppliesAll, LendsZone, forbidden, guarded_zone, refused_before, unless_refused};
 ghost use Rattle.zsv_sqlite.specs.Laws.{AliasesAlone, HasNs, HasOneSoa};
 
 use crate::changes::apply_changes;
@@ -16,6 +16,7 @@ use crate::context::context_for;
 use crate::prerequisites::prerequisites_refusal;
 use crate::prescan::prescan;
 use std::alloc::{AllocError, Global};
+use std::mem;
 use zst_draft::{AxfrPolicy, InMemoryZoneHandler, Record, ResponseCode};
 use zst_request::{TSigResponseContext, TsigVerdict, ZoneRequest};
 
@@ -101,9 +102,10 @@ impl<K> SqliteZoneHandler<K> {
         request: &ZoneRequest<'_>,
         now: u64,
     ) -> Result<(Result<(), ResponseCode>, Option<TSigResponseContext>), AllocError>
-        ensures permitted { IfOk result (λ given. given.0 ≡ unless_refused (permission_refused (guarded_zone self.now).guard (option_map signed_by request.now.tsig) request.now.verdict)) }
+        ensures permitted { IfOk result (λ given. given.0 ≡ unless_refused (forbidden (guarded_zone self.now) (asked_of request.now))) }
         ensures context { IfOk result (λ given. option_map context_of given.1 ≡ update_context (Stored (guarded_zone self.now)) (asked_of request.now) now) }
-        ensures unsigned { update_context (Stored (guarded_zone self.now)) (asked_of request.now) now ≡ None → result ≡ Ok (Err ResponseCode.Refused, None) }
+        ensures unsigned { update_context (Stored (guarded_zone self.now)) (asked_of request.now) now ≡ None
+            → result ≡ Ok (Err ResponseCode.Refused, None) }
     {
         if !self.allow_update {
             return Ok((Err(ResponseCode::Refused), None));
@@ -126,19 +128,41 @@ impl<K> SqliteZoneHandler<K> {
     }
 
     // Why an update that is permitted is refused before its records are applied.
-    pub(crate) fn refusal(
+    fn refusal(
         &self,
         alloc: Global,
         prerequisites: &[Record],
         changes: &[Record],
     ) -> Result<Option<ResponseCode>, AllocError>
-        ensures { IfOk result (λ refused. refused ≡ or_else (prerequisites_refused (guarded_zone self.now) prerequisites.now) (first_refused (prescan_refused (guarded_zone self.now).origin) changes.now)) }
+        ensures { IfOk result (λ refused. refused ≡ refused_before (guarded_zone self.now) prerequisites.now changes.now) }
     {
         let refused = prerequisites_refusal(alloc, &self.in_memory, prerequisites)?;
         if refused.is_some() {
             return Ok(refused);
         }
         Ok(prescan(self.in_memory.origin(), changes))
+    }
+
+    // What an update that is permitted is answered, and the zone after it.
+    pub(crate) fn change(
+        &mut self,
+        alloc: Global,
+        prerequisites: &[Record],
+        changes: Vec<Record>,
+    ) -> Result<Result<bool, ResponseCode>, AllocError>
+        ensures ok { IfOk result (λ answer. ChangesBy (or_else (refused_before (guarded_zone self.old) prerequisites.now changes.items)
+            (soa_refused (guarded_zone self.old) changes.items)) true (guarded_zone self.old) changes.items answer (guarded_zone self.new)) }
+        ensures err { OnErr result (self.new ≡ self.old) }
+    {
+        let Ok(refused) = self.refusal(alloc, prerequisites, &changes) else {
+            mem::drop(changes);
+            return Err(AllocError);
+        };
+        if let Some(code) = refused {
+            mem::drop(changes);
+            return Ok(Err(code));
+        }
+        self.update_records(alloc, changes, true)
     }
 
     /// Applies records that `pre_scan` accepts, in order, all or none (RFC 2136 section 3.4.2). Where the serial number is to
@@ -151,7 +175,7 @@ impl<K> SqliteZoneHandler<K> {
         increment: bool,
     ) -> Result<Result<bool, ResponseCode>, AllocError>
         requires { first_refused (prescan_refused (guarded_zone self.old).origin) records.items ≡ None }
-        ensures ok { IfOk result (λ answer. ChangesBy (if increment then soa_refused (guarded_zone self.old) records.items else None) increment (guarded_zone self.old) records.items answer (guarded_zone self.new)) }
+        ensures ok { IfOk result (λ answer. AppliesAll increment (guarded_zone self.old) records.items answer (guarded_zone self.new)) }
         ensures err { OnErr result (self.new ≡ self.old) }
         ensures alias { AliasesAlone (guarded_zone self.old) → AliasesAlone (guarded_zone self.new) }
         ensures soa { HasOneSoa (guarded_zone self.old) → HasOneSoa (guarded_zone self.new) }

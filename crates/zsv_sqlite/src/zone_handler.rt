@@ -114,10 +114,13 @@ impl<K: Drop> ZoneHandler for SqliteZoneHandler<K> {
         request: ZoneRequest<'_>,
         now: u64,
     ) -> Result<(Result<bool, ResponseCode>, Option<TSigResponseContext>), AllocError>
-        ensures told { IfOk result (λ given. UpdatesView (Stored (guarded_zone self.old)) (asked_of request.entry) given.0 (Stored (guarded_zone self.new))) }
-        ensures context { IfOk result (λ given. option_map context_of given.1 ≡ update_context (Stored (guarded_zone self.old)) (asked_of request.entry) now) }
+        ensures told { IfOk result (λ given. UpdatesView (Stored (guarded_zone self.old)) (asked_of request.entry) given.0
+            (Stored (guarded_zone self.new))) }
+        ensures context { IfOk result (λ given. option_map context_of given.1
+            ≡ update_context (Stored (guarded_zone self.old)) (asked_of request.entry) now) }
         ensures err { OnErr result (Stored (guarded_zone self.new) ≡ Stored (guarded_zone self.old)) }
-        ensures unsigned { update_context (Stored (guarded_zone self.old)) (asked_of request.entry) now ≡ None → result ≡ Ok (Err ResponseCode.Refused, None) }
+        ensures unsigned { update_context (Stored (guarded_zone self.old)) (asked_of request.entry) now ≡ None
+            → result ≡ Ok (Err ResponseCode.Refused, None) }
         ensures alias { AliasesAlone (guarded_zone self.old) → AliasesAlone (guarded_zone self.new) }
         ensures soa { HasOneSoa (guarded_zone self.old) → HasOneSoa (guarded_zone self.new) }
         ensures ns { HasNs (guarded_zone self.old) → HasNs (guarded_zone self.new) }
@@ -130,15 +133,7 @@ impl<K: Drop> ZoneHandler for SqliteZoneHandler<K> {
             mem::drop(request);
             return Ok((Err(code), context));
         }
-        let Ok(refused) = self.refusal(alloc, request.prerequisites, &request.updates) else {
-            mem::drop(request);
-            return Err(AllocError);
-        };
-        if let Some(code) = refused {
-            mem::drop(request);
-            return Ok((Err(code), context));
-        }
-        let answer = self.update_records(alloc, request.updates, true)?;
+        let answer = self.change(alloc, request.prerequisites, request.updates)?;
         Ok((answer, context))
     }
 }
