@@ -24,7 +24,7 @@ any_left p [] = refl
 any_left p (s ∷ sets) = by (p s) (any_left p sets)
   where
     by : (b : Bool) → not (length (filter p sets) == 0) ≡ list_any p sets → not (length (cond b (s ∷ filter p sets) (filter p sets)) == 0) ≡ (b || list_any p sets)
-    by true more = refl
+    by true more = ap not (ne_eqb (length (s ∷ filter p sets)) 0 (λ (e : length (s ∷ filter p sets) ≡ 0). omega arith))
     by false more = more
 
 pub any_owned : (sets : List RRset) (key name : DomainName) → key ≡ lowercase_name name → not (length (sets_of_name sets key) == 0) ≡ list_any (λ set. name_eq name set.name) sets

@@ -18,7 +18,8 @@ use Rattle.zst_map.specs.zst_handler.Zones.{Zone}
 use Rattle.zst_map.specs.zst_record.RecordSets.{RRset, is_single, keeps_last, left_of, loses, none_left, raised_first, raised_set, removed, with_one, without}
 use Rattle.zst_map.specs.zst_record.declared.records.Record.{Record}
 use Rattle.zst_map.proofs.NodeSets.{find_with, found_type}
-use Rattle.zst_request.specs.Applied.{LeavesZone, Owned, all_applied, any_changes, applied, asks_any, if_filled, if_soa_raised, is_added, is_deleted, is_taken_from, left_by, raised, stays, taken_from, updated}
+use Rattle.zst_request.specs.Applied.{LeavesZone, Owned, all_applied, any_changes, applied, if_filled, if_soa_raised, is_added, is_deleted, is_taken_from, left_by, raised, stays, taken_from, updated}
+use Rattle.zst_request.specs.Prerequisites.{asks_any}
 use Rattle.zst_request.specs.Updating.{ChangesBy}
 use Rattle.zst_request.specs.zst_codes.declared.response_code.ResponseCode.{ResponseCode}
 use Rattle.zsv_sqlite.specs.Laws.{AliasesAlone, HasNs, HasOneSoa, IsAliasAlone}
