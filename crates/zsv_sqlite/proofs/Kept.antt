@@ -1,6 +1,6 @@
 -- What updates keep: aliases stay alone, and the apex keeps its SOA and its name servers.
 use Rattle.std.proofs.Common.{◌≡◌, ℕ, refl, ap, sym, subst, ◌∙◌, length}
-use Rattle.std.specs.Prelude.{Bool, true, false, not, ◌&&◌, ◌||◌, ◌==◌, List, [], ◌∷◌, ◌++◌, Option, Some, None, Result, IsSome, IsSomeAnd, cond, filter, find, is_some, map, nat_le, nat_lt, option_map}
+use Rattle.std.specs.Prelude.{Bool, true, false, not, ◌&&◌, ◌||◌, ◌==◌, List, [], ◌∷◌, ◌++◌, Option, Some, None, Result, Ok, Err, IfOk, OnErr, IsSome, IsSomeAnd, cond, filter, find, is_some, map, nat_le, nat_lt, option_map}
 use Rattle.std.specs.List.{AllByRecursion, flat_map, list_any}
 use Rattle.std.proofs.lemmas.Bool.{and_parts, and_right, eq-eqb, eqb-true, not-false, not-true, or_parts, true≢false}
 use Rattle.zst_map.specs.dnw_codes.declared.dns_class.DNSClass.{DNSClass}
@@ -474,3 +474,10 @@ soa_raised sets one = subst IsOne (sym (type_raised kind.SOA sets)) (by (set_of_
 pub soa_changes : (refused : Option ResponseCode) (increment : Bool) (old : Zone) (rs : List Record) (answer : Result Bool ResponseCode) (new : Zone) → ChangesBy refused increment old rs answer new
     → HasOneSoa old → HasOneSoa new
 soa_changes refused increment old rs answer new is one = apex_changes OneSoa soa_left soa_raised refused increment old rs answer new is one
+
+-- ---- a call that applies records, or runs out of memory and changes nothing
+pub kept_result : {E : Type 0} (Q : Zone → Type 0) (refused : Option ResponseCode) (increment : Bool) (old : Zone) (rs : List Record) (new : Zone) (r : Result (Result Bool ResponseCode) E)
+    → ((answer : Result Bool ResponseCode) → ChangesBy refused increment old rs answer new → Q old → Q new)
+    → IfOk r (λ answer. ChangesBy refused increment old rs answer new) → OnErr r (new ≡ old) → Q old → Q new
+kept_result Q refused increment old rs new (Ok answer) keeps ok err is = keeps answer ok is
+kept_result Q refused increment old rs new (Err e) keeps ok err is = subst Q (sym err) is

@@ -1,6 +1,6 @@
 //! A zone kept in memory, with a guard that says who may transfer and change it.
 
-ghost use Rattle.std.specs.Prelude.{◌≡◌, [], not, None, Ok, Err, IfOk, IsOk, OnErr, option_map};
+ghost use Rattle.std.specs.Prelude.{◌≡◌, [], true, not, None, Ok, Err, IfOk, IsOk, OnErr, option_map};
 ghost use Rattle.std.specs.Borrow.{sem};
 ghost use Rattle.zst_request.specs.Prerequisites.{first_refused, prerequisites_refused, prescan_refused, refused_if};
 ghost use Rattle.zst_request.specs.Requested.{asked_of, context_of};
