@@ -22,7 +22,7 @@ use Rattle.zst_map.specs.zst_record.declared.records.Record.{Record}
 use Rattle.zst_map.proofs.Indexed.{rrset_same}
 use Rattle.zst_request.specs.Prerequisites.{has_exactly, is_beside, is_met, is_valued}
 use Rattle.zst_draft.proofs.Names.{eq_lower}
-use Rattle.zsv_sqlite.specs.Groups.{Gathers, GathersOne, Group, is_group_met, is_met_by, is_of_set, key_cmp, listed, records_of, unless_none}
+use Rattle.zsv_sqlite.specs.Groups.{Gathers, Group, is_group_met, is_met_by, is_of_set, key_cmp, records_of, unless_none}
 use Rattle.zsv_sqlite.specs.declared.groups.SetKey.{SetKey}
 
 -- ---- keys
@@ -82,6 +82,16 @@ own_groups (e ∷ es) order =
     (ap (λ (b : Bool). cond b (Some e.1) (at e.0 es)) (key_eq e.0 e.0 ∙ same_equiv.refl e.0), later_own e es es order.0 (own_groups es order.1))
 
 -- ---- gathering
+abbrev pub listed : Option Group → List Record
+listed None = []
+listed (Some group) = records_of group
+
+-- A prerequisite is put after those of its set.
+abbrev pub GathersOne : BTreeMap SetKey Group → Record → BTreeMap SetKey Group → Type 0
+GathersOne old r new =
+    (key : SetKey) → option_map records_of (get key_cmp new key)
+    ≡ cond (name_eq key.owner r.name && same_record_type key.record_type (type_of r.rdata)) (Some (listed (get key_cmp old key) ++ r ∷ [])) (option_map records_of (get key_cmp old key))
+
 put_one : (old new : BTreeMap SetKey Group) (key : SetKey) (r : Record) (group : Group) → same key (key_of r) ≡ true
     → ((q : SetKey) → get key_cmp new q ≡ cond (is_eq (key_cmp key q)) (Some group) (get key_cmp old q))
     → records_of group ≡ listed (get key_cmp old key) ++ r ∷ [] → GathersOne old r new

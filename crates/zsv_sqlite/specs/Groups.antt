@@ -1,5 +1,5 @@
 -- The prerequisites of class IN, gathered by their sets: RFC 2136, section 3.2.3.
-use Rattle.std.specs.Prelude.{◌≡◌, Bool, ◌&&◌, List, [], ◌∷◌, ◌++◌, map, filter, Option, Some, None, option_map, if◌then◌else◌}
+use Rattle.std.specs.Prelude.{◌≡◌, Bool, ◌&&◌, List, [], ◌∷◌, map, filter, Option, Some, None, option_map}
 use Rattle.std.specs.Borrow.{Bor}
 use Rattle.std.specs.BTreeMap.{BTreeMap, get}
 use Rattle.std.specs.Ordering.{ordering_then}
@@ -39,18 +39,6 @@ abbrev pub Gathers : List Record → BTreeMap SetKey Group → Type 0
 Gathers rs groups =
     (key : SetKey) → option_map records_of (get key_cmp groups key)
     ≡ unless_none (filter (is_of_set key) rs)
-
--- A prerequisite is put after those of its set.
-abbrev pub listed : Option Group → List Record
-listed None = []
-listed (Some group) = records_of group
-
-abbrev pub GathersOne : BTreeMap SetKey Group → Record → BTreeMap SetKey Group → Type 0
-GathersOne old r new =
-    (key : SetKey) → option_map records_of (get key_cmp new key)
-    ≡ (if name_eq key.owner r.name && same_record_type key.record_type (type_of r.rdata)
-    then Some (listed (get key_cmp old key) ++ r ∷ [])
-    else option_map records_of (get key_cmp old key))
 
 -- A group has exactly the records of its set.
 abbrev pub is_met_by : List RRset → SetKey → List Record → Bool

@@ -1,11 +1,11 @@
 //! Prerequisites of class IN, gathered by their sets, so that each set is compared once (RFC 2136 section 3.2.3).
 
-ghost use Rattle.std.specs.Prelude.{◌≡◌, List, IfOk, OnOk, map};
+ghost use Rattle.std.specs.Prelude.{◌≡◌, ◌∷◌, ◌++◌, [], List, IfOk, OnOk, map};
 ghost use Rattle.std.specs.List.{list_all, list_any};
 ghost use Rattle.zst_map.specs.zst_record.Records.{record_eq};
 ghost use Rattle.zst_map.specs.zst_record.declared.records.Record.{Record};
 ghost use Rattle.zst_request.specs.Prerequisites.{are_members, is_met, same_members};
-ghost use Rattle.zsv_sqlite.specs.Groups.{Gathers, GathersOne, is_group_met, is_met_by};
+ghost use Rattle.zsv_sqlite.specs.Groups.{Gathers, is_group_met, is_met_by};
 
 use std::alloc::{AllocError, Global};
 use std::collections::BTreeMap;
@@ -27,21 +27,22 @@ pub(crate) fn gathered<'r>(
 {
     let mut groups = BTreeMap::new(alloc);
     for asked in prerequisites.iter() {
-        if asked.dns_class == DNSClass::IN {
-            gather(alloc, &mut groups, asked)?;
-        }
+        gather(alloc, &mut groups, asked)?;
     }
     Ok(groups)
 }
 
-// Adds a prerequisite to those of its set.
+// Adds a prerequisite of class IN to those of its set, and passes over any other.
 fn gather<'r>(
     alloc: Global,
     groups: &mut BTreeMap<SetKey, Vec<&'r Record>>,
     asked: &'r Record,
 ) -> Result<(), AllocError>
-    ensures { OnOk result (GathersOne groups.old asked.now groups.new) }
+    ensures { OnOk result ((rs : List Record) → Gathers rs groups.old → Gathers (rs ++ asked.now ∷ []) groups.new) }
 {
+    if asked.dns_class != DNSClass::IN {
+        return Ok(());
+    }
     let key = SetKey {
         owner: NameKey::of(alloc, &asked.name)?,
         record_type: asked.record_type(),
