@@ -1,6 +1,6 @@
 -- A guard changes no look-up, and it stays when the zone is changed.
 use Rattle.std.proofs.Common.{◌≡◌, refl, ap, sym, subst, ◌∙◌}
-use Rattle.std.specs.Prelude.{Bool, true, List, [], ◌∷◌, Option, Some, None, Result, Ok, Err}
+use Rattle.std.specs.Prelude.{Bool, true, List, [], ◌∷◌, Option, Some, None, Result, Ok, Err, cond, option_map}
 use Rattle.zst_map.specs.dnw_codes.declared.record_type.RecordType.{RecordType}
 use Rattle.zst_map.specs.dnw_name.DomainName.{DomainName}
 use Rattle.zst_map.specs.zst_key.Ancestors.{or_else}
@@ -119,3 +119,10 @@ applied_view old new asked answer permitted e changes = (
 pub second_none : (first second : Option ResponseCode) → or_else first second ≡ None → second ≡ None
 second_none None second e = e
 second_none (Some code) second e = let h : ⊥ = cc in absurd h
+
+-- Where a signature was tested the reply is signed.
+pub signed_made : {X Y : Type 0} (P : Type 0) (allow : Bool) (o : Option X) (x : X) (f : X → Y) → allow ≡ true → o ≡ Some x → cond allow (option_map f o) None ≡ None → P
+signed_made P allow o x f yes some none =
+    let h : Some (f x) ≡ None = sym (ap (λ (b : Bool). cond b (option_map f o) None) yes ∙ ap (option_map f) some) ∙ none in
+    let g : ⊥ = cc in
+    absurd g
