@@ -168,7 +168,10 @@ class Body:
                 old = rest
             elif word == "new":
                 self.changes.append((path, old, rest))
-        self.find_touched()
+            elif line.strip() and not self.fault:
+                self.fault = f"a line that is neither file, old nor new: {line.strip()[:60]}"
+        if not self.fault:
+            self.find_touched()
 
     def find_touched(self):
         texts = {}
