@@ -1,8 +1,7 @@
 pub mod AnsweredOnce
 pub mod Asked
 mod BlockedBack
-pub use Rattle.zsv_chains.proofs.Chained
-mod Named
+pub use Rattle.zsv_update.proofs.zsv_chains_lemmas.Chained
 pub mod PartsBack
 pub mod PartsOnce
 pub mod Replied

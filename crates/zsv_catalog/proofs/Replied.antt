@@ -19,8 +19,9 @@ use Rattle.zsv_answer.specs.zsv_reply.zsv_message.zsv_parts.declared.header.Meta
 use Rattle.zsv_answer.specs.zsv_reply.zsv_message.zsv_parts.declared.header.OpCode.{OpCode}
 use Rattle.zsv_answer.specs.zsv_reply.zsv_message.zsv_parts.declared.header.OpCode.TheVariants as operations
 use Rattle.zsv_answer.specs.zsv_reply.zsv_message.zsv_parts.declared.question.Query.{Query}
-use Rattle.zsv_catalog.specs.Catalogs.{KindParts, OperationParts, PlainParts, QueryParts, QuestionParts, asks_for_dnssec, has_other_version}
-use Rattle.zsv_chains.specs.Chains.{chain_for}
+use Rattle.zsv_catalog.specs.Catalogs.{KindParts, OperationParts, PlainParts, QueryParts, QuestionParts, asks_for_dnssec}
+use Rattle.zsv_update.specs.Options.{has_other_version}
+use Rattle.zsv_update.specs.zsv_chains.Chains.{chain_for}
 
 -- What a reply repeats of its request.
 abbrev pub Repeated : Type 0

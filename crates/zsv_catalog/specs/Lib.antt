@@ -1,5 +1,7 @@
 pub mod Catalogs
-pub use Rattle.zsv_chains.specs.Chains
+pub use Rattle.zsv_update.specs.zsv_chains.Chains
 pub mod ReadingBack
+pub mod Requests
 pub mod Sinks
 pub mod zsv_answer
+pub mod zsv_update

@@ -7,3 +7,4 @@ pub mod RaisedBack
 pub mod ReadAdditions
 pub mod ServedBack
 pub mod Signed
+pub mod zsv_chains_lemmas

@@ -4,6 +4,8 @@
 //! where it is to be signed. `update_by` serves one update: its contract has both, and the state after each error.
 #![tactic(auto)]
 
+pub use zsv_chains::{Chains, NameKey};
+
 mod decide;
 mod options;
 mod received;

@@ -5,7 +5,7 @@ use Rattle.zsv_answer.specs.Responses.{parts_of}
 use Rattle.zsv_answer.specs.zsv_reply.Writing.{Sends}
 use Rattle.zsv_answer.specs.zsv_reply.zsv_message.zst_edns.declared.edns.Edns.{Edns}
 use Rattle.zsv_answer.specs.zsv_reply.zsv_message.zsv_parts.Questions.{Asked}
-use Rattle.zsv_catalog.specs.Catalogs.{AnswersEdns, nsid_for}
+use Rattle.zsv_update.specs.Options.{AnswersEdns, nsid_for}
 use Rattle.zsv_catalog.proofs.reply.sent_by.Goals as goal
 
 pub returns : goal.returns

@@ -1,0 +1,3 @@
+pub use Rattle.zsv_update.specs.Keys
+pub use Rattle.zsv_update.specs.Signing
+pub use Rattle.zsv_update.specs.Updates
