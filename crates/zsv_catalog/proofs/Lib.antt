@@ -2,9 +2,11 @@ pub mod AnsweredOnce
 pub mod Asked
 mod BlockedBack
 pub use Rattle.zsv_update.proofs.zsv_chains_lemmas.Chained
+pub mod GivenBack
 pub mod PartsBack
 pub mod PartsOnce
 pub mod Replied
 mod ResolvedBack
 mod ShownBack
+pub mod Updated
 pub mod zsv_answer_lemmas

@@ -26,9 +26,9 @@ use Rattle.zsv_answer.specs.zsv_request.declared.protocol.Protocol.{Protocol}
 use Rattle.zsv_update.specs.zsv_chains.Chains.{chain_for}
 use Rattle.zsv_update.specs.Keys.{Keys}
 use Rattle.zsv_update.specs.Options.{AnswersEdns, has_other_version, nsid_for}
-use Rattle.zsv_update.specs.Replying.{RefusesUpdate, RepliesWith}
+use Rattle.zsv_update.specs.Replying.{RefusesUpdate}
 use Rattle.zsv_update.specs.Signing.{SignsParts}
-use Rattle.zsv_update.specs.Updates.{Given, GivesUpdate, only, signer_of, with_updates}
+use Rattle.zsv_update.specs.Updates.{Given, GivesUpdate, only, signer_of}
 use Rattle.zsv_update.specs.declared.update.ServiceFault.{ServiceFault}
 use Rattle.zsv_update.specs.declared.update.ServiceFault.TheVariants.{OutOfMemory}
 use Rattle.zsv_catalog.specs.ReadingBack.{ChainsReadBack}

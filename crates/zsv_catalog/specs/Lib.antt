@@ -1,6 +1,6 @@
 pub mod Catalogs
 pub use Rattle.zsv_update.specs.zsv_chains.Chains
-pub mod ReadingBack
+pub use Rattle.zsv_update.specs.ReadingBack
 pub mod Requests
 pub mod Sinks
 pub mod zsv_answer
