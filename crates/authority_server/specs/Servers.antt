@@ -19,9 +19,9 @@ use Rattle.zsv_catalog.specs.zsv_answer.zsv_reply.zsv_message.zsv_parts.declared
 use Rattle.zsv_catalog.specs.zsv_update.Keys.{Keys}
 use Rattle.zsv_catalog.specs.zsv_update.Signing.{SignsParts}
 use Rattle.zsv_catalog.specs.zsv_update.Updates.{Given}
-use Rattle.zsv_catalog.specs.zsv_update.declared.Received.{Received as Arrived}
-use Rattle.zsv_catalog.specs.zsv_update.declared.ServiceFault.{ServiceFault}
-use Rattle.zsv_catalog.specs.zsv_update.declared.ServiceFault.TheVariants as faults
+use Rattle.zsv_catalog.specs.zsv_update.declared.received.Received.{Received as Arrived}
+use Rattle.zsv_catalog.specs.zsv_update.declared.update.ServiceFault.{ServiceFault}
+use Rattle.zsv_catalog.specs.zsv_update.declared.update.ServiceFault.TheVariants as faults
 
 -- The chains of a server, each under its name.
 abbrev pub chains_of : {S H : Type 0} → Authority S H → List (DomainName × Vec H Global)

@@ -21,7 +21,7 @@ pub record IsCopy (r copy : Record) : Type 0 where
   pub name : copy.name ≡ r.name
   pub dns_class : copy.dns_class ≡ r.dns_class
   pub ttl : copy.ttl ≡ r.ttl
-  pub data : rdata_eq copy.rdata r.rdata ≡ true
+  pub rdata : rdata_eq copy.rdata r.rdata ≡ true
 
 abbrev pub AreCopies : List Record → List Record → Type 0
 AreCopies [] [] = Unit {0}
