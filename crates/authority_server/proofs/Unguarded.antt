@@ -17,7 +17,7 @@ use Rattle.zsv_catalog.specs.zsv_answer.zst_request.zst_codes.declared.response_
 use Rattle.zsv_catalog.specs.zsv_answer.zst_request.zst_codes.declared.settings.ZoneType.{ZoneType}
 use Rattle.zsv_catalog.specs.zsv_answer.zst_request.zst_codes.declared.settings.ZoneType.TheVariants as zones
 use Rattle.zsv_catalog.specs.zsv_answer.zst_request.zst_handler.Zones.{Guard, Zone}
-use Rattle.zsv_catalog.specs.zsv_answer.zst_request.zst_key.Ancestors.{nearest_from, or_else}
+use Rattle.zsv_catalog.specs.zsv_update.zsv_chains.zst_key.Ancestors.{nearest_from, or_else}
 use Rattle.zsv_catalog.specs.zsv_answer.zsv_reply.zsv_message.Messages.{Message}
 use Rattle.zsv_catalog.specs.zsv_answer.zsv_reply.zsv_message.zsv_parts.declared.question.Query.{Query}
 use Rattle.zsv_catalog.specs.zsv_update.Keys.{Keys}

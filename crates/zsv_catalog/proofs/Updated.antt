@@ -1,5 +1,5 @@
 -- What is sent in reply to an update, or to another message, is what the chains reply.
-use Rattle.std.proofs.Common.{◌≡◌, ◌∙◌, ℕ, Bool, true, false, List, Option, refl, sym}
+use Rattle.std.proofs.Common.{◌≡◌, ◌∙◌, ℕ, Bool, true, false, List, [], Option, ap, refl, subst, sym}
 use Rattle.std.proofs.lemmas.Bool.{true≢false}
 use Rattle.std.specs.Prelude.{Result, Ok, Err, IfOk, IfErr, OnErr}
 use Rattle.std.specs.declared.net.SocketAddr.{SocketAddr}
@@ -44,6 +44,23 @@ module _ (chains : List (DomainName × List View)) (nsid : Option (List ℕ)) (k
   pub update_refused : (fault : ServiceFault) (new : List (DomainName × List View)) → is_served_update request ≡ true → RefusesUpdate keys request source octets moment chains fault new → RefusesBy chains keys request source octets moment fault new
   update_refused (OutOfMemory false) new served is = is
   update_refused (OutOfMemory true) new served is = (served, is)
+
+-- The records of an update that were taken out are those of the message as it was.
+module _ (chains : List (DomainName × List View)) (nsid : Option (List ℕ)) (keys : Keys) (old new : Message) (updates : List Record) (after : new ≡ record old { authorities = [] }) (taken : updates ≡ old.authorities) (served : is_served_update old ≡ true) where
+  whole : with_updates new updates ≡ old
+  whole = ap (λ (m : Message). with_updates m updates) after ∙ ap (with_updates old) taken
+
+  pub taken_replied : (source : SocketAddr) (octets : List ℕ) (moment : ℕ) (parts : ReplyParts) (transport : Protocol) (info : Header) (reply : List ℕ) (left : List (DomainName × List View))
+      → RepliesUpdate keys (with_updates new updates) source octets moment chains nsid parts left → SendsParts parts new.asked transport info reply → RepliesBy chains nsid keys old source octets moment transport info reply left
+  taken_replied source octets moment parts transport info reply left replied sent =
+      update_replied chains nsid keys old source octets moment parts transport info reply left served
+      (subst (λ (m : Message). RepliesUpdate keys m source octets moment chains nsid parts left) whole replied)
+      (subst (λ (m : Message). SendsParts parts m.asked transport info reply) after sent)
+
+  pub taken_refused : (source : SocketAddr) (octets : List ℕ) (moment : ℕ) (fault : ServiceFault) (left : List (DomainName × List View))
+      → RefusesUpdate keys (with_updates new updates) source octets moment chains fault left → RefusesBy chains keys old source octets moment fault left
+  taken_refused source octets moment fault left refused =
+      update_refused chains nsid keys old source octets moment fault left served (subst (λ (m : Message). RefusesUpdate keys m source octets moment chains fault left) whole refused)
 
 -- ---- requests that are lent
 module _ (chains : List (DomainName × List View)) (nsid : Option (List ℕ)) (keys : Keys) (request : Requested) (moment : ℕ) where

@@ -1,12 +1,12 @@
 -- Requests that are lent: their updates apply copies of the records (RFC 2136, section 3.4.2).
 use Rattle.std.specs.Prelude.{◌≡◌, ℕ, true, false, List, [], ◌∷◌, Option}
 use Rattle.zsv_answer.specs.zst_request.Views.{View}
-use Rattle.zsv_answer.specs.zst_request.drd_rdata.Order.{rdata_eq}
+use Rattle.zsv_answer.specs.zsv_reply.drd_rdata.Order.{rdata_eq}
 use Rattle.zsv_answer.specs.zst_request.dnw_name.DomainName.{DomainName}
 use Rattle.zsv_answer.specs.zsv_reply.Replies.{ReplyParts}
 use Rattle.zsv_answer.specs.zsv_reply.Writing.{SendsParts}
 use Rattle.zsv_answer.specs.zsv_reply.zsv_message.zst_edns.declared.edns.Edns.{Edns}
-use Rattle.zsv_answer.specs.zsv_reply.zsv_message.zst_record.declared.records.Record.{Record}
+use Rattle.zsv_answer.specs.zsv_reply.zst_record.declared.records.Record.{Record}
 use Rattle.zsv_answer.specs.zsv_reply.zsv_message.zsv_parts.declared.header.Header.{Header}
 use Rattle.zsv_answer.specs.zsv_request.Requests.{Requested}
 use Rattle.zsv_update.specs.Keys.{Keys}

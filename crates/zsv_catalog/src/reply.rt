@@ -206,8 +206,10 @@ pub(crate) fn reply_by<S: TsigSuite, H: ZoneHandler>(
         let updates = message.take_authorities(alloc);
         return update_by(suite, chains, nsid, alloc, message, updates, received);
     }
-    plain_reply(chains, nsid, alloc, message, received.source, received.protocol)
-        .map_err(|_| ServiceFault::OutOfMemory { applied: false })
+    match plain_reply(chains, nsid, alloc, message, received.source, received.protocol) {
+        Ok(sent) => Ok(sent),
+        Err(_) => Err(ServiceFault::OutOfMemory { applied: false }),
+    }
 }
 
 /// How a request arrived.
@@ -248,8 +250,10 @@ pub(crate) fn reply_to_request<S: TsigSuite, H: ZoneHandler>(
         let received = received_of(request, now);
         return update_by(suite, chains, nsid, alloc, message, updates, received);
     }
-    plain_reply(chains, nsid, alloc, message, request.src(), request.protocol())
-        .map_err(|_| ServiceFault::OutOfMemory { applied: false })
+    match plain_reply(chains, nsid, alloc, message, request.src(), request.protocol()) {
+        Ok(sent) => Ok(sent),
+        Err(_) => Err(ServiceFault::OutOfMemory { applied: false }),
+    }
 }
 
 /// The reply of these chains to a query with these options, and its header as it was written, within the limit of its
