@@ -2,6 +2,7 @@ pub mod AnsweredOnce
 pub mod Asked
 mod BlockedBack
 pub use Rattle.zsv_update.proofs.zsv_chains_lemmas.Chained
+mod Copied
 pub mod GivenBack
 pub mod PartsBack
 pub mod PartsOnce
