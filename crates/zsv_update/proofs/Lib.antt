@@ -1,4 +1,5 @@
 pub mod Decided
 pub mod EdnsBack
 pub mod Named
+pub mod Once
 pub mod Signed
