@@ -3,6 +3,7 @@ pub mod ChainsBack
 pub mod Decided
 pub mod EdnsBack
 pub mod Named
+pub mod Once
 pub mod RaisedBack
 pub mod ReadAdditions
 pub mod ServedBack

@@ -50,10 +50,11 @@ module _ (keys : Keys) (request : Message) (source : SocketAddr) (octets : List 
   -- The same, with the options that answer those of the request.
   abbrev pub RepliesUpdate : Option (List ℕ) → ReplyParts → List (DomainName × List View) → Type 0
   RepliesUpdate nsid parts new =
-      (given : Given) × Gives given × AnswersOutcome keys request given.plain given.context nsid parts
+      (given : Given) × Gives given
+      × AnswersOutcome keys request given.plain given.context nsid parts
       × (new ≡ given.chains)
 
-  -- No reply is sent. Nothing changed; or the update was accepted, and the chains are those after it.
+  -- No reply is sent. Nothing changed; or the update was accepted, and has changed its zone.
   abbrev pub RefusesUpdate : ServiceFault → List (DomainName × List View) → Type 0
   RefusesUpdate (OutOfMemory false) new = new ≡ old
   RefusesUpdate (OutOfMemory true) new =

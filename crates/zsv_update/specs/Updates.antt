@@ -54,7 +54,8 @@ abbrev pub outcome_code : Result Bool ResponseCode → ResponseCode
 outcome_code (Ok changed) = responses.NoError
 outcome_code (Err code) = code
 
--- The reply to an update that its zone decides repeats the identifier alone (RFC 2136, section 3.8).
+-- The reply to an update that its zone decides repeats the identifier alone (RFC 2136, section
+-- 3.8).
 abbrev pub outcome_metadata : Metadata → ResponseCode → Metadata
 outcome_metadata m code = record (plain_metadata m.id messages.Response operations.Update) {
   response_code = code;
@@ -100,11 +101,12 @@ module _ (keys : Keys) (request : Message) (source : SocketAddr) (octets : List 
         given ≡ only chains (error_parts request.metadata responses.ServFail)
     ChainUpdates chains q (Some (zone, view ∷ views)) given =
         (code : ResponseCode) × (left : View)
-        × HandlesUpdate (zone_type_of view) view (asked_of_update q zone) moment code given.context left
+        × HandlesUpdate (zone_type_of view) view (asked_of_update q zone) moment code given.context
+        left
         × (given.plain ≡ outcome_parts request.metadata code)
         × (given.chains ≡ with_chain_at chains zone (left ∷ views))
 
-    -- The zone section names the zone with the type SOA, or is a format error (RFC 2136, section 2.3).
+    -- The zone section names the zone with type SOA, or is a format error (RFC 2136, section 2.3).
     abbrev pub ZoneUpdates : Bool → List (DomainName × List View) → Query → Given → Type 0
     ZoneUpdates true chains q given = ChainUpdates chains q (entry_for chains q.name) given
     ZoneUpdates false chains q given =

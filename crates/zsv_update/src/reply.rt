@@ -15,7 +15,7 @@ use zsv_reply::{
 };
 
 // The octets of a reply without records, with these options and this signature, and its header as it was written.
-fn encode_bare(
+fn encode_empty(
     alloc: Global,
     metadata: Metadata,
     edns: Option<&Edns>,
@@ -23,8 +23,9 @@ fn encode_bare(
     queries: &Queries<'_>,
     protocol: Protocol,
 ) -> Result<(ResponseInfo, Vec<u8>), AllocError>
-    ensures { IfOk result (λ sent. SendsParts (record (with_edns (option_copied edns.entry) (bare_parts metadata)) { signature = option_copied signature.entry })
-        queries.now protocol sent.0 sent.1.items) }
+    ensures { IfOk result (λ sent. SendsParts (record (with_edns (option_copied edns.entry) (bare_parts metadata)) {
+      signature = option_copied signature.entry;
+    }) queries.now protocol sent.0 sent.1.items) }
 {
     let mut response = MessageResponseBuilder::new(queries, edns).build_no_records(metadata);
     let Some(signature) = signature else {
@@ -51,9 +52,9 @@ pub(crate) fn encode_outcome<S: TsigSuite>(
 {
     let queries = message.queries();
     let Some(context) = &decided.context else {
-        return encode_bare(alloc, decided.metadata, edns, None, queries, protocol);
+        return encode_empty(alloc, decided.metadata, edns, None, queries, protocol);
     };
-    let (_info, unsigned) = encode_bare(
+    let (_info, unsigned) = encode_empty(
         alloc,
         decided.metadata,
         edns,
@@ -62,7 +63,7 @@ pub(crate) fn encode_outcome<S: TsigSuite>(
         Protocol::Tcp,
     )?;
     match sign_octets(suite, alloc, context, &unsigned)? {
-        Some(tsig) => encode_bare(
+        Some(tsig) => encode_empty(
             alloc,
             decided.metadata,
             edns,
@@ -72,7 +73,7 @@ pub(crate) fn encode_outcome<S: TsigSuite>(
         ),
         None => {
             let failure = error_header(message.metadata(), ResponseCode::ServFail);
-            encode_bare(alloc, failure, edns, None, queries, protocol)
+            encode_empty(alloc, failure, edns, None, queries, protocol)
         }
     }
 }

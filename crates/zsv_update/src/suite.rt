@@ -26,8 +26,7 @@ pub enum SignFault {
 pub trait TsigSuite {
     ghost keys: { Self → Keys };
 
-    /// The verdict on the signature of a message for a zone, over all octets of the message and at a moment, in seconds since
-    /// 1970.
+    /// The verdict on the signature of a message for a zone, over all octets of the message, at a moment in seconds since 1970.
     fn verify(&self, zone: &LowerName, tsig: &TsigRecord, octets: &[u8], now: u64) -> TsigVerdict
         ensures { result ≡ (keys self.now).verdict zone.now (signature_of tsig.now) octets.now now };
 

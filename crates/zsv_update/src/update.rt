@@ -49,8 +49,8 @@ fn answer_outcome<S: TsigSuite>(
     encode_outcome(suite, alloc, decided, edns.as_ref(), message, protocol)
 }
 
-/// Serves an update that applies these records, which the caller takes out of the message (`take_authorities`) or copies. The
-/// reply has the options that answer those of the message, and the NSID if the message asks for one.
+/// Serves an update that applies these records. The caller takes them out of the message (`take_authorities`), or copies them.
+/// The reply has the options that answer those of the message.
 pub fn update_by<S: TsigSuite, H: ZoneHandler>(
     suite: &S,
     chains: &mut Chains<H>,

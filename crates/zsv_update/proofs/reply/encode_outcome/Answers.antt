@@ -34,8 +34,8 @@ returns-in-Some-2 g c =
     let signs : SignsParts keys request.asked plain (with_edns edns (error_parts request.metadata responses.ServFail)) (option_map context_of c.args.decided.now.context) parts =
     subst (λ (o : Option TSigResponseContext). SignsParts keys request.asked plain (with_edns edns (error_parts request.metadata responses.ServFail)) (option_map context_of o) parts) (sym c.in-Some.is)
     (c.in_ok-_info._info, unsigned, over, has_signature m failure edns (keys.signature (context_of c.in-Some.context) unsigned) tsig is back) in
-    IfOk-weaker c.encode_bare-in-Some-2.result _ _ (λ sent sends. (
+    IfOk-weaker c.encode_empty-in-Some-2.result _ _ (λ sent sends. (
       parts,
       record { signed = signs; back = λ options. signed_back m edns (Some tsig) back options },
       subst (λ (asked : Asked). SendsParts parts asked c.args.protocol sent.0 sent.1.items) c.queries-queries.ensures sends,
-    )) c.encode_bare-in-Some-2.ensures
+    )) c.encode_empty-in-Some-2.ensures

@@ -5,7 +5,7 @@ use Rattle.zsv_reply.specs.zsv_message.zst_edns.declared.edns.Edns.{Edns}
 use Rattle.zsv_reply.specs.zsv_message.zsv_parts.Questions.{Asked}
 use Rattle.zsv_reply.specs.zsv_message.zsv_parts.declared.tsig.TsigRecord.{TsigRecord}
 use Rattle.zsv_update.proofs.Signed.{Empties, HoldsEmpty, both_ok, signed_held, signed_parts, unsigned_held}
-use Rattle.zsv_update.proofs.reply.encode_bare.Goals as goal
+use Rattle.zsv_update.proofs.reply.encode_empty.Goals as goal
 
 pub returns-in_default : goal.returns-in_default
 returns-in_default c =
