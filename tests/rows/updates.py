@@ -21,8 +21,7 @@ import struct
 import sys
 
 sys.dont_write_bytecode = True
-HERE = os.path.dirname(os.path.realpath(__file__))
-sys.path += [HERE, "/work/main/tests/rows"]  # (the second only while these files lie outside of the repository)
+sys.path.append(os.path.dirname(os.path.realpath(__file__)))
 import compress
 
 ID, NOW, SOURCE = 0x1234, 1700000000, "192.0.2.7"
