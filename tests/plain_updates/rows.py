@@ -8,8 +8,7 @@ import sys
 
 sys.dont_write_bytecode = True
 TESTS = os.path.dirname(os.path.dirname(os.path.realpath(__file__)))
-# (the last two only while these files lie outside of the repository)
-sys.path += [f"{TESTS}/rows", f"{TESTS}/plain_lookup", "/work/main/tests/rows", "/work/main/tests/plain_lookup"]
+sys.path += [f"{TESTS}/rows", f"{TESTS}/plain_lookup"]
 import compress
 import lookup
 import messages
@@ -147,4 +146,5 @@ def main():
     sys.exit(1 if wrong else 0)
 
 
-main()
+if __name__ == "__main__":
+    main()

@@ -21,8 +21,7 @@ import struct
 import sys
 
 sys.dont_write_bytecode = True
-HERE = os.path.dirname(os.path.realpath(__file__))
-sys.path += [HERE, "/work/main/tests/rows"]  # (the second only while these files lie outside of the repository)
+sys.path.append(os.path.dirname(os.path.realpath(__file__)))
 import compress
 
 ID, NOW, SOURCE = 0x1234, 1700000000, "192.0.2.7"
@@ -202,6 +201,9 @@ def codes():
      .send(query(WWW, A), answer(0x8403, WWW, A, authorities=[SOA_2])).end())
     one("The reply can't be signed: ServFail without TSIG, and what was accepted stays.", update(records=[ADD_B]), plain_reply(2),
         U.plus(ADDED).serial(2), keys="Good fails")
+    opt = entry(".", OPT, 0, b"", 1232)
+    one("That ServFail is an error reply: it copies RD and CD, and has the options.", update(records=[ADD_B], flags=0x2930, additionals=[opt]),
+        plain_reply(2, options=[opt], flags=0xA910), U.plus(ADDED).serial(2), keys="Good fails")
 
 
 def prerequisites():
