@@ -1,6 +1,6 @@
 -- A record of an update, by its class, and the drafts of its owner.
 use Rattle.std.proofs.Common.{◌≡◌, ℕ, refl, ap, sym, ◌∙◌, subst}
-use Rattle.std.specs.Prelude.{Bool, true, false, not, ◌&&◌, ◌||◌, ◌==◌, List, [], ◌∷◌, ◌++◌, Option, Some, None, cond, filter, find, position, set, slice_get}
+use Rattle.std.specs.Prelude.{Bool, true, false, not, ◌&&◌, ◌||◌, ◌==◌, List, [], ◌∷◌, ◌++◌, Option, Some, None, cond, find, position, set, slice_get}
 use Rattle.std.specs.List.{AllByRecursion, flat_map, list_any}
 use Rattle.std.proofs.lemmas.Bool.{eq-eqb, eqb-true, true≢false}
 use Rattle.zst_map.specs.dnw_codes.declared.dns_class.DNSClass.{DNSClass}
@@ -15,8 +15,8 @@ use Rattle.zst_map.specs.zst_record.declared.records.Record.{Record}
 use Rattle.zst_map.specs.ZoneMaps.{TypesRise}
 use Rattle.zst_request.specs.Applied.{changes_by, is_added, is_deleted, is_taken_from, left_by, taken_from}
 use Rattle.zst_request.specs.Prerequisites.{asks_any}
-use Rattle.zst_draft.specs.OwnerDrafts.{AllDrafted, Applies, DeletesAll, DraftsSets, IsOwnerDraft, Stored, TypesDiffer, drafted_in, is_draft_of, keeps_out}
-use Rattle.zst_draft.specs.SetDrafts.{IsSetDraft, deletes, if_some_left, is_filled, loses_in, lost_in, set_in}
+use Rattle.zst_draft.specs.OwnerDrafts.{Applies, DeletesAll, DraftsSets, IsOwnerDraft, Stored, TypesDiffer, drafted_in, is_draft_of, keeps_out}
+use Rattle.zst_draft.specs.SetDrafts.{IsSetDraft, deletes, is_filled, loses_in, lost_in, set_in}
 use Rattle.zst_draft.specs.declared.set.SetDraft.{SetDraft}
 use Rattle.zst_draft.proofs.DraftedTypes.{IsByNumber, all_set, any_alike, differ_set, drafted_found, drafted_more, drafted_none, drafted_same, drafted_set, each_set, found_passes, none_found, owner_more, place_found}
 use Rattle.zst_draft.proofs.OwnerSets.{if_kept, left_rise, none_later, or_none, type_kept, type_taken, type_with}
@@ -216,9 +216,10 @@ differ_deleted : (at_apex : Bool) (r : Record) (olds news : List SetDraft) → D
 differ_deleted at_apex r [] [] all differ = tt
 differ_deleted at_apex r [] (f ∷ news) all differ = absurd all
 differ_deleted at_apex r (e ∷ olds) [] all differ = absurd all
-differ_deleted at_apex r (e ∷ olds) (f ∷ news) all differ =
-    (subst (λ (t : RecordType). AllByRecursion (λ other. is_draft_of t other ≡ false) news) (sym all.0.kind) (none_deleted e.record_type at_apex r olds news all.1 differ.0),
-    differ_deleted at_apex r olds news all.1 differ.1)
+differ_deleted at_apex r (e ∷ olds) (f ∷ news) all differ = (
+  subst (λ (t : RecordType). AllByRecursion (λ other. is_draft_of t other ≡ false) news) (sym all.0.kind) (none_deleted e.record_type at_apex r olds news all.1 differ.0),
+  differ_deleted at_apex r olds news all.1 differ.1,
+)
 
 missing_deleted : (t : RecordType) (at_apex : Bool) (r : Record) (olds news : List SetDraft) → DeletesAll at_apex r olds news → find (is_draft_of t) news ≡ None → find (is_draft_of t) olds ≡ None
 missing_deleted t at_apex r [] [] all none = refl

@@ -1,19 +1,19 @@
 -- What holds while an owner's drafts are gone through.
 use Rattle.std.proofs.Common.{◌≡◌, ◌∙◌, ℕ, ◌+◌, ◌<◌, ◌≤◌, refl, ap, sym, subst, arith, drop, length, take}
-use Rattle.std.specs.Prelude.{Bool, true, false, ◌&&◌, ◌||◌, List, [], ◌∷◌, ◌++◌, Option, Some, None, get_or, set, slice_get}
+use Rattle.std.specs.Prelude.{Bool, true, false, ◌&&◌, ◌||◌, List, [], ◌∷◌, ◌++◌, Some, None, get_or, set, slice_get}
 use Rattle.std.specs.List.{AllByRecursion, list_any}
 use Rattle.std.proofs.lemmas.List.{append_assoc, drop-set-lt, drop_more, length-set, take_all, take_more, take_more_set}
-use Rattle.zst_map.specs.dnw_name.DomainName.{DomainName, name_eq}
+use Rattle.zst_map.specs.dnw_name.DomainName.{DomainName}
 use Rattle.zst_map.specs.zst_handler.Zones.{Zone}
 use Rattle.zst_map.specs.zst_record.declared.records.Record.{Record}
-use Rattle.zst_draft.specs.OwnerDrafts.{DeletesAll, DeletesSet, TypesDiffer}
+use Rattle.zst_draft.specs.OwnerDrafts.{DeletesAll, DeletesSet}
 use Rattle.zst_draft.specs.SetDrafts.{deletes, is_filled}
-use Rattle.zst_draft.specs.Settling.{AreReady, CanSettle, CanSettleAll, CanSettleOwner, Drafted, IsReady, Settles, SettlesAll, SettlesOwner}
+use Rattle.zst_draft.specs.Settling.{AreReady, CanSettleOwner, Drafted, IsReady, Settles, SettlesAll, SettlesOwner}
 use Rattle.zst_draft.specs.declared.owner.OwnerDraft.{OwnerDraft}
 use Rattle.zst_draft.specs.declared.set.SetDraft.{SetDraft}
-use Rattle.zst_draft.proofs.DraftedTypes.{each_got, each_more}
+use Rattle.zst_draft.proofs.DraftedTypes.{each_more}
 use Rattle.zst_draft.proofs.Found.{drop_at}
-use Rattle.zst_draft.proofs.Settled.{ready_at, ready_before, settles_all, settles_at, settles_both, settles_nothing, settles_owner, settles_twice, still_ready}
+use Rattle.zst_draft.proofs.Settled.{ready_at, ready_before, settles_at, settles_both, settles_nothing, settles_owner, settles_twice, still_ready}
 
 -- ---- sets are deleted
 deletes_more : (at_apex : Bool) (r : Record) (olds news : List SetDraft) (e f : SetDraft) → DeletesAll at_apex r olds news → DeletesSet at_apex r e f → DeletesAll at_apex r (olds ++ e ∷ []) (news ++ f ∷ [])

@@ -1,5 +1,5 @@
 -- The sets that one owner is to have after an update, type by type (RFC 2136, section 3.7).
-use Rattle.std.specs.Prelude.{◌≡◌, Bool, false, ◌&&◌, List, [], ◌∷◌, Option, Some, None, find, if◌then◌else◌}
+use Rattle.std.specs.Prelude.{◌≡◌, Bool, false, ◌&&◌, List, [], ◌∷◌, Option, None, find, if◌then◌else◌}
 use Rattle.std.specs.List.{AllByRecursion, list_any}
 use Rattle.zst_map.specs.dnw_codes.declared.dns_class.DNSClass.{DNSClass}
 use Rattle.zst_map.specs.dnw_codes.declared.record_type.RecordType.{RecordType}

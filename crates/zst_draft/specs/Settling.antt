@@ -2,11 +2,10 @@
 -- types that their owner hasn't, each of which is removed again if memory runs out; then the
 -- others, which takes no memory.
 use Rattle.std.specs.Prelude.{◌≡◌, ◌⊎◌, ◌&&◌, true, false, List, [], ◌∷◌, Option, Some, None, IsSome, length, if◌then◌else◌}
-use Rattle.std.specs.BTreeMap.{BTreeMap, Updates}
 use Rattle.std.specs.List.{AllByRecursion}
 use Rattle.zst_map.specs.dnw_codes.declared.record_type.RecordType.{RecordType}
 use Rattle.zst_map.specs.dnw_codes.RecordType.{same_record_type}
-use Rattle.zst_map.specs.dnw_name.DomainName.{DomainName, name_cmp, name_eq}
+use Rattle.zst_map.specs.dnw_name.DomainName.{DomainName, name_eq}
 use Rattle.zst_map.specs.zst_handler.Updates.{ZoneReplaces}
 use Rattle.zst_map.specs.zst_handler.Zones.{AreInOrder, IsStored, Zone, rrset_at}
 use Rattle.zst_map.specs.zst_record.RecordSets.{RRset}

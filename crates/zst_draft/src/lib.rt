@@ -22,5 +22,3 @@ mod set;
 mod zone;
 
 pub use zone::ZoneDraft;
-
-

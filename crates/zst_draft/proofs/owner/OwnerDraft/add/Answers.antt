@@ -1,13 +1,11 @@
 use Rattle.std.proofs.Common.{◌≡◌, ◌∙◌, ap, subst, sym}
-use Rattle.std.specs.Prelude.{List, Some, true, false, position, slice_set}
-use Rattle.std.proofs.lemmas.Bool.{eq-eqb, eqb-true}
-use Rattle.zst_map.specs.dnw_codes.RecordType.{record_type_number, same_record_type}
+use Rattle.std.specs.Prelude.{true, false, position, slice_set}
+use Rattle.zst_map.specs.dnw_codes.RecordType.{same_record_type}
 use Rattle.zst_map.specs.dnw_codes.declared.dns_class.DNSClass.TheVariants as classes
 use Rattle.zst_map.specs.dnw_codes.declared.record_type.RecordType.{RecordType}
 use Rattle.zst_map.specs.drd_rdata.Types.{type_of}
 use Rattle.zst_map.specs.zst_handler.Zones.{rrset_at}
 use Rattle.zst_draft.specs.OwnerDrafts.{Applies, is_draft_of, keeps_out}
-use Rattle.zst_draft.specs.declared.set.SetDraft.{SetDraft}
 use Rattle.zst_draft.proofs.AppliedDrafts.{add_applies, begin_applies, kept_out, turned}
 use Rattle.zst_draft.proofs.DraftedRecords.{all_three}
 use Rattle.zst_draft.proofs.DraftedTypes.{found_passes, place_found}

@@ -1,5 +1,5 @@
 use Rattle.std.proofs.Common.{◌<◌, ◌+◌, arith, length, subst, sym}
-use Rattle.std.specs.Prelude.{Bool, slice_set}
+use Rattle.std.specs.Prelude.{slice_set}
 use Rattle.zst_draft.proofs.Found.{there_or}
 use Rattle.zst_draft.proofs.Loops.{DeletesFirst, deletes_next}
 use Rattle.zst_draft.proofs.owner.OwnerDraft.delete.Goals as goal

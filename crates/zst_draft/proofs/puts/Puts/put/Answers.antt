@@ -1,13 +1,10 @@
 use Rattle.std.proofs.Common.{◌≡◌, ◌∙◌, ap, subst, sym, inl}
-use Rattle.std.specs.Prelude.{Option, Some, None, true, cond, is_some}
-use Rattle.zst_map.specs.dnw_codes.declared.record_type.RecordType.{RecordType}
-use Rattle.zst_map.specs.dnw_name.DomainName.{name_eq}
-use Rattle.zst_map.specs.zst_handler.Zones.{IsStored, rrset_at}
+use Rattle.std.specs.Prelude.{Option, Some, None, cond, is_some}
+use Rattle.zst_map.specs.zst_handler.Zones.{rrset_at}
 use Rattle.zst_map.specs.zst_record.RecordSets.{RRset}
 use Rattle.zst_map.proofs.Indexed.{rrset_same}
 use Rattle.zst_draft.specs.SetDrafts.{IsRecordsDraft, set_by, set_in}
 use Rattle.zst_draft.specs.Settling.{IsOverStored, IsSetOf}
-use Rattle.zst_draft.specs.declared.records.RecordsDraft.{RecordsDraft}
 use Rattle.zst_draft.proofs.Backing.{replaces_as}
 use Rattle.zst_draft.proofs.DraftedRecords.{on_ok_one}
 use Rattle.zst_draft.proofs.SetDrafts.{empty_taken, filled_taken, none_is, type_taken}

@@ -1,9 +1,9 @@
 use Rattle.std.proofs.Common.{◌≡◌, ◌∙◌, ◌<◌, ap, length, subst, sym}
-use Rattle.std.specs.Prelude.{List, Option, Some, [], Bool, true, false}
+use Rattle.std.specs.Prelude.{List, Some, [], true, false}
 use Rattle.zst_map.specs.dnw_codes.declared.record_type.RecordType.{RecordType}
 use Rattle.zst_map.specs.zst_handler.Updates.{joins}
 use Rattle.zst_map.specs.zst_handler.Zones.{rrset_at}
-use Rattle.zst_map.specs.zst_record.RecordSets.{RRset, held_set, takes}
+use Rattle.zst_map.specs.zst_record.RecordSets.{held_set, takes}
 use Rattle.zst_map.specs.zst_record.declared.records.Record.{Record}
 use Rattle.zst_draft.specs.SetDrafts.{filled, joined, records_in, records_of, set_by, set_in}
 use Rattle.zst_draft.proofs.SetDrafts.{filled_long, held_by, joined_held, joined_set, kept_set, taken_held}

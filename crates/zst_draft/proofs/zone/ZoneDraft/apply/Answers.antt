@@ -1,5 +1,5 @@
 use Rattle.std.proofs.Common.{◌≡◌, ◌∙◌, ap, subst, sym}
-use Rattle.std.specs.Prelude.{Bool, List, Some, is_some}
+use Rattle.std.specs.Prelude.{Bool, List, is_some}
 use Rattle.std.specs.BTreeMap.{BTreeMap}
 use Rattle.zst_map.specs.dnw_name.DomainName.{DomainName, name_eq}
 use Rattle.zst_map.specs.zst_handler.Zones.{rrset_at}

@@ -1,8 +1,5 @@
-use Rattle.std.proofs.Common.{◌≡◌, ◌∙◌, List, ap, map-id, rules, subst, sym}
+use Rattle.std.proofs.Common.{◌∙◌, ap, subst, sym}
 use Rattle.std.specs.Prelude.{Bool, ◌||◌}
-use Rattle.std.proofs.lemmas.Iterator.Adapters.{YieldsList-from_vec}
-use Rattle.std.proofs.lemmas.Iterator.Consumers.{YieldsList-end}
-use Rattle.zst_map.specs.zst_record.declared.records.Record.{Record}
 use Rattle.zst_request.specs.Applied.{Owned, all_applied, any_changes, applied}
 use Rattle.zst_draft.specs.ZoneDrafts.{DraftsZone}
 use Rattle.zst_draft.proofs.DraftedZones.{applied_more, changes_more}
