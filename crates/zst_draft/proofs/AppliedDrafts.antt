@@ -1,6 +1,6 @@
 -- A record of an update, by its class, and the drafts of its owner.
 use Rattle.std.proofs.Common.{◌≡◌, ℕ, refl, ap, sym, ◌∙◌, subst}
-use Rattle.std.specs.Prelude.{Bool, true, false, not, ◌&&◌, ◌||◌, ◌==◌, List, [], ◌∷◌, ◌++◌, Option, Some, None, cond, filter, find, position, set, slice_get}
+use Rattle.std.specs.Prelude.{Bool, true, false, not, ◌&&◌, ◌||◌, ◌==◌, List, [], ◌∷◌, ◌++◌, Option, Some, None, cond, find, position, set, slice_get}
 use Rattle.std.specs.List.{AllByRecursion, flat_map, list_any}
 use Rattle.std.proofs.lemmas.Bool.{eq-eqb, eqb-true, true≢false}
 use Rattle.zst_map.specs.dnw_codes.declared.dns_class.DNSClass.{DNSClass}
@@ -15,8 +15,8 @@ use Rattle.zst_map.specs.zst_record.declared.records.Record.{Record}
 use Rattle.zst_map.specs.ZoneMaps.{TypesRise}
 use Rattle.zst_request.specs.Applied.{changes_by, is_added, is_deleted, is_taken_from, left_by, taken_from}
 use Rattle.zst_request.specs.Prerequisites.{asks_any}
-use Rattle.zst_draft.specs.OwnerDrafts.{AllDrafted, Applies, DeletesAll, DraftsSets, IsOwnerDraft, Stored, TypesDiffer, drafted_in, is_draft_of, keeps_out}
-use Rattle.zst_draft.specs.SetDrafts.{IsSetDraft, deletes, if_some_left, is_filled, loses_in, lost_in, set_in}
+use Rattle.zst_draft.specs.OwnerDrafts.{Applies, DeletesAll, DraftsSets, IsOwnerDraft, Stored, TypesDiffer, drafted_in, is_draft_of, keeps_out}
+use Rattle.zst_draft.specs.SetDrafts.{IsSetDraft, deletes, is_filled, loses_in, lost_in, set_in}
 use Rattle.zst_draft.specs.declared.set.SetDraft.{SetDraft}
 use Rattle.zst_draft.proofs.DraftedTypes.{IsByNumber, all_set, any_alike, differ_set, drafted_found, drafted_more, drafted_none, drafted_same, drafted_set, each_set, found_passes, none_found, owner_more, place_found}
 use Rattle.zst_draft.proofs.OwnerSets.{if_kept, left_rise, none_later, or_none, type_kept, type_taken, type_with}
@@ -192,40 +192,41 @@ none_changes stored es k now is same = record { is = is; sets = λ t. by t (same
 -- ---- class ANY
 -- Whether sets of a type are deleted, by its number.
 abbrev is_deleted_at : Bool → Record → ℕ → Bool
-is_deleted_at at_start r n =
+is_deleted_at at_apex r n =
     (asks_any r || n == record_type_number (type_of r.rdata))
-    && not (at_start && (n == record_type_number kind.SOA || n == record_type_number kind.NS))
+    && not (at_apex && (n == record_type_number kind.SOA || n == record_type_number kind.NS))
 
-each_deleted : (stored : Stored) (at_start : Bool) (r : Record) (olds news : List SetDraft) → DeletesAll at_start r olds news
+each_deleted : (stored : Stored) (at_apex : Bool) (r : Record) (olds news : List SetDraft) → DeletesAll at_apex r olds news
     → AllByRecursion (λ draft. IsSetDraft (stored draft.record_type) draft) olds → AllByRecursion (λ draft. IsSetDraft (stored draft.record_type) draft) news
-each_deleted stored at_start r [] [] all each = tt
-each_deleted stored at_start r [] (f ∷ news) all each = absurd all
-each_deleted stored at_start r (e ∷ olds) [] all each = absurd all
-each_deleted stored at_start r (e ∷ olds) (f ∷ news) all each =
-    (subst (λ (t : RecordType). IsSetDraft (stored t) f) (sym all.0.kind) (all.0.is (stored e.record_type) each.0), each_deleted stored at_start r olds news all.1 each.1)
+each_deleted stored at_apex r [] [] all each = tt
+each_deleted stored at_apex r [] (f ∷ news) all each = absurd all
+each_deleted stored at_apex r (e ∷ olds) [] all each = absurd all
+each_deleted stored at_apex r (e ∷ olds) (f ∷ news) all each =
+    (subst (λ (t : RecordType). IsSetDraft (stored t) f) (sym all.0.kind) (all.0.is (stored e.record_type) each.0), each_deleted stored at_apex r olds news all.1 each.1)
 
-none_deleted : (t : RecordType) (at_start : Bool) (r : Record) (olds news : List SetDraft) → DeletesAll at_start r olds news
+none_deleted : (t : RecordType) (at_apex : Bool) (r : Record) (olds news : List SetDraft) → DeletesAll at_apex r olds news
     → AllByRecursion (λ other. is_draft_of t other ≡ false) olds → AllByRecursion (λ other. is_draft_of t other ≡ false) news
-none_deleted t at_start r [] [] all each = tt
-none_deleted t at_start r [] (f ∷ news) all each = absurd all
-none_deleted t at_start r (e ∷ olds) [] all each = absurd all
-none_deleted t at_start r (e ∷ olds) (f ∷ news) all each =
-    (ap (λ (u : RecordType). same_record_type u t) all.0.kind ∙ each.0, none_deleted t at_start r olds news all.1 each.1)
+none_deleted t at_apex r [] [] all each = tt
+none_deleted t at_apex r [] (f ∷ news) all each = absurd all
+none_deleted t at_apex r (e ∷ olds) [] all each = absurd all
+none_deleted t at_apex r (e ∷ olds) (f ∷ news) all each =
+    (ap (λ (u : RecordType). same_record_type u t) all.0.kind ∙ each.0, none_deleted t at_apex r olds news all.1 each.1)
 
-differ_deleted : (at_start : Bool) (r : Record) (olds news : List SetDraft) → DeletesAll at_start r olds news → TypesDiffer olds → TypesDiffer news
-differ_deleted at_start r [] [] all differ = tt
-differ_deleted at_start r [] (f ∷ news) all differ = absurd all
-differ_deleted at_start r (e ∷ olds) [] all differ = absurd all
-differ_deleted at_start r (e ∷ olds) (f ∷ news) all differ =
-    (subst (λ (t : RecordType). AllByRecursion (λ other. is_draft_of t other ≡ false) news) (sym all.0.kind) (none_deleted e.record_type at_start r olds news all.1 differ.0),
-    differ_deleted at_start r olds news all.1 differ.1)
+differ_deleted : (at_apex : Bool) (r : Record) (olds news : List SetDraft) → DeletesAll at_apex r olds news → TypesDiffer olds → TypesDiffer news
+differ_deleted at_apex r [] [] all differ = tt
+differ_deleted at_apex r [] (f ∷ news) all differ = absurd all
+differ_deleted at_apex r (e ∷ olds) [] all differ = absurd all
+differ_deleted at_apex r (e ∷ olds) (f ∷ news) all differ = (
+  subst (λ (t : RecordType). AllByRecursion (λ other. is_draft_of t other ≡ false) news) (sym all.0.kind) (none_deleted e.record_type at_apex r olds news all.1 differ.0),
+  differ_deleted at_apex r olds news all.1 differ.1,
+)
 
-missing_deleted : (t : RecordType) (at_start : Bool) (r : Record) (olds news : List SetDraft) → DeletesAll at_start r olds news → find (is_draft_of t) news ≡ None → find (is_draft_of t) olds ≡ None
-missing_deleted t at_start r [] [] all none = refl
-missing_deleted t at_start r [] (f ∷ news) all none = absurd all
-missing_deleted t at_start r (e ∷ olds) [] all none = absurd all
-missing_deleted t at_start r (e ∷ olds) (f ∷ news) all none =
-    by (is_draft_of t e) (ap (λ (u : RecordType). same_record_type u t) all.0.kind) none (missing_deleted t at_start r olds news all.1)
+missing_deleted : (t : RecordType) (at_apex : Bool) (r : Record) (olds news : List SetDraft) → DeletesAll at_apex r olds news → find (is_draft_of t) news ≡ None → find (is_draft_of t) olds ≡ None
+missing_deleted t at_apex r [] [] all none = refl
+missing_deleted t at_apex r [] (f ∷ news) all none = absurd all
+missing_deleted t at_apex r (e ∷ olds) [] all none = absurd all
+missing_deleted t at_apex r (e ∷ olds) (f ∷ news) all none =
+    by (is_draft_of t e) (ap (λ (u : RecordType). same_record_type u t) all.0.kind) none (missing_deleted t at_apex r olds news all.1)
   where
     by : (b : Bool) → is_draft_of t f ≡ b → cond (is_draft_of t f) (Some f) (find (is_draft_of t) news) ≡ None → (find (is_draft_of t) news ≡ None → find (is_draft_of t) olds ≡ None)
         → cond b (Some e) (find (is_draft_of t) olds) ≡ None
@@ -239,49 +240,49 @@ cond_none : (b : Bool) → no_set ≡ cond b no_set no_set
 cond_none true = refl
 cond_none false = refl
 
-drafted_deleted : (stored : Stored) (at_start : Bool) (r : Record) (olds news : List SetDraft) (t : RecordType) → DeletesAll at_start r olds news
-    → AllByRecursion (λ draft. IsSetDraft (stored draft.record_type) draft) olds → drafted_in stored news t ≡ cond (deletes at_start r t) None (drafted_in stored olds t)
-drafted_deleted stored at_start r [] [] t all each = cond_none (deletes at_start r t)
-drafted_deleted stored at_start r [] (f ∷ news) t all each = absurd all
-drafted_deleted stored at_start r (e ∷ olds) [] t all each = absurd all
-drafted_deleted stored at_start r (e ∷ olds) (f ∷ news) t all each =
+drafted_deleted : (stored : Stored) (at_apex : Bool) (r : Record) (olds news : List SetDraft) (t : RecordType) → DeletesAll at_apex r olds news
+    → AllByRecursion (λ draft. IsSetDraft (stored draft.record_type) draft) olds → drafted_in stored news t ≡ cond (deletes at_apex r t) None (drafted_in stored olds t)
+drafted_deleted stored at_apex r [] [] t all each = cond_none (deletes at_apex r t)
+drafted_deleted stored at_apex r [] (f ∷ news) t all each = absurd all
+drafted_deleted stored at_apex r (e ∷ olds) [] t all each = absurd all
+drafted_deleted stored at_apex r (e ∷ olds) (f ∷ news) t all each =
     ap (λ (u : RecordType). cond (same_record_type u t) (set_in (stored u) f) (drafted_in stored news t)) all.0.kind
     ∙ ap (λ (o : Option RRset). cond (is_draft_of t e) o (drafted_in stored news t)) (all.0.set (stored e.record_type) each.0)
-    ∙ ap (cond (is_draft_of t e) (cond (deletes at_start r e.record_type) None (set_in (stored e.record_type) e))) (drafted_deleted stored at_start r olds news t all.1 each.1)
+    ∙ ap (cond (is_draft_of t e) (cond (deletes at_apex r e.record_type) None (set_in (stored e.record_type) e))) (drafted_deleted stored at_apex r olds news t all.1 each.1)
     ∙ by (is_draft_of t e) refl
   where
     by : (b : Bool) → is_draft_of t e ≡ b
-        → cond b (cond (deletes at_start r e.record_type) None (set_in (stored e.record_type) e)) (cond (deletes at_start r t) None (drafted_in stored olds t))
-        ≡ cond (deletes at_start r t) None (cond b (set_in (stored e.record_type) e) (drafted_in stored olds t))
-    by true same = ap (λ (n : ℕ). cond (is_deleted_at at_start r n) None (set_in (stored e.record_type) e)) (eqb-true (record_type_number e.record_type) (record_type_number t) same)
+        → cond b (cond (deletes at_apex r e.record_type) None (set_in (stored e.record_type) e)) (cond (deletes at_apex r t) None (drafted_in stored olds t))
+        ≡ cond (deletes at_apex r t) None (cond b (set_in (stored e.record_type) e) (drafted_in stored olds t))
+    by true same = ap (λ (n : ℕ). cond (is_deleted_at at_apex r n) None (set_in (stored e.record_type) e)) (eqb-true (record_type_number e.record_type) (record_type_number t) same)
     by false same = refl
 
-kept_at : (at_start : Bool) (r : Record) (t : RecordType) (sets : List RRset) (o : Option RRset) → set_of_type t sets ≡ o
-    → if_kept (λ set. not (is_deleted at_start r set)) o ≡ cond (deletes at_start r t) None o
-kept_at at_start r t sets None e = cond_none (deletes at_start r t)
-kept_at at_start r t sets (Some s) e =
-    ap (λ (n : ℕ). cond (not (is_deleted_at at_start r n)) (Some s) None) (eqb-true (record_type_number s.record_type) (record_type_number t) (number_of t sets s e))
-    ∙ by (deletes at_start r t)
+kept_at : (at_apex : Bool) (r : Record) (t : RecordType) (sets : List RRset) (o : Option RRset) → set_of_type t sets ≡ o
+    → if_kept (λ set. not (is_deleted at_apex r set)) o ≡ cond (deletes at_apex r t) None o
+kept_at at_apex r t sets None e = cond_none (deletes at_apex r t)
+kept_at at_apex r t sets (Some s) e =
+    ap (λ (n : ℕ). cond (not (is_deleted_at at_apex r n)) (Some s) None) (eqb-true (record_type_number s.record_type) (record_type_number t) (number_of t sets s e))
+    ∙ by (deletes at_apex r t)
   where
     by : (b : Bool) → cond (not b) (Some s) None ≡ cond b None (Some s)
     by true = refl
     by false = refl
 
-pub deleted_in : (stored : Stored) (at_start : Bool) (r : Record) (olds news : List SetDraft) (changed : Bool) → IsOwnerDraft stored olds
-    → changed ≡ list_any (λ draft. is_filled draft && deletes at_start r draft.record_type) olds → DeletesAll at_start r olds news → Applies stored olds at_start r classes.ANY changed news
-deleted_in stored at_start r olds news changed is answer all = record {
+pub deleted_in : (stored : Stored) (at_apex : Bool) (r : Record) (olds news : List SetDraft) (changed : Bool) → IsOwnerDraft stored olds
+    → changed ≡ list_any (λ draft. is_filled draft && deletes at_apex r draft.record_type) olds → DeletesAll at_apex r olds news → Applies stored olds at_apex r classes.ANY changed news
+deleted_in stored at_apex r olds news changed is answer all = record {
   is = record {
-    each = each_deleted stored at_start r olds news all is.each;
-    differ = differ_deleted at_start r olds news all is.differ;
-    all = λ t none. is.all t (missing_deleted t at_start r olds news all none);
+    each = each_deleted stored at_apex r olds news all is.each;
+    differ = differ_deleted at_apex r olds news all is.differ;
+    all = λ t none. is.all t (missing_deleted t at_apex r olds news all none);
   };
-  changes = λ sets drafts. answer ∙ any_alike (is_deleted_at at_start r) stored olds sets is drafts;
+  changes = λ sets drafts. answer ∙ any_alike (is_deleted_at at_apex r) stored olds sets is drafts;
   leaves = λ sets drafts. record {
-    rise = left_rise at_start sets r classes.ANY drafts.rise;
-    alike = λ t. type_kept t (λ set. not (is_deleted at_start r set)) sets drafts.rise
-        ∙ kept_at at_start r t sets (set_of_type t sets) refl
-        ∙ ap (cond (deletes at_start r t) None) (drafts.alike t)
-        ∙ sym (drafted_deleted stored at_start r olds news t all is.each);
+    rise = left_rise at_apex sets r classes.ANY drafts.rise;
+    alike = λ t. type_kept t (λ set. not (is_deleted at_apex r set)) sets drafts.rise
+        ∙ kept_at at_apex r t sets (set_of_type t sets) refl
+        ∙ ap (cond (deletes at_apex r t) None) (drafts.alike t)
+        ∙ sym (drafted_deleted stored at_apex r olds news t all is.each);
   };
 }
 
@@ -339,33 +340,33 @@ none_applies stored es r is place =
     (none_changes stored es (type_of r.rdata) (lost_in (drafted_in stored es (type_of r.rdata)) r) is (ap (λ (o : Option RRset). lost_in o r) drafted ∙ sym drafted))
 
 -- The start matters to class ANY alone.
-pub in_applies : (stored : Stored) (old new : List SetDraft) (at_start : Bool) (r : Record) (class : DNSClass) (changed : Bool) → class ≡ classes.IN → Applies stored old false r classes.IN changed new
-    → Applies stored old at_start r class changed new
-in_applies stored old new at_start r class changed same applies =
-    subst (λ (c : DNSClass). Applies stored old at_start r c changed new) (sym same) (record { is = applies.is; changes = applies.changes; leaves = applies.leaves })
+pub in_applies : (stored : Stored) (old new : List SetDraft) (at_apex : Bool) (r : Record) (class : DNSClass) (changed : Bool) → class ≡ classes.IN → Applies stored old false r classes.IN changed new
+    → Applies stored old at_apex r class changed new
+in_applies stored old new at_apex r class changed same applies =
+    subst (λ (c : DNSClass). Applies stored old at_apex r c changed new) (sym same) (record { is = applies.is; changes = applies.changes; leaves = applies.leaves })
 
-pub none_class_applies : (stored : Stored) (old new : List SetDraft) (at_start : Bool) (r : Record) (class : DNSClass) (changed : Bool) → class ≡ classes.NONE → Applies stored old false r classes.NONE changed new
-    → Applies stored old at_start r class changed new
-none_class_applies stored old new at_start r class changed same applies =
-    subst (λ (c : DNSClass). Applies stored old at_start r c changed new) (sym same) (record { is = applies.is; changes = applies.changes; leaves = applies.leaves })
+pub none_class_applies : (stored : Stored) (old new : List SetDraft) (at_apex : Bool) (r : Record) (class : DNSClass) (changed : Bool) → class ≡ classes.NONE → Applies stored old false r classes.NONE changed new
+    → Applies stored old at_apex r class changed new
+none_class_applies stored old new at_apex r class changed same applies =
+    subst (λ (c : DNSClass). Applies stored old at_apex r c changed new) (sym same) (record { is = applies.is; changes = applies.changes; leaves = applies.leaves })
 
 -- Records of other classes change nothing.
 record IsOther (class : DNSClass) : Type 0 where
-  changes : (at_start : Bool) (sets : List RRset) (r : Record) → changes_by at_start sets r class ≡ false
-  leaves : (at_start : Bool) (sets : List RRset) (r : Record) → left_by at_start sets r class ≡ sets
+  changes : (at_apex : Bool) (sets : List RRset) (r : Record) → changes_by at_apex sets r class ≡ false
+  leaves : (at_apex : Bool) (sets : List RRset) (r : Record) → left_by at_apex sets r class ≡ sets
 
 is_other : (class : DNSClass) → (class ≡ classes.IN → ⊥) → (class ≡ classes.ANY → ⊥) → (class ≡ classes.NONE → ⊥) → IsOther class
 is_other classes.IN a b c = absurd (a refl)
 is_other classes.ANY a b c = absurd (b refl)
 is_other classes.NONE a b c = absurd (c refl)
-is_other other a b c = record { changes = λ at_start sets r. refl; leaves = λ at_start sets r. refl }
+is_other other a b c = record { changes = λ at_apex sets r. refl; leaves = λ at_apex sets r. refl }
 
-pub other_applies : (stored : Stored) (es : List SetDraft) (at_start : Bool) (r : Record) (class : DNSClass) → IsOwnerDraft stored es
-    → (class ≡ classes.IN → ⊥) → (class ≡ classes.ANY → ⊥) → (class ≡ classes.NONE → ⊥) → Applies stored es at_start r class false es
-other_applies stored es at_start r class is a b c =
+pub other_applies : (stored : Stored) (es : List SetDraft) (at_apex : Bool) (r : Record) (class : DNSClass) → IsOwnerDraft stored es
+    → (class ≡ classes.IN → ⊥) → (class ≡ classes.ANY → ⊥) → (class ≡ classes.NONE → ⊥) → Applies stored es at_apex r class false es
+other_applies stored es at_apex r class is a b c =
     let other = is_other class a b c in
     record {
       is = is;
-      changes = λ sets drafts. sym (other.changes at_start sets r);
-      leaves = λ sets drafts. subst (DraftsSets stored es) (sym (other.leaves at_start sets r)) drafts;
+      changes = λ sets drafts. sym (other.changes at_apex sets r);
+      leaves = λ sets drafts. subst (DraftsSets stored es) (sym (other.leaves at_apex sets r)) drafts;
     }

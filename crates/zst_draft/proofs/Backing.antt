@@ -1,12 +1,12 @@
 -- What was put where nothing was is taken out again.
-use Rattle.std.proofs.Common.{◌≡◌, ◌∙◌, ℕ, length, refl, sym, ap, subst}
-use Rattle.std.specs.Prelude.{Bool, true, false, ◌&&◌, ◌==◌, cond, find, List, [], ◌∷◌, Option, Some, None, Result, Ok, Err, OnOk, is_err}
+use Rattle.std.proofs.Common.{◌≡◌, ◌∙◌, length, refl, sym, ap, subst}
+use Rattle.std.specs.Prelude.{Bool, true, false, ◌&&◌, cond, List, [], ◌∷◌, Option, Some, None, Result, Ok, Err, OnOk, is_err}
 use Rattle.std.proofs.lemmas.Bool.{and_parts, true≢false}
 use Rattle.zst_map.specs.dnw_codes.declared.record_type.RecordType.{RecordType}
 use Rattle.zst_map.specs.dnw_codes.RecordType.{same_record_type}
 use Rattle.zst_map.specs.dnw_name.DomainName.{DomainName, lowercase_name, name_eq}
-use Rattle.zst_map.specs.zst_handler.Updates.{Replaces, ZoneReplaces}
-use Rattle.zst_map.specs.zst_handler.Zones.{AreInOrder, Zone, rrset_at}
+use Rattle.zst_map.specs.zst_handler.Updates.{ZoneReplaces}
+use Rattle.zst_map.specs.zst_handler.Zones.{Zone, rrset_at}
 use Rattle.zst_map.specs.zst_record.RecordLaws.{name_eq_equiv}
 use Rattle.zst_map.specs.zst_record.RecordSets.{RRset}
 use Rattle.zst_map.proofs.Indexed.{rrset_same}

@@ -1,16 +1,15 @@
 -- What the draft of a zone is of, owner by owner, and that it is what a commit leaves.
 use Rattle.std.proofs.Common.{◌≡◌, refl, ap, sym, ◌∙◌, subst}
 use Rattle.std.specs.Prelude.{Bool, true, false, List, [], ◌∷◌, Option, Some, None, cond}
-use Rattle.std.specs.BTreeMap.{BTreeMap, IsOrdered, get, is_at}
+use Rattle.std.specs.BTreeMap.{IsOrdered, get, is_at}
 use Rattle.std.specs.List.{AllByRecursion}
 use Rattle.std.specs.List.Sorted.{IsStrictlySortedBy}
 use Rattle.std.specs.Map.{keys_of, lookup}
 use Rattle.std.specs.Ordering.{is_eq}
-use Rattle.std.specs.declared.cmp.Ordering.{Ordering}
 use Rattle.std.specs.declared.cmp.Ordering.TheVariants.{Less}
 use Rattle.std.proofs.lemmas.Bool.{eq-eqb}
 use Rattle.zst_map.specs.dnw_codes.declared.record_type.RecordType.{RecordType}
-use Rattle.zst_map.specs.dnw_codes.RecordType.{record_type_number, same_record_type}
+use Rattle.zst_map.specs.dnw_codes.RecordType.{record_type_number}
 use Rattle.zst_map.specs.dnw_name.DomainName.{DomainName, name_cmp, name_eq}
 use Rattle.zst_map.specs.dnw_name.NameOrderLaws.{name_eq-by_cmp}
 use Rattle.zst_map.specs.zst_handler.Lookups.{sets_of_name}
@@ -30,7 +29,6 @@ use Rattle.zst_draft.specs.declared.owner.OwnerDraft.{OwnerDraft}
 use Rattle.zst_draft.specs.declared.records.RecordsDraft.{RecordsDraft}
 use Rattle.zst_draft.specs.declared.set.SetDraft.{SetDraft}
 use Rattle.zst_draft.specs.declared.zone.ZoneDraft.{ZoneDraft}
-use Rattle.zst_draft.proofs.Names.{flipped}
 use Rattle.zst_draft.proofs.OwnedSets.{IsOwned, found_owned}
 use Rattle.zst_draft.proofs.OwnerSets.{owner_once}
 use Rattle.zst_draft.proofs.Settled.{apart_flipped, away_flipped as type_apart}
@@ -52,9 +50,10 @@ first_of_type stored e es =
 later_of_type : (stored : Stored) (e : SetDraft) (es later : List SetDraft) → AllByRecursion (λ other. is_draft_of e.record_type other ≡ false) later
     → AllByRecursion (λ d. drafted_in stored es d.record_type ≡ set_in (stored d.record_type) d) later → AllByRecursion (λ d. drafted_in stored (e ∷ es) d.record_type ≡ set_in (stored d.record_type) d) later
 later_of_type stored e es [] apart own = tt
-later_of_type stored e es (d ∷ later) apart own =
-    (ap (λ (b : Bool). cond b (set_in (stored e.record_type) e) (drafted_in stored es d.record_type)) (type_apart d.record_type e.record_type apart.0) ∙ own.0,
-    later_of_type stored e es later apart.1 own.1)
+later_of_type stored e es (d ∷ later) apart own = (
+  ap (λ (b : Bool). cond b (set_in (stored e.record_type) e) (drafted_in stored es d.record_type)) (type_apart d.record_type e.record_type apart.0) ∙ own.0,
+  later_of_type stored e es later apart.1 own.1,
+)
 
 each_of_type : (stored : Stored) (es : List SetDraft) → TypesDiffer es → AllByRecursion (λ d. drafted_in stored es d.record_type ≡ set_in (stored d.record_type) d) es
 each_of_type stored [] differ = tt
@@ -64,12 +63,13 @@ can_each : (sets at : List RRset) (name : DomainName) (all es : List SetDraft) �
     → AllByRecursion (λ draft. IsSetDraft (rrset_at sets name draft.record_type) draft) es
     → AllByRecursion (λ d. drafted_in (rrset_at sets name) all d.record_type ≡ set_in (rrset_at sets name d.record_type) d) es → AllByRecursion (CanSettle sets name) es
 can_each sets at name all [] owned alike each own = tt
-can_each sets at name all (e ∷ es) owned alike each own =
-    (record {
-      is = over_by (rrset_at sets name e.record_type) e.record_type e.records each.0;
-      set = set_of_owned name at e.record_type (set_in (rrset_at sets name e.record_type) e) owned (alike e.record_type ∙ own.0);
-    },
-    can_each sets at name all es owned alike each.1 own.1)
+can_each sets at name all (e ∷ es) owned alike each own = (
+  record {
+    is = over_by (rrset_at sets name e.record_type) e.record_type e.records each.0;
+    set = set_of_owned name at e.record_type (set_in (rrset_at sets name e.record_type) e) owned (alike e.record_type ∙ own.0);
+  },
+  can_each sets at name all es owned alike each.1 own.1,
+)
 
 can_owner : (sets at : List RRset) (name : DomainName) (es : List SetDraft) → AreOwned name at → DraftsSets (rrset_at sets name) es at → IsOwnerDraft (rrset_at sets name) es → CanSettleOwner sets name es
 can_owner sets at name es owned drafts is = record {
@@ -113,11 +113,12 @@ each_owner (p ∷ ps) differ = (own_owner p ps, later_owner p ps ps differ.0 (ea
 can_owners : (zone : Zone) (draft : ZoneDraft) (at : Owned) (ps : Drafted) → DraftsZone zone draft at → AllByRecursion (λ q. get name_cmp draft.owners q.0 ≡ Some q.1) ps
     → AllByRecursion (λ owner. CanSettleOwner zone.sets owner.0 owner.1.sets.items) ps
 can_owners zone draft at [] drafts own = tt
-can_owners zone draft at (p ∷ ps) drafts own =
-    (can_owner zone.sets (at p.0) p.0 p.1.sets.items (drafts.owned p.0)
-    (subst (λ (o : Option OwnerDraft). DraftsAt zone.sets p.0 o (at p.0)) own.0 (drafts.alike p.0))
-    (subst (IsDraftAt zone.sets p.0) own.0 (drafts.each p.0)),
-    can_owners zone draft at ps drafts own.1)
+can_owners zone draft at (p ∷ ps) drafts own = (
+  can_owner zone.sets (at p.0) p.0 p.1.sets.items (drafts.owned p.0)
+      (subst (λ (o : Option OwnerDraft). DraftsAt zone.sets p.0 o (at p.0)) own.0 (drafts.alike p.0))
+      (subst (IsDraftAt zone.sets p.0) own.0 (drafts.each p.0)),
+  can_owners zone draft at ps drafts own.1,
+)
 
 pub can_commit : (zone : Zone) (draft : ZoneDraft) (at : Owned) → IsOrdered name_cmp draft.owners → DraftsZone zone draft at → CanSettleAll zone.sets draft.owners.entries
 can_commit zone draft at order drafts =

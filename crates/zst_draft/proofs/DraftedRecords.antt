@@ -1,10 +1,10 @@
 -- What the steps of a draft make of its records, and that it stays one.
-use Rattle.std.proofs.Common.{◌≡◌, ◌∙◌, ℕ, ◌+◌, ◌<◌, ◌≤◌, ◌++◌, suc, zero, refl, sym, ap, subst, arith, length, drop, take}
-use Rattle.std.specs.Prelude.{List, [], ◌∷◌, Option, Some, None, Result, Ok, Err, IfOk, OnOk, get_or, set, slice_get}
+use Rattle.std.proofs.Common.{◌≡◌, ◌∙◌, ℕ, ◌+◌, ◌<◌, ◌≤◌, ◌++◌, suc, zero, refl, sym, ap, subst, arith, length, take}
+use Rattle.std.specs.Prelude.{List, [], ◌∷◌, Option, Some, None, Result, Ok, Err, IfOk, OnOk, get_or, set}
 use Rattle.std.specs.List.{remove}
 use Rattle.std.proofs.lemmas.List.{length-set, length_push, take_all, take_more}
 use Rattle.std.proofs.lemmas.List.Edits.{length-remove}
-use Rattle.zst_map.specs.zst_record.Drafts.{IsDraft, Rise, drafted, picked}
+use Rattle.zst_map.specs.zst_record.Drafts.{Rise, drafted, picked}
 use Rattle.zst_map.specs.zst_record.declared.draft.Draft.{Draft}
 use Rattle.zst_map.specs.zst_record.declared.records.Record.{Record}
 use Rattle.zst_draft.specs.SetDrafts.{IsRecordsDraft, records_in}

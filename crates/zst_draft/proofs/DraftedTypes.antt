@@ -1,24 +1,17 @@
 -- The drafts of an owner, type by type, and what a record of an update makes of them.
-use Rattle.std.proofs.Common.{◌≡◌, ◌⊎◌, inl, inr, ℕ, ◌+◌, ◌<◌, ◌≤◌, suc, zero, refl, ap, sym, ◌∙◌, arith, length, subst}
-use Rattle.std.specs.Prelude.{Bool, true, false, not, ◌&&◌, ◌||◌, ◌==◌, List, [], ◌∷◌, ◌++◌, Option, Some, None, IfSome, cond, filter, find, nat_lt, position, set, slice_get}
-use Rattle.std.specs.List.{AllByRecursion, flat_map, list_any, position_or_len}
-use Rattle.std.proofs.lemmas.Bool.{and_parts, eq-eqb, eqb-false, eqb-true, ltb-false, ltb-true, ne_eqb, true≢false}
-use Rattle.zst_map.specs.dnw_codes.declared.dns_class.DNSClass.{DNSClass}
-use Rattle.zst_map.specs.dnw_codes.declared.dns_class.DNSClass.TheVariants as classes
+use Rattle.std.proofs.Common.{◌≡◌, ℕ, ◌+◌, ◌<◌, ◌≤◌, suc, zero, refl, ap, sym, ◌∙◌, arith, length, subst}
+use Rattle.std.specs.Prelude.{Bool, true, false, not, ◌&&◌, ◌||◌, ◌==◌, List, [], ◌∷◌, ◌++◌, Option, Some, None, IfSome, cond, find, nat_lt, position, set, slice_get}
+use Rattle.std.specs.List.{AllByRecursion, list_any, position_or_len}
+use Rattle.std.proofs.lemmas.Bool.{and_parts, eq-eqb, eqb-true, ltb-false, ltb-true, ne_eqb, true≢false}
 use Rattle.zst_map.specs.dnw_codes.declared.record_type.RecordType.{RecordType}
-use Rattle.zst_map.specs.dnw_codes.declared.record_type.RecordType.TheVariants as kind
 use Rattle.zst_map.specs.dnw_codes.RecordType.{record_type_number, same_record_type}
-use Rattle.zst_map.specs.drd_rdata.Types.{type_of}
-use Rattle.zst_map.specs.zst_handler.Updates.{are_apart, is_kept_out, joins, may_be_beside_alias, set_of_type, upserted, with_set}
-use Rattle.zst_map.specs.zst_record.RecordSets.{RRset, held_set, loses, none_left, removed}
-use Rattle.zst_map.specs.zst_record.declared.records.Record.{Record}
+use Rattle.zst_map.specs.zst_handler.Updates.{set_of_type}
+use Rattle.zst_map.specs.zst_record.RecordSets.{RRset}
 use Rattle.zst_map.specs.ZoneMaps.{TypesRise}
-use Rattle.zst_request.specs.Applied.{changes_by, is_added, is_deleted, is_taken_from, left_by, taken_from}
-use Rattle.zst_request.specs.Prerequisites.{asks_any}
-use Rattle.zst_draft.specs.OwnerDrafts.{AllDrafted, Applies, DeletesAll, DraftsSets, IsOwnerDraft, Stored, TypesDiffer, drafted_in, is_draft_of, keeps_out}
-use Rattle.zst_draft.specs.SetDrafts.{IsSetDraft, deletes, if_some_left, is_filled, loses_in, lost_in, set_in}
+use Rattle.zst_draft.specs.OwnerDrafts.{AllDrafted, DraftsSets, IsOwnerDraft, Stored, TypesDiffer, drafted_in, is_draft_of}
+use Rattle.zst_draft.specs.SetDrafts.{IsSetDraft, is_filled, set_in}
 use Rattle.zst_draft.specs.declared.set.SetDraft.{SetDraft}
-use Rattle.zst_draft.proofs.OwnerSets.{found_above, found_own, if_kept, left_rise, none_later, or_none, type_kept, type_taken, type_with}
+use Rattle.zst_draft.proofs.OwnerSets.{found_above, found_own}
 use Rattle.zst_draft.proofs.SetDrafts.{filled_is, unfilled}
 
 -- ---- lists

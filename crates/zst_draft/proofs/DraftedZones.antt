@@ -1,6 +1,6 @@
 -- The drafts of a zone, name by name, and what a record of an update makes of them.
 use Rattle.std.proofs.Common.{◌≡◌, ℕ, ◌<◌, refl, ap, sym, ◌∙◌, arith, subst}
-use Rattle.std.specs.Prelude.{Bool, true, false, ◌&&◌, ◌||◌, ◌==◌, List, [], ◌∷◌, ◌++◌, Option, Some, None, cond, filter, find}
+use Rattle.std.specs.Prelude.{Bool, true, false, ◌&&◌, ◌||◌, ◌==◌, List, [], ◌∷◌, ◌++◌, Option, Some, None, cond, find}
 use Rattle.std.specs.BTreeMap.{Updates, get, is_at}
 use Rattle.std.specs.List.{AllByRecursion}
 use Rattle.std.specs.Map.{lookup}
@@ -9,7 +9,6 @@ use Rattle.std.specs.declared.cmp.Ordering.{Ordering}
 use Rattle.std.specs.declared.cmp.Ordering.TheVariants.{Less, Equal, Greater}
 use Rattle.std.proofs.lemmas.Bool.{eqb-true, ne_eqb}
 use Rattle.std.proofs.lemmas.Cmp.{ranked}
-use Rattle.zst_map.specs.dnw_codes.declared.dns_class.DNSClass.{DNSClass}
 use Rattle.zst_map.specs.dnw_codes.declared.record_type.RecordType.{RecordType}
 use Rattle.zst_map.specs.dnw_codes.RecordType.{record_type_number, same_record_type}
 use Rattle.zst_map.specs.dnw_name.DomainName.{DomainName, lowercase_name, name_cmp, name_eq}
@@ -25,11 +24,10 @@ use Rattle.zst_map.specs.ZoneMaps.{TypesRise}
 use Rattle.zst_map.proofs.Indexed.{rrset_same}
 use Rattle.zst_map.proofs.NamedSets.{type_among}
 use Rattle.zst_request.specs.Applied.{Owned, all_applied, any_changes, applied, changes, changes_by, left_by}
-use Rattle.zst_draft.specs.OwnerDrafts.{AllDrafted, Applies, AreAsStored, DraftsSets, IsOwnerDraft, Stored, TypesDiffer, drafted_in, is_draft_of}
+use Rattle.zst_draft.specs.OwnerDrafts.{Applies, AreAsStored, DraftsSets, IsOwnerDraft, Stored, TypesDiffer, drafted_in, is_draft_of}
 use Rattle.zst_draft.specs.SetDrafts.{IsSetBy, IsSetDraft, set_by, set_in}
 use Rattle.zst_draft.specs.ZoneDrafts.{AreOwned, Begins, DraftsAt, DraftsZone, IsDraftAt}
 use Rattle.zst_draft.specs.declared.owner.OwnerDraft.{OwnerDraft}
-use Rattle.zst_draft.specs.declared.records.RecordsDraft.{RecordsDraft}
 use Rattle.zst_draft.specs.declared.set.SetDraft.{SetDraft}
 use Rattle.zst_draft.specs.declared.zone.ZoneDraft.{ZoneDraft}
 use Rattle.zst_draft.proofs.DraftedTypes.{IsByNumber}
@@ -120,12 +118,13 @@ name_owned name (s ∷ sets) all = by (name_eq name s.name) refl (name_owned nam
 own_step : (s : RRset) (sets later : List RRset) → AllByRecursion (λ u. record_type_number s.record_type < record_type_number u.record_type) later
     → AllByRecursion (λ u. set_of_type u.record_type sets ≡ Some u) later → AllByRecursion (λ u. set_of_type u.record_type (s ∷ sets) ≡ Some u) later
 own_step s sets [] above own = tt
-own_step s sets (u ∷ later) above own =
-    (ap (λ (b : Bool). cond b (Some s) (set_of_type u.record_type sets))
-    (ne_eqb (record_type_number s.record_type) (record_type_number u.record_type)
-    (λ (h : record_type_number s.record_type ≡ record_type_number u.record_type). let g : record_type_number s.record_type < record_type_number u.record_type = above.0 in omega (arith, g, h)))
-    ∙ own.0,
-    own_step s sets later above.1 own.1)
+own_step s sets (u ∷ later) above own = (
+  ap (λ (b : Bool). cond b (Some s) (set_of_type u.record_type sets))
+      (ne_eqb (record_type_number s.record_type) (record_type_number u.record_type)
+      (λ (h : record_type_number s.record_type ≡ record_type_number u.record_type). let g : record_type_number s.record_type < record_type_number u.record_type = above.0 in omega (arith, g, h)))
+      ∙ own.0,
+  own_step s sets later above.1 own.1,
+)
 
 each_own : (sets : List RRset) → TypesRise sets → AllByRecursion (λ u. set_of_type u.record_type sets ≡ Some u) sets
 each_own [] rise = tt
@@ -139,21 +138,23 @@ each_as : (stored : Stored) (sets : List RRset) (es : List SetDraft) → AreAsSt
 each_as stored [] [] left all own = tt
 each_as stored [] (e ∷ es) left all own = absurd left
 each_as stored (s ∷ sets) [] left all own = absurd left
-each_as stored (s ∷ sets) (e ∷ es) (kind, none, more) all own =
-    (subst (IsSetBy (stored e.record_type) e.record_type) (sym none)
-    (subst (λ (o : Option RRset). IsSetBy o e.record_type None) (sym (ap stored kind ∙ own.0)) (all.0, kind)),
-    each_as stored sets es more all.1 own.1)
+each_as stored (s ∷ sets) (e ∷ es) (kind, none, more) all own = (
+  subst (IsSetBy (stored e.record_type) e.record_type) (sym none)
+      (subst (λ (o : Option RRset). IsSetBy o e.record_type None) (sym (ap stored kind ∙ own.0)) (all.0, kind)),
+  each_as stored sets es more all.1 own.1,
+)
 
 none_as : (t : RecordType) (n : ℕ) (sets : List RRset) (es : List SetDraft) → AreAsStored sets es → record_type_number t ≡ n
     → AllByRecursion (λ u. n < record_type_number u.record_type) sets → AllByRecursion (λ other. is_draft_of t other ≡ false) es
 none_as t n [] [] left is above = tt
 none_as t n [] (e ∷ es) left is above = absurd left
 none_as t n (s ∷ sets) [] left is above = absurd left
-none_as t n (s ∷ sets) (e ∷ es) (kind, none, more) is above =
-    (ap (λ (u : RecordType). same_record_type u t) kind
-    ∙ ne_eqb (record_type_number s.record_type) (record_type_number t)
-    (λ (h : record_type_number s.record_type ≡ record_type_number t). let g : n < record_type_number s.record_type = above.0 in omega (arith, g, h, is)),
-    none_as t n sets es more is above.1)
+none_as t n (s ∷ sets) (e ∷ es) (kind, none, more) is above = (
+  ap (λ (u : RecordType). same_record_type u t) kind
+      ∙ ne_eqb (record_type_number s.record_type) (record_type_number t)
+      (λ (h : record_type_number s.record_type ≡ record_type_number t). let g : n < record_type_number s.record_type = above.0 in omega (arith, g, h, is)),
+  none_as t n sets es more is above.1,
+)
 
 differ_as : (sets : List RRset) (es : List SetDraft) → AreAsStored sets es → TypesRise sets → TypesDiffer es
 differ_as [] [] left rise = tt
@@ -229,13 +230,13 @@ name_alike : (sets : List RRset) (a b : DomainName) → name_eq a b ≡ true →
 name_alike sets a b same u = rrset_same sets a b u same
 
 -- What is applied to an owner's drafts is applied to the zone's.
-pub applied_owner : (zone : Zone) (old new : ZoneDraft) (key : DomainName) (r : Record) (first last : OwnerDraft) (at_start changed : Bool) (at : Owned)
-    → key ≡ lowercase_name r.name → at_start ≡ name_eq r.name zone.origin
+pub applied_owner : (zone : Zone) (old new : ZoneDraft) (key : DomainName) (r : Record) (first last : OwnerDraft) (at_apex changed : Bool) (at : Owned)
+    → key ≡ lowercase_name r.name → at_apex ≡ name_eq r.name zone.origin
     → ((q : DomainName) → get name_cmp new.owners q ≡ cond (is_eq (name_cmp key q)) (Some last) (get name_cmp old.owners q))
-    → Applies (rrset_at zone.sets key) first.sets.items at_start r r.dns_class changed last.sets.items
+    → Applies (rrset_at zone.sets key) first.sets.items at_apex r r.dns_class changed last.sets.items
     → ((name : DomainName) → name_eq r.name name ≡ true → DraftsSets (rrset_at zone.sets key) first.sets.items (at name))
     → DraftsZone zone old at → (changed ≡ changes zone.origin at r) × DraftsZone zone new (applied zone.origin at r)
-applied_owner zone old new key r first last at_start changed at keyed start put applies from drafts = (
+applied_owner zone old new key r first last at_apex changed at keyed start put applies from drafts = (
   applies.changes (at r.name) (from r.name (name_eq_equiv.refl r.name)) ∙ ap (λ (b : Bool). changes_by b (at r.name) r r.dns_class) start,
   record {
     each = λ name. subst (IsDraftAt zone.sets name) (sym (put name ∙ ap (λ (b : Bool). cond b (Some last) (get name_cmp old.owners name)) (key_is (type_of r.rdata) key r.name name keyed)))
@@ -278,12 +279,12 @@ own_key : (key name : DomainName) (r : Record) → key ≡ lowercase_name r.name
 own_key key name r keyed same =
     flipped key name (ap (λ (n : DomainName). name_eq n name) keyed ∙ eq_lower (type_of r.rdata) r.name name ∙ same)
 
-pub applied_found : (zone : Zone) (old new : ZoneDraft) (key : DomainName) (r : Record) (first last : OwnerDraft) (at_start changed : Bool) (at : Owned)
-    → key ≡ lowercase_name r.name → at_start ≡ name_eq r.name zone.origin → get name_cmp old.owners key ≡ Some first → Updates name_cmp old.owners new.owners key (Some last)
-    → Applies (rrset_at zone.sets key) first.sets.items at_start r r.dns_class changed last.sets.items
+pub applied_found : (zone : Zone) (old new : ZoneDraft) (key : DomainName) (r : Record) (first last : OwnerDraft) (at_apex changed : Bool) (at : Owned)
+    → key ≡ lowercase_name r.name → at_apex ≡ name_eq r.name zone.origin → get name_cmp old.owners key ≡ Some first → Updates name_cmp old.owners new.owners key (Some last)
+    → Applies (rrset_at zone.sets key) first.sets.items at_apex r r.dns_class changed last.sets.items
     → DraftsZone zone old at → (changed ≡ changes zone.origin at r) × DraftsZone zone new (applied zone.origin at r)
-applied_found zone old new key r first last at_start changed at keyed start found put applies drafts =
-    applied_owner zone old new key r first last at_start changed at keyed start put.0 applies from drafts
+applied_found zone old new key r first last at_apex changed at keyed start found put applies drafts =
+    applied_owner zone old new key r first last at_apex changed at keyed start put.0 applies from drafts
   where
     from : (name : DomainName) → name_eq r.name name ≡ true → DraftsSets (rrset_at zone.sets key) first.sets.items (at name)
     from name same =
@@ -291,11 +292,11 @@ applied_found zone old new key r first last at_start changed at keyed start foun
         drafts_alike (rrset_at zone.sets name) (rrset_at zone.sets key) first.sets.items (at name) (λ u. sym (rrset_same zone.sets name key u own))
         (subst (λ (o : Option OwnerDraft). DraftsAt zone.sets name o (at name)) (get_same old.owners.entries name key own ∙ found) (drafts.alike name))
 
-pub applied_begun : (zone : Zone) (old new : ZoneDraft) (key : DomainName) (r : Record) (at_start changed : Bool) (at : Owned)
-    → key ≡ lowercase_name r.name → at_start ≡ name_eq r.name zone.origin → get name_cmp old.owners key ≡ None → Begins zone.sets old.owners key at_start r changed new.owners
+pub applied_begun : (zone : Zone) (old new : ZoneDraft) (key : DomainName) (r : Record) (at_apex changed : Bool) (at : Owned)
+    → key ≡ lowercase_name r.name → at_apex ≡ name_eq r.name zone.origin → get name_cmp old.owners key ≡ None → Begins zone.sets old.owners key at_apex r changed new.owners
     → DraftsZone zone old at → (changed ≡ changes zone.origin at r) × DraftsZone zone new (applied zone.origin at r)
-applied_begun zone old new key r at_start changed at keyed start none begins drafts =
-    applied_owner zone old new key r begins.first begins.last at_start changed at keyed start begins.put.0 begins.applies from drafts
+applied_begun zone old new key r at_apex changed at keyed start none begins drafts =
+    applied_owner zone old new key r begins.first begins.last at_apex changed at keyed start begins.put.0 begins.applies from drafts
   where
     from : (name : DomainName) → name_eq r.name name ≡ true → DraftsSets (rrset_at zone.sets key) begins.first.sets.items (at name)
     from name same =

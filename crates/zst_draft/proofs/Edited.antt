@@ -1,15 +1,13 @@
 -- A stored set is edited in place, or taken out, as its draft has it.
-use Rattle.std.proofs.Common.{◌≡◌, ◌⊎◌, inl, inr, ◌<◌, refl, ap, sym, ◌∙◌, arith, length, subst}
-use Rattle.std.specs.Prelude.{true, false, List, [], ◌∷◌, Option, Some, None, IsSome}
+use Rattle.std.proofs.Common.{◌≡◌, ◌<◌, refl, ap, sym, ◌∙◌, arith, length, subst}
+use Rattle.std.specs.Prelude.{false, List, [], ◌∷◌, Option, Some, None, IsSome}
 use Rattle.std.proofs.lemmas.Bool.{and_parts, eq-eqb, eqb-true, true≢false}
-use Rattle.zst_map.specs.dnw_codes.declared.record_type.RecordType.{RecordType}
 use Rattle.zst_map.specs.dnw_codes.RecordType.{record_type_number, same_record_type}
 use Rattle.zst_map.specs.dnw_name.DomainName.{DomainName, name_eq}
 use Rattle.zst_map.specs.Edits.{CanEdit, edited}
 use Rattle.zst_map.specs.declared.edit.Edit.TheVariants as edits
 use Rattle.zst_map.specs.zst_handler.Zones.{rrset_at}
-use Rattle.zst_map.specs.zst_record.Drafts.{drafted}
-use Rattle.zst_map.specs.zst_record.RecordSets.{IsHeld, RRset, first_name, held_set}
+use Rattle.zst_map.specs.zst_record.RecordSets.{RRset, first_name, held_set}
 use Rattle.zst_map.specs.zst_record.declared.draft.Draft.{Draft}
 use Rattle.zst_map.specs.zst_record.declared.records.Record.{Record}
 use Rattle.zst_zone.proofs.ReadBack.{found_is}

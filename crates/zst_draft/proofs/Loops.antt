@@ -1,29 +1,29 @@
 -- What holds while an owner's drafts are gone through.
 use Rattle.std.proofs.Common.{◌≡◌, ◌∙◌, ℕ, ◌+◌, ◌<◌, ◌≤◌, refl, ap, sym, subst, arith, drop, length, take}
-use Rattle.std.specs.Prelude.{Bool, true, false, ◌&&◌, ◌||◌, List, [], ◌∷◌, ◌++◌, Option, Some, None, get_or, set, slice_get}
+use Rattle.std.specs.Prelude.{Bool, true, false, ◌&&◌, ◌||◌, List, [], ◌∷◌, ◌++◌, Some, None, get_or, set, slice_get}
 use Rattle.std.specs.List.{AllByRecursion, list_any}
 use Rattle.std.proofs.lemmas.List.{append_assoc, drop-set-lt, drop_more, length-set, take_all, take_more, take_more_set}
-use Rattle.zst_map.specs.dnw_name.DomainName.{DomainName, name_eq}
+use Rattle.zst_map.specs.dnw_name.DomainName.{DomainName}
 use Rattle.zst_map.specs.zst_handler.Zones.{Zone}
 use Rattle.zst_map.specs.zst_record.declared.records.Record.{Record}
-use Rattle.zst_draft.specs.OwnerDrafts.{DeletesAll, DeletesSet, TypesDiffer}
+use Rattle.zst_draft.specs.OwnerDrafts.{DeletesAll, DeletesSet}
 use Rattle.zst_draft.specs.SetDrafts.{deletes, is_filled}
-use Rattle.zst_draft.specs.Settling.{AreReady, CanSettle, CanSettleAll, CanSettleOwner, Drafted, IsReady, Settles, SettlesAll, SettlesOwner}
+use Rattle.zst_draft.specs.Settling.{AreReady, CanSettleOwner, Drafted, IsReady, Settles, SettlesAll, SettlesOwner}
 use Rattle.zst_draft.specs.declared.owner.OwnerDraft.{OwnerDraft}
 use Rattle.zst_draft.specs.declared.set.SetDraft.{SetDraft}
-use Rattle.zst_draft.proofs.DraftedTypes.{each_got, each_more}
+use Rattle.zst_draft.proofs.DraftedTypes.{each_more}
 use Rattle.zst_draft.proofs.Found.{drop_at}
-use Rattle.zst_draft.proofs.Settled.{ready_at, ready_before, settles_all, settles_at, settles_both, settles_nothing, settles_owner, settles_twice, still_ready}
+use Rattle.zst_draft.proofs.Settled.{ready_at, ready_before, settles_at, settles_both, settles_nothing, settles_owner, settles_twice, still_ready}
 
 -- ---- sets are deleted
-deletes_more : (at_start : Bool) (r : Record) (olds news : List SetDraft) (e f : SetDraft) → DeletesAll at_start r olds news → DeletesSet at_start r e f → DeletesAll at_start r (olds ++ e ∷ []) (news ++ f ∷ [])
-deletes_more at_start r [] [] e f all one = (one, tt)
-deletes_more at_start r [] (y ∷ news) e f all one = absurd all
-deletes_more at_start r (x ∷ olds) [] e f all one = absurd all
-deletes_more at_start r (x ∷ olds) (y ∷ news) e f all one = (all.0, deletes_more at_start r olds news e f all.1 one)
+deletes_more : (at_apex : Bool) (r : Record) (olds news : List SetDraft) (e f : SetDraft) → DeletesAll at_apex r olds news → DeletesSet at_apex r e f → DeletesAll at_apex r (olds ++ e ∷ []) (news ++ f ∷ [])
+deletes_more at_apex r [] [] e f all one = (one, tt)
+deletes_more at_apex r [] (y ∷ news) e f all one = absurd all
+deletes_more at_apex r (x ∷ olds) [] e f all one = absurd all
+deletes_more at_apex r (x ∷ olds) (y ∷ news) e f all one = (all.0, deletes_more at_apex r olds news e f all.1 one)
 
 abbrev is_changed : Bool → Record → SetDraft → Bool
-is_changed at_start r d = is_filled d && deletes at_start r d.record_type
+is_changed at_apex r d = is_filled d && deletes at_apex r d.record_type
 
 or_assoc : (a b c : Bool) → (a || (b || c)) ≡ ((a || b) || c)
 or_assoc true b c = refl
@@ -37,14 +37,14 @@ any_push : (q : SetDraft → Bool) (es : List SetDraft) (e : SetDraft) → list_
 any_push q [] e = or_false (q e)
 any_push q (d ∷ es) e = ap (λ (b : Bool). q d || b) (any_push q es e) ∙ or_assoc (q d) (list_any q es) (q e)
 
-pub record DeletesFirst (at_start : Bool) (r : Record) (old : List SetDraft) (i : ℕ) (now : List SetDraft) (changed : Bool) : Type 0 where
-  pub answer : changed ≡ list_any (is_changed at_start r) (take i old)
-  pub drafts : DeletesAll at_start r (take i old) (take i now)
+pub record DeletesFirst (at_apex : Bool) (r : Record) (old : List SetDraft) (i : ℕ) (now : List SetDraft) (changed : Bool) : Type 0 where
+  pub answer : changed ≡ list_any (is_changed at_apex r) (take i old)
+  pub drafts : DeletesAll at_apex r (take i old) (take i now)
   pub rest : drop i now ≡ drop i old
   pub long : length now ≡ length old
 
-pub deletes_none : (at_start : Bool) (r : Record) (old : List SetDraft) → DeletesFirst at_start r old 0 old false
-deletes_none at_start r old = record { answer = refl; drafts = tt; rest = refl; long = refl }
+pub deletes_none : (at_apex : Bool) (r : Record) (old : List SetDraft) → DeletesFirst at_apex r old 0 old false
+deletes_none at_apex r old = record { answer = refl; drafts = tt; rest = refl; long = refl }
 
 same_item : {X : Type 0} (x y : X) (xs ys : List X) → x ∷ xs ≡ y ∷ ys → x ≡ y
 same_item x y xs ys e = cc
@@ -52,34 +52,34 @@ same_item x y xs ys e = cc
 same_items : {X : Type 0} (x y : X) (xs ys : List X) → x ∷ xs ≡ y ∷ ys → xs ≡ ys
 same_items x y xs ys e = cc
 
-pub deletes_next : (at_start : Bool) (r : Record) (old : List SetDraft) (i : ℕ) (now : List SetDraft) (changed one : Bool) (e f : SetDraft) → i < length now → slice_get now i ≡ Some e
-    → DeletesSet at_start r e f → one ≡ is_changed at_start r e → DeletesFirst at_start r old i now changed → DeletesFirst at_start r old (i + 1) (set now i f) (changed || one)
-deletes_next at_start r old i now changed one e f small at deleted is first =
+pub deletes_next : (at_apex : Bool) (r : Record) (old : List SetDraft) (i : ℕ) (now : List SetDraft) (changed one : Bool) (e f : SetDraft) → i < length now → slice_get now i ≡ Some e
+    → DeletesSet at_apex r e f → one ≡ is_changed at_apex r e → DeletesFirst at_apex r old i now changed → DeletesFirst at_apex r old (i + 1) (set now i f) (changed || one)
+deletes_next at_apex r old i now changed one e f small at deleted is first =
     let within : i < length old = omega (arith, small, first.long) in
     let both : e ∷ drop (i + 1) now ≡ get_or old i e ∷ drop (i + 1) old = sym (drop_at now i e small at) ∙ first.rest ∙ drop_more old i e within in
     let there : e ≡ get_or old i e = same_item e (get_or old i e) (drop (i + 1) now) (drop (i + 1) old) both in
     let before : take (i + 1) old ≡ take i old ++ e ∷ [] = take_more old i e within ∙ ap (λ (x : SetDraft). take i old ++ x ∷ []) (sym there) in
     let after : take (i + 1) (set now i f) ≡ take i now ++ f ∷ [] = take_more_set now i f small in
     record {
-      answer = ap (λ (b : Bool). b || one) first.answer ∙ ap (λ (b : Bool). list_any (is_changed at_start r) (take i old) || b) is
-          ∙ sym (any_push (is_changed at_start r) (take i old) e) ∙ ap (list_any (is_changed at_start r)) (sym before);
-      drafts = subst (λ (l : List SetDraft). DeletesAll at_start r l (take (i + 1) (set now i f))) (sym before)
-          (subst (DeletesAll at_start r (take i old ++ e ∷ [])) (sym after) (deletes_more at_start r (take i old) (take i now) e f first.drafts deleted));
+      answer = ap (λ (b : Bool). b || one) first.answer ∙ ap (λ (b : Bool). list_any (is_changed at_apex r) (take i old) || b) is
+          ∙ sym (any_push (is_changed at_apex r) (take i old) e) ∙ ap (list_any (is_changed at_apex r)) (sym before);
+      drafts = subst (λ (l : List SetDraft). DeletesAll at_apex r l (take (i + 1) (set now i f))) (sym before)
+          (subst (DeletesAll at_apex r (take i old ++ e ∷ [])) (sym after) (deletes_more at_apex r (take i old) (take i now) e f first.drafts deleted));
       rest = drop-set-lt (i + 1) now i f (omega arith) ∙ same_items e (get_or old i e) (drop (i + 1) now) (drop (i + 1) old) both;
       long = length-set now i f ∙ first.long;
     }
 
-pub record DeletesEach (at_start : Bool) (r : Record) (old now : List SetDraft) (changed : Bool) : Type 0 where
-  pub answer : changed ≡ list_any (is_changed at_start r) old
-  pub drafts : DeletesAll at_start r old now
+pub record DeletesEach (at_apex : Bool) (r : Record) (old now : List SetDraft) (changed : Bool) : Type 0 where
+  pub answer : changed ≡ list_any (is_changed at_apex r) old
+  pub drafts : DeletesAll at_apex r old now
 
-pub deletes_each : (at_start : Bool) (r : Record) (old : List SetDraft) (i : ℕ) (now : List SetDraft) (changed : Bool) → length now ≤ i → DeletesFirst at_start r old i now changed → DeletesEach at_start r old now changed
-deletes_each at_start r old i now changed end first =
+pub deletes_each : (at_apex : Bool) (r : Record) (old : List SetDraft) (i : ℕ) (now : List SetDraft) (changed : Bool) → length now ≤ i → DeletesFirst at_apex r old i now changed → DeletesEach at_apex r old now changed
+deletes_each at_apex r old i now changed end first =
     let all_old : take i old ≡ old = take_all i old (omega (arith, end, first.long)) in
     let all_now : take i now ≡ now = take_all i now end in
     record {
-      answer = first.answer ∙ ap (list_any (is_changed at_start r)) all_old;
-      drafts = subst (λ (l : List SetDraft). DeletesAll at_start r l now) all_old (subst (DeletesAll at_start r (take i old)) all_now first.drafts);
+      answer = first.answer ∙ ap (list_any (is_changed at_apex r)) all_old;
+      drafts = subst (λ (l : List SetDraft). DeletesAll at_apex r l now) all_old (subst (DeletesAll at_apex r (take i old)) all_now first.drafts);
     }
 
 -- ---- sets are put

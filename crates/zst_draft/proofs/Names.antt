@@ -1,9 +1,8 @@
 -- Names that are equal, and their keys.
 use Rattle.std.proofs.Common.{◌≡◌, refl, ap, sym, ◌∙◌}
-use Rattle.std.specs.Prelude.{Bool, true, false, ◌&&◌, List, [], ◌∷◌, cond}
+use Rattle.std.specs.Prelude.{Bool, true, false, List, [], ◌∷◌, cond}
 use Rattle.std.specs.Ordering.{is_eq}
 use Rattle.zst_map.specs.dnw_codes.declared.record_type.RecordType.{RecordType}
-use Rattle.zst_map.specs.dnw_codes.RecordType.{same_record_type}
 use Rattle.zst_map.specs.dnw_name.DomainName.{DomainName, lowercase_name, name_cmp, name_eq}
 use Rattle.zst_map.specs.dnw_name.NameOrderLaws.{name_eq-by_cmp}
 use Rattle.zst_map.specs.zst_handler.Lookups.{sets_of_name}

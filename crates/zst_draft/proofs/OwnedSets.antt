@@ -1,6 +1,6 @@
 -- Sets of one owner, each with its records, and what a record of an update leaves of them.
-use Rattle.std.proofs.Common.{◌≡◌, ◌⊎◌, inl, inr, refl, ap, sym, ◌∙◌, subst}
-use Rattle.std.specs.Prelude.{Bool, true, false, not, ◌&&◌, List, [], ◌∷◌, ◌++◌, Option, Some, None, cond, find, filter, nat_lt}
+use Rattle.std.proofs.Common.{◌≡◌, refl, ap, sym, ◌∙◌, subst}
+use Rattle.std.specs.Prelude.{Bool, true, false, not, List, [], ◌∷◌, ◌++◌, Option, Some, None, cond, nat_lt}
 use Rattle.std.specs.List.{AllByRecursion, flat_map}
 use Rattle.std.proofs.lemmas.Bool.{and_parts, eq-eqb, eqb-true, true≢false}
 use Rattle.zst_map.specs.dnw_codes.declared.dns_class.DNSClass.{DNSClass}
@@ -12,11 +12,10 @@ use Rattle.zst_map.specs.drd_rdata.Order.{rdata_eq}
 use Rattle.zst_map.specs.drd_rdata.Types.{type_of}
 use Rattle.zst_map.specs.zst_handler.Updates.{is_kept_out, joins, set_of_type, upserted, with_set}
 use Rattle.zst_map.specs.zst_handler.Zones.{IsStored}
-use Rattle.zst_map.specs.zst_record.RecordLaws.{name_eq_equiv}
-use Rattle.zst_map.specs.zst_record.RecordSets.{IsRRset, RRset, first_class, first_name, first_of_put, held_set, inserted, is_single, left_of, none_left, removed, with_one, without}
+use Rattle.zst_map.specs.zst_record.RecordSets.{RRset, first_of_put, is_single, left_of, none_left, removed, with_one, without}
 use Rattle.zst_map.specs.zst_record.declared.records.Record.{Record}
 use Rattle.zst_map.proofs.PutRecords.{IsOf, of_set, to_set}
-use Rattle.zst_zone.proofs.Stored.{AreThere, IsThere, upserted_stored}
+use Rattle.zst_zone.proofs.Stored.{AreThere, upserted_stored}
 use Rattle.zst_request.specs.Applied.{is_added, is_deleted, is_taken_from, left_by, taken_from}
 use Rattle.zst_draft.specs.ZoneDrafts.{AreOwned}
 use Rattle.zst_draft.proofs.DraftedTypes.{found_passes}
@@ -82,25 +81,27 @@ added_owned name sets r all own = by (is_added sets r) refl
 
     by : (b : Bool) → is_added sets r ≡ b → AreOwned name (cond b (with_set sets (upserted o r)) sets)
     by true added =
-        put_owned name sets (upserted o r) all
-        (upserted_stored o r (and_parts (not (is_kept_out sets (type_of r.rdata))) (joins o r) added).1 (there_in name sets r all own),
-        upserted_named name o r (flipped r.name name own) (λ s e. (found_owned (IsOwned name) (type_of r.rdata) sets s all e).1))
+        put_owned name sets (upserted o r) all (
+          upserted_stored o r (and_parts (not (is_kept_out sets (type_of r.rdata))) (joins o r) added).1 (there_in name sets r all own),
+          upserted_named name o r (flipped r.name name own) (λ s e. (found_owned (IsOwned name) (type_of r.rdata) sets s all e).1),
+        )
     by false added = all
 
 -- ---- class NONE
 left_stored : (set : RRset) (rs : List Record) → none_left rs ≡ false → AllByRecursion (IsOf set.name set.dns_class set.record_type) rs
     → IsStored (left_of set rs) × (name_eq set.name (left_of set rs).name ≡ true)
 left_stored set [] some all = absurd (true≢false some)
-left_stored set (r ∷ rs) some all =
-    (record {
-      filled = refl;
-      is = record {
-        records = to_set (left_of set (r ∷ rs)) (r ∷ rs) (respelled set.name set.dns_class set.record_type (r ∷ rs) all);
-        signatures = tt;
-        spelled = λ first later e. let same : r ≡ first = cc in (ap (λ (x : Record). x.name) same, ap (λ (x : Record). x.dns_class) same);
-      };
-    },
-    flipped r.name set.name all.0.0)
+left_stored set (r ∷ rs) some all = (
+  record {
+    filled = refl;
+    is = record {
+      records = to_set (left_of set (r ∷ rs)) (r ∷ rs) (respelled set.name set.dns_class set.record_type (r ∷ rs) all);
+      signatures = tt;
+      spelled = λ first later e. let same : r ≡ first = cc in (ap (λ (x : Record). x.name) same, ap (λ (x : Record). x.dns_class) same);
+    };
+  },
+  flipped r.name set.name all.0.0,
+)
 
 left_none : (set : RRset) (rs : List Record) → none_left (left_of set rs).records ≡ none_left rs
 left_none set [] = refl
@@ -123,8 +124,8 @@ taken_owned name (s ∷ sets) r all = by (is_taken_from r s) (none_left (removed
     by false c e more = (all.0, more)
 
 -- ---- by class
-pub left_owned : (name : DomainName) (at_start : Bool) (sets : List RRset) (r : Record) (class : DNSClass) → AreOwned name sets → name_eq r.name name ≡ true → AreOwned name (left_by at_start sets r class)
-left_owned name at_start sets r classes.IN all own = added_owned name sets r all own
-left_owned name at_start sets r classes.ANY all own = all_kept (IsOwned name) (λ set. not (is_deleted at_start r set)) sets all
-left_owned name at_start sets r classes.NONE all own = taken_owned name sets r all
-left_owned name at_start sets r other all own = all
+pub left_owned : (name : DomainName) (at_apex : Bool) (sets : List RRset) (r : Record) (class : DNSClass) → AreOwned name sets → name_eq r.name name ≡ true → AreOwned name (left_by at_apex sets r class)
+left_owned name at_apex sets r classes.IN all own = added_owned name sets r all own
+left_owned name at_apex sets r classes.ANY all own = all_kept (IsOwned name) (λ set. not (is_deleted at_apex r set)) sets all
+left_owned name at_apex sets r classes.NONE all own = taken_owned name sets r all
+left_owned name at_apex sets r other all own = all

@@ -225,12 +225,12 @@ rise_with new [] old = (tt, tt)
 rise_with new (s ∷ sets) old =
     rise_step (nat_lt (record_type_number s.record_type) (record_type_number new.record_type)) (same_record_type s.record_type new.record_type) s new sets refl refl old.0 old.1 (rise_with new sets old.1)
 
-pub left_rise : (at_start : Bool) (sets : List RRset) (r : Record) (class : DNSClass) → TypesRise sets → TypesRise (left_by at_start sets r class)
-left_rise at_start sets r classes.IN rise = by (is_added sets r)
+pub left_rise : (at_apex : Bool) (sets : List RRset) (r : Record) (class : DNSClass) → TypesRise sets → TypesRise (left_by at_apex sets r class)
+left_rise at_apex sets r classes.IN rise = by (is_added sets r)
   where
     by : (b : Bool) → TypesRise (cond b (with_set sets (upserted (set_of_type (type_of r.rdata) sets) r)) sets)
     by true = rise_with (upserted (set_of_type (type_of r.rdata) sets) r) sets rise
     by false = rise
-left_rise at_start sets r classes.ANY rise = rise_kept (λ set. not (is_deleted at_start r set)) sets rise
-left_rise at_start sets r classes.NONE rise = rise_taken r sets rise
-left_rise at_start sets r other rise = rise
+left_rise at_apex sets r classes.ANY rise = rise_kept (λ set. not (is_deleted at_apex r set)) sets rise
+left_rise at_apex sets r classes.NONE rise = rise_taken r sets rise
+left_rise at_apex sets r other rise = rise

@@ -1,5 +1,5 @@
 -- What the records of a draft are of the set of their type.
-use Rattle.std.proofs.Common.{◌≡◌, ◌∙◌, ℕ, ◌+◌, ◌<◌, refl, sym, ap, subst, arith, length}
+use Rattle.std.proofs.Common.{◌≡◌, ◌∙◌, ℕ, ◌<◌, refl, sym, ap, subst, arith, length}
 use Rattle.std.specs.Prelude.{Bool, true, false, not, ◌&&◌, ◌==◌, List, [], ◌∷◌, Option, Some, None, IsSome, cond, is_some, option_copied}
 use Rattle.std.specs.Borrow.{Bor}
 use Rattle.std.specs.List.{list_any, remove}
@@ -8,10 +8,8 @@ use Rattle.zst_map.specs.dnw_codes.declared.dns_class.DNSClass.{DNSClass}
 use Rattle.zst_map.specs.dnw_codes.declared.record_type.RecordType.{RecordType}
 use Rattle.zst_map.specs.dnw_name.DomainName.{DomainName, name_eq}
 use Rattle.zst_map.specs.drd_rdata.Order.{rdata_eq}
-use Rattle.zst_map.specs.drd_rdata.Types.{type_of}
 use Rattle.zst_map.specs.zst_handler.Updates.{joins, upserted}
 use Rattle.zst_map.specs.zst_handler.Zones.{IsStored}
-use Rattle.zst_map.specs.zst_record.Drafts.{drafted}
 use Rattle.zst_map.specs.zst_record.RecordSets.{IsHeld, RRset, first_class, first_name, held_set, is_single, keeps_last, left_of, loses, none_left, put_record, removed, takes, with_one, without}
 use Rattle.zst_map.specs.zst_record.declared.records.Record.{Record}
 use Rattle.zst_map.proofs.PutRecords.{alone_is, set_put_is}

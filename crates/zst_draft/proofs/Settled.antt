@@ -1,12 +1,12 @@
 -- A drafted set is put into the zone, and with what remains of the drafts each set is the drafted one still.
-use Rattle.std.proofs.Common.{◌≡◌, ◌⊎◌, inl, inr, ℕ, ◌+◌, suc, zero, refl, ap, sym, ◌∙◌, arith, length, subst, take}
+use Rattle.std.proofs.Common.{◌≡◌, ◌⊎◌, inl, inr, ℕ, ◌+◌, suc, zero, refl, ap, sym, ◌∙◌, arith, subst, take}
 use Rattle.std.specs.Prelude.{Bool, true, false, ◌&&◌, ◌==◌, List, [], ◌∷◌, ◌++◌, Option, Some, None, IsSome, cond, find, set, slice_get}
 use Rattle.std.specs.List.{AllByRecursion}
 use Rattle.std.proofs.lemmas.Bool.{eq-eqb, eqb-true, ne_eqb, true≢false}
 use Rattle.zst_map.specs.dnw_codes.declared.record_type.RecordType.{RecordType}
 use Rattle.zst_map.specs.dnw_codes.RecordType.{record_type_number, same_record_type}
 use Rattle.zst_map.specs.dnw_name.DomainName.{DomainName, name_eq}
-use Rattle.zst_map.specs.zst_handler.Updates.{Replaces, ZoneReplaces}
+use Rattle.zst_map.specs.zst_handler.Updates.{ZoneReplaces}
 use Rattle.zst_map.specs.zst_handler.Zones.{Zone, rrset_at}
 use Rattle.zst_map.specs.zst_record.RecordLaws.{name_eq_equiv}
 use Rattle.zst_map.specs.zst_record.RecordSets.{RRset}
@@ -19,7 +19,6 @@ use Rattle.zst_draft.specs.declared.records.RecordsDraft.{RecordsDraft}
 use Rattle.zst_draft.specs.declared.set.SetDraft.{SetDraft}
 use Rattle.zst_draft.proofs.DraftedTypes.{IsByNumber, all_set, differ_set, drafted_found, drafted_none, drafted_set, each_got, found_passes}
 use Rattle.zst_draft.proofs.DraftedZones.{by_number, drafted_alike}
-use Rattle.zst_draft.proofs.Names.{flipped}
 
 -- ---- one set
 pub settles_none : (zone : Zone) (key : DomainName) (e : SetDraft) → CanSettle zone.sets key e → Settles zone key e zone e

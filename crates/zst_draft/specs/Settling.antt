@@ -1,12 +1,11 @@
--- How the draft of a zone is put into it, all or nothing (RFC 2136, section 3.7): first sets where
--- none of their type is stored, each of which is taken out again if memory is refused; then the
+-- How the draft of a zone is put into it, all or nothing (RFC 2136, section 3.7): first the sets of
+-- types that their owner hasn't, each of which is removed again if memory runs out; then the
 -- others, which takes no memory.
 use Rattle.std.specs.Prelude.{◌≡◌, ◌⊎◌, ◌&&◌, true, false, List, [], ◌∷◌, Option, Some, None, IsSome, length, if◌then◌else◌}
-use Rattle.std.specs.BTreeMap.{BTreeMap, Updates}
 use Rattle.std.specs.List.{AllByRecursion}
 use Rattle.zst_map.specs.dnw_codes.declared.record_type.RecordType.{RecordType}
 use Rattle.zst_map.specs.dnw_codes.RecordType.{same_record_type}
-use Rattle.zst_map.specs.dnw_name.DomainName.{DomainName, name_cmp, name_eq}
+use Rattle.zst_map.specs.dnw_name.DomainName.{DomainName, name_eq}
 use Rattle.zst_map.specs.zst_handler.Updates.{ZoneReplaces}
 use Rattle.zst_map.specs.zst_handler.Zones.{AreInOrder, IsStored, Zone, rrset_at}
 use Rattle.zst_map.specs.zst_record.RecordSets.{RRset}
@@ -25,19 +24,19 @@ abbrev pub IsSetOf : DomainName → Option RRset → Type 0
 IsSetOf key None = Unit {0}
 IsSetOf key (Some set) = IsStored set × (name_eq key set.name ≡ true)
 
--- The drafted set is one of the owner, which has this key.
+-- The drafted set, if there is one, is of the owner with this key.
 pub record CanSettle (sets : List RRset) (key : DomainName) (draft : SetDraft) : Type 0 where
   pub is : IsOverStored (rrset_at sets key draft.record_type) draft.records
   pub set : IsSetOf key (set_in (rrset_at sets key draft.record_type) draft)
 
--- Records are drafted only where a set is stored, or to delete it.
+-- New records are drafted only where a set is stored.
 abbrev pub IsReady : List RRset → DomainName → SetDraft → Type 0
 IsReady sets key draft =
     (records : RecordsDraft) → draft.records ≡ Some records
     → (records.len ≡ 0) ⊎ IsSome (rrset_at sets key draft.record_type)
 
--- The set of a draft's type may be another one, but with what remains of the draft it is the
--- drafted one still.
+-- A part of a draft was put into the zone: the set by the remaining draft over the new zone is the
+-- set by the draft over the old one.
 pub record Settles (old : Zone) (key : DomainName) (draft : SetDraft) (new : Zone)
     (remaining : SetDraft) : Type 0 where
   pub others : (name : DomainName) (record_type : RecordType)
@@ -70,7 +69,7 @@ pub record SettlesOwner (old : Zone) (key : DomainName) (drafts : List SetDraft)
 abbrev pub Drafted : Type 0
 Drafted = List (DomainName × OwnerDraft)
 
--- The set of a name and a type, drafted or stored.
+-- The set that a name is to have of a type: drafted, or stored.
 abbrev pub value_at : List RRset → Drafted → DomainName → RecordType → Option RRset
 value_at sets [] name record_type = rrset_at sets name record_type
 value_at sets (owner ∷ owners) name record_type =
@@ -98,7 +97,7 @@ AreReady sets owners =
     AllByRecursion (λ owner. AllByRecursion (IsReady sets owner.0) owner.1.sets.items) owners
 
 -- ---- the way back
--- Taking these sets out in turn makes the zone the old one again.
+-- Removing these sets in turn gives the old zone.
 abbrev pub LeadsBack : List (DomainName × RecordType) → Zone → Zone → Type 0
 LeadsBack [] now old = now ≡ old
 LeadsBack (put ∷ puts) now old =

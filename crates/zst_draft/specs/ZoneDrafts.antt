@@ -1,4 +1,4 @@
--- What an update is to leave of a zone, prepared beside it (RFC 2136, section 3.7).
+-- The sets that a zone is to have after an update (RFC 2136, section 3.7).
 use Rattle.std.specs.Prelude.{◌≡◌, Bool, true, List, Option, Some, None}
 use Rattle.std.specs.List.{AllByRecursion}
 use Rattle.std.specs.BTreeMap.{BTreeMap, Updates, get}
@@ -12,7 +12,7 @@ use Rattle.zst_draft.specs.OwnerDrafts.{Applies, DraftsSets, IsOwnerDraft}
 use Rattle.zst_draft.specs.declared.owner.OwnerDraft.{OwnerDraft}
 use Rattle.zst_draft.specs.declared.zone.ZoneDraft.{ZoneDraft}
 
--- The sets that an owner of this name is to have: those of its draft, or those that are stored.
+-- The sets that an owner of this name is to have: the drafted ones, or the stored ones.
 abbrev pub DraftsAt : List RRset → DomainName → Option OwnerDraft → List RRset → Type 0
 DraftsAt stored name None sets = sets ≡ sets_of_name stored name
 DraftsAt stored name (Some owner) sets = DraftsSets (rrset_at stored name) owner.sets.items sets
@@ -21,30 +21,29 @@ abbrev pub IsDraftAt : List RRset → DomainName → Option OwnerDraft → Type 
 IsDraftAt stored name None = Unit {0}
 IsDraftAt stored name (Some owner) = IsOwnerDraft (rrset_at stored name) owner.sets.items
 
--- Sets of one owner, each with its records.
+-- Sets of one owner, each with records.
 abbrev pub AreOwned : DomainName → List RRset → Type 0
 AreOwned name sets = AllByRecursion (λ set. IsStored set × (name_eq name set.name ≡ true)) sets
 
--- The draft of a zone, over what it stores, is of these sets.
+-- By the draft over the zone these are the sets that each name is to have.
 pub record DraftsZone (zone : Zone) (draft : ZoneDraft) (at : Owned) : Type 0 where
   pub each : (name : DomainName) → IsDraftAt zone.sets name (get name_cmp draft.owners name)
   pub alike : (name : DomainName)
       → DraftsAt zone.sets name (get name_cmp draft.owners name) (at name)
   pub owned : (name : DomainName) → AreOwned name (at name)
 
--- A draft over what a zone stores.
+-- A draft over this zone.
 abbrev pub IsDraftOfZone : Zone → ZoneDraft → Type 0
 IsDraftOfZone zone draft = (at : Owned) × DraftsZone zone draft at
 
--- The drafts of a name that had none are those of its stored sets, and a record was applied to
--- them.
+-- A record was applied to new drafts of an owner that had none.
 pub record Begins (sets : List RRset) (old : BTreeMap DomainName OwnerDraft) (key : DomainName)
-    (at_start : Bool) (r : Record) (changed : Bool) (new : BTreeMap DomainName OwnerDraft) : Type
+    (at_apex : Bool) (r : Record) (changed : Bool) (new : BTreeMap DomainName OwnerDraft) : Type
     0 where
   pub first : OwnerDraft
   pub last : OwnerDraft
   pub is : IsOwnerDraft (rrset_at sets key) first.sets.items
   pub alike : DraftsSets (rrset_at sets key) first.sets.items (sets_of_name sets key)
-  pub applies : Applies (rrset_at sets key) first.sets.items at_start r r.dns_class changed
+  pub applies : Applies (rrset_at sets key) first.sets.items at_apex r r.dns_class changed
       last.sets.items
   pub put : Updates name_cmp old new key (Some last)

@@ -1,4 +1,4 @@
-//! The draft of a zone is put into it.
+//! Drafted sets are put into the zone: new sets first, which may run out of memory; then all others, which can't.
 
 ghost use Rattle.std.specs.Prelude.{◌≡◌, None, OnErr, OnOk, IfOk, reverse};
 ghost use Rattle.std.specs.List.{AllByRecursion};
@@ -16,7 +16,7 @@ use std::mem;
 use zst_map::push;
 use zst_zone::{Edit, InMemoryZoneHandler, NameKey};
 
-/// Puts the drafts of all owners into the zone, or none.
+/// Puts the drafts of all owners into the zone, or none of them.
 pub(crate) fn commit_owners<K>(
     alloc: Global,
     owners: BTreeMap<NameKey, OwnerDraft>,
@@ -41,7 +41,7 @@ pub(crate) fn commit_owners<K>(
     }
 }
 
-// Puts the drafted sets of all owners where none of their type is stored.
+// Puts all drafted sets whose owner has no set of their type.
 fn put_owners<K>(
     alloc: Global,
     owners: BTreeMap<NameKey, OwnerDraft>,
@@ -64,7 +64,7 @@ fn put_owners<K>(
     Ok(put)
 }
 
-// Puts the drafted sets of one owner where none of their type is stored.
+// Puts the drafted sets of one owner that has no set of their type.
 fn put_owner<K>(
     alloc: Global,
     key: &NameKey,
@@ -84,7 +84,7 @@ fn put_owner<K>(
     Ok(())
 }
 
-// Puts the drafted sets of all owners in place of those that are stored. It takes no memory.
+// Replaces stored sets by drafted ones, for all owners. It takes no memory.
 fn settle_owners<K>(owners: Vec<(NameKey, OwnerDraft)>, zone: &mut InMemoryZoneHandler<K>)
     requires can { CanSettleAll zone.old.sets owners.items }
     requires ready { AreReady zone.old.sets owners.items }
@@ -99,7 +99,7 @@ fn settle_owners<K>(owners: Vec<(NameKey, OwnerDraft)>, zone: &mut InMemoryZoneH
     }
 }
 
-// Puts the drafted sets of one owner in place of those that are stored.
+// Replaces the stored sets of one owner by drafted ones.
 fn settle_owner<K>(key: &NameKey, owner: &mut OwnerDraft, zone: &mut InMemoryZoneHandler<K>)
     requires can { CanSettleOwner zone.old.sets key.now owner.old.sets.items }
     requires ready { AllByRecursion (IsReady zone.old.sets key.now) owner.old.sets.items }
@@ -111,7 +111,7 @@ fn settle_owner<K>(key: &NameKey, owner: &mut OwnerDraft, zone: &mut InMemoryZon
     }
 }
 
-// Puts a drafted set in place of the stored one, or deletes that one.
+// Replaces a stored set by the drafted one, or deletes it if that has no records.
 fn settle<K>(key: &NameKey, draft: &mut SetDraft, zone: &mut InMemoryZoneHandler<K>)
     requires can { CanSettle zone.old.sets key.now draft.old }
     requires ready { IsReady zone.old.sets key.now draft.old }

@@ -1,7 +1,8 @@
-//! What an update is to leave of a zone, prepared beside it, so that it is applied whole or not at all (RFC 2136 3.7).
+//! The records that an update leaves in a zone, prepared while the zone stays unchanged, so that the update is applied
+//! completely or not at all (RFC 2136 section 3.7).
 //!
-//! A contract sees a draft over a zone as the sets that each owner is to have (`DraftsZone`): those of a new draft are the
-//! stored ones, a record leaves what `applied` says, and `commit` puts these into the zone (`LeavesZone`).
+//! In contracts a draft over a zone is the sets that each owner is to have (`DraftsZone`): a new draft has the stored ones,
+//! `apply` changes them as `applied` says, and `commit` puts them into the zone (`LeavesZone`).
 #![tactic(auto)]
 
 pub use zst_zone::{
@@ -21,5 +22,3 @@ mod set;
 mod zone;
 
 pub use zone::ZoneDraft;
-
-

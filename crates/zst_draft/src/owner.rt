@@ -1,4 +1,4 @@
-//! The sets of one owner, prepared beside the stored ones.
+//! The draft of one owner's sets.
 
 ghost use Rattle.std.specs.Prelude.{◌≡◌, ◌&&◌, ◌||◌, false, IfOk, position};
 ghost use Rattle.std.specs.List.{list_any};
@@ -14,14 +14,14 @@ use std::alloc::{AllocError, Global};
 use std::mem;
 use zst_map::{DNSClass, NameKey, Record, RecordType, ZoneSets, push};
 
-/// The sets of one owner, prepared: each that is stored, and new ones.
+/// The sets that an owner is to have: a draft for each stored set, and for each new one.
 #[derive(Drop)]
 pub(crate) struct OwnerDraft {
     pub(crate) sets: Vec<SetDraft>,
 }
 
 impl OwnerDraft {
-    /// The stored sets of the name of a key.
+    /// Drafts of the stored sets of the name with this key.
     pub(crate) fn over(
         alloc: Global,
         sets: &ZoneSets,
@@ -39,23 +39,23 @@ impl OwnerDraft {
         Ok(OwnerDraft { sets: drafts })
     }
 
-    /// Applies a record of an update to the sets of its owner, which has this key, and tells whether that changes them (RFC
+    /// Applies a record of an update to the sets of its owner, whose key this is, and returns whether it changes them (RFC
     /// 2136 section 3.4.2).
     pub(crate) fn apply(
         &mut self,
         alloc: Global,
         sets: &ZoneSets,
         key: &NameKey,
-        at_start: bool,
+        at_apex: bool,
         change: Record,
     ) -> Result<bool, AllocError>
         requires { IsOwnerDraft (rrset_at sets.now key.now) self.old.sets.items }
-        ensures { IfOk result (λ changed. Applies (rrset_at sets.now key.now) self.old.sets.items at_start change change.dns_class changed self.new.sets.items) }
+        ensures { IfOk result (λ changed. Applies (rrset_at sets.now key.now) self.old.sets.items at_apex change change.dns_class changed self.new.sets.items) }
     {
         match change.dns_class {
             DNSClass::IN => self.add(alloc, sets, key, change),
             DNSClass::ANY => {
-                let changed = self.delete(alloc, at_start, &change);
+                let changed = self.delete(alloc, at_apex, &change);
                 mem::drop(change);
                 Ok(changed)
             }
@@ -71,7 +71,7 @@ impl OwnerDraft {
         }
     }
 
-    // Adds a record, unless an alias keeps it out.
+    // Adds a record, unless it may not be beside the sets that are there.
     fn add(
         &mut self,
         alloc: Global,
@@ -97,7 +97,7 @@ impl OwnerDraft {
         }
     }
 
-    // Takes a record out of the set of its type.
+    // Deletes a record from the set of its type.
     fn take(
         &mut self,
         alloc: Global,
@@ -114,27 +114,27 @@ impl OwnerDraft {
         }
     }
 
-    // Deletes the sets that a record of class ANY deletes.
-    fn delete(&mut self, alloc: Global, at_start: bool, change: &Record) -> bool
-        ensures changed { result ≡ list_any (λ draft. is_filled draft && deletes at_start change.now draft.record_type) self.old.sets.items }
-        ensures drafts { DeletesAll at_start change.now self.old.sets.items self.new.sets.items }
+    // Deletes the sets named by a record of class ANY.
+    fn delete(&mut self, alloc: Global, at_apex: bool, change: &Record) -> bool
+        ensures changed { result ≡ list_any (λ draft. is_filled draft && deletes at_apex change.now draft.record_type) self.old.sets.items }
+        ensures drafts { DeletesAll at_apex change.now self.old.sets.items self.new.sets.items }
     {
         let mut changed = false;
         for at in 0..self.sets.len() {
-            let deleted = self.sets[at].delete(alloc, at_start, change);
+            let deleted = self.sets[at].delete(alloc, at_apex, change);
             changed = either(changed, deleted);
         }
         changed
     }
 
-    // Whether a record of a type may not be added (RFC 2181 section 10.1).
+    // Tests whether a record of this type may not be added, because of an alias (RFC 2181 section 10.1).
     fn keeps_out(&self, record_type: RecordType) -> bool
         ensures { result ≡ keeps_out self.now.sets.items record_type }
     {
         self.sets.iter().any(|draft| draft.is_filled() && are_apart(draft.record_type, record_type))
     }
 
-    // The index of the draft of a type.
+    // The index of the draft of this type.
     fn place_of(&self, record_type: RecordType) -> Option<usize>
         ensures { result ≡ position (is_draft_of record_type) self.now.sets.items }
     {
@@ -144,14 +144,14 @@ impl OwnerDraft {
     }
 }
 
-// Whether one of two tests holds.
-fn either(first: bool, second: bool) -> bool
+// A function of its own, since a proof loses facts where `||` joins before a later call.
+pub(crate) fn either(first: bool, second: bool) -> bool
     ensures { result ≡ (first || second) }
 {
     first || second
 }
 
-// Whether sets of two types may not be at one owner: an alias and what may not be beside it.
+// Tests whether one owner may not have sets of both types: an alias, and a type that may not be beside it.
 fn are_apart(first: RecordType, second: RecordType) -> bool
     ensures { result ≡ are_apart first second }
 {
@@ -159,7 +159,7 @@ fn are_apart(first: RecordType, second: RecordType) -> bool
         || (second == RecordType::CNAME && !may_be_beside_alias(first))
 }
 
-// Whether a set of a type may be beside an alias (RFC 2181 section 10.1, RFC 4035 section 2.5).
+// Tests whether a set of this type may be beside an alias (RFC 2181 section 10.1, RFC 4035 section 2.5).
 fn may_be_beside_alias(record_type: RecordType) -> bool
     ensures { result ≡ may_be_beside_alias record_type }
 {

@@ -1,4 +1,4 @@
-//! Sets that are put into a zone where none of their owner and type is, and taken out again if memory is refused.
+//! New sets put into a zone, and removed again if memory runs out.
 
 ghost use Rattle.std.specs.Prelude.{◌≡◌, false, true, List, None, Some, OnErr, OnOk, reverse};
 ghost use Rattle.zst_map.specs.dnw_name.DomainName.{DomainName, name_eq};
@@ -12,14 +12,14 @@ use std::alloc::{AllocError, Global};
 use std::mem;
 use zst_zone::{InMemoryZoneHandler, NameKey, RecordSet, RecordType};
 
-/// The sets that were put.
+/// The owners and types of the sets that were put, in order.
 #[derive(Drop)]
 pub(crate) struct Puts {
     done: Vec<(NameKey, RecordType)>,
 }
 
 impl Puts {
-    /// None yet.
+    /// No sets yet.
     pub(crate) fn new(alloc: Global) -> Puts
         ensures { (zone : Zone) → AreInOrder zone.sets → Returns zone (reverse result.done.items) zone }
     {
@@ -28,7 +28,7 @@ impl Puts {
         }
     }
 
-    /// Puts a drafted set where none of its type is stored.
+    /// Puts a drafted set into the zone, if the owner has no set of its type.
     pub(crate) fn put<K>(
         &mut self,
         alloc: Global,
@@ -51,7 +51,7 @@ impl Puts {
         }
     }
 
-    // Puts a set where none of its owner and type is.
+    // Puts a set into a zone that has none of its owner and type.
     fn put_set<K>(
         &mut self,
         alloc: Global,
@@ -87,7 +87,7 @@ impl Puts {
         Ok(())
     }
 
-    /// Takes the sets out again, the last one first. It takes no memory.
+    /// Removes the sets again, the last one first. It takes no memory.
     pub(crate) fn take_back<K>(self, zone: &mut InMemoryZoneHandler<K>)
         ensures { (start : Zone) → Returns start (reverse self.done.items) zone.old → zone.new ≡ start }
     {

@@ -1,4 +1,4 @@
-//! The records of a set, prepared beside the stored ones.
+//! The draft of a set's records.
 
 ghost use Rattle.std.specs.Prelude.{◌≡◌, ◌<◌, ◌++◌, ◌∷◌, ℕ, [], List, None, Some, IfOk, IfSome, OnErr, OnOk, length, position, remove, slice_get};
 ghost use Rattle.zst_map.specs.drd_rdata.Order.{rdata_eq};
@@ -9,11 +9,11 @@ ghost use Rattle.zst_draft.specs.SetDrafts.{IsDraftOf, IsRecordsDraft, records_i
 use std::alloc::{AllocError, Global};
 use zst_map::{Draft, Name, Record, RecordType};
 
-/// The records of a set, prepared: new ones, and ones that are stored still.
+/// The records that a set is to have: new ones, and ones that stay in the stored set until the draft is committed.
 #[derive(Drop)]
 pub(crate) struct RecordsDraft {
     list: Draft<Record>,
-    /// How many records there are.
+    /// The number of records.
     len: usize,
 }
 
@@ -29,7 +29,7 @@ impl RecordsDraft {
         }
     }
 
-    /// One record, a new one.
+    /// One new record.
     pub(crate) fn one(alloc: Global, next: Record) -> Result<RecordsDraft, AllocError>
         ensures draft { IfOk result (λ draft. (count : ℕ) → IsRecordsDraft count draft) }
         ensures records { IfOk result (λ draft. (stored : List Record) → records_in stored (Some draft) ≡ next ∷ []) }
@@ -39,7 +39,7 @@ impl RecordsDraft {
         Ok(draft)
     }
 
-    /// The stored records.
+    /// All stored records.
     pub(crate) fn over(alloc: Global, stored: &[Record]) -> Result<RecordsDraft, AllocError>
         ensures draft { IfOk result (IsRecordsDraft (length stored.now)) }
         ensures records { IfOk result (λ draft. records_in stored.now (Some draft) ≡ stored.now) }
@@ -51,14 +51,14 @@ impl RecordsDraft {
         Ok(draft)
     }
 
-    /// How many records there are.
+    /// The number of records.
     pub(crate) fn len(&self) -> usize
         ensures { result ≡ self.now.len }
     {
         self.len
     }
 
-    // Appends the record that is stored at an index.
+    // Appends the stored record with this index.
     fn push_stored(&mut self, alloc: Global, place: usize) -> Result<(), AllocError>
         requires { self.old.len ≡ length self.old.list.items.items }
         ensures places { OnOk result (self.new.list.places.items ≡ self.old.list.places.items ++ Some place ∷ []) }
@@ -83,7 +83,7 @@ impl RecordsDraft {
         Ok(())
     }
 
-    /// A record, stored or new.
+    /// The record with this index, stored or new.
     pub(crate) fn get<'d>(&'d self, stored: &'d [Record], at: usize) -> &'d Record
         requires at { at < self.now.len }
         requires draft { IsRecordsDraft (length stored.now) self.now }
@@ -92,7 +92,7 @@ impl RecordsDraft {
         self.list.get(stored, at)
     }
 
-    /// Puts a record in place of the one with equal data, which is at this index, else behind the others.
+    /// Replaces the record with equal data, whose index is given, or appends the new one if there is none.
     pub(crate) fn put(&mut self, place: Option<usize>, next: Record) -> Result<(), AllocError>
         requires draft { (count : ℕ) × IsRecordsDraft count self.old }
         requires place { IfSome place (λ at. at < self.old.len) }
@@ -110,7 +110,7 @@ impl RecordsDraft {
         }
     }
 
-    /// Takes a record out.
+    /// Removes a record.
     pub(crate) fn remove(&mut self, at: usize)
         requires draft { (count : ℕ) × IsRecordsDraft count self.old }
         requires at { at < self.old.len }
@@ -122,7 +122,7 @@ impl RecordsDraft {
         self.len -= 1;
     }
 
-    /// The draft for a set that takes it in.
+    /// The list of records, to be settled in a set.
     pub(crate) fn into_list(self) -> Draft<Record>
         ensures { result ≡ self.list }
     {
@@ -130,7 +130,7 @@ impl RecordsDraft {
     }
 }
 
-/// A draft of a set's records: the one that there is, or one of the stored records.
+/// The given draft of a set's records, or a new one of the stored records.
 pub(crate) fn opened(
     records: Option<RecordsDraft>,
     alloc: Global,

@@ -1,4 +1,4 @@
-//! A set of records, prepared beside the stored one.
+//! The draft of one set of records.
 
 ghost use Rattle.std.specs.Prelude.{◌≡◌, ◌<◌, ◌==◌, ◌&&◌, ◌||◌, [], List, Option, None, Some, true, false, IfOk, OnOk, is_some, length, position, slice_get, if◌then◌else◌};
 ghost use Rattle.std.specs.List.{list_any};
@@ -19,16 +19,16 @@ use std::alloc::{AllocError, Global};
 use std::mem;
 use zst_map::{Name, NameKey, RData, Record, RecordSet, RecordType, ZoneSets};
 
-/// A set of records, prepared.
+/// The set that an owner is to have of one type.
 #[derive(Drop)]
 pub(crate) struct SetDraft {
     pub(crate) record_type: RecordType,
-    /// Its records; none while the stored set is left as it is.
+    /// Its records; `None` while the stored set stays as it is.
     pub(crate) records: Option<RecordsDraft>,
 }
 
 impl SetDraft {
-    /// The stored set as it is.
+    /// A draft that leaves the stored set as it is.
     pub(crate) fn stored(record_type: RecordType) -> SetDraft
         ensures kind { result.record_type ≡ record_type }
         ensures records { result.records ≡ None }
@@ -39,7 +39,7 @@ impl SetDraft {
         }
     }
 
-    /// The set that a record begins.
+    /// A draft of a new set with one record.
     pub(crate) fn begun(alloc: Global, next: Record) -> Result<SetDraft, AllocError>
         ensures kind { IfOk result (λ draft. draft.record_type ≡ type_of next.rdata) }
         ensures draft { IfOk result (λ draft. (stored : Option RRset) → IsSetDraft stored draft) }
@@ -53,7 +53,7 @@ impl SetDraft {
         })
     }
 
-    /// Whether there are records.
+    /// Tests whether the set has records.
     pub(crate) fn is_filled(&self) -> bool
         ensures { result ≡ is_filled self.now }
     {
@@ -63,7 +63,7 @@ impl SetDraft {
         }
     }
 
-    /// Adds a record of the set's type as an update does (RFC 2136 section 3.4.2.2), and tells whether that changed the set.
+    /// Adds a record of the set's type as an update does (RFC 2136 section 3.4.2.2), and returns whether the set changed.
     pub(crate) fn add(
         &mut self,
         alloc: Global,
@@ -95,7 +95,7 @@ impl SetDraft {
         Ok(true)
     }
 
-    // Begins the set anew.
+    // Replaces the set by a new one with one record.
     fn begin(&mut self, alloc: Global, next: Record) -> Result<(), AllocError>
         ensures kind { OnOk result (self.new.record_type ≡ type_of next.rdata) }
         ensures draft { OnOk result ((stored : Option RRset) → IsSetDraft stored self.new) }
@@ -106,7 +106,7 @@ impl SetDraft {
         Ok(())
     }
 
-    // The records with one that is added: in place of all others, or among them.
+    // The records with a new one, which replaces all others if the type has one record at most.
     fn joined(
         &mut self,
         alloc: Global,
@@ -126,7 +126,7 @@ impl SetDraft {
         }
     }
 
-    // The records with one that is put among them.
+    // The records with a new one, which replaces the one with equal data.
     fn with(
         &mut self,
         alloc: Global,
@@ -147,8 +147,8 @@ impl SetDraft {
         Ok(draft)
     }
 
-    /// Takes out the record with equal data (RFC 2136 section 3.4.2.4), and tells whether that was done: neither an SOA is
-    /// taken out, nor the last NS.
+    /// Deletes the record with equal data (RFC 2136 section 3.4.2.4), and returns whether there was one that may be deleted:
+    /// an SOA and the last NS stay.
     pub(crate) fn take(
         &mut self,
         alloc: Global,
@@ -176,15 +176,15 @@ impl SetDraft {
         Ok(true)
     }
 
-    /// Deletes the set if a record of class ANY does so (RFC 2136 sections 3.4.2.3), and tells whether there was one.
-    pub(crate) fn delete(&mut self, alloc: Global, at_start: bool, change: &Record) -> bool
+    /// Deletes the set if a record of class ANY does so (RFC 2136 section 3.4.2.3), and returns whether it had records.
+    pub(crate) fn delete(&mut self, alloc: Global, at_apex: bool, change: &Record) -> bool
         ensures kind { self.new.record_type ≡ self.old.record_type }
-        ensures changed { result ≡ (is_filled self.old && deletes at_start change.now self.old.record_type) }
+        ensures changed { result ≡ (is_filled self.old && deletes at_apex change.now self.old.record_type) }
         ensures draft { (stored : Option RRset) → IsSetDraft stored self.old → IsSetDraft stored self.new }
         ensures set { (stored : Option RRset) → IsSetDraft stored self.old
-            → set_in stored self.new ≡ (if deletes at_start change.now self.old.record_type then None else set_in stored self.old) }
+            → set_in stored self.new ≡ (if deletes at_apex change.now self.old.record_type then None else set_in stored self.old) }
     {
-        if !self.is_filled() || !deletes(at_start, change, self.record_type) {
+        if !self.is_filled() || !deletes(at_apex, change, self.record_type) {
             return false;
         }
         let none = Some(RecordsDraft::new(alloc));
@@ -192,7 +192,7 @@ impl SetDraft {
         true
     }
 
-    /// The drafted set, if it has records, where none is stored. Then none of the draft remains.
+    /// The drafted set, if it has records and none is stored. The draft then has none.
     pub(crate) fn take_set(&mut self, alloc: Global) -> Option<RecordSet>
         requires draft { IsOverStored None self.old.records }
         requires set { (key : DomainName) × IsSetOf key (set_in None self.old) }
@@ -211,7 +211,7 @@ impl SetDraft {
         Some(set)
     }
 
-    // Whether there are drafted records.
+    // Tests whether the draft has records of its own.
     fn has_records(&self) -> bool
         ensures { result ≡ has_records self.now.records }
     {
@@ -221,7 +221,7 @@ impl SetDraft {
         }
     }
 
-    // How many records there are.
+    // The number of records.
     fn len(&self, stored: &[Record]) -> usize
         requires { IsDraftOf stored.now self.now.records }
         ensures { result ≡ length (records_in stored.now self.now.records) }
@@ -232,7 +232,7 @@ impl SetDraft {
         }
     }
 
-    // A record, stored or new.
+    // The record with this index, stored or new.
     fn get<'d>(&'d self, stored: &'d [Record], at: usize) -> &'d Record
         requires draft { IsDraftOf stored.now self.now.records }
         requires at { at < length (records_in stored.now self.now.records) }
@@ -257,7 +257,7 @@ impl SetDraft {
         None
     }
 
-    // Whether adding a record would change the set.
+    // Tests whether adding a record would change the set.
     fn takes(&self, stored: &[Record], next: &Record) -> bool
         requires draft { IsDraftOf stored.now self.now.records }
         requires filled { 0 < length (records_in stored.now self.now.records) }
@@ -268,7 +268,7 @@ impl SetDraft {
             && !self.holds(stored, next)
     }
 
-    // Whether an SOA is there whose serial number isn't below that of the data.
+    // Tests for an SOA whose serial number isn't below that of the given data.
     fn any_outlasts(&self, stored: &[Record], rdata: &RData) -> bool
         requires { IsDraftOf stored.now self.now.records }
         ensures { result ≡ list_any (λ s. outlasts s.rdata rdata.now) (records_in stored.now self.now.records) }
@@ -281,7 +281,7 @@ impl SetDraft {
         false
     }
 
-    // Whether a record is there, with its time to live.
+    // Tests for a record with equal data and TTL.
     fn holds(&self, stored: &[Record], next: &Record) -> bool
         requires { IsDraftOf stored.now self.now.records }
         ensures { result ≡ holds (records_in stored.now self.now.records) next.now }
@@ -294,7 +294,7 @@ impl SetDraft {
         false
     }
 
-    // Whether no record may be taken out: an SOA, or the last NS.
+    // Tests whether no record may be deleted: of an SOA, or the last NS.
     fn keeps_last(&self, stored: &[Record]) -> bool
         requires { IsDraftOf stored.now self.now.records }
         ensures { result ≡ keeps_last (held_set self.now.record_type false (records_in stored.now self.now.records) []) }
@@ -304,7 +304,7 @@ impl SetDraft {
     }
 }
 
-// The records of the set of a type that are stored at the name of a key.
+// The stored records of the name with this key and of a type.
 fn stored_records<'z>(sets: &'z ZoneSets, key: &NameKey, record_type: RecordType) -> &'z [Record]
     ensures { result.now ≡ records_of (rrset_at sets.now key.now record_type) }
 {
@@ -314,7 +314,7 @@ fn stored_records<'z>(sets: &'z ZoneSets, key: &NameKey, record_type: RecordType
     }
 }
 
-// Whether data are an SOA whose serial number isn't below that of the other, an SOA too.
+// Tests whether both are SOA data, and the serial number of the stored one isn't below that of the other.
 fn outlasts(stored: &RData, rdata: &RData) -> bool
     ensures { result ≡ outlasts stored.now rdata.now }
 {
@@ -324,14 +324,14 @@ fn outlasts(stored: &RData, rdata: &RData) -> bool
     }
 }
 
-// Whether two records have equal data and one time to live.
+// Tests whether two records have equal data and TTL.
 fn is_same(stored: &Record, next: &Record) -> bool
     ensures { result ≡ (rdata_eq stored.now.rdata next.now.rdata && (stored.now.ttl == next.now.ttl)) }
 {
     stored.rdata == next.rdata && stored.ttl == next.ttl
 }
 
-// Whether a set of this type has one record at most (RFC 1034 section 3.6.2, RFC 1035 section 3.3.13).
+// Tests whether a set of this type has one record at most (RFC 1034 section 3.6.2, RFC 1035 section 3.3.13).
 fn is_single(record_type: RecordType) -> bool
     ensures { result ≡ is_single record_type }
 {
@@ -340,17 +340,17 @@ fn is_single(record_type: RecordType) -> bool
         || record_type == RecordType::SOA
 }
 
-// Whether a record of class ANY deletes sets of a type: all, or those of its own; at a zone's start SOA and NS stay (RFC 2136
-// sections 3.4.2.3 and 7.13).
-fn deletes(at_start: bool, change: &Record, record_type: RecordType) -> bool
-    ensures { result ≡ deletes at_start change.now record_type }
+// Tests whether a record of class ANY deletes sets of a type: those of its own type, or all; SOA and NS of the apex stay (RFC
+// 2136 sections 3.4.2.3 and 7.13).
+fn deletes(at_apex: bool, change: &Record, record_type: RecordType) -> bool
+    ensures { result ≡ deletes at_apex change.now record_type }
 {
     let asked = change.record_type();
-    (asked == RecordType::ANY || record_type == asked) && !(at_start && is_of_start(record_type))
+    (asked == RecordType::ANY || record_type == asked) && !(at_apex && stays_at_apex(record_type))
 }
 
-// Whether a set of this type stays at a zone's start.
-fn is_of_start(record_type: RecordType) -> bool
+// Tests whether sets of this type stay at the apex.
+fn stays_at_apex(record_type: RecordType) -> bool
     ensures { result ≡ (same_record_type record_type kind.SOA || same_record_type record_type kind.NS) }
 {
     record_type == RecordType::SOA || record_type == RecordType::NS

@@ -1,6 +1,6 @@
-//! A zone, prepared beside the stored one.
+//! The draft of a zone: records are applied to it one by one, then it is committed.
 
-ghost use Rattle.std.specs.Prelude.{◌≡◌, ◌||◌, Some, IfOk, OnErr, OnOk};
+ghost use Rattle.std.specs.Prelude.{◌≡◌, Some, IfOk, OnErr, OnOk};
 ghost use Rattle.std.specs.BTreeMap.{Updates};
 ghost use Rattle.zst_map.specs.zst_handler.Lookups.{sets_of_name};
 ghost use Rattle.zst_map.specs.zst_handler.Zones.{AreInOrder, AreStored, Zone};
@@ -8,21 +8,21 @@ ghost use Rattle.zst_request.specs.Applied.{LeavesZone, Owned, all_applied, any_
 ghost use Rattle.zst_draft.specs.ZoneDrafts.{Begins, DraftsZone, IsDraftOfZone};
 
 use crate::commit::commit_owners;
-use crate::owner::OwnerDraft;
+use crate::owner::{OwnerDraft, either};
 use std::alloc::{AllocError, Global};
 use std::collections::BTreeMap;
 use std::mem;
 use zst_zone::{InMemoryZoneHandler, NameKey, Record, ZoneSets};
 
-/// What an update is to leave of a zone. The zone is read only, until `commit`.
+/// The sets that a zone is to have after an update. Until `commit` the zone is only read.
 #[derive(Drop)]
 pub struct ZoneDraft {
-    /// The owners that records of the update name.
+    /// The owners named by records of the update.
     owners: BTreeMap<NameKey, OwnerDraft>,
 }
 
 impl ZoneDraft {
-    /// The zone as it is stored.
+    /// A draft with the stored sets.
     pub fn new(alloc: Global) -> ZoneDraft
         ensures { (zone : Zone) → AreInOrder zone.sets → AreStored zone.sets → DraftsZone zone result (sets_of_name zone.sets) }
     {
@@ -31,8 +31,8 @@ impl ZoneDraft {
         }
     }
 
-    /// Applies a record of an update of the zone, and tells whether it changes what those before it leave (RFC 2136 section
-    /// 3.4.2). Out of memory, the draft is of no use any more.
+    /// Applies a record of an update (RFC 2136 section 3.4.2), and returns whether it changes what the records before it left.
+    /// A draft that ran out of memory can only be dropped.
     pub fn apply<K>(
         &mut self,
         zone: &InMemoryZoneHandler<K>,
@@ -47,38 +47,38 @@ impl ZoneDraft {
             mem::drop(change);
             return Err(AllocError);
         };
-        let at_start = change.name == *zone.origin();
+        let at_apex = change.name == *zone.origin();
         let sets = zone.records();
         if let Some(owner) = self.owners.get_mut(&key) {
-            return owner.apply(alloc, sets, &key, at_start, change);
+            return owner.apply(alloc, sets, &key, at_apex, change);
         }
-        self.begin(alloc, sets, key, at_start, change)
+        self.begin(alloc, sets, key, at_apex, change)
     }
 
-    // Applies a record to the stored sets of its owner, which has this key.
+    // Applies a record to the stored sets of its owner, whose key this is.
     fn begin(
         &mut self,
         alloc: Global,
         sets: &ZoneSets,
         key: NameKey,
-        at_start: bool,
+        at_apex: bool,
         change: Record,
     ) -> Result<bool, AllocError>
         requires ordered { AreInOrder sets.now }
         requires stored { AreStored sets.now }
-        ensures { IfOk result (λ changed. Begins sets.now self.old.owners key at_start change changed self.new.owners) }
+        ensures { IfOk result (λ changed. Begins sets.now self.old.owners key at_apex change changed self.new.owners) }
     {
         let Ok(mut owner) = OwnerDraft::over(alloc, sets, &key) else {
             mem::drop(change);
             mem::drop(key);
             return Err(AllocError);
         };
-        let changed = owner.apply(alloc, sets, &key, at_start, change)?;
+        let changed = owner.apply(alloc, sets, &key, at_apex, change)?;
         put(&mut self.owners, key, owner)?;
         Ok(changed)
     }
 
-    /// Applies the records of an update in order, and tells whether one changes what those before it leave.
+    /// Applies the records of an update in order, and returns whether one of them changes what the records before it left.
     pub fn apply_all<K>(
         &mut self,
         zone: &InMemoryZoneHandler<K>,
@@ -97,7 +97,7 @@ impl ZoneDraft {
         Ok(changed)
     }
 
-    /// Puts into the zone what the draft is of, wholly or, out of memory, not at all.
+    /// Puts the drafted sets into the zone: all of them, or none if memory runs out.
     pub fn commit<K>(
         self,
         zone: &mut InMemoryZoneHandler<K>,
@@ -107,7 +107,7 @@ impl ZoneDraft {
         ensures ok { OnOk result ((at : Owned) → DraftsZone zone.old self at → LeavesZone zone.old at zone.new) }
         ensures err { OnErr result (zone.new ≡ zone.old) }
     {
-        // (wakes the invariants: owners and sets are in order, and no set is empty)
+        // These calls give the proof the invariants: owners and sets are in order, and no set is empty.
         let _count = self.owners.len();
         let _before = zone.origin();
         commit_owners(alloc, self.owners, zone)?;
@@ -124,11 +124,4 @@ fn put<K: Ord + Drop, V: Drop>(map: &mut BTreeMap<K, V>, key: K, value: V) -> Re
         Ok(_) => Ok(()),
         Err(_) => Err(AllocError),
     }
-}
-
-// Whether one of two tests holds.
-fn either(first: bool, second: bool) -> bool
-    ensures { result ≡ (first || second) }
-{
-    first || second
 }

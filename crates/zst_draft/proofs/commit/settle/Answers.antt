@@ -1,4 +1,4 @@
-use Rattle.std.proofs.Common.{◌≡◌, ◌⊎◌, inl, inr, ◌∙◌, refl, sym}
+use Rattle.std.proofs.Common.{◌≡◌, inl, inr, ◌∙◌, refl, sym}
 use Rattle.std.specs.Prelude.{Some, IsSome}
 use Rattle.zst_map.specs.Edits.{edited}
 use Rattle.zst_map.specs.declared.edit.Edit.TheVariants as edits

@@ -1,13 +1,11 @@
 use Rattle.std.proofs.Common.{◌≡◌, ◌∙◌, ap, subst, sym}
-use Rattle.std.specs.Prelude.{List, Some, true, false, position, slice_set}
-use Rattle.std.proofs.lemmas.Bool.{eq-eqb, eqb-true}
-use Rattle.zst_map.specs.dnw_codes.RecordType.{record_type_number, same_record_type}
+use Rattle.std.specs.Prelude.{true, false, position, slice_set}
+use Rattle.zst_map.specs.dnw_codes.RecordType.{same_record_type}
 use Rattle.zst_map.specs.dnw_codes.declared.dns_class.DNSClass.TheVariants as classes
 use Rattle.zst_map.specs.dnw_codes.declared.record_type.RecordType.{RecordType}
 use Rattle.zst_map.specs.drd_rdata.Types.{type_of}
 use Rattle.zst_map.specs.zst_handler.Zones.{rrset_at}
 use Rattle.zst_draft.specs.OwnerDrafts.{Applies, is_draft_of, keeps_out}
-use Rattle.zst_draft.specs.declared.set.SetDraft.{SetDraft}
 use Rattle.zst_draft.proofs.AppliedDrafts.{add_applies, begin_applies, kept_out, turned}
 use Rattle.zst_draft.proofs.DraftedRecords.{all_three}
 use Rattle.zst_draft.proofs.DraftedTypes.{found_passes, place_found}
@@ -47,9 +45,9 @@ pub returns-in_ok-push-in-None : goal.returns-in_ok-push-in-None
 returns-in_ok-push-in-None c =
     let es = c.args.self.now.sets.items in
     let stored = rrset_at c.args.sets.now c.args.key.now in
-    let draft = c.in_ok-draft.draft in
-    subst (Applies stored es false c.args.next classes.IN true) (sym c.in_ok-push.ensures.ok)
+    let draft = c.in_ok-draft-in-None.draft in
+    subst (Applies stored es false c.args.next classes.IN true) (sym c.in_ok-push-in-None.ensures.ok)
     (begin_applies stored es draft c.args.next c.requires
     (ap (keeps_out es) (sym c.record_type-record_type.ensures) ∙ sym c.keeps_out.ensures ∙ c.if-keeps_out.false)
     (c.in-None.ensures ∙ ap (λ (t : RecordType). position (is_draft_of t) es) c.record_type-record_type.ensures)
-    c.in_ok-draft.ensures.kind (c.in_ok-draft.ensures.draft (stored draft.record_type)) (c.in_ok-draft.ensures.set (stored draft.record_type)))
+    c.in_ok-draft-in-None.ensures.kind (c.in_ok-draft-in-None.ensures.draft (stored draft.record_type)) (c.in_ok-draft-in-None.ensures.set (stored draft.record_type)))

@@ -13,7 +13,7 @@ loop-set-preserved c =
     let set = c.set-item.result in
     let more : take i own ++ set ∷ [] ≡ take (i + 1) own =
     ap (λ (s : RRset). take i own ++ s ∷ []) c.set-item.is ∙ sym (take_more own i set c.loop-set-test.true) in
-    subst (AreAsStored (take (i + 1) own)) (sym c.in_ok-push.ensures.ok)
+    subst (AreAsStored (take (i + 1) own)) (sym {A = List SetDraft} c.in_ok-push.ensures.ok)
     (subst (λ (l : List RRset). AreAsStored l (c.loop-set.drafts.items ++ c.stored.result ∷ [])) more
     (left_more (take i own) c.loop-set.drafts.items set c.stored.result c.loop-set.invariant (c.stored.ensures.kind ∙ c.record_type.ensures) c.stored.ensures.records))
 

@@ -1,13 +1,10 @@
 use Rattle.std.proofs.Common.{◌≡◌, ◌∙◌, ap, subst, sym, inl}
-use Rattle.std.specs.Prelude.{Option, Some, None, true, cond, is_some}
-use Rattle.zst_map.specs.dnw_codes.declared.record_type.RecordType.{RecordType}
-use Rattle.zst_map.specs.dnw_name.DomainName.{name_eq}
-use Rattle.zst_map.specs.zst_handler.Zones.{IsStored, rrset_at}
+use Rattle.std.specs.Prelude.{Option, Some, None, cond, is_some}
+use Rattle.zst_map.specs.zst_handler.Zones.{rrset_at}
 use Rattle.zst_map.specs.zst_record.RecordSets.{RRset}
 use Rattle.zst_map.proofs.Indexed.{rrset_same}
 use Rattle.zst_draft.specs.SetDrafts.{IsRecordsDraft, set_by, set_in}
 use Rattle.zst_draft.specs.Settling.{IsOverStored, IsSetOf}
-use Rattle.zst_draft.specs.declared.records.RecordsDraft.{RecordsDraft}
 use Rattle.zst_draft.proofs.Backing.{replaces_as}
 use Rattle.zst_draft.proofs.DraftedRecords.{on_ok_one}
 use Rattle.zst_draft.proofs.SetDrafts.{empty_taken, filled_taken, none_is, type_taken}
@@ -18,7 +15,7 @@ pub take_set-requires-clause-set : goal.take_set-requires-clause-set
 take_set-requires-clause-set g c =
     let key = c.args.key.now in
     let e = c.args.draft.now in
-    let none = none_is (rrset_at c.args.zone.now.sets key e.record_type) c.get_at.result c.is_some.result c.get_at.ensures c.is_some.ensures.value c.if-is_some.false in
+    let none = none_is (rrset_at c.args.zone.now.sets key e.record_type) c.get_at.result c.is_some.result c.get_at.ensures c.is_some.ensures c.if-is_some.false in
     (key, subst (λ (o : Option RRset). IsSetOf key (set_in o e)) none c.requires.set)
 
 pub put_set-requires-clause-none : goal.put_set-requires-clause-none
@@ -26,7 +23,7 @@ put_set-requires-clause-none g c =
     let key = c.args.key.now in
     let e = c.args.draft.now in
     let set = c.in-Some.set in
-    let none = none_is (rrset_at c.args.zone.now.sets key e.record_type) c.get_at.result c.is_some.result c.get_at.ensures c.is_some.ensures.value c.if-is_some.false in
+    let none = none_is (rrset_at c.args.zone.now.sets key e.record_type) c.get_at.result c.is_some.result c.get_at.ensures c.is_some.ensures c.if-is_some.false in
     let of = subst (λ (o : Option RRset). IsSetOf key (set_in o e)) none c.requires.set in
     let taken : set_in None e ≡ Some set = sym c.take_set.ensures.set ∙ c.in-Some.is in
     let owned = filled_taken key set (set_in None e) taken of in
@@ -38,7 +35,7 @@ returns-in-Some-clause-settles g c =
     let key = c.args.key.now in
     let e = c.args.draft.now in
     let set = c.in-Some.set in
-    let none = none_is (rrset_at c.args.zone.now.sets key e.record_type) c.get_at.result c.is_some.result c.get_at.ensures c.is_some.ensures.value c.if-is_some.false in
+    let none = none_is (rrset_at c.args.zone.now.sets key e.record_type) c.get_at.result c.is_some.result c.get_at.ensures c.is_some.ensures c.if-is_some.false in
     let of = subst (λ (o : Option RRset). IsSetOf key (set_in o e)) none c.requires.set in
     let taken : set_in None e ≡ Some set = sym c.take_set.ensures.set ∙ c.in-Some.is in
     let owned = filled_taken key set (set_in None e) taken of in
@@ -56,7 +53,7 @@ pub returns-in-None-clause-ready : goal.returns-in-None-clause-ready
 returns-in-None-clause-ready g c = λ records is.
     let key = c.args.key.now in
     let e = c.args.draft.now in
-    let none = none_is (rrset_at c.args.zone.now.sets key e.record_type) c.get_at.result c.is_some.result c.get_at.ensures c.is_some.ensures.value c.if-is_some.false in
+    let none = none_is (rrset_at c.args.zone.now.sets key e.record_type) c.get_at.result c.is_some.result c.get_at.ensures c.is_some.ensures c.if-is_some.false in
     let same : e.records ≡ Some records = sym (c.take_set.ensures.records ∙ ap (λ (o : Option RRset). cond (is_some o) None e.records) c.in-None.is) ∙ is in
     let over : IsRecordsDraft 0 records = subst (IsOverStored None) same (subst (λ (o : Option RRset). IsOverStored o e.records) none c.requires.is) in
     let nothing : set_by None e.record_type (Some records) ≡ None = sym (ap (set_by None e.record_type) same) ∙ sym c.take_set.ensures.set ∙ c.in-None.is in

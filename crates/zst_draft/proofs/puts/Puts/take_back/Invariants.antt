@@ -1,4 +1,4 @@
-use Rattle.std.proofs.Common.{List, length, reverse}
+use Rattle.std.proofs.Common.{length, reverse}
 use Rattle.zst_map.specs.zst_handler.Zones.{Zone}
 use Rattle.zst_draft.specs.Settling.{Returns}
 use Rattle.zst_draft.proofs.puts.Puts.take_back.Given as goal

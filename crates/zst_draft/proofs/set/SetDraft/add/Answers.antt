@@ -1,10 +1,11 @@
 use Rattle.std.proofs.Common.{◌≡◌, ◌∙◌, ◌<◌, ap, length, subst, sym}
-use Rattle.std.specs.Prelude.{List, Option, Some, [], Bool, true, false}
+use Rattle.std.specs.Prelude.{List, Some, [], true, false}
+use Rattle.zst_map.specs.dnw_codes.declared.record_type.RecordType.{RecordType}
 use Rattle.zst_map.specs.zst_handler.Updates.{joins}
 use Rattle.zst_map.specs.zst_handler.Zones.{rrset_at}
-use Rattle.zst_map.specs.zst_record.RecordSets.{RRset, held_set, takes}
+use Rattle.zst_map.specs.zst_record.RecordSets.{held_set, takes}
 use Rattle.zst_map.specs.zst_record.declared.records.Record.{Record}
-use Rattle.zst_draft.specs.SetDrafts.{filled, joined, records_in, records_of, set_in}
+use Rattle.zst_draft.specs.SetDrafts.{filled, joined, records_in, records_of, set_by, set_in}
 use Rattle.zst_draft.proofs.SetDrafts.{filled_long, held_by, joined_held, joined_set, kept_set, taken_held}
 use Rattle.zst_draft.proofs.set.SetDraft.add.Goals as goal
 
@@ -44,4 +45,7 @@ returns-clause-set c =
     ∙ sym (ap (λ (l : List Record). takes (held_set t false (records_in l d) []) c.args.next) c.stored_records-stored.ensures) ∙ sym c.takes.ensures ∙ c.if-not-takes.false in
     let records : records_in (records_of stored) (Some c.in_ok-draft.draft) ≡ joined t (records_in (records_of stored) d) c.args.next =
     subst (λ (l : List Record). records_in l (Some c.in_ok-draft.draft) ≡ joined t (records_in l d) c.args.next) c.stored_records-stored.ensures c.in_ok-draft.ensures.records in
-    joined_set (set_in stored c.args.self.now) _ c.args.next joins_it (ap (filled t) records ∙ joined_held (set_in stored c.args.self.now) t (records_in (records_of stored) d) c.args.next held long)
+    joined_set (set_in stored c.args.self.now) (set_by stored c.joined.new.self.record_type c.replace.new.dest) c.args.next joins_it
+    (ap (set_by stored c.joined.new.self.record_type) c.replace.ensures.after
+    ∙ ap (λ (k : RecordType). filled k (records_in (records_of stored) (Some c.in_ok-draft.draft))) c.joined.ensures.kind
+    ∙ ap (filled t) records ∙ joined_held (set_in stored c.args.self.now) t (records_in (records_of stored) d) c.args.next held long)

@@ -1,5 +1,5 @@
-use Rattle.std.proofs.Common.{◌≡◌, ◌∙◌, ◌<◌, ap, arith, length, subst, sym}
-use Rattle.std.specs.Prelude.{Option, Some, slice_get}
+use Rattle.std.proofs.Common.{◌∙◌, ◌<◌, ap, arith, length, subst}
+use Rattle.std.specs.Prelude.{Option, slice_get}
 use Rattle.zst_draft.specs.SetDrafts.{IsDraftOf, records_in}
 use Rattle.zst_draft.specs.declared.records.RecordsDraft.{RecordsDraft}
 use Rattle.zst_draft.proofs.DraftedRecords.{length_records}

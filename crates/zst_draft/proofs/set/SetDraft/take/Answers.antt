@@ -1,9 +1,9 @@
-use Rattle.std.proofs.Common.{◌≡◌, ◌∙◌, ◌<◌, ap, arith, length, subst, sym}
-use Rattle.std.specs.Prelude.{List, Option, Some, None, [], false, position}
+use Rattle.std.proofs.Common.{◌≡◌, ◌∙◌, ap, arith, length, subst, sym}
+use Rattle.std.specs.Prelude.{List, Some, [], false, position}
 use Rattle.std.specs.List.{remove}
 use Rattle.zst_map.specs.drd_rdata.Order.{rdata_eq}
 use Rattle.zst_map.specs.zst_handler.Zones.{rrset_at}
-use Rattle.zst_map.specs.zst_record.RecordSets.{RRset, held_set, keeps_last}
+use Rattle.zst_map.specs.zst_record.RecordSets.{held_set, keeps_last}
 use Rattle.zst_map.specs.zst_record.declared.records.Record.{Record}
 use Rattle.zst_draft.specs.SetDrafts.{IsRecordsDraft, filled, records_in, records_of, set_in}
 use Rattle.zst_draft.proofs.DraftedRecords.{length_records}

@@ -1,6 +1,5 @@
 use Rattle.std.proofs.Common.{◌≡◌, ◌∙◌, ap, subst, sym}
-use Rattle.std.specs.Prelude.{Bool, List, Option, Some, None, []}
-use Rattle.zst_map.specs.dnw_name.DomainName.{DomainName}
+use Rattle.std.specs.Prelude.{List, Option, Some, None, []}
 use Rattle.zst_map.specs.zst_record.Drafts.{drafted}
 use Rattle.zst_map.specs.zst_record.RecordSets.{IsHeld, RRset, held_set}
 use Rattle.zst_map.specs.zst_record.declared.draft.Draft.{Draft}

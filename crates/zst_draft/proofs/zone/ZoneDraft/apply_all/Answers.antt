@@ -1,0 +1,24 @@
+use Rattle.std.proofs.Common.{◌∙◌, ap, subst, sym}
+use Rattle.std.specs.Prelude.{Bool, ◌||◌}
+use Rattle.zst_request.specs.Applied.{Owned, all_applied, any_changes, applied}
+use Rattle.zst_draft.specs.ZoneDrafts.{DraftsZone}
+use Rattle.zst_draft.proofs.DraftedZones.{applied_more, changes_more}
+use Rattle.zst_draft.proofs.zone.ZoneDraft.apply_all.Goals as goal
+
+pub loop-change-preserved : goal.loop-change-preserved
+loop-change-preserved g c =
+    let origin = c.args.zone.now.origin in
+    let rs = c.loop-change.yielded in
+    let r = c.in-Some.change in
+    let is = c.loop-change.invariant.is in
+    record {
+      is = (applied origin is.0 r, c.in_ok-more.ensures.applied is.0 is.1);
+      changed = λ at drafts.
+          c.either-changed.ensures
+          ∙ ap (λ (b : Bool). b || c.in_ok-more.more) (c.loop-change.invariant.changed at drafts)
+          ∙ ap (λ (b : Bool). any_changes origin at rs || b) (c.in_ok-more.ensures.changed (all_applied origin at rs) (c.loop-change.invariant.applied at drafts))
+          ∙ sym (changes_more origin at rs r);
+      applied = λ at drafts.
+          subst (λ (after : Owned). DraftsZone c.args.zone.now c.apply.new.self after) (sym (applied_more origin at rs r))
+          (c.in_ok-more.ensures.applied (all_applied origin at rs) (c.loop-change.invariant.applied at drafts));
+    }
