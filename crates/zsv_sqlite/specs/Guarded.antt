@@ -1,0 +1,46 @@
+-- A stored zone with its guard: RFC 2136, section 3.3.
+use Rattle.std.specs.Prelude.{Bool, List, Option, Some, None, Result, Ok, Err, if◌then◌else◌}
+use Rattle.std.specs.Borrow.{Fml, Lends, MutBor, RattleType}
+use Rattle.zst_draft.specs.contracts.InMemoryZoneHandler as in_memory
+use Rattle.zst_map.specs.zst_handler.Zones.{Zone}
+use Rattle.zst_map.specs.zst_key.Ancestors.{or_else}
+use Rattle.zst_map.specs.zst_record.declared.records.Record.{Record}
+use Rattle.zst_request.specs.Prerequisites.{first_refused, prerequisites_refused, prescan_refused}
+use Rattle.zst_request.specs.Updating.{Asked, ChangesBy, permission_refused, soa_refused}
+use Rattle.zst_request.specs.zst_codes.declared.response_code.ResponseCode.{ResponseCode}
+use Rattle.zsv_sqlite.specs.contracts.handler.SqliteZoneHandler.{the_row}
+use Rattle.zsv_sqlite.specs.declared.handler.SqliteZoneHandler.{SqliteZoneHandler}
+
+-- The zone that is kept, with the guard's policy and whether messages may change it.
+abbrev pub guarded_zone : {K : Type 0} → SqliteZoneHandler K → Zone
+guarded_zone handler = record handler.in_memory {
+  guard = Some (record { axfr_policy = handler.axfr_policy; allow_update = handler.allow_update });
+}
+
+-- What a test returns: the code by which it refuses, if it does.
+abbrev pub unless_refused : Option ResponseCode → Result (Unit {0}) ResponseCode
+unless_refused None = Ok tt
+unless_refused (Some code) = Err code
+
+-- Why a request may not change a zone.
+abbrev pub forbidden : Zone → Asked → Option ResponseCode
+forbidden zone asked = permission_refused zone.guard asked.signed asked.verdict
+
+-- Why an update that is permitted is refused before its records are applied: by its prerequisites,
+-- or by its form.
+abbrev pub refused_before : Zone → List Record → List Record → Option ResponseCode
+refused_before zone prerequisites changes =
+    or_else (prerequisites_refused zone prerequisites)
+    (first_refused (prescan_refused zone.origin) changes)
+
+-- Records are applied, all or none. Where the serial number is to be raised, those that change
+-- something need an SOA at the apex.
+abbrev pub AppliesAll : Bool → Zone → List Record → Result Bool ResponseCode → Zone → Type 0
+AppliesAll increment old rs answer new =
+    ChangesBy (if increment then soa_refused old rs else None) increment old rs answer new
+
+-- The handler ends with the zone that its borrower leaves.
+abbrev pub LendsZone : (R : RattleType) → MutBor (SqliteZoneHandler R.Denot) → MutBor Zone → Fml
+LendsZone R handler zone =
+    Lends (the_row R) (in_memory.the_row R) handler zone
+    (λ left. record handler.now { in_memory = left })
