@@ -58,7 +58,7 @@ returns-clause-ok g c =
     let begun = c.new-draft.ensures zone c.origin-before.ensures.ordered c.origin-before.ensures.stored in
     let leaves = c.in_ok-commit.ensures.ok (all_applied zone.origin (sets_of_name zone.sets) c.args.changes.items) (c.in-Ok.ensures.applied (sets_of_name zone.sets) begun) in
     let soa : has_soa zone ≡ true = elim c.else-increment.branch [
-      else-increment-via-then-increment+else-is_none w ↦ sym (ap is_some w.apex.ensures) ∙ some_copied w.apex.result ∙ w.is_none.ensures ∙ ap not w.if-is_none.false
+      | else-increment-via-then-increment+else-is_none w ↦ sym (ap is_some w.apex.ensures) ∙ some_copied w.apex.result ∙ w.is_none.ensures ∙ ap not w.if-is_none.false
       | else-increment-via-else-increment w ↦ absurd (true≢false (sym c.if-not-increment.false ∙ w.if-increment.false))
     ] in
     subst (λ (b : Bool). AppliesAll b zone c.args.changes.items (Ok true) c.raise_serial.new.zone) (sym c.if-not-increment.false)
