@@ -1,11 +1,11 @@
-//! Many zones as they are served: messages, catalogs of handlers, lists of blocked names and access lists.
+//! Many zones as they are served: messages, catalogs of handlers, guarded zones, lists of blocked names and access lists.
 //!
 //! This is the face of the crates below, and holds nothing of its own: requests, handlers and what a catalog answers from
-//! `zsv_catalog` and what it passes on, lists of blocked names from `zsv_blocklist`, access lists from `zsv_access`.
+//! `zsv_catalog` and what it passes on, guarded zones and lists of blocked names from `zsv_handlers`, access lists from
+//! `zsv_access`.
 #![tactic(auto)]
 
 pub use zsv_access::{AccessControl, IpNet};
-pub use zsv_blocklist::{BlocklistConfig, BlocklistError, BlocklistZoneHandler, ReadFaults};
 pub use zsv_catalog::{
     A, AuthLookup, BlocklistConsultAction, Catalog, Chains, DNSClass, DecodeError, Edns, Header,
     HeaderCounts, Label, LookupControlFlow, LookupError, LookupOptions, LookupRecords, LowerName,
@@ -14,4 +14,8 @@ pub use zsv_catalog::{
     RecordSet, RecordType, Request, RequestHandler, RequestInfo, ResponseCode, ResponseHandler,
     ResponseInfo, SOA, SendFault, ServiceFault, SignFault, TSigResponseContext, Tsig, TsigRecord,
     TsigSuite, TsigVerdict, UpdateRequest, ZoneHandler, ZoneRequest, ZoneType, error_response,
+};
+pub use zsv_handlers::{
+    BlocklistConfig, BlocklistError, BlocklistZoneHandler, InMemoryZoneHandler, ReadFaults,
+    SqliteZoneHandler,
 };
