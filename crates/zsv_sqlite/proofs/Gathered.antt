@@ -1,5 +1,5 @@
 -- Prerequisites of class IN, gathered by their sets: each set is asked once for all of its own.
-use Rattle.std.proofs.Common.{◌≡◌, ℕ, refl, ap, sym, subst, ◌∙◌, arith}
+use Rattle.std.proofs.Common.{◌≡◌, ℕ, Bor, refl, ap, sym, subst, ◌∙◌, arith}
 use Rattle.std.specs.Prelude.{Bool, true, false, not, ◌&&◌, ◌||◌, ◌==◌, List, [], ◌∷◌, ◌++◌, Option, Some, None, cond, filter, find, map, nat_lt, option_map}
 use Rattle.std.specs.BTreeMap.{BTreeMap, IsOrdered, get, is_at}
 use Rattle.std.specs.Cmp.{IsEquivalence}
@@ -119,6 +119,13 @@ pub gathers_one : (old new : BTreeMap SetKey Group) (key : SetKey) (r : Record) 
     → ((q : SetKey) → get key_cmp new q ≡ cond (is_eq (key_cmp key q)) (Some group) (get key_cmp old q))
     → records_of group ≡ listed (get key_cmp old key) ++ r ∷ [] → GathersOne old r new
 gathers_one old new key r group owner kind put is = put_one old new key r group (keyed key r owner kind) put is
+
+map_more : (xs : List (Bor Record)) (x : Bor Record) → map (λ r. r.now) (xs ++ x ∷ []) ≡ map (λ r. r.now) xs ++ x.now ∷ []
+map_more [] x = refl
+map_more (y ∷ xs) x = ap (λ (rs : List Record). y.now ∷ rs) (map_more xs x)
+
+pub records_more : (group new : Group) (p : Bor Record) → new.items ≡ group.items ++ p ∷ [] → records_of new ≡ records_of group ++ p.now ∷ []
+records_more group new p items = ap (λ (xs : List (Bor Record)). map (λ r. r.now) xs) items ∙ map_more group.items p
 
 filter_more : (p : Record → Bool) (rs : List Record) (r : Record) → filter p (rs ++ r ∷ []) ≡ cond (p r) (filter p rs ++ r ∷ []) (filter p rs)
 filter_more p [] r = by (p r)

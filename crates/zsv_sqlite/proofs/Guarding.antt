@@ -1,6 +1,6 @@
 -- A guard changes no look-up, and it stays when the zone is changed.
 use Rattle.std.proofs.Common.{◌≡◌, refl, ap, sym, subst, ◌∙◌}
-use Rattle.std.specs.Prelude.{Bool, true, List, [], ◌∷◌, Option, Some, None, Result, Ok, Err, cond, option_map}
+use Rattle.std.specs.Prelude.{Bool, true, List, [], ◌∷◌, Option, Some, None, Result, Ok, Err}
 use Rattle.zst_map.specs.dnw_codes.declared.record_type.RecordType.{RecordType}
 use Rattle.zst_map.specs.dnw_name.DomainName.{DomainName}
 use Rattle.zst_map.specs.zst_key.Ancestors.{or_else}
@@ -17,7 +17,8 @@ use Rattle.zst_request.specs.Prerequisites.{first_refused, prerequisites_refused
 use Rattle.zst_request.specs.Updating.{Asked, ChangesBy, UpdatesView, permission_refused, soa_refused, update_refused}
 use Rattle.zst_request.specs.Views.{Stored}
 use Rattle.zst_request.specs.zst_codes.declared.response_code.ResponseCode.{ResponseCode}
-use Rattle.zsv_sqlite.specs.Guarded.{unless_refused}
+use Rattle.zsv_sqlite.specs.Guarded.{guarded_zone, unless_refused}
+use Rattle.zsv_sqlite.specs.declared.handler.SqliteZoneHandler.{SqliteZoneHandler}
 
 abbrev guarded : Option Guard → Zone → Zone
 guarded guard zone = record zone { guard = guard }
@@ -44,6 +45,19 @@ module _ (guard : Option Guard) (zone : Zone) (name : DomainName) (t : RecordTyp
 
   pub guarded_question : (options : LookupOptions) (flow : Flow) → AnswersQuestion (Stored zone) name t options flow → AnswersQuestion (Stored (guarded guard zone)) name t options flow
   guarded_question options flow is = (is.0, λ e. guarded_lookup options flow (is.1 e))
+
+abbrev pub guard_of : {K : Type 0} → SqliteZoneHandler K → Option Guard
+guard_of handler = Some (record { axfr_policy = handler.axfr_policy; allow_update = handler.allow_update })
+
+module _ {K : Type 0} (handler : SqliteZoneHandler K) (zone : Zone) (same : zone ≡ handler.in_memory) (t : RecordType) (options : LookupOptions) (flow : Flow) where
+  pub handler_lookup : (name : DomainName) → LookupAnswers zone name t options flow → LookupAnswers (guarded_zone handler) name t options flow
+  handler_lookup name is = guarded_lookup (guard_of handler) handler.in_memory name t options flow (subst (λ (z : Zone). LookupAnswers z name t options flow) same is)
+
+  pub handler_origin : LookupAnswers zone zone.origin t options flow → LookupAnswers (guarded_zone handler) handler.in_memory.origin t options flow
+  handler_origin is = guarded_lookup (guard_of handler) handler.in_memory handler.in_memory.origin t options flow (subst (λ (z : Zone). LookupAnswers z z.origin t options flow) same is)
+
+  pub handler_question : (name : DomainName) → AnswersQuestion (Stored zone) name t options flow → AnswersQuestion (Stored (guarded_zone handler)) name t options flow
+  handler_question name is = guarded_question (guard_of handler) handler.in_memory name t options flow (subst (λ (z : Zone). AnswersQuestion (Stored z) name t options flow) same is)
 
 -- ---- changes
 guarded_leaves : (guard : Option Guard) (old new : Zone) (at : Owned) → LeavesZone old at new → LeavesZone (guarded guard old) at (guarded guard new)
@@ -119,10 +133,3 @@ applied_view old new asked answer permitted e changes = (
 pub second_none : (first second : Option ResponseCode) → or_else first second ≡ None → second ≡ None
 second_none None second e = e
 second_none (Some code) second e = let h : ⊥ = cc in absurd h
-
--- Where a signature was tested the reply is signed.
-pub signed_made : {X Y : Type 0} (P : Type 0) (allow : Bool) (o : Option X) (x : X) (f : X → Y) → allow ≡ true → o ≡ Some x → cond allow (option_map f o) None ≡ None → P
-signed_made P allow o x f yes some none =
-    let h : Some (f x) ≡ None = sym (ap (λ (b : Bool). cond b (option_map f o) None) yes ∙ ap (option_map f) some) ∙ none in
-    let g : ⊥ = cc in
-    absurd g

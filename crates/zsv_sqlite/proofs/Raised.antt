@@ -163,7 +163,7 @@ then_raised old between new at first second = record {
 abbrev changed : Zone → List Record → Bool
 changed zone rs = any_changes zone.origin (sets_of_name zone.sets) rs
 
-abbrev has_soa : Zone → Bool
+abbrev pub has_soa : Zone → Bool
 has_soa zone = is_some (rrset_at zone.sets zone.origin kind.SOA)
 
 pub changes_raised : (old between new : Zone) (rs : List Record) → changed old rs ≡ true → has_soa old ≡ true → LeavesZone old (all_applied old.origin (sets_of_name old.sets) rs) between

@@ -54,8 +54,9 @@ fn raise_serial<K>(zone: &mut InMemoryZoneHandler<K>, apex: &NameKey)
     ensures { LeavesZone zone.old (raised zone.old.origin (sets_of_name zone.old.sets)) zone.new }
 {
     let _before = zone.origin();
-    if zone.get_at(apex, RecordType::SOA).is_some() {
-        zone.edit_at(apex, RecordType::SOA, Edit::RaiseSerial);
+    if zone.get_at(apex, RecordType::SOA).is_none() {
+        return;
     }
+    zone.edit_at(apex, RecordType::SOA, Edit::RaiseSerial);
     let _after = zone.origin();
 }

@@ -1,6 +1,6 @@
 //! A zone kept in memory, with a guard that says who may transfer and change it.
 
-ghost use Rattle.std.specs.Prelude.{◌≡◌, [], true, not, None, Ok, Err, IfOk, IsOk, OnErr, option_map};
+ghost use Rattle.std.specs.Prelude.{◌≡◌, [], true, not, None, Some, Ok, Err, IfOk, IsOk, OnErr, option_map};
 ghost use Rattle.std.specs.Borrow.{sem};
 ghost use Rattle.zst_request.specs.Prerequisites.{first_refused, prerequisites_refused, prescan_refused, refused_if};
 ghost use Rattle.zst_request.specs.Requested.{asked_of, context_of};
@@ -134,7 +134,8 @@ impl<K> SqliteZoneHandler<K> {
         prerequisites: &[Record],
         changes: &[Record],
     ) -> Result<Option<ResponseCode>, AllocError>
-        ensures { IfOk result (λ refused. refused ≡ refused_before (guarded_zone self.now) prerequisites.now changes.now) }
+        ensures refused { IfOk result (λ refused. refused ≡ refused_before (guarded_zone self.now) prerequisites.now changes.now) }
+        ensures none { prerequisites.now ≡ [] → result ≡ Ok (first_refused (prescan_refused (guarded_zone self.now).origin) changes.now) }
     {
         let refused = prerequisites_refusal(alloc, &self.in_memory, prerequisites)?;
         if refused.is_some() {
@@ -143,7 +144,8 @@ impl<K> SqliteZoneHandler<K> {
         Ok(prescan(self.in_memory.origin(), changes))
     }
 
-    // What an update that is permitted is answered, and the zone after it.
+    // The answer to an update that is permitted, and the zone after it. Without prerequisites it takes no memory to refuse
+    // records by their form.
     pub(crate) fn change(
         &mut self,
         alloc: Global,
@@ -153,6 +155,8 @@ impl<K> SqliteZoneHandler<K> {
         ensures ok { IfOk result (λ answer. ChangesBy (or_else (refused_before (guarded_zone self.old) prerequisites.now changes.items)
             (soa_refused (guarded_zone self.old) changes.items)) true (guarded_zone self.old) changes.items answer (guarded_zone self.new)) }
         ensures err { OnErr result (self.new ≡ self.old) }
+        ensures form { prerequisites.now ≡ [] → (code : ResponseCode) → first_refused (prescan_refused (guarded_zone self.old).origin) changes.items ≡ Some code
+            → result ≡ Ok (Err code) }
     {
         let Ok(refused) = self.refusal(alloc, prerequisites, &changes) else {
             mem::drop(changes);
