@@ -78,7 +78,7 @@ module _ (chains : List (DomainName × List View)) (nsid : Option (List ℕ)) (k
   pub request_refused : (updates : List Record) (fault : ServiceFault) (new : List (DomainName × List View)) → is_served_update request.message ≡ true → AreCopies request.message.authorities updates
       → RefusesUpdate keys (with_updates request.message updates) request.source request.octets moment chains fault new → RefusesRequest chains keys request moment fault new
   request_refused updates (OutOfMemory false) new served copies is = is
-  request_refused updates (OutOfMemory true) new served copies is = (updates, copies, served, is)
+  request_refused updates (OutOfMemory true) new served copies is = (updates, copies, (served, is))
 
   -- The same, of the message and the arrival as they are read from the request.
   pub read_replied : (m : Message) (source : SocketAddr) (octets : List ℕ) (transport : Protocol) (now : ℕ) → m ≡ request.message → source ≡ request.source → octets ≡ request.octets → transport ≡ request.transport → now ≡ moment
