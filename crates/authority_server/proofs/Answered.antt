@@ -98,7 +98,7 @@ module _ (world : World) (received : Received) (request : Message) where
         sent = sends_given given given.context parts is same signs;
         within = sent.within;
         back = reads;
-        reply = encoded_reply parts info reply (limit_of received.transport parts.edns) is (sent_id world.keys request given given.context parts same signs) sent.stands;
+        holds = encoded_reply parts info reply (limit_of received.transport parts.edns) is (sent_id world.keys request given given.context parts same signs) sent.stands;
       } in
       (request, is, given, answers, after)
 

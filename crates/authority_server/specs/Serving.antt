@@ -79,7 +79,7 @@ pub record Answers (world : World) (received : Received) (request : Message) (gi
   pub sent : SendsGiven world received request given given.context parts
   pub within : length reply ≤ limit_of received.transport parts.edns
   pub back : WorldReadsBack world → AllReadBack parts
-  pub reply : IsReplyOf received request parts (limit_of received.transport parts.edns) reply
+  pub holds : IsReplyOf received request parts (limit_of received.transport parts.edns) reply
 
 -- One message served: outside the request grammar there is no answer, and nothing changes; inside
 -- it there is one reply, and of the server its zones may be others, by an update that was accepted.

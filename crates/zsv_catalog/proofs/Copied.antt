@@ -15,7 +15,7 @@ one_copy [] (c ∷ cs) r copy all one = absurd all
 one_copy (s ∷ rs) [] r copy all one = absurd all
 one_copy (s ∷ rs) (c ∷ cs) r copy all one = (all.0, one_copy rs cs r copy all.1 one)
 
-pub more_copies : (rs copies : List Record) (count : ℕ) (d copy : Record) (later : List Record) → count < length rs → AreCopies (take count rs) copies → IsCopy (get_or rs count d) copy → later ≡ copies ++ copy ∷ [] → AreCopies (take (count + 1) rs) later
-more_copies rs copies count d copy later more all one pushed =
+pub more_copies : (rs copies : List Record) (count : ℕ) (d r copy : Record) (later : List Record) → count < length rs → r ≡ get_or rs count d → AreCopies (take count rs) copies → IsCopy r copy → later ≡ copies ++ copy ∷ [] → AreCopies (take (count + 1) rs) later
+more_copies rs copies count d r copy later more is all one pushed =
     subst (AreCopies (take (count + 1) rs)) (sym pushed)
-    (subst (λ (xs : List Record). AreCopies xs (copies ++ copy ∷ [])) (sym (take_more rs count d more)) (one_copy (take count rs) copies (get_or rs count d) copy all one))
+    (subst (λ (xs : List Record). AreCopies xs (copies ++ copy ∷ [])) (sym (take_more rs count d more)) (one_copy (take count rs) copies (get_or rs count d) copy all (subst (λ (x : Record). IsCopy x copy) is one)))

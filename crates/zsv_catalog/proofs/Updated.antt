@@ -78,4 +78,23 @@ module _ (chains : List (DomainName × List View)) (nsid : Option (List ℕ)) (k
   pub request_refused : (updates : List Record) (fault : ServiceFault) (new : List (DomainName × List View)) → is_served_update request.message ≡ true → AreCopies request.message.authorities updates
       → RefusesUpdate keys (with_updates request.message updates) request.source request.octets moment chains fault new → RefusesRequest chains keys request moment fault new
   request_refused updates (OutOfMemory false) new served copies is = is
-  request_refused updates (OutOfMemory true) new served copies is = (updates, copies, served, is)
+  request_refused updates (OutOfMemory true) new served copies is = (updates, copies, (served, is))
+
+  -- The same, of the message and the arrival as they are read from the request.
+  pub read_replied : (m : Message) (source : SocketAddr) (octets : List ℕ) (transport : Protocol) (now : ℕ) → m ≡ request.message → source ≡ request.source → octets ≡ request.octets → transport ≡ request.transport → now ≡ moment
+      → (copied updates : List Record) (parts : ReplyParts) (info : Header) (reply : List ℕ) (new : List (DomainName × List View)) → is_served_update m ≡ true → copied ≡ m.authorities → AreCopies copied updates
+      → RepliesUpdate keys (with_updates m updates) source octets now chains nsid parts new → SendsParts parts m.asked transport info reply → RepliesToRequest chains nsid keys request moment info reply new
+  read_replied m source octets transport now same from arrived by at copied updates parts info reply new served all copies replied sent =
+      let first = subst (λ (x : Message). RepliesUpdate keys (with_updates x updates) source octets now chains nsid parts new) same replied in
+      let second = subst (λ (x : SocketAddr). RepliesUpdate keys (with_updates request.message updates) x octets now chains nsid parts new) from first in
+      let third = subst (λ (x : List ℕ). RepliesUpdate keys (with_updates request.message updates) request.source x now chains nsid parts new) arrived second in
+      let last = subst (λ (x : ℕ). RepliesUpdate keys (with_updates request.message updates) request.source request.octets x chains nsid parts new) at third in
+      let written = subst (λ (x : Protocol). SendsParts parts request.message.asked x info reply) by (subst (λ (x : Message). SendsParts parts x.asked transport info reply) same sent) in
+      request_replied updates parts info reply new (subst (λ (x : Message). is_served_update x ≡ true) same served)
+      (subst (λ (rs : List Record). AreCopies rs updates) (all ∙ ap (λ (x : Message). x.authorities) same) copies) last written
+
+  pub read_plain : (m : Message) (transport : Protocol) (info : Header) (reply : List ℕ) → m ≡ request.message → transport ≡ request.transport → is_served_update m ≡ false → RepliesPlain chains nsid m transport info reply
+      → RepliesToRequest chains nsid keys request moment info reply chains
+  read_plain m transport info reply same by other replied =
+      request_plain info reply (subst (λ (x : Message). is_served_update x ≡ false) same other)
+      (subst (λ (x : Protocol). RepliesPlain chains nsid request.message x info reply) by (subst (λ (x : Message). RepliesPlain chains nsid x transport info reply) same replied))

@@ -34,6 +34,7 @@ impl<S: TsigSuite, H: ZoneHandler> Catalog<S, H> {
     pub fn new(alloc: Global, suite: S) -> Catalog<S, H>
         ensures chains { result.chains.chains ≡ [] }
         ensures nsid { result.nsid ≡ None }
+        ensures suite { result.suite ≡ suite }
     {
         Catalog {
             alloc,
@@ -48,6 +49,7 @@ impl<S: TsigSuite, H: ZoneHandler> Catalog<S, H> {
         ensures ok { OnOk result (self.new.chains.chains ≡ with_chain self.old.chains.chains name.now handlers) }
         ensures err { OnErr result (self.new.chains.chains ≡ self.old.chains.chains) }
         ensures nsid { self.new.nsid ≡ self.old.nsid }
+        ensures suite { self.new.suite ≡ self.old.suite }
     {
         self.chains.upsert(self.alloc, name, handlers)
     }
@@ -57,6 +59,7 @@ impl<S: TsigSuite, H: ZoneHandler> Catalog<S, H> {
         ensures value { result ≡ chain_at self.old.chains.chains (lowercase_name name.now) }
         ensures after { self.new.chains.chains ≡ without_chain self.old.chains.chains name.now }
         ensures nsid { self.new.nsid ≡ self.old.nsid }
+        ensures suite { self.new.suite ≡ self.old.suite }
     {
         self.chains.remove(self.alloc, name)
     }
@@ -80,6 +83,7 @@ impl<S: TsigSuite, H: ZoneHandler> Catalog<S, H> {
     pub fn set_nsid(&mut self, nsid: Option<NSIDPayload>)
         ensures nsid { self.new.nsid ≡ nsid }
         ensures chains { self.new.chains ≡ self.old.chains }
+        ensures suite { self.new.suite ≡ self.old.suite }
     {
         self.nsid = nsid;
     }

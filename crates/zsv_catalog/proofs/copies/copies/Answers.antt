@@ -4,5 +4,5 @@ use Rattle.zsv_catalog.proofs.copies.copies.Goals as goal
 
 pub loop-record-preserved : goal.loop-record-preserved
 loop-record-preserved c = record {
-  copied = more_copies _ _ _ _ _ _ (omega arith) c.loop-record.invariant.copied c.in_ok-copy_of.ensures c.in_ok-push.ensures.items;
+  copied = more_copies _ _ _ _ _ _ _ (omega arith) c.record-item.is c.loop-record.invariant.copied c.in_ok-copy_of.ensures c.in_ok-push.ensures.items;
 }
