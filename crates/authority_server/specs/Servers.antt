@@ -38,8 +38,8 @@ with_zones world name chain = record world { chains = with_chain world.chains na
 abbrev pub without_zones : World → DomainName → World
 without_zones world name = record world { chains = without_chain world.chains name }
 
--- The octets of a reply to a request, and its header: of the parts that the server gives to a source,
--- which read back if its zones do.
+-- The octets of a reply to a request, and its header: of the parts that the server gives to a
+-- source, which read back if its zones do.
 abbrev pub SendsReply : World → Message → SocketAddr → Protocol → Header → List ℕ → Type 0
 SendsReply world request source transport info reply =
     (parts : ReplyParts) × GivesParts world request source parts

@@ -10,7 +10,7 @@ use Rattle.zst_map.specs.zst_record.RecordSets.{RRset, empty_set}
 use Rattle.zst_map.specs.zst_record.RecordLaws.{name_eq_equiv}
 use Rattle.zst_map.proofs.Upserted.{sets_named}
 
--- Whether a name has a set of another one tells whether they are equal.
+-- A name has the sets of another one exactly if they are equal.
 abbrev has_one : List RRset → Bool
 has_one [] = false
 has_one (set ∷ sets) = true

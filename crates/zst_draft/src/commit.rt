@@ -23,7 +23,8 @@ pub(crate) fn commit_owners<K>(
     zone: &mut InMemoryZoneHandler<K>,
 ) -> Result<(), AllocError>
     requires { CanSettleAll zone.old.sets owners.entries }
-    ensures ok { OnOk result ((name : DomainName) (record_type : RecordType) → rrset_at zone.new.sets name record_type ≡ value_at zone.old.sets owners.entries name record_type) }
+    ensures ok { OnOk result ((name : DomainName) (record_type : RecordType)
+        → rrset_at zone.new.sets name record_type ≡ value_at zone.old.sets owners.entries name record_type) }
     ensures rest { OnOk result (zone.new ≡ record zone.old { sets = zone.new.sets }) }
     ensures err { OnErr result (zone.new ≡ zone.old) }
 {
@@ -88,7 +89,8 @@ fn put_owner<K>(
 fn settle_owners<K>(owners: Vec<(NameKey, OwnerDraft)>, zone: &mut InMemoryZoneHandler<K>)
     requires can { CanSettleAll zone.old.sets owners.items }
     requires ready { AreReady zone.old.sets owners.items }
-    ensures values { (name : DomainName) (record_type : RecordType) → rrset_at zone.new.sets name record_type ≡ value_at zone.old.sets owners.items name record_type }
+    ensures values { (name : DomainName) (record_type : RecordType)
+        → rrset_at zone.new.sets name record_type ≡ value_at zone.old.sets owners.items name record_type }
     ensures rest { zone.new ≡ record zone.old { sets = zone.new.sets } }
 {
     let mut left = owners;

@@ -87,7 +87,8 @@ impl ZoneDraft {
     ) -> Result<bool, AllocError>
         requires { IsDraftOfZone zone.now self.old }
         ensures changed { IfOk result (λ changed. (at : Owned) → DraftsZone zone.now self.old at → changed ≡ any_changes zone.now.origin at records.items) }
-        ensures applied { OnOk result ((at : Owned) → DraftsZone zone.now self.old at → DraftsZone zone.now self.new (all_applied zone.now.origin at records.items)) }
+        ensures applied { OnOk result ((at : Owned) → DraftsZone zone.now self.old at
+            → DraftsZone zone.now self.new (all_applied zone.now.origin at records.items)) }
     {
         let mut changed = false;
         for change in records {

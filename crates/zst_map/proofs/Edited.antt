@@ -54,7 +54,7 @@ alike_names (edits.Settle t draft) set can = can.2
 alike_names edits.RaiseSerial set can = name_eq_equiv.refl set.name
 alike_names (edits.Sign signatures) set can = name_eq_equiv.refl set.name
 
--- What stands in place of a set that is found stands under the name and the type it was found by.
+-- The set in place of another one has the name and the type by which that was found.
 pub found_by : (sets after : List RRset) (name : DomainName) (t : RecordType) (set : RRset) (edit : Edit) → rrset_at sets name t ≡ Some set → CanEdit edit set
     → Replaces sets (edited edit set).name (edited edit set).record_type (Some (edited edit set)) after → Replaces sets name t (Some (edited edit set)) after
 found_by sets after name t set edit found can replaces other u =

@@ -38,7 +38,7 @@ if_filled set = if none_left set.records then [] else set ∷ []
 abbrev pub taken_from : Record → RRset → List RRset
 taken_from r set = if is_taken_from r set then if_filled (removed set r) else set ∷ []
 
--- One of class IN is added, unless it may not stand there or is there (RFC 2136, section 3.4.2.2).
+-- One of class IN is added, unless the owner may not have it or has it (RFC 2136, section 3.4.2.2).
 abbrev pub is_added : List RRset → Record → Bool
 is_added sets r =
     not (is_kept_out sets (type_of r.rdata)) && joins (set_of_type (type_of r.rdata) sets) r

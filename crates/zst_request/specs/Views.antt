@@ -39,7 +39,7 @@ abbrev pub zone_type_of : View → ZoneType
 zone_type_of (Stored zone) = zone.zone_type
 zone_type_of (Blocked blocklist) = External
 
--- A guard's policy stands before the zone's own.
+-- A guard's policy is asked first, then the zone's own.
 abbrev pub outer_policy : AxfrPolicy → Option Guard → AxfrPolicy
 outer_policy own None = own
 outer_policy own (Some guard) = guard.axfr_policy

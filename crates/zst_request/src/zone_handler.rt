@@ -176,7 +176,7 @@ pub trait ZoneHandler: Drop {
         Ok(no_proof("this handler has no NSEC3 records"))
     }
 
-    /// Updates the zone (RFC 2136), and tells whether that changed it, or by which code it is refused; then the zone is as it
+    /// Updates the zone (RFC 2136), and returns whether that changed it, or by which code it is refused; then the zone is as it
     /// was. A zone that takes no updates, and a list of blocked names, answer NotImp. The moment is given in seconds since
     /// 1970.
     // No body fits every handler: a guarded zone does more than refuse.

@@ -1,5 +1,4 @@
--- Chains of handlers, each under the name from which on it answers: RFC 1034, section 4.3.2,
--- step 2.
+-- Chains of handlers, each registered under a name: RFC 1034, section 4.3.2, step 2.
 use Rattle.std.specs.Prelude.{◌≡◌, ◌<◌, ℕ, Bool, List, [], ◌∷◌, length, map, Option, None, Some, Result, option_map}
 use Rattle.std.specs.BTreeMap.{insert_entry}
 use Rattle.std.specs.Map.{remove_entry, set_value}

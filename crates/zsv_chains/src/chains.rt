@@ -1,4 +1,4 @@
-//! Chains of handlers, each under the name from which on it answers.
+//! Chains of handlers, each registered under a name.
 
 ghost use Rattle.std.specs.Prelude.{◌≡◌, [], Some, IfOk, OnErr, OnOk, map, option_map};
 ghost use Rattle.zst_key.specs.Ancestors.{nearest_in};
@@ -11,7 +11,7 @@ use std::mem;
 use zst_key::{KeyRef, NameKey, NameList, WholeKey};
 use zst_request::{Name, ResponseCode, TSigResponseContext, ZoneHandler, ZoneRequest};
 
-/// Chains of handlers, each under the name from which on it answers, up to case.
+/// Chains of handlers, each registered under a name, up to case.
 #[derive(Drop)]
 pub struct Chains<H> {
     pub(crate) chains: NameList<Vec<H>>,
@@ -67,7 +67,7 @@ impl<H: Drop> Chains<H> {
 }
 
 impl<H: ZoneHandler> Chains<H> {
-    /// Updates the zone of the first handler of the chain under a key, and tells what it answers; `None` where there is no
+    /// Updates the zone of the first handler of the chain under a key, and returns its answer; `None` where there is no
     /// chain, or an empty one. No other handler changes. Only that handler takes memory. The moment is given in seconds since
     /// 1970.
     pub fn update_first(
@@ -92,7 +92,7 @@ impl<H: ZoneHandler> Chains<H> {
     }
 }
 
-// Updates the zone of the first of these handlers, if there is one, and tells what it answers.
+// Updates the zone of the first of these handlers, if there is one, and returns its answer.
 fn first_updates<H: ZoneHandler>(
     handlers: &mut Vec<H>,
     alloc: Global,

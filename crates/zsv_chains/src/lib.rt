@@ -1,4 +1,4 @@
-//! Chains of handlers, each under the name from which on it answers (RFC 1034 section 4.3.2).
+//! Chains of handlers, each registered under a name (RFC 1034 section 4.3.2).
 //!
 //! The chain for a name is that under the nearest name from it up. Its first handler takes the updates of its zone.
 #![tactic(auto)]

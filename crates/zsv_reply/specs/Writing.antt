@@ -30,7 +30,7 @@ use Rattle.zsv_reply.specs.declared.fronts.Kept.{Kept}
 use Rattle.zsv_reply.specs.declared.written_reply.WrittenRecords.{WrittenRecords}
 use Rattle.zsv_reply.specs.Replies.{Front, Fronts, FrontsAt, ReplyParts, ReplyRecordAt, bare_failure, first_labels, header_of_fronts, header_of_reply, is_cut, leaves_room, opt_plain, tsig_plain}
 
--- What a reply holds that has nothing behind its questions.
+-- The parts of a reply without records, options and a signature.
 abbrev pub bare_parts : Metadata → ReplyParts
 bare_parts m = record {
   metadata = m;
