@@ -1,7 +1,9 @@
 mod Answered
 pub mod RepliesOnce
+mod ServedBack
 mod ServedRuns
 mod StreamFaults
 mod StreamRuns
+mod Unguarded
 mod WorkedRows
 mod Zones

@@ -7,7 +7,8 @@ use Rattle.std.specs.Int.{w16, to_be_bytes}
 use Rattle.std.specs.Io.KnownBytes.{Appends, Consumes, IsAtEnd}
 use Rattle.authority_server.specs.declared.stream.StreamError.{StreamError}
 use Rattle.authority_server.specs.declared.stream.StreamError.TheVariants as errors
-use Rattle.authority_server.specs.Serving.{World, Received, Serves, ServesAll}
+use Rattle.authority_server.specs.declared.server.ServeError.TheVariants as refusals
+use Rattle.authority_server.specs.Serving.{World, Received, Refuses, Serves, ServesAll}
 
 -- A message behind its length.
 abbrev pub frame_of : List ℕ → List ℕ
@@ -56,8 +57,7 @@ abbrev pub WritesFront : Option (List ℕ) → Option (List ℕ) → List ℕ �
 WritesFront before after octets = (count : ℕ) × Appends before after (take count octets)
 
 -- What serving a frame may answer instead. At a fault of the writer the message has taken effect,
--- and a front of its reply's frame stands; for want of memory nothing has, and the message has a
--- request's header.
+-- and a front of its reply's frame stands; out of memory nothing is written.
 abbrev pub IsServeFault : World → Received → Option (List ℕ) → Option (List ℕ) → World → StreamError
     → Type 0
 IsServeFault old received before after new errors.Read = ⊥
@@ -66,7 +66,7 @@ IsServeFault old received before after new errors.Write =
     × WritesFront before after (frame_of reply)
 IsServeFault old received before after new errors.CutFrame = ⊥
 IsServeFault old received before after new (errors.OutOfMemory applied) =
-    (applied ≡ false) × (12 ≤ length received.message) × (after ≡ before) × (new ≡ old)
+    (after ≡ before) × Refuses old received (refusals.OutOfMemory applied) new
 IsServeFault old received before after new errors.TooLong = ⊥
 
 -- One message served, and its answer's frame written behind what was written before.

@@ -22,8 +22,9 @@ use Rattle.zsv_answer.specs.zsv_reply.zsv_message.zsv_parts.declared.header.Mess
 use Rattle.zsv_answer.specs.zsv_reply.zsv_message.zsv_parts.declared.header.OpCode.{OpCode}
 use Rattle.zsv_answer.specs.zsv_reply.zsv_message.zsv_parts.declared.header.OpCode.TheVariants as operations
 use Rattle.zsv_answer.specs.zsv_reply.zsv_message.zsv_parts.declared.question.Query.{Query}
-use Rattle.zsv_catalog.specs.Catalogs.{AnswersEdns, IsReplyEdns, KindParts, OperationParts, PartsOf, PlainParts, QueryParts, QuestionParts, asks_for_dnssec, has_other_version, nsid_for}
-use Rattle.zsv_chains.specs.Chains.{chain_for}
+use Rattle.zsv_catalog.specs.Catalogs.{KindParts, OperationParts, PartsOf, PlainParts, QueryParts, QuestionParts, asks_for_dnssec}
+use Rattle.zsv_update.specs.Options.{AnswersEdns, IsReplyEdns, has_other_version, nsid_for}
+use Rattle.zsv_update.specs.zsv_chains.Chains.{chain_for}
 
 module _ (chains : List (DomainName × List View)) (m : Metadata) (dnssec_ok : Bool) where
   one-question : (q : Query) (a b : ReplyParts) → QuestionParts chains m dnssec_ok q a → QuestionParts chains m dnssec_ok q b → SameParts a b

@@ -4,7 +4,6 @@ ghost use Rattle.std.specs.Prelude.{◌≡◌, IfOk, OnErr, OnOk};
 ghost use Rattle.zsv_answer.specs.zsv_reply.zsv_message.zsv_parts.declared.header.Header.{Header as Written};
 ghost use Rattle.zsv_catalog.specs.Sinks.{HandsOver, Sink, failed_header, with_fault, with_reply};
 
-use thiserror::Error;
 use zsv_answer::{Header, HeaderCounts, MessageType, Metadata, ResponseCode, ResponseInfo};
 
 /// That a sink failed to take a reply.
@@ -19,17 +18,6 @@ pub trait ResponseHandler {
     fn send_response(&mut self, message: Vec<u8>) -> Result<(), SendFault>
         ensures ok { OnOk result (sink self.new ≡ with_reply (sink self.old) message.items) }
         ensures err { OnErr result (sink self.new ≡ with_fault (sink self.old)) };
-}
-
-/// Why a request was not answered.
-#[derive(Clone, Copy, Debug, Error)]
-pub enum ServiceFault {
-    /// Want of memory.
-    #[error("out of memory")]
-    OutOfMemory {
-        /// Whether a change that the request asked for stands.
-        applied: bool,
-    },
 }
 
 // What is told of a reply that wasn't taken.
