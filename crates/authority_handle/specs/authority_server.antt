@@ -1,1 +1,1 @@
-pub use Rattle.authority_server.specs.Servers
+pub use Rattle.authority_server.specs.Serving

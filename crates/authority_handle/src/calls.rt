@@ -2,8 +2,7 @@
 
 ghost use Rattle.std.specs.Prelude.{◌≡◌, ◌<◌, ◌^◌, length, IfErr, IfOk, IfSome, MatchOption, None, OnErr};
 ghost use Rattle.authority_handle.specs.Calls.{AddsBlocklist, AddsZone, FillsStart, IsUnfit, RefusesMessage, Removes, ServesFrom, ServesInto, SetsAccess, SetsNsid, StandsIn, reply_of, transport_of};
-ghost use Rattle.authority_handle.specs.Worlds.{world_in};
-ghost use Rattle.authority_server.specs.Servers.{no_zones};
+ghost use Rattle.authority_handle.specs.Worlds.{new_world};
 
 use crate::blocklists::BlocklistSettings;
 use crate::refusal::{Refusal, length_or_code, number};
@@ -16,7 +15,7 @@ use std::io::Write;
 
 /// A server without zones, which every address may ask.
 pub fn empty(alloc: Global) -> Server
-    ensures { world_in result ≡ no_zones }
+    ensures { result ≡ new_world }
 {
     Server::new(alloc)
 }
@@ -30,7 +29,7 @@ pub fn add_zone(
     text: &[u8],
     refusal: &mut [u8],
 ) -> i64
-    ensures { AddsZone (world_in server.old) kind origin.now text.now result (world_in server.new) }
+    ensures { AddsZone server.old kind origin.now text.now result server.new }
 {
     let added = server.add_zone(kind, origin, text);
     if let Err(Refusal::Line(error)) = &added {
@@ -55,28 +54,28 @@ pub fn add_blocklist(
     text: &[u8],
     message: &[u8],
 ) -> i64
-    ensures { AddsBlocklist (world_in server.old) settings.now name.now text.now message.now result (world_in server.new) }
+    ensures { AddsBlocklist server.old settings.now name.now text.now message.now result server.new }
 {
     number(server.add_blocklist(settings, name, text, message))
 }
 
 /// Removes the chain of a name.
 pub fn remove(server: &mut Server, name: &[u8]) -> i64
-    ensures { Removes (world_in server.old) name.now result (world_in server.new) }
+    ensures { Removes server.old name.now result server.new }
 {
     number(server.remove(name))
 }
 
 /// Replaces the access list.
 pub fn set_access(server: &mut Server, networks: &[Network]) -> i64
-    ensures { SetsAccess (world_in server.old) networks.now result (world_in server.new) }
+    ensures { SetsAccess server.old networks.now result server.new }
 {
     number(server.set_access(networks))
 }
 
 /// Sets the NSID (RFC 5001); no octets unset it.
 pub fn set_nsid(server: &mut Server, octets: &[u8]) -> i64
-    ensures { SetsNsid (world_in server.old) octets.now result (world_in server.new) }
+    ensures { SetsNsid server.old octets.now result server.new }
 {
     number(server.set_nsid(octets))
 }
@@ -116,25 +115,21 @@ fn reply_to(
     reply: &mut [u8],
 ) -> Result<usize, Refusal>
     ensures unchanged { server.new ≡ server.old }
-    ensures served { IfOk result (λ length. ServesFrom (world_in server.old) message.now address.now port stream now (reply_of length reply.new)) }
+    ensures served { IfOk result (λ length. ServesFrom server.old message.now address.now port stream now (reply_of length reply.new)) }
     ensures small { IfOk result (λ length. length < 2 ^ 63) }
     ensures start { IfOk result (λ length. FillsStart length reply.old reply.new) }
     ensures same { OnErr result (reply.new ≡ reply.old) }
-    ensures refused { IfErr result (RefusesMessage (world_in server.old) message.now address.now port stream now (length reply.new)) }
+    ensures refused { IfErr result (RefusesMessage server.old message.now address.now port stream now (length reply.new)) }
 {
     let Some(source) = source_of(address, port) else {
         return Err(Refusal::WrongAddress);
     };
-    match server
-        .authority
-        .serve(message, source, transport(stream), now)
-    {
-        Ok(None) => Ok(0),
-        Ok(Some(octets)) => match put(&octets, reply) {
-            Some(count) => Ok(count),
-            None => Err(Refusal::NoRoom),
-        },
-        Err(_) => Err(Refusal::OutOfMemory),
+    let Some(octets) = server.serve(message, source, transport(stream), now)? else {
+        return Ok(0);
+    };
+    match put(&octets, reply) {
+        Some(count) => Ok(count),
+        None => Err(Refusal::NoRoom),
     }
 }
 
@@ -150,7 +145,7 @@ pub fn serve(
     reply: &mut [u8],
 ) -> i64
     ensures unchanged { server.new ≡ server.old }
-    ensures served { ServesInto (world_in server.old) message.now address.now port stream now reply.old result reply.new }
+    ensures served { ServesInto server.old message.now address.now port stream now reply.old result reply.new }
 {
     length_or_code(reply_to(server, message, address, port, stream, now, reply))
 }

@@ -1,4 +1,5 @@
 mod Answered
+pub mod Chained
 pub mod RepliesOnce
 mod ServedBack
 mod ServedRuns

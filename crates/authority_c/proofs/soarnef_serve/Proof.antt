@@ -35,7 +35,6 @@ use denote.Triple.Table.{framed}
 use denote.Triple.Walked.{Stays, walk_of, stay_dropped, Goes-dropped, gave_slice, Goes-gave_slice}
 use Rattle.std.proofs.raw_atomic.Walks.{proved, leaves}
 use Rattle.authority_handle.specs.Calls.{ServesInto}
-use Rattle.authority_handle.specs.Worlds.{world_in}
 use Rattle.authority_handle.specs.contracts.Server as server
 use Rattle.authority_handle.specs.contracts.serve as g
 use Rattle.authority_handle.proofs.serve.Met.{met}
@@ -99,7 +98,7 @@ soarnef_serve_spec 𝓤 𝓛 𝓜 𝓡 wired =
     calls_at ! (framed 𝓤 H 𝓜 𝓣) G (met 𝓤 𝓛 𝓜 𝓡 (code.calls-authority_handle::serve 𝓡.env wired)) y
     (and_then ! (get ! refl) (and_then ! (get ! refl) (and_then ! (get ! refl) (and_then ! (get ! refl) (and_then ! (get ! refl) (and_then ! (get ! refl) (and_then ! (get ! refl) (no_more !)))))))) (λ v.
     use1 𝓛 (later (some (λ (r : i64.Denot). ((‵ (flft (α ∷ []) full_share) ⊛ raw (alive 𝓛 f.ended.signature κs qs)) ⊛ ‵ (i64.own_val r (v ∷ []))) ⊛
-    some (λ (ws : Lasts g.ended y.0.0 y.0.3). ‵ (lasts g.ended y.0.0 y.0.3 ws) ⊛ raw (fact 𝓤 (ws.0 ≡ held)) ⊛ raw (fact 𝓤 (ServesInto (world_in held) message.now address.now port stream now reply.now r ws.1.1.1.1.1.1.0)))))) (id⊢ 𝓤 _) $
+    some (λ (ws : Lasts g.ended y.0.0 y.0.3). ‵ (lasts g.ended y.0.0 y.0.3 ws) ⊛ raw (fact 𝓤 (ws.0 ≡ held)) ⊛ raw (fact 𝓤 (ServesInto held message.now address.now port stream now reply.now r ws.1.1.1.1.1.1.0)))))) (id⊢ 𝓤 _) $
     await ! tt $ pick ! (λ r. split ! $ move ! (1 ∷ []) $ pick ! (λ ws. split3 ! $ move ! (1 ∷ []) $ heard ! _ (λ same. move ! (1 ∷ []) $ heard ! _ (λ answered.
     fsplit ! $ fsplit ! $ move ! (3 ∷ []) $ split ! $ split ! $ lft_end ! tt $
     -- [α is over; the tokens; the result; the loan's last value; its borrow; what is said of the others; what the lender keeps]
@@ -113,7 +112,7 @@ soarnef_serve_spec 𝓤 𝓛 𝓜 𝓡 wired =
     lands_as ! refl refl ((sint_Lawful 𝓛 w64).typed r (v ∷ []) is).0 $
     returns ! (look_at ! 0 refl) $ free_all ! refl $
     move ! (2 ∷ []) $ rewrite ! 0 (λ (q : Ptr). ‵ (lies_at S full_share q held)) (sym e) refl $
-    let Told : Type 0 = ServesInto (world_in held) message.now address.now port stream now reply.now r ws.1.1.1.1.1.1.0 in
+    let Told : Type 0 = ServesInto held message.now address.now port stream now reply.now r ws.1.1.1.1.1.1.0 in
     use0 𝓛 (raw (fact 𝓤 Told)) (fact_i 𝓤 Told (emp 𝓤) answered) $ move ! (1 ∷ 0 ∷ []) $ join ! $
     -- [the ensures; the result; what is left of the parameters; the tokens]
     move ! (3 ∷ 2 ∷ 1 ∷ 0 ∷ []) $
