@@ -209,6 +209,18 @@ LABELS = [label.encode() for label in "a b c d www ns mail sub x deep".split()]
 TTLS = [0, 60, 300, 3600]
 
 
+def generic_text(record):
+    """With data in the form of RFC 3597, which loses no case and no octet."""
+    kind = WORDS.get(record.type, f"TYPE{record.type}")
+    return f"{name_text(record.owner)} {record.ttl} IN {kind} \\# {len(record.data)} {record.data.hex()}"
+
+
+def generic_zone_text(zone):
+    """By owner, in name order, and by type."""
+    ordered = sorted(zone.sets, key=lambda at: (at[0][::-1], at[1]))
+    return "\\n".join(generic_text(record) for at in ordered for record in zone.sets[at])
+
+
 class ZoneMaker:
     """Makes a zone, and messages that change it. One that is for another server too (`served_elsewhere`) has its SOA and its name
     servers, and each set one time to live."""
