@@ -19,14 +19,14 @@ received_of arrival = record {
   now = arrival.now;
 }
 
--- One message served, its answer behind those before.
+-- One message served, its answer appended.
 abbrev pub ServesNext : World → Received → List (Option (Vec ℕ Global))
     → List (Option (Vec ℕ Global)) → World → Type 0
 ServesNext old message before after new =
     (answer : Option (Vec ℕ Global)) × (after ≡ before ++ answer ∷ [])
     × Serves old message (octets_of answer) new
 
--- The first messages served in order, as many as answers came; the rest is untouched.
+-- The first messages served in order, one for each answer; the rest is untouched.
 abbrev pub ServesFront : World → List Received → List (Option (List ℕ)) → List (Option (List ℕ))
     → World → Type 0
 ServesFront old messages before after new =
@@ -38,8 +38,8 @@ abbrev pub RefusesFirst : World → List Received → ServeError → World → T
 RefusesFirst old [] e new = ⊥
 RefusesFirst old (received ∷ later) e new = Refuses old received e new
 
--- The first messages served in order, as many as answers came; the next one was refused, and the rest
--- is untouched.
+-- The first messages served in order, one for each answer; the next one was refused, and the rest is
+-- untouched.
 abbrev pub ServesUntil : World → List Received → List (Option (List ℕ)) → List (Option (List ℕ))
     → ServeError → World → Type 0
 ServesUntil old messages before after e new =
@@ -47,8 +47,8 @@ ServesUntil old messages before after e new =
     × ServesAll old (take (length answers) messages) answers middle
     × RefusesFirst middle (drop (length answers) messages) e new
 
--- Why a list of messages isn't served to its end: there is no room for the answers, or a message was
--- refused.
+-- Why a list of messages isn't served to its end: there is no room for the answers, or a message
+-- was refused.
 pub data StopsServing (old : World) (messages : List Received)
     (before after : List (Option (List ℕ))) (e : ServeError) (new : World) : Type 0 where
   no_room : e ≡ errors.OutOfMemory false → 0 < length messages → after ≡ before → new ≡ old

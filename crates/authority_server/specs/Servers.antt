@@ -48,8 +48,8 @@ with_zones world name chain = record world { chains = with_chain world.chains na
 abbrev pub without_zones : World → DomainName → World
 without_zones world name = record world { chains = without_chain world.chains name }
 
--- The octets of a reply to a request, its header, and the server after it: of what the request gets,
--- signed if it is to be, which reads back if the server's zones do.
+-- The octets of a reply to a request, its header, and the server after it: of what the request
+-- gets, signed if it is to be, which reads back if the server's zones do.
 abbrev pub SendsReply : World → Received → Message → Header → List ℕ → World → Type 0
 SendsReply old received request info reply new =
     (given : Given) × Gives old received request given
@@ -71,7 +71,7 @@ RefusesReply old received request (faults.OutOfMemory true) new =
 abbrev pub error_of : ServiceFault → ServeError
 error_of (faults.OutOfMemory applied) = errors.OutOfMemory applied
 
--- A message as the catalog is handed it, without its loans.
+-- A message as the catalog gets it, without its loans.
 abbrev pub arrived : Arrived → Received
 arrived a = record {
   message = a.octets.now;

@@ -22,16 +22,15 @@ use Rattle.zsv_catalog.specs.zsv_update.Updates.{Given, GivesUpdate, only}
 use Rattle.authority_server.specs.declared.server.ServeError.{ServeError}
 use Rattle.authority_server.specs.declared.server.ServeError.TheVariants as errors
 
--- What a server is: who may ask it, the keys that it shares with those who sign, the identifier
--- that it tells, and its zones: chains of what handlers mean, each under the name from which on it
--- answers.
+-- What a server is: its access list, the keys that it shares with those who sign, its NSID, and its
+-- zones: chains of what handlers mean, each registered under a name.
 pub record World : Type 0 where
   pub access : AccessControl
   pub keys : Keys
   pub nsid : Option (List ℕ)
   pub chains : List (DomainName × List View)
 
--- A message as it came: its octets, its source, its transport and the moment.
+-- A message as it arrived: its octets, its source, its transport and the time.
 pub record Received : Type 0 where
   pub message : List ℕ
   pub source : SocketAddr
@@ -52,16 +51,16 @@ pub record Gives (world : World) (received : Received) (request : Message) (give
       → GivesOf world.chains world.nsid world.keys request received.source received.message
       received.now given
 
--- The octets are the reply of these parts within a limit. Only where the parts can't be read back no
+-- The octets are the reply of these parts within a limit. Only if the parts can't be read back, no
 -- more is said of them.
 abbrev pub IsReplyOf : Received → Message → ReplyParts → ℕ → List ℕ → Type 0
 IsReplyOf received request parts limit reply =
     AllReadBack parts
     → IsReply received.message reply parts request.asked request.metadata.id limit
 
--- The parts that are sent: those that the request gets; if they are to be signed, with the signature
--- of the reply as it is without one in 65,535 octets (RFC 8945, section 5.3), or a failure if no key
--- signs it.
+-- The parts that are sent: those that the request gets; if they are to be signed, with the
+-- signature of the reply as it is without one in 65,535 octets (RFC 8945, section 5.3), or a failure
+-- if no key signs it.
 abbrev pub SendsGiven : World → Received → Message → Given → Option SigningContext → ReplyParts
     → Type 0
 SendsGiven world received request given None parts = parts ≡ given.plain
@@ -70,8 +69,8 @@ SendsGiven world received request given (Some context) parts =
     × HasSignature (world.keys.signature context unsigned) given.plain (failure_of request given)
     parts
 
--- A reply to a request, of what it gets: within the limit of its transport. All that it holds can be
--- read back, where all that the server holds can.
+-- A reply to a request, of what it gets: within the limit of its transport. All that it holds can
+-- be read back if all that the server holds can.
 pub record Answers (world : World) (received : Received) (request : Message) (given : Given)
     (reply : List ℕ) : Type 0 where
   pub parts : ReplyParts

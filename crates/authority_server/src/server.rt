@@ -22,31 +22,31 @@ use zsv_catalog::{
     ResponseCode, ResponseInfo, ServiceFault, TsigSuite, ZoneHandler, encode_error, encode_refusal,
 };
 
-/// A message as it came.
+/// A message as it arrived.
 #[derive(Clone, Copy)]
 pub struct Arrival<'a> {
     /// Its octets.
     pub message: &'a [u8],
-    /// Who sent it.
+    /// Its source.
     pub src: SocketAddr,
-    /// How it came.
+    /// Its transport.
     pub protocol: Protocol,
-    /// When it came, in seconds of the server's clock.
+    /// When it arrived, in seconds since 1970.
     pub now: u64,
 }
 
 /// Why a message was not served.
 #[derive(Clone, Copy, Debug, Error)]
 pub enum ServeError {
-    /// Want of memory.
+    /// Out of memory.
     #[error("OutOfMemory")]
     OutOfMemory {
-        /// Whether a change that the message asked for stands.
+        /// Whether an update of the message was applied.
         applied: bool,
     },
 }
 
-// What octets get that are refused: no reply, where it wasn't for want of memory.
+// The answer to octets that can't be read: no reply, or out of memory.
 fn answer_refused(refused: DecodeError) -> Result<Option<Vec<u8>>, ServeError>
     ensures none { IfOk result (λ answer. (answer ≡ None) × (IsWantOfMemory refused → ⊥)) }
     ensures memory { IfErr result (λ e. (e ≡ ServeError.OutOfMemory false) × IsWantOfMemory refused) }
@@ -83,9 +83,8 @@ fn unserved(
     }
 }
 
-/// A server of many zones: chains of handlers, each under the name from which on it answers, and who may ask. `S` verifies
-/// and signs messages. Handlers of several kinds, `H`, stand in boxes (`Box<dyn ZoneHandler>`); where all are of one kind,
-/// they need none.
+/// A server of many zones: chains of handlers, each registered under a name, and an access list. `S` verifies and signs
+/// messages. Handlers of several kinds, `H`, are boxed (`Box<dyn ZoneHandler>`); if all are of one kind, they need no boxes.
 #[derive(Drop)]
 pub struct Authority<S, H = Box<dyn ZoneHandler>> {
     alloc: Global,
@@ -242,7 +241,7 @@ impl<S: TsigSuite, H: ZoneHandler> Authority<S, H> {
         self.serve_any(received, may_ask)
     }
 
-    // Serves one message, and keeps its answer behind those before.
+    // Serves one message, and appends its answer.
     fn serve_next(
         &mut self,
         arrival: &Arrival<'_>,

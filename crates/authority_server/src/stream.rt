@@ -28,7 +28,7 @@ pub enum StreamError {
     /// The input ended inside a frame.
     #[error("CutFrame")]
     CutFrame,
-    /// Want of memory.
+    /// Out of memory.
     #[error("OutOfMemory")]
     OutOfMemory {
         /// Whether a change that the last message asked for stands.

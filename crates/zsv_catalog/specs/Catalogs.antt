@@ -83,8 +83,7 @@ KindParts chains m dnssec_ok messages.Query qs parts =
 abbrev pub asks_for_dnssec : Option Edns → Bool
 asks_for_dnssec edns = unwrap_or (option_map (λ e. e.flags.dnssec_ok) edns) false
 
--- What a full reply to a request holds beside its options. Which version of EDNS is served is told
--- before all else.
+-- What a full reply to a request holds beside its options. The version of EDNS is tested first.
 pub record PlainParts (chains : List (DomainName × List View)) (request : Message)
     (parts : ReplyParts) : Type 0 where
   pub other_version : has_other_version request.edns ≡ true
@@ -110,8 +109,8 @@ SendsWith plain nsid request transport info reply =
     × AnswersEdns request.edns (nsid_for request.edns nsid) plain.metadata.response_code edns
     × Sends plain edns request.asked transport info reply
 
--- The octets of a reply to a message that is no update, and its header: of the parts that the chains
--- give, which read back if the chains do.
+-- The octets of a reply to a message that is no update, and its header: of the parts that the
+-- chains give, which read back if the chains do.
 abbrev pub RepliesPlain : List (DomainName × List View) → Option (List ℕ) → Message → Protocol
     → Header → List ℕ → Type 0
 RepliesPlain chains nsid request transport info reply =

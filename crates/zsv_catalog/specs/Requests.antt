@@ -34,8 +34,8 @@ abbrev pub RepliesToRequest : List (DomainName × List View) → Option (List �
 RepliesToRequest chains nsid keys request moment info reply new =
     (updates : List Record)
     × (is_served_update request.message ≡ true → AreCopies request.message.authorities updates)
-    × RepliesBy chains nsid keys (with_updates request.message updates) request.source request.octets
-    moment request.transport info reply new
+    × RepliesBy chains nsid keys (with_updates request.message updates) request.source
+    request.octets moment request.transport info reply new
 
 -- No reply is sent. Nothing changed; or an update was accepted.
 abbrev pub RefusesRequest : List (DomainName × List View) → Keys → Requested → ℕ → ServiceFault

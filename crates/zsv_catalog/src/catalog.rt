@@ -18,19 +18,19 @@ use std::net::SocketAddr;
 use zsv_answer::{Edns, MessageRequest, Name, Protocol, Request, ResponseInfo, ZoneHandler};
 use zsv_update::{Chains, Received, ServiceFault, TsigSuite, update_with};
 
-/// Zones of one server: chains of handlers, each under the name from which on it answers. `S` verifies and signs messages.
-/// Handlers of several kinds, `H`, stand in boxes (`Box<dyn ZoneHandler>`); where all are of one kind, they need none.
+/// Zones of one server: chains of handlers, each registered under a name. `S` verifies and signs messages. Handlers of
+/// several kinds, `H`, are boxed (`Box<dyn ZoneHandler>`); if all are of one kind, they need no boxes.
 #[derive(Drop)]
 pub struct Catalog<S, H = Box<dyn ZoneHandler>> {
     alloc: Global,
     suite: S,
     chains: Chains<H>,
-    // By what the server tells itself apart from others that answer under its address.
+    // The NSID (RFC 5001).
     nsid: Option<NSIDPayload>,
 }
 
 impl<S: TsigSuite, H: ZoneHandler> Catalog<S, H> {
-    /// No zones, and no identifier.
+    /// No zones, and no NSID.
     pub fn new(alloc: Global, suite: S) -> Catalog<S, H>
         ensures chains { result.chains.chains ≡ [] }
         ensures nsid { result.nsid ≡ None }
@@ -79,7 +79,7 @@ impl<S: TsigSuite, H: ZoneHandler> Catalog<S, H> {
         self.chains.find(self.alloc, name).is_some()
     }
 
-    /// Sets the identifier that is told to those who ask for it (RFC 5001), or none.
+    /// Sets the NSID (RFC 5001), which those who ask for it are sent, or none.
     pub fn set_nsid(&mut self, nsid: Option<NSIDPayload>)
         ensures nsid { self.new.nsid ≡ nsid }
         ensures chains { self.new.chains ≡ self.old.chains }
@@ -88,7 +88,7 @@ impl<S: TsigSuite, H: ZoneHandler> Catalog<S, H> {
         self.nsid = nsid;
     }
 
-    /// The identifier that is told to those who ask for it.
+    /// The NSID.
     pub fn nsid(&self) -> Option<&NSIDPayload>
         ensures { option_copied result ≡ self.now.nsid }
     {
@@ -119,7 +119,7 @@ impl<S: TsigSuite, H: ZoneHandler> Catalog<S, H> {
         )
     }
 
-    /// Answers a request: its reply is handed to a sink. The result is the header of the reply as it was written, or that of a
+    /// Answers a request: its reply is sent to a sink. The result is the header of the reply as it was written, or that of a
     /// failed server if the sink fails. An update applies copies of the request's records. The moment is given in seconds since
     /// 1970.
     pub fn handle_request<R: ResponseHandler>(
@@ -148,7 +148,7 @@ impl<S: TsigSuite, H: ZoneHandler> Catalog<S, H> {
         Ok(hand_over(&request.message().metadata(), sent, handle))
     }
 
-    /// Serves a request as an update, whatever its opcode, with these options of the reply, which is handed to a sink, as
+    /// Serves a request as an update, whatever its opcode, with these options of the reply, which is sent to a sink, as
     /// `handle_request` does. It applies copies of the request's records. The moment is given in seconds since 1970.
     pub fn update<R: ResponseHandler>(
         &mut self,
@@ -182,7 +182,7 @@ impl<S: TsigSuite, H: ZoneHandler> Catalog<S, H> {
         Ok(hand_over(&message.metadata(), sent, handle))
     }
 
-    /// Answers a query with these options, whatever its operation: its reply is handed to a sink, as `handle_request` does. The
+    /// Answers a query with these options, whatever its opcode: its reply is sent to a sink, as `handle_request` does. The
     /// moment is given in seconds since 1970; no reply needs it yet.
     pub fn lookup<R: ResponseHandler>(
         &self,

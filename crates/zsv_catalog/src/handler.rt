@@ -17,8 +17,8 @@ pub trait RequestHandler {
 
     ghost refuses: { Self → Requested → ℕ → Fault → Self → Type 0 };
 
-    /// Answers a request: its reply is handed to a sink. What is told is the header of the reply as it was written; where the
-    /// sink didn't take it, that the server failed. The moment is given in seconds since 1970.
+    /// Answers a request: its reply is sent to a sink. The result is the header of the reply as it was written, or that of a
+    /// failed server if the sink didn't take it. The moment is given in seconds since 1970.
     fn handle_request<R: ResponseHandler>(
         &mut self,
         request: &Request<'_>,

@@ -1,8 +1,7 @@
-//! Many zones in one server: chains of handlers, each under the name from which on it answers, and what they answer to a
-//! request.
+//! Many zones in one server: chains of handlers, each registered under a name, and what they answer to a request.
 //!
-//! `RepliesBy` says which reply a request gets and what it leaves of the zones, by what the handlers mean. `Catalog` holds them,
-//! in boxes where they are of several kinds.
+//! `RepliesBy` says which reply a request gets and what it leaves of the zones, by what the handlers mean. `Catalog` holds
+//! them, in boxes if they are of several kinds.
 #![tactic(auto)]
 
 pub use drd_types::NSIDPayload;

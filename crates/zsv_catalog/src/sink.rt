@@ -20,7 +20,7 @@ pub trait ResponseHandler {
         ensures err { OnErr result (sink self.new ≡ with_fault (sink self.old)) };
 }
 
-// What is told of a reply that wasn't taken.
+// The header in place of that of a reply that wasn't taken.
 fn failed_info(request: &Metadata) -> ResponseInfo
     ensures { result ≡ failed_header request.now }
 {
@@ -32,7 +32,7 @@ fn failed_info(request: &Metadata) -> ResponseInfo
     })
 }
 
-// Hands a reply over, and tells its header, or that the server failed where it wasn't taken.
+// Sends a reply. The result is its header, or that of a failed server if it wasn't taken.
 pub(crate) fn hand_over<R: ResponseHandler>(
     request: &Metadata,
     sent: (ResponseInfo, Vec<u8>),

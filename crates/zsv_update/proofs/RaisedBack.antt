@@ -18,7 +18,7 @@ use Rattle.zsv_chains.specs.zst_request.zst_record.declared.records.Record.{Reco
 some_name : (n : DomainName) (after : List ℕ) → 0 < length (name_octets n ++ after)
 some_name n after = omega (arith, length-append (name_octets n) after, name_takes n)
 
--- The fields of an SOA stand alone whatever its numbers are.
+-- The fields of an SOA can be served whatever its numbers are.
 soa_readable : (value : RData) → IsReadable value → IsReadable (raised_data value)
 soa_readable (SOA soa) read =
     let fs = rdata_fields (raised_data (SOA soa)) in

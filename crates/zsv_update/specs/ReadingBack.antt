@@ -1,5 +1,5 @@
--- Which zones can be served: receivers can read all that their replies hold; and which updates leave
--- zones that can.
+-- Which zones can be served: receivers can read all that their replies hold; and which updates
+-- leave zones that can.
 use Rattle.std.specs.Prelude.{◌≡◌, ◌≤◌, true, List, IfSome, length}
 use Rattle.std.specs.List.{AllByRecursion}
 use Rattle.zsv_chains.specs.zst_request.Prerequisites.{has_data}
