@@ -1,6 +1,6 @@
 -- What a catalog of zones answers to a request: RFC 1034, section 4.3.2; RFC 2136, section 3; RFC
 -- 6891, section 6.
-use Rattle.std.specs.Prelude.{◌≡◌, ℕ, Bool, true, false, not, ◌&&◌, List, [], ◌∷◌, Option, Some, None, IsSome, unwrap_or, option_map}
+use Rattle.std.specs.Prelude.{◌≡◌, ℕ, Bool, true, false, if◌then◌else◌, not, ◌&&◌, List, [], ◌∷◌, Option, Some, None, IsSome, unwrap_or, option_map}
 use Rattle.std.specs.declared.net.SocketAddr.{SocketAddr}
 use Rattle.zsv_answer.specs.Parts.{ChainParts}
 use Rattle.zsv_answer.specs.zst_request.Updating.{Asked}
@@ -129,6 +129,11 @@ abbrev pub is_served_update : Message → Bool
 is_served_update request =
     not (has_other_version request.edns)
     && (is_query_type request.metadata.message_type && is_update request.metadata.op_code)
+
+-- A message after it was served: the records of an update are taken out.
+abbrev pub left_of : Message → Message
+left_of request =
+    if is_served_update request then record request { authorities = [] } else request
 
 -- The outcome of an update, with the options of its reply.
 abbrev pub UpdatesOf : List (DomainName × List View) → Option (List ℕ) → Keys → Message → SocketAddr

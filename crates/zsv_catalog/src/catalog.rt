@@ -3,7 +3,7 @@
 ghost use Rattle.std.specs.Prelude.{◌≡◌, ◌≤◌, ℕ, false, List, [], IfErr, IfOk, None, OnErr, OnOk, is_some, length, option_copied, option_map};
 ghost use Rattle.zsv_update.specs.zsv_chains.zst_key.dnw_name.DomainName.{lowercase_name};
 ghost use Rattle.zsv_answer.specs.zsv_reply.zsv_message.zsv_parts.declared.header.Header.{Header};
-ghost use Rattle.zsv_catalog.specs.Catalogs.{AnswersQuery, RefusesBy, RepliesBy};
+ghost use Rattle.zsv_catalog.specs.Catalogs.{AnswersQuery, RefusesBy, RepliesBy, left_of};
 ghost use Rattle.zsv_catalog.specs.Requests.{AnswersUpdate, RefusesAsUpdate, RefusesRequest, RepliesToRequest};
 ghost use Rattle.zsv_update.specs.zsv_chains.Chains.{chain_at, chain_for, views_of, with_chain, without_chain};
 ghost use Rattle.zsv_catalog.specs.Sinks.{HandsOver};
@@ -107,6 +107,7 @@ impl<S: TsigSuite, H: ZoneHandler> Catalog<S, H> {
             (views_of H.view self.new.chains.chains)) }
         ensures refused { IfErr result (λ fault. RefusesBy (views_of H.view self.old.chains.chains) (S.keys self.old.suite) message.old
             received.entry.source received.entry.octets.now received.entry.now fault (views_of H.view self.new.chains.chains)) }
+        ensures message { message.new ≡ left_of message.old }
         ensures others { self.new ≡ record self.old { chains = self.new.chains } }
     {
         reply_by(

@@ -3,7 +3,7 @@
 ghost use Rattle.std.specs.Prelude.{◌≡◌, ◌≤◌, IfErr, IfOk, IfSome, length, option_copied};
 ghost use Rattle.zsv_answer.specs.Responses.{parts_of};
 ghost use Rattle.zsv_answer.specs.zst_request.Requested.{asked_of};
-ghost use Rattle.zsv_catalog.specs.Catalogs.{AnswersQuery, KindParts, PartsOf, PlainParts, QueryParts, QuestionParts, RefusesBy, RepliesBy, RepliesPlain, SendsWith, asked_of_query, is_served_update};
+ghost use Rattle.zsv_catalog.specs.Catalogs.{AnswersQuery, KindParts, PartsOf, PlainParts, QueryParts, QuestionParts, RefusesBy, RepliesBy, RepliesPlain, SendsWith, asked_of_query, is_served_update, left_of};
 ghost use Rattle.zsv_catalog.specs.Requests.{RefusesRequest, RepliesToRequest};
 ghost use Rattle.zsv_update.specs.zsv_chains.Chains.{views_of};
 
@@ -201,6 +201,7 @@ pub(crate) fn reply_by<S: TsigSuite, H: ZoneHandler>(
         received.entry.source received.entry.octets.now received.entry.now received.entry.protocol sent.0 sent.1.items (views_of H.view chains.new.chains)) }
     ensures refused { IfErr result (λ fault. RefusesBy (views_of H.view chains.old.chains) (S.keys suite.now) message.old
         received.entry.source received.entry.octets.now received.entry.now fault (views_of H.view chains.new.chains)) }
+    ensures message { message.new ≡ left_of message.old }
 {
     if is_served_update(message) {
         let updates = message.take_authorities(alloc);
