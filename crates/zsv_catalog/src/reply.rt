@@ -13,9 +13,9 @@ use std::alloc::{AllocError, Global};
 use std::mem;
 use std::net::SocketAddr;
 use zsv_answer::{
-    Edns, LookupOptions, MessageRequest, MessageType, OpCode, Protocol, Query, RecordType,
-    Request, Response, ResponseCode, ResponseInfo, TsigVerdict, ZoneHandler, ZoneRequest,
-    chain_response, error_response,
+    Edns, LookupOptions, MessageRequest, MessageType, OpCode, Protocol, Query, RecordType, Request,
+    Response, ResponseCode, ResponseInfo, TsigVerdict, ZoneHandler, ZoneRequest, chain_response,
+    error_response,
 };
 use zsv_update::{
     Chains, NameKey, Received, ServiceFault, TsigSuite, has_other_version, reply_edns, tsig_of,
@@ -207,7 +207,14 @@ pub(crate) fn reply_by<S: TsigSuite, H: ZoneHandler>(
         let updates = message.take_authorities(alloc);
         return update_by(suite, chains, nsid, alloc, message, updates, received);
     }
-    match plain_reply(chains, nsid, alloc, message, received.source, received.protocol) {
+    match plain_reply(
+        chains,
+        nsid,
+        alloc,
+        message,
+        received.source,
+        received.protocol,
+    ) {
         Ok(sent) => Ok(sent),
         Err(_) => Err(ServiceFault::OutOfMemory { applied: false }),
     }
@@ -251,7 +258,14 @@ pub(crate) fn reply_to_request<S: TsigSuite, H: ZoneHandler>(
         let received = received_of(request, now);
         return update_by(suite, chains, nsid, alloc, message, updates, received);
     }
-    match plain_reply(chains, nsid, alloc, message, request.src(), request.protocol()) {
+    match plain_reply(
+        chains,
+        nsid,
+        alloc,
+        message,
+        request.src(),
+        request.protocol(),
+    ) {
         Ok(sent) => Ok(sent),
         Err(_) => Err(ServiceFault::OutOfMemory { applied: false }),
     }
