@@ -2,6 +2,7 @@
 
 ghost use Rattle.std.specs.Prelude.{◌≡◌, false, IfOk, IsNone, OnErr, option_copied, option_map};
 ghost use Rattle.zst_handler.specs.dnw_name.DomainName.{lowercase_name};
+ghost use Rattle.zst_request.specs.Handed.{TransfersView};
 ghost use Rattle.zst_request.specs.Handling.{AnswersQuestion, Consults, HandlerAnswers, LacksProof};
 ghost use Rattle.zst_request.specs.Requested.{asked_of, context_of};
 ghost use Rattle.zst_request.specs.Updating.{UpdatesView, update_context};
@@ -128,8 +129,9 @@ pub trait ZoneHandler: Drop {
         ensures flow { IfOk result (λ given. Consults (view self.now) name.now record_type last.entry given.0) }
         ensures context { IfOk result (λ given. IsNone given.1) };
 
-    /// The zone, handed over whole (RFC 5936), or why it isn't; `None` where the handler has none to hand over, as all have
-    /// none yet. The moment is given in seconds since 1970.
+    /// The zone as it is transferred (RFC 5936), or the code by which the request is refused; and what the reply is signed
+    /// with. A blocklist has no zone, and answers `None`. The moment is given in seconds since 1970.
+    // No body fits every handler: a blocklist has no zone.
     fn zone_transfer<'z>(
         &'z self,
         alloc: Global,
@@ -145,10 +147,7 @@ pub trait ZoneHandler: Drop {
         >,
         AllocError,
     >
-        ensures { IfOk result (λ given. IsNone given) }
-    {
-        Ok(None)
-    }
+        ensures { IfOk result (TransfersView (view self.now) (asked_of request.now) options.dnssec_ok now) };
 
     /// The records that prove that a name is absent, by the names beside it (RFC 4034 section 4). There are none: it
     /// continues with an error of input or output.

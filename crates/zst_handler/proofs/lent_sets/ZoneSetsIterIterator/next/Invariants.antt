@@ -1,7 +1,7 @@
 use Rattle.std.proofs.Common.{◌≡◌, length}
 use Rattle.std.specs.Prelude.{◌++◌}
-use Rattle.zst_map.specs.ZoneMaps.{sets_in}
-use Rattle.zst_map.proofs.iter.ZoneSetsIterIterator.next.Given as goal
+use Rattle.zst_handler.specs.Stores.{sets_in}
+use Rattle.zst_handler.proofs.lent_sets.ZoneSetsIterIterator.next.Given as goal
 
 abbrev pub invariant-owners : goal.invariant-owners
 invariant-owners l =
