@@ -4,7 +4,7 @@
 pub use authority_load::{
     AuthLookup, AxfrPolicy, InMemoryZoneHandler, LoadCause, LoadError, LookupControlFlow,
     LookupError, LookupOptions, LowerName, NxProofKind, ProtoError, ResponseCode, RrKey, Salt,
-    ZoneError, ZoneSettings, ZoneType, load_zone,
+    ZoneError, ZoneSettings, ZoneTransfer, ZoneType, load_zone,
 };
 pub use authority_server::{
     A, AccessControl, Arrival, Authority, DNSClass, Faults, IpNet, Label, NS, NSIDPayload, Name,

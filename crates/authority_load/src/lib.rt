@@ -7,7 +7,7 @@
 pub use zst_zone::{
     AuthLookup, AxfrPolicy, InMemoryZoneHandler, LookupControlFlow, LookupError, LookupOptions,
     LowerName, NxProofKind, ProtoError, ResponseCode, RrKey, Salt, ZoneError, ZoneSettings,
-    ZoneType,
+    ZoneTransfer, ZoneType,
 };
 
 mod joining;

@@ -1,12 +1,12 @@
 //! The records of a zone as it is transferred (RFC 5936 section 2.2).
 
-ghost use Rattle.std.specs.Prelude.{◌≡◌, ◌++◌, Bool, [], None, Some};
+ghost use Rattle.std.specs.Prelude.{◌≡◌};
 ghost use Rattle.std.specs.Iterator.{YieldsFirstBy, YieldsFirstRef, item_count};
 ghost use Rattle.zst_handler.specs.zst_record.Lending.{seen};
-ghost use Rattle.zst_handler.specs.Answers.{records_in};
 ghost use Rattle.zst_request.specs.Handed.{transfer_records};
 ghost use Rattle.zst_request.specs.Transfers.{axfr_records, is_start, lent_if, lent_sets, without_start};
 
+use std::alloc::Global;
 use std::marker::Model;
 use zst_handler::{
     LentSets, LookupRecords, LookupRecordsIter, Name, Record, RecordRef, RecordSet, RecordType,
@@ -46,20 +46,19 @@ impl<'z> AxfrRecords<'z> {
         }
     }
 
-    /// The same of all sets of a zone, without a list of them: `none` is empty.
+    /// The same of all sets of a zone, without a list of them. It takes no memory.
     pub fn of_zone(
+        alloc: Global,
         origin: &'z Name,
         dnssec_ok: bool,
-        none: Vec<&'z RecordSet>,
         sets: LentSets<'z>,
     ) -> AxfrRecords<'z>
-        requires { none.items ≡ [] }
         ensures { result ≡ axfr_records origin.now dnssec_ok sets.entry }
     {
         AxfrRecords {
             origin,
             dnssec_ok,
-            rrsets: none,
+            rrsets: Vec::new(alloc),
             lent: Some(sets),
         }
     }

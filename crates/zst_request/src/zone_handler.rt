@@ -147,7 +147,7 @@ pub trait ZoneHandler: Drop {
         >,
         AllocError,
     >
-        ensures { IfOk result (TransfersView (view self.now) (asked_of request.now) options.dnssec_ok now) };
+        ensures given { IfOk result (TransfersView (view self.now) (asked_of request.now) options.dnssec_ok now) };
 
     /// The records that prove that a name is absent, by the names beside it (RFC 4034 section 4). There are none: it
     /// continues with an error of input or output.

@@ -4,6 +4,7 @@ ghost use Rattle.std.specs.Prelude.{◌≡◌, [], true, not, None, Some, Ok, Er
 ghost use Rattle.std.specs.Borrow.{sem};
 ghost use Rattle.zst_request.specs.Prerequisites.{first_refused, prerequisites_refused, prescan_refused, refused_if};
 ghost use Rattle.zst_request.specs.Requested.{asked_of, context_of};
+ghost use Rattle.zst_request.specs.Transfers.{guard_refused, transfer_context};
 ghost use Rattle.zst_request.specs.Updating.{ChangesBy, is_good, soa_refused, update_context};
 ghost use Rattle.zst_request.specs.Views.{Stored};
 ghost use Rattle.zst_request.specs.zst_codes.declared.response_code.ResponseCode.TheVariants as codes;
@@ -116,6 +117,31 @@ impl<K> SqliteZoneHandler<K> {
                 let context = context_for(alloc, request.id, request.verdict, now, tsig)?;
                 Ok((if_good(request.verdict), Some(context)))
             }
+        }
+    }
+
+    // Whether the guard lets a request transfer the zone (RFC 5936 section 5), or by which code it is refused; and what the reply
+    // is signed with. It takes no memory where the reply isn't signed.
+    pub(crate) fn authorize_transfer(
+        &self,
+        alloc: Global,
+        request: &ZoneRequest<'_>,
+        now: u64,
+    ) -> Result<(Result<(), ResponseCode>, Option<TSigResponseContext>), AllocError>
+        ensures permitted { IfOk result (λ given. given.0 ≡ unless_refused (guard_refused (guarded_zone self.now).guard (asked_of request.now))) }
+        ensures context { IfOk result (λ given. option_map context_of given.1 ≡ transfer_context (guarded_zone self.now) (asked_of request.now) now) }
+        ensures unsigned { transfer_context (guarded_zone self.now) (asked_of request.now) now ≡ None → IsOk result }
+    {
+        match self.axfr_policy {
+            AxfrPolicy::AllowAll => Ok((Ok(()), None)),
+            AxfrPolicy::Deny => Ok((Err(ResponseCode::Refused), None)),
+            AxfrPolicy::AllowSigned => match &request.tsig {
+                None => Ok((Err(ResponseCode::Refused), None)),
+                Some(tsig) => {
+                    let context = context_for(alloc, request.id, request.verdict, now, tsig)?;
+                    Ok((if_good(request.verdict), Some(context)))
+                }
+            },
         }
     }
 
