@@ -40,8 +40,8 @@ pub fn tsig_of(signature: &TsigRecord) -> RequestTsig<'_>
     }
 }
 
-// The verdict on the signature of a message, for a zone. Of an unsigned message the suite is asked nothing.
-fn verdict_on<S: TsigSuite>(
+/// The verdict on the signature of a message, for a zone. Of an unsigned message the suite is asked nothing.
+pub fn verdict_on<S: TsigSuite>(
     suite: &S,
     zone: &LowerName,
     signature: Option<&TsigRecord>,

@@ -13,7 +13,7 @@ mod reply;
 mod suite;
 mod update;
 
-pub use decide::tsig_of;
+pub use decide::{tsig_of, verdict_on};
 pub use options::{has_other_version, reply_edns};
 pub use received::Received;
 pub use suite::{NoSuite, SignFault, TsigSuite, sign_octets};
