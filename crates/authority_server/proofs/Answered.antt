@@ -7,7 +7,9 @@ use Rattle.zsv_access.specs.Access.{is_allowed}
 use Rattle.zsv_access.specs.declared.access.AccessControl.{AccessControl}
 use Rattle.zsv_catalog.specs.Catalogs.{RefusesBy, RepliesBy, failure_of}
 use Rattle.zsv_catalog.specs.Chains.{views_of}
+use Rattle.zsv_catalog.specs.ReadingBack.{ChainsReadBack}
 use Rattle.zsv_catalog.specs.declared.catalog.Catalog.{Catalog}
+use Rattle.zsv_catalog.proofs.GivenBack.{given_back}
 use Rattle.zsv_catalog.proofs.PartsBack.{error_back}
 use Rattle.zsv_catalog.proofs.zsv_answer_lemmas.zsv_reply_lemmas.Fits.{fits_request}
 use Rattle.zsv_catalog.proofs.Replied.{Repeated, given_id, own, repeated_of, sent_id}
@@ -22,13 +24,14 @@ use Rattle.zsv_catalog.specs.zsv_answer.zsv_reply.Writing.{AllReadBack, IsEncode
 use Rattle.zsv_catalog.specs.zsv_answer.zsv_reply.zsv_message.Messages.{IsMessage, Message}
 use Rattle.zsv_catalog.specs.zsv_answer.zsv_reply.zsv_message.zsv_parts.declared.header.Header.{Header}
 use Rattle.zsv_catalog.specs.zsv_answer.zsv_request.Requests.{limit_of}
+use Rattle.zsv_catalog.proofs.ReadAdditions.{authorities_servable}
 use Rattle.zsv_catalog.specs.zsv_update.Keys.{Keys}
 use Rattle.zsv_catalog.specs.zsv_update.Signing.{SignsParts}
 use Rattle.zsv_catalog.specs.zsv_update.Updates.{Given, only}
 use Rattle.zsv_catalog.specs.zsv_update.declared.update.ServiceFault.{ServiceFault}
 use Rattle.zsv_catalog.specs.zsv_update.declared.update.ServiceFault.TheVariants as faults
 use Rattle.authority_server.specs.Servers.{RefusesReply, SendsReply, error_of}
-use Rattle.authority_server.specs.Serving.{Answers, Gives, IsReplyOf, Received, Refuses, SendsGiven, Serves, World}
+use Rattle.authority_server.specs.Serving.{Answers, Gives, IsReplyOf, Received, Refuses, SendsGiven, Serves, World, WorldReadsBack}
 
 -- ---- the server after a request
 abbrev of_catalog : {S H : Type 0} → (S → Keys) → (H → View) → AccessControl → Catalog S H → World
@@ -89,6 +92,16 @@ module _ (world : World) (received : Received) (request : Message) where
   sends_given given None parts is same signs = signs
   sends_given given (Some context) parts is same (info, unsigned, over, signs) = (unsigned, encoded_reply given.plain info unsigned 65535 is same over.whole, signs)
 
+  -- The zones after a message that was read can be read back if those before it can.
+  gives_back : (given : Given) → IsMessage received.message request → WorldReadsBack world → Gives world received request given → ChainsReadBack given.chains
+  gives_back given is back gives = by (is_allowed world.access (socket_ip received.source)) refl
+    where
+      by : (b : Bool) → is_allowed world.access (socket_ip received.source) ≡ b → ChainsReadBack given.chains
+      by true e =
+          given_back world.keys request received.source received.message received.now world.chains (λ _. authorities_servable received.message request is) back.chains world.nsid given
+          (gives.answered e)
+      by false e = subst ChainsReadBack (sym (ap (λ (g : Given). g.chains) (gives.refused e))) back.chains
+
   pub sent_answers : (info : Header) (reply : List ℕ) (new : World) → IsMessage received.message request → SendsReply world received request info reply new → Serves world received (Some reply) new
   sent_answers info reply new is (given, gives, parts, signs, sent, reads, after) =
       let same = same_repeated given gives in
@@ -98,6 +111,7 @@ module _ (world : World) (received : Received) (request : Message) where
         sent = sends_given given given.context parts is same signs;
         within = sent.within;
         back = reads;
+        kept = λ back. gives_back given is back gives;
         holds = encoded_reply parts info reply (limit_of received.transport parts.edns) is (sent_id world.keys request given given.context parts same signs) sent.stands;
       } in
       (request, is, given, answers, after)

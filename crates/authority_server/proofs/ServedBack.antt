@@ -3,7 +3,8 @@ use Rattle.std.proofs.Common.{◌≡◌, ◌∙◌, ap, refl, subst, sym}
 use Rattle.std.specs.Prelude.{ℕ, Bool, true, false, List, Option, Some, None, Result, Ok, Err, IfOk, IfErr}
 use Rattle.std.specs.Net.Socket.{socket_ip}
 use Rattle.zsv_access.specs.Access.{is_allowed}
-use Rattle.zsv_catalog.proofs.GivenBack.{given_back, update_back}
+use Rattle.zsv_catalog.proofs.GivenBack.{update_back}
+use Rattle.zsv_catalog.proofs.ReadAdditions.{authorities_servable}
 use Rattle.zsv_catalog.specs.ReadingBack.{ChainsReadBack}
 use Rattle.zsv_catalog.specs.zsv_answer.zst_request.Views.{View}
 use Rattle.zsv_catalog.specs.zsv_answer.zst_request.dnw_name.DomainName.{DomainName}
@@ -17,13 +18,6 @@ use Rattle.authority_server.proofs.Answered.{with_chains}
 use Rattle.authority_server.proofs.Unguarded.{given_fixed, update_fixed}
 
 module _ (old : World) (received : Received) where
-  gives_back : (request : Message) (given : Given) → IsMessage received.message request → WorldReadsBack old → Gives old received request given → ChainsReadBack given.chains
-  gives_back request given is back gives = by (is_allowed old.access (socket_ip received.source)) refl
-    where
-      by : (b : Bool) → is_allowed old.access (socket_ip received.source) ≡ b → ChainsReadBack given.chains
-      by true e = given_back old.keys request received.source received.message received.now old.chains is back.chains old.nsid given (gives.answered e)
-      by false e = subst ChainsReadBack (sym (ap (λ (g : Given). g.chains) (gives.refused e))) back.chains
-
   gives_fixed : (request : Message) (given : Given) → AreUnguarded old.chains → Gives old received request given → given.chains ≡ old.chains
   gives_fixed request given unguarded gives = by (is_allowed old.access (socket_ip received.source)) refl
     where
@@ -39,7 +33,7 @@ module _ (old : World) (received : Received) where
 
   pub serves_back : (answer : Option (List ℕ)) (new : World) → Serves old received answer new → WorldReadsBack old → WorldReadsBack new
   serves_back None new (none, same) back = subst WorldReadsBack (sym same) back
-  serves_back (Some reply) new (request, is, given, answers, after) back = chains_back given.chains new after (gives_back request given is back answers.gives)
+  serves_back (Some reply) new (request, is, given, answers, after) back = chains_back given.chains new after (answers.kept back)
 
   pub serves_fixed : (answer : Option (List ℕ)) (new : World) → Serves old received answer new → AreUnguarded old.chains → new ≡ old
   serves_fixed None new (none, same) unguarded = same
@@ -48,7 +42,8 @@ module _ (old : World) (received : Received) where
   pub refuses_back : (e : ServeError) (new : World) → Refuses old received e new → WorldReadsBack old → WorldReadsBack new
   refuses_back (errors.OutOfMemory false) new (long, same) back = subst WorldReadsBack (sym same) back
   refuses_back (errors.OutOfMemory true) new (request, is, allowed, served, given, gives, code, after) back =
-      chains_back given.chains new after (update_back old.keys request received.source received.message received.now old.chains is back.chains given gives)
+      chains_back given.chains new after
+      (update_back old.keys request received.source received.message received.now old.chains given (authorities_servable received.message request is) back.chains gives)
 
   pub refuses_fixed : (e : ServeError) (new : World) → Refuses old received e new → AreUnguarded old.chains → new ≡ old
   refuses_fixed (errors.OutOfMemory false) new (long, same) unguarded = same

@@ -69,8 +69,8 @@ SendsGiven world received request given (Some context) parts =
     × HasSignature (world.keys.signature context unsigned) given.plain (failure_of request given)
     parts
 
--- A reply to a request, of what it gets: within the limit of its transport. All that it holds can
--- be read back if all that the server holds can.
+-- A reply to a request, of what it gets: within the limit of its transport. If all that the server
+-- holds can be read back, so can all that the reply holds, and all that the server holds after it.
 pub record Answers (world : World) (received : Received) (request : Message) (given : Given)
     (reply : List ℕ) : Type 0 where
   pub parts : ReplyParts
@@ -78,6 +78,7 @@ pub record Answers (world : World) (received : Received) (request : Message) (gi
   pub sent : SendsGiven world received request given given.context parts
   pub within : length reply ≤ limit_of received.transport parts.edns
   pub back : WorldReadsBack world → AllReadBack parts
+  pub kept : WorldReadsBack world → ChainsReadBack given.chains
   pub holds : IsReplyOf received request parts (limit_of received.transport parts.edns) reply
 
 -- One message served: outside the request grammar there is no answer, and nothing changes; inside

@@ -6,6 +6,7 @@ use Rattle.zsv_answer.specs.zst_request.dnw_name.DomainName.{DomainName}
 use Rattle.zsv_answer.specs.zsv_reply.Replies.{ReplyParts}
 use Rattle.zsv_answer.specs.zsv_reply.Writing.{SendsParts}
 use Rattle.zsv_answer.specs.zsv_reply.zsv_message.zst_edns.declared.edns.Edns.{Edns}
+use Rattle.zsv_answer.specs.zsv_reply.zst_record.Records.{IsServable}
 use Rattle.zsv_answer.specs.zsv_reply.zst_record.declared.records.Record.{Record}
 use Rattle.zsv_answer.specs.zsv_reply.zsv_message.zsv_parts.declared.header.Header.{Header}
 use Rattle.zsv_answer.specs.zsv_request.Requests.{Requested}
@@ -16,12 +17,14 @@ use Rattle.zsv_update.specs.declared.update.ServiceFault.{ServiceFault}
 use Rattle.zsv_update.specs.declared.update.ServiceFault.TheVariants.{OutOfMemory}
 use Rattle.zsv_catalog.specs.Catalogs.{RefusesBy, RepliesBy, is_served_update}
 
--- A copy of a record: the same owner, class and time to live, and equal data.
+-- A copy of a record: the same owner, class and time to live, and equal RDATA; it can be served if
+-- the record can.
 pub record IsCopy (r copy : Record) : Type 0 where
   pub name : copy.name ≡ r.name
   pub dns_class : copy.dns_class ≡ r.dns_class
   pub ttl : copy.ttl ≡ r.ttl
   pub rdata : rdata_eq copy.rdata r.rdata ≡ true
+  pub servable : IsServable r → IsServable copy
 
 abbrev pub AreCopies : List Record → List Record → Type 0
 AreCopies [] [] = Unit {0}

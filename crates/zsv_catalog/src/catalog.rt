@@ -4,6 +4,7 @@ ghost use Rattle.std.specs.Prelude.{◌≡◌, ◌≤◌, ℕ, false, List, [], 
 ghost use Rattle.zsv_update.specs.zsv_chains.zst_key.dnw_name.DomainName.{lowercase_name};
 ghost use Rattle.zsv_answer.specs.zsv_reply.zsv_message.zsv_parts.declared.header.Header.{Header};
 ghost use Rattle.zsv_catalog.specs.Catalogs.{AnswersQuery, RefusesBy, RepliesBy, left_of};
+ghost use Rattle.zsv_catalog.specs.ReadingBack.{AdditionsAreServable, ChainsReadBack};
 ghost use Rattle.zsv_catalog.specs.Requests.{AnswersUpdate, RefusesAsUpdate, RefusesRequest, RepliesToRequest};
 ghost use Rattle.zsv_update.specs.zsv_chains.Chains.{chain_at, chain_for, views_of, with_chain, without_chain};
 ghost use Rattle.zsv_catalog.specs.Sinks.{HandsOver};
@@ -108,6 +109,8 @@ impl<S: TsigSuite, H: ZoneHandler> Catalog<S, H> {
         ensures refused { IfErr result (λ fault. RefusesBy (views_of H.view self.old.chains.chains) (S.keys self.old.suite) message.old
             received.entry.source received.entry.octets.now received.entry.now fault (views_of H.view self.new.chains.chains)) }
         ensures message { message.new ≡ left_of message.old }
+        ensures back { AdditionsAreServable message.old.authorities → ChainsReadBack (views_of H.view self.old.chains.chains)
+            → ChainsReadBack (views_of H.view self.new.chains.chains) }
         ensures others { self.new ≡ record self.old { chains = self.new.chains } }
     {
         reply_by(
@@ -136,6 +139,8 @@ impl<S: TsigSuite, H: ZoneHandler> Catalog<S, H> {
         ensures refused { IfErr result (λ fault. RefusesRequest (views_of H.view self.old.chains.chains) (S.keys self.old.suite) request.now now fault
             (views_of H.view self.new.chains.chains)) }
         ensures untouched { OnErr result (R.sink handle.new ≡ R.sink handle.old) }
+        ensures back { AdditionsAreServable request.now.message.authorities → ChainsReadBack (views_of H.view self.old.chains.chains)
+            → ChainsReadBack (views_of H.view self.new.chains.chains) }
         ensures others { self.new ≡ record self.old { chains = self.new.chains } }
     {
         let sent = reply_to_request(
@@ -165,6 +170,8 @@ impl<S: TsigSuite, H: ZoneHandler> Catalog<S, H> {
         ensures refused { IfErr result (λ fault. RefusesAsUpdate (views_of H.view self.old.chains.chains) (S.keys self.old.suite) request.now now fault
             (views_of H.view self.new.chains.chains)) }
         ensures untouched { OnErr result (R.sink handle.new ≡ R.sink handle.old) }
+        ensures back { AdditionsAreServable request.now.message.authorities → ChainsReadBack (views_of H.view self.old.chains.chains)
+            → ChainsReadBack (views_of H.view self.new.chains.chains) }
         ensures others { self.new ≡ record self.old { chains = self.new.chains } }
     {
         let message = request.message();

@@ -7,7 +7,8 @@ use std::alloc::{AllocError, Global};
 use std::mem;
 use zsv_answer::Record;
 
-// A copy of a record. A copy of its data is compared with them, since no contract says what a copy of data is.
+// A copy of a record. No contract says what a copy of RDATA is, so it is compared with them, and can be served if the record
+// can.
 fn copy_of(record: &Record) -> Result<Record, AllocError>
     ensures { IfOk result (IsCopy record.now) }
 {
@@ -23,6 +24,10 @@ fn copy_of(record: &Record) -> Result<Record, AllocError>
     }
     let mut copy = Record::from_rdata(name, record.ttl, rdata);
     copy.dns_class = record.dns_class;
+    if record.is_servable() && !copy.is_servable() {
+        mem::drop(copy);
+        return Err(AllocError);
+    }
     Ok(copy)
 }
 
