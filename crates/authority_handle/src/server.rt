@@ -25,6 +25,7 @@ use authority_load::{
 use authority_server::{Authority, NSIDPayload, Name, NoSuite, Protocol};
 use std::alloc::Global;
 use std::net::SocketAddr;
+use std::marker::Model;
 use std::{mem, str};
 use zsv_blocklist::BlocklistZoneHandler;
 
@@ -140,7 +141,7 @@ impl Server {
 
     // Replaces the chain of a name by one handler.
     fn put(&mut self, name: &Name, handler: Handler) -> Result<(), Refusal>
-        requires { ViewReadsBack (view_of handler) }
+        requires back { ViewReadsBack (view_of handler) }
         requires unguarded { IsUnguarded (view_of handler) }
         ensures ok { OnOk result (self.new ≡ with_zones self.old name.now (view_of handler ∷ [])) }
         ensures err { OnErr result (self.new ≡ self.old) }

@@ -29,4 +29,4 @@ mod written;
 
 pub use chain::chain_response;
 pub use response::{Response, encode_error, encode_refusal, error_response};
-pub use transfer::{TransferResponse, transfer_error, transfer_response};
+pub use transfer::{TransferResponse, encode_transfer, transfer_error, transfer_response};

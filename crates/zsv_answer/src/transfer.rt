@@ -29,38 +29,9 @@ pub struct TransferResponse<'z> {
     pub context: Option<TSigResponseContext>,
 }
 
-impl TransferResponse<'_> {
-    /// The octets of the reply with these options and this signature, within the limit of its transport, and its header as it
-    /// was written: as many records of the zone as fit, in order.
-    pub fn encode(
-        &self,
-        alloc: Global,
-        edns: Option<&Edns>,
-        signature: Option<&TsigRecord>,
-        queries: &Queries<'_>,
-        protocol: Protocol,
-    ) -> Result<(ResponseInfo, Vec<u8>), AllocError>
-        ensures { IfOk result (λ sent. SendsParts (record (with_edns (option_copied edns.entry) (response_parts self.now)) {
-          signature = option_copied signature.entry;
-        }) queries.now protocol sent.0 sent.1.items) }
-    {
-        match &self.transfer {
-            Some(transfer) => encode_transfer(
-                alloc,
-                self.metadata,
-                transfer,
-                edns,
-                signature,
-                queries,
-                protocol,
-            ),
-            None => encode_code(alloc, self.metadata, edns, signature, queries, protocol),
-        }
-    }
-}
-
-// The octets of a reply with the records of a zone, and its header as it was written.
-fn encode_transfer(
+/// The octets of a reply with the records of a zone, these options and this signature, within the limit of its transport, and
+/// its header as it was written: as many of the records as fit, in order.
+pub fn encode_transfer(
     alloc: Global,
     metadata: Metadata,
     transfer: &ZoneTransfer<'_>,
@@ -80,27 +51,6 @@ fn encode_transfer(
         iter::empty::<&Record>(),
         iter::empty::<&Record>(),
     );
-    let Some(signature) = signature else {
-        return response.encode(alloc, protocol);
-    };
-    response.set_signature(signature);
-    response.encode(alloc, protocol)
-}
-
-// The octets of a reply without records, and its header as it was written.
-fn encode_code(
-    alloc: Global,
-    metadata: Metadata,
-    edns: Option<&Edns>,
-    signature: Option<&TsigRecord>,
-    queries: &Queries<'_>,
-    protocol: Protocol,
-) -> Result<(ResponseInfo, Vec<u8>), AllocError>
-    ensures { IfOk result (λ sent. SendsParts (record (with_edns (option_copied edns.entry) (parts_with metadata false [] [] [])) {
-      signature = option_copied signature.entry;
-    }) queries.now protocol sent.0 sent.1.items) }
-{
-    let mut response = MessageResponseBuilder::new(queries, edns).build_no_records(metadata);
     let Some(signature) = signature else {
         return response.encode(alloc, protocol);
     };

@@ -3,6 +3,7 @@
 ghost use Rattle.std.specs.Prelude.{◌≡◌, ◌≤◌, IfOk, IfSome, Some, length, option_copied, option_map};
 ghost use Rattle.zsv_answer.specs.Transferring.{response_parts};
 ghost use Rattle.zsv_answer.specs.zst_request.Requested.{asked_of, context_of};
+ghost use Rattle.zsv_answer.specs.zsv_reply.Writing.{SendsParts, with_edns};
 ghost use Rattle.zsv_catalog.specs.Catalogs.{RepliesPlain, SendsSigned, asked_of_query, asked_of_transfer, asks_for_dnssec, entry_context, entry_parts, is_served_query, served_transfer, transfer_question};
 ghost use Rattle.zsv_update.specs.zsv_chains.Chains.{entry_for, views_of};
 
@@ -10,12 +11,12 @@ use drd_types::NSIDPayload;
 use std::alloc::{AllocError, Global};
 use std::net::SocketAddr;
 use zsv_answer::{
-    Edns, LookupOptions, LowerName, MessageRequest, MessageType, OpCode, Protocol, Query, RecordType,
-    ResponseCode, ResponseInfo, TransferResponse, TsigVerdict, ZoneHandler, ZoneRequest,
-    transfer_error, transfer_response,
+    Edns, LookupOptions, LowerName, MessageRequest, MessageType, OpCode, Protocol, Queries, Query,
+    RecordType, ResponseCode, ResponseInfo, TransferResponse, TsigRecord, TsigVerdict, ZoneHandler,
+    ZoneRequest, encode_transfer, transfer_error, transfer_response,
 };
 use zsv_update::{
-    Chains, Received, TsigSuite, has_other_version, reply_edns, sign_octets, tsig_of,
+    Chains, Received, TsigSuite, encode_empty, has_other_version, reply_edns, sign_octets, tsig_of,
     verdict_on,
 };
 
@@ -122,6 +123,29 @@ pub(crate) fn response_to_transfer<'z, S: TsigSuite, H: ZoneHandler>(
     transfer_response(handlers, alloc, metadata, options, &request, received.now)
 }
 
+// The octets of a reply with these options and this signature, within the limit of its transport, and its header as it was
+// written.
+fn encode_response(
+    alloc: Global,
+    response: &TransferResponse<'_>,
+    edns: Option<&Edns>,
+    signature: Option<&TsigRecord>,
+    queries: &Queries<'_>,
+    protocol: Protocol,
+) -> Result<(ResponseInfo, Vec<u8>), AllocError>
+    ensures { IfOk result (λ sent. SendsParts (record (with_edns (option_copied edns.entry) (response_parts response.now)) {
+      signature = option_copied signature.entry;
+    }) queries.now protocol sent.0 sent.1.items) }
+{
+    let metadata = response.metadata;
+    match &response.transfer {
+        Some(transfer) => encode_transfer(
+            alloc, metadata, transfer, edns, signature, queries, protocol,
+        ),
+        None => encode_empty(alloc, metadata, edns, signature, queries, protocol),
+    }
+}
+
 /// The octets of the reply with these options, and its header as it was written. With a context it is signed, over the octets
 /// that the limit of its transport doesn't cut (RFC 8945 section 5.3); if no key signs it, it says that the server failed.
 pub(crate) fn encode_signed<S: TsigSuite>(
@@ -137,14 +161,15 @@ pub(crate) fn encode_signed<S: TsigSuite>(
 {
     let queries = message.queries();
     let Some(context) = &response.context else {
-        return response.encode(alloc, edns, None, queries, protocol);
+        return encode_response(alloc, response, edns, None, queries, protocol);
     };
-    let (_info, unsigned) = response.encode(alloc, edns, None, queries, Protocol::Tcp)?;
+    let (_info, unsigned) =
+        encode_response(alloc, response, edns, None, queries, Protocol::Tcp)?;
     match sign_octets(suite, alloc, context, &unsigned)? {
-        Some(tsig) => response.encode(alloc, edns, Some(&tsig), queries, protocol),
+        Some(tsig) => encode_response(alloc, response, edns, Some(&tsig), queries, protocol),
         None => {
             let failure = transfer_error(message.metadata(), ResponseCode::ServFail);
-            failure.encode(alloc, edns, None, queries, protocol)
+            encode_response(alloc, &failure, edns, None, queries, protocol)
         }
     }
 }

@@ -16,5 +16,6 @@ mod update;
 pub use decide::{tsig_of, verdict_on};
 pub use options::{has_other_version, reply_edns};
 pub use received::Received;
+pub use reply::encode_empty;
 pub use suite::{NoSuite, SignFault, TsigSuite, sign_octets};
 pub use update::{ServiceFault, update_by, update_with};
