@@ -21,5 +21,8 @@ returns-in-Ok-plain_reply-clause-replied g c =
     let chains = views_of g.H.ZoneHandler.view c.args.chains.now.chains in
     let other = sym c.is_served_update.ensures ∙ c.if-is_served_update.false in
     let sent = c.in-Ok-plain_reply.sent in
+    let received = c.received_of-received in
     read_plain chains (option_copied c.args.nsid) (g.S.TsigSuite.keys c.args.suite.now) c.args.request.now c.args.now
-    c.message-message.result.now c.protocol.result sent.0 sent.1.items c.message-message.ensures c.protocol.ensures other c.in-Ok-plain_reply.ensures
+    c.message-message.result.now received.result.source received.result.octets.now received.result.protocol received.result.now
+    c.message-message.ensures received.ensures.source received.ensures.octets received.ensures.protocol received.ensures.now
+    sent.0 sent.1.items other c.in-Ok-plain_reply.ensures
