@@ -39,7 +39,7 @@ module _ (chains : List (DomainName × List View)) (nsid : Option (List ℕ)) (k
         update = λ yes. absurd (true≢false (sym yes ∙ other));
         other = λ _. gives;
       } in
-      (given, all, parts, signs, sent, back, sym (ap (λ (g : Given). g.chains) gives.2.1))
+      (given, all, parts, signs, sent, back, sym (ap (λ (g : Given). g.chains) gives.2))
 
   pub update_refused : (fault : ServiceFault) (new : List (DomainName × List View)) → is_served_update request ≡ true → RefusesUpdate keys request source octets moment chains fault new → RefusesBy chains keys request source octets moment fault new
   update_refused (OutOfMemory false) new served is = is
