@@ -144,3 +144,12 @@ has_signature edns plain failure given tsig is back =
 
 pub has_none : (plain failure : ReplyParts) (given : Option Signature) → given ≡ None → HasSignature given plain failure failure
 has_none plain failure given is = subst (λ (s : Option Signature). HasSignature s plain failure failure) (sym is) refl
+
+-- ---- whether signatures are asked for
+abbrev pub flag_of : Option Edns → Bool
+flag_of None = false
+flag_of (Some edns) = edns.flags.dnssec_ok
+
+pub same_flag : (edns : Option Edns) → flag_of edns ≡ asks_for_dnssec edns
+same_flag None = refl
+same_flag (Some edns) = refl

@@ -1,4 +1,4 @@
-use Rattle.std.proofs.Common.{◌≡◌, ◌∙◌, Bool, false, Option, Some, None, ap, refl, subst, sym}
+use Rattle.std.proofs.Common.{◌≡◌, ◌∙◌, Bool, Option, Some, None, ap, refl, subst, sym}
 use Rattle.std.proofs.lemmas.Result.{IfOk-weaker}
 use Rattle.std.specs.Prelude.{option_copied}
 use Rattle.zsv_answer.specs.Responses.{parts_of}
@@ -6,22 +6,13 @@ use Rattle.zsv_answer.specs.Transferring.{response_parts}
 use Rattle.zsv_answer.specs.zst_request.Updating.{SigningContext}
 use Rattle.zsv_answer.specs.zsv_reply.Writing.{AllReadBack, SendsParts, error_parts, with_edns}
 use Rattle.zsv_answer.specs.zst_request.zst_codes.declared.response_code.ResponseCode.TheVariants as responses
-use Rattle.zsv_answer.specs.zsv_reply.zsv_message.zst_edns.declared.edns.Edns.{Edns}
 use Rattle.zsv_answer.specs.zsv_reply.zsv_message.zsv_parts.Questions.{Asked, IsSection}
 use Rattle.zsv_catalog.specs.Catalogs.{QueryParts, SendsSigned, asked_of_transfer, asks_for_dnssec, question_context, transfer_question}
 use Rattle.zsv_update.specs.Signing.{SignsParts}
 use Rattle.zsv_update.specs.zsv_chains.Chains.{views_of}
 use Rattle.zsv_catalog.proofs.PartsBack.{query_back, section_full}
-use Rattle.zsv_catalog.proofs.Transferred.{asks_transfer, transfer_contexts, transfer_query_parts}
+use Rattle.zsv_catalog.proofs.Transferred.{asks_transfer, flag_of, same_flag, transfer_contexts, transfer_query_parts}
 use Rattle.zsv_catalog.proofs.reply.lookup_by.Goals as goal
-
-abbrev by_flag : Option Edns → Bool
-by_flag None = false
-by_flag (Some edns) = edns.flags.dnssec_ok
-
-same_flag : (edns : Option Edns) → by_flag edns ≡ asks_for_dnssec edns
-same_flag None = refl
-same_flag (Some edns) = refl
 
 pub query_response-requires : goal.query_response-requires
 query_response-requires g c = sym c.transfer_question.ensures ∙ ap option_copied c.in_default.is
@@ -58,7 +49,7 @@ returns g c =
     let asks = asked_of_transfer keys request r.source r.octets.now r.now in
     let section = subst IsSection c.queries.ensures c.queries-questions.ensures.section in
     let plain = parts_of c.in_ok-response-2.response in
-    let dnssec = c.from_edns-options.ensures ∙ ap by_flag c.edns.ensures ∙ same_flag request.edns in
+    let dnssec = c.from_edns-options.ensures ∙ ap flag_of c.edns.ensures ∙ same_flag request.edns in
     let parts = subst (λ (dnssec_ok : Bool). QueryParts chains request.metadata dnssec_ok asks request.asked.questions plain) dnssec (c.in_ok-response-2.ensures.parts asks) in
     let none : None ≡ question_context chains asks r.now (transfer_question request.asked.questions) = ap (question_context chains asks r.now) (sym (ap option_copied c.in_default.is) ∙ c.transfer_question.ensures) in
     let failure = with_edns edns (error_parts request.metadata responses.ServFail) in

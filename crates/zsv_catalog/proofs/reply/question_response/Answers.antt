@@ -2,7 +2,7 @@ use Rattle.std.proofs.Common.{◌≡◌, ◌∙◌, List, Option, Some, None, ap
 use Rattle.std.proofs.lemmas.Bool.{true≢false}
 use Rattle.std.proofs.lemmas.Option.{none-some}
 use Rattle.std.proofs.lemmas.Result.{IfOk-weaker}
-use Rattle.std.specs.Prelude.{IsSome, option_map, unwrap_or}
+use Rattle.std.specs.Prelude.{option_map, unwrap_or}
 use Rattle.zsv_answer.specs.Parts.{ChainParts}
 use Rattle.zsv_answer.specs.Responses.{parts_of}
 use Rattle.zsv_answer.specs.zsv_reply.Writing.{error_parts}
