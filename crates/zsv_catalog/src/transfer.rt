@@ -116,7 +116,7 @@ pub(crate) fn response_to_transfer<'z, S: TsigSuite, H: ZoneHandler>(
         return Ok(transfer_error(metadata, ResponseCode::Refused));
     };
     let Some(handlers) = chains.find_at(key.borrow()) else {
-        return Ok(transfer_error(metadata, ResponseCode::Refused));
+        return Ok(transfer_error(metadata, ResponseCode::ServFail));
     };
     let options = LookupOptions::from_edns(message.edns());
     let request = asked_for_transfer(suite, alloc, message, question, &zone, received);

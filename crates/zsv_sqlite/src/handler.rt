@@ -3,9 +3,9 @@
 ghost use Rattle.std.specs.Prelude.{◌≡◌, [], true, not, None, Some, Ok, Err, IfOk, IsOk, OnErr, option_map};
 ghost use Rattle.std.specs.Borrow.{sem};
 ghost use Rattle.zst_request.specs.Prerequisites.{first_refused, prerequisites_refused, prescan_refused, refused_if};
-ghost use Rattle.zst_request.specs.Requested.{asked_of, context_of};
-ghost use Rattle.zst_request.specs.Transfers.{guard_refused, transfer_context};
-ghost use Rattle.zst_request.specs.Updating.{ChangesBy, is_good, soa_refused, update_context};
+ghost use Rattle.zst_request.specs.Requested.{asked_of, context_of, signed_by};
+ghost use Rattle.zst_request.specs.Transfers.{guard_refused, policy_refused, transfer_context};
+ghost use Rattle.zst_request.specs.Updating.{ChangesBy, context_for, is_good, soa_refused, update_context};
 ghost use Rattle.zst_request.specs.Views.{Stored};
 ghost use Rattle.zst_request.specs.zst_codes.declared.response_code.ResponseCode.TheVariants as codes;
 ghost use Rattle.zst_map.specs.zst_key.Ancestors.{or_else};
@@ -135,13 +135,7 @@ impl<K> SqliteZoneHandler<K> {
         match self.axfr_policy {
             AxfrPolicy::AllowAll => Ok((Ok(()), None)),
             AxfrPolicy::Deny => Ok((Err(ResponseCode::Refused), None)),
-            AxfrPolicy::AllowSigned => match &request.tsig {
-                None => Ok((Err(ResponseCode::Refused), None)),
-                Some(tsig) => {
-                    let context = context_for(alloc, request.id, request.verdict, now, tsig)?;
-                    Ok((if_good(request.verdict), Some(context)))
-                }
-            },
+            AxfrPolicy::AllowSigned => authorize_signed(alloc, request, now),
         }
     }
 
@@ -213,6 +207,25 @@ impl<K> SqliteZoneHandler<K> {
     {
         apply_changes(alloc, &mut self.in_memory, records, increment)
     }
+}
+
+// Whether a request is signed and its signature good (RFC 8945 section 5.2), or by which code it is refused; and what the reply
+// is signed with. It takes no memory where the request isn't signed.
+fn authorize_signed(
+    alloc: Global,
+    request: &ZoneRequest<'_>,
+    now: u64,
+) -> Result<(Result<(), ResponseCode>, Option<TSigResponseContext>), AllocError>
+    ensures permitted { IfOk result (λ given. given.0 ≡ unless_refused (policy_refused AxfrPolicy.AllowSigned (option_map signed_by request.now.tsig) request.now.verdict)) }
+    ensures context { IfOk result (λ given. option_map context_of given.1
+        ≡ option_map (context_for request.now.id request.now.verdict now) (option_map signed_by request.now.tsig)) }
+    ensures unsigned { request.now.tsig ≡ None → IsOk result }
+{
+    let Some(tsig) = &request.tsig else {
+        return Ok((Err(ResponseCode::Refused), None));
+    };
+    let made = context_for(alloc, request.id, request.verdict, now, tsig)?;
+    Ok((if_good(request.verdict), Some(made)))
 }
 
 // What a test returns that refuses by a code, or doesn't.
