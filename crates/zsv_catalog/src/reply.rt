@@ -220,14 +220,14 @@ pub(crate) fn reply_to_request<S: TsigSuite, H: ZoneHandler>(
         (views_of H.view chains.new.chains)) }
 {
     let message = request.message();
-    let received = received_of(request, now);
+    let arrival = received_of(request, now);
     if is_served_update(message) {
         let Ok(updates) = copies(alloc, message.authorities()) else {
             return Err(ServiceFault::OutOfMemory { applied: false });
         };
-        return update_by(suite, chains, nsid, alloc, message, updates, received);
+        return update_by(suite, chains, nsid, alloc, message, updates, arrival);
     }
-    match plain_reply(suite, chains, nsid, alloc, message, received) {
+    match plain_reply(suite, chains, nsid, alloc, message, arrival) {
         Ok(sent) => Ok(sent),
         Err(_) => Err(ServiceFault::OutOfMemory { applied: false }),
     }
