@@ -24,8 +24,8 @@ use authority_load::{
 };
 use authority_server::{Authority, NSIDPayload, Name, NoSuite, Protocol};
 use std::alloc::Global;
-use std::net::SocketAddr;
 use std::marker::Model;
+use std::net::SocketAddr;
 use std::{mem, str};
 use zsv_blocklist::BlocklistZoneHandler;
 

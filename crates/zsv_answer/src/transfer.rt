@@ -122,10 +122,7 @@ fn answered<'z>(
 }
 
 /// A response code alone, in an unsigned reply.
-pub fn transfer_error(
-    metadata: Metadata,
-    response_code: ResponseCode,
-) -> TransferResponse<'static>
+pub fn transfer_error(metadata: Metadata, response_code: ResponseCode) -> TransferResponse<'static>
     ensures parts { response_parts result ≡ error_parts metadata response_code }
     ensures context { result.context ≡ None }
 {

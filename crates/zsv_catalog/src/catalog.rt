@@ -208,7 +208,14 @@ impl<S: TsigSuite, H: ZoneHandler> Catalog<S, H> {
     {
         let message = request.message();
         let received = received_of(request, now);
-        match lookup_by(&self.suite, &self.chains, edns, self.alloc, message, received) {
+        match lookup_by(
+            &self.suite,
+            &self.chains,
+            edns,
+            self.alloc,
+            message,
+            received,
+        ) {
             Ok(sent) => Ok(hand_over(&message.metadata(), sent, handle)),
             Err(_) => Err(ServiceFault::OutOfMemory { applied: false }),
         }

@@ -163,8 +163,7 @@ pub(crate) fn encode_signed<S: TsigSuite>(
     let Some(context) = &response.context else {
         return encode_response(alloc, response, edns, None, queries, protocol);
     };
-    let (_info, unsigned) =
-        encode_response(alloc, response, edns, None, queries, Protocol::Tcp)?;
+    let (_info, unsigned) = encode_response(alloc, response, edns, None, queries, Protocol::Tcp)?;
     match sign_octets(suite, alloc, context, &unsigned)? {
         Some(tsig) => encode_response(alloc, response, edns, Some(&tsig), queries, protocol),
         None => {
@@ -193,7 +192,14 @@ pub(crate) fn transfer_reply<S: TsigSuite, H: ZoneHandler>(
     let response = response_to_transfer(suite, chains, alloc, message, question, received)?;
     let code = response.metadata.response_code;
     let edns = reply_edns(alloc, message.edns(), nsid, code)?;
-    encode_signed(suite, alloc, &response, edns.as_ref(), message, received.protocol)
+    encode_signed(
+        suite,
+        alloc,
+        &response,
+        edns.as_ref(),
+        message,
+        received.protocol,
+    )
 }
 
 /// The octets of an NSID, for which an option has room.

@@ -54,8 +54,7 @@ returns g c =
     let none : None ≡ question_context chains asks r.now (transfer_question request.asked.questions) = ap (question_context chains asks r.now) (sym (ap option_copied c.in_default.is) ∙ c.transfer_question.ensures) in
     let failure = with_edns edns (error_parts request.metadata responses.ServFail) in
     IfOk-weaker c.encode.result _ _ (λ sent told.
-    let sends = subst (λ (asked : Asked). SendsParts (with_edns edns plain) asked r.protocol sent.0 sent.1.items) c.queries-2.ensures told in
-    (
+    let sends = subst (λ (asked : Asked). SendsParts (with_edns edns plain) asked r.protocol sent.0 sent.1.items) c.queries-2.ensures told in (
       plain,
       parts,
       (

@@ -84,6 +84,6 @@ returns-in-None g c =
       failure,
       signs,
       subst (λ (asked : Asked). SendsParts failure asked c.args.protocol sent.0 sent.1.items) c.queries-queries.ensures
-      (subst (λ (p : ReplyParts). SendsParts (with_edns edns p) c.queries-queries.result.now c.args.protocol sent.0 sent.1.items) failed sends),
+          (subst (λ (p : ReplyParts). SendsParts (with_edns edns p) c.queries-queries.result.now c.args.protocol sent.0 sent.1.items) failed sends),
       λ all. failed_back edns own request.metadata all,
     )) c.encode_response-in-None.ensures
