@@ -1,6 +1,6 @@
 //! Transfers of zones (RFC 5936 section 2.2).
 
-ghost use Rattle.std.specs.Prelude.{◌≡◌, [], None, IfOk, map, option_copied, option_map};
+ghost use Rattle.std.specs.Prelude.{◌≡◌, [], None, false, IfOk, map, option_copied, option_map};
 ghost use Rattle.zst_request.specs.Handed.{transfer_records};
 ghost use Rattle.zst_request.specs.Requested.{asked_of, context_of};
 ghost use Rattle.zsv_answer.specs.Responses.{parts_with};
