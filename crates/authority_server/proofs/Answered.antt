@@ -60,8 +60,7 @@ module _ (world : World) (received : Received) (request : Message) where
   pub refusal_sent : (info : Header) (reply : List ℕ) → is_allowed world.access (socket_ip received.source) ≡ false → IsEncoded info reply (error_parts request.metadata responses.Refused) request.asked (limit_of received.transport None)
       → SendsReply world received request info reply world
   refusal_sent info reply denied encoded =
-      let given : Given = only world.chains (error_parts request.metadata responses.Refused) in
-      (
+      let given : Given = only world.chains (error_parts request.metadata responses.Refused) in (
         given,
         record { refused = λ _. refl; answered = λ yes. absurd (true≢false (sym yes ∙ denied)) },
         error_parts request.metadata responses.Refused,

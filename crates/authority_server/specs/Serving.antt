@@ -44,12 +44,12 @@ pub record WorldReadsBack (world : World) : Type 0 where
 -- What a request gets: who isn't allowed to ask is refused, without options; all others get what
 -- the zones give.
 pub record Gives (world : World) (received : Received) (request : Message) (given : Given) : Type 0
-    where
-  pub refused : is_allowed world.access (socket_ip received.source) ≡ false
-      → given ≡ only world.chains (error_parts request.metadata responses.Refused)
-  pub answered : is_allowed world.access (socket_ip received.source) ≡ true
-      → GivesOf world.chains world.nsid world.keys request received.source received.message
-      received.now given
+  where
+    pub refused : is_allowed world.access (socket_ip received.source) ≡ false
+        → given ≡ only world.chains (error_parts request.metadata responses.Refused)
+    pub answered : is_allowed world.access (socket_ip received.source) ≡ true
+        → GivesOf world.chains world.nsid world.keys request received.source received.message
+        received.now given
 
 -- The octets are the reply of these parts within a limit. Only if the parts can't be read back, no
 -- more is said of them.

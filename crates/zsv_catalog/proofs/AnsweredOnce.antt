@@ -117,17 +117,15 @@ module _ (chains : List (DomainName × List View)) (nsid : Option (List ℕ)) (k
       by true e =
           let (first, updates, options, whole) = is.update e in
           let (second, changes, choices, all) = also.update e in
-          let outcome = one_update keys request source octets moment chains request.asked.questions first second updates changes in
-          (
+          let outcome = one_update keys request source octets moment chains request.asked.questions first second updates changes in (
             same-whole request nsid a.plain b.plain first.plain second.plain (equal-parts first.plain second.plain outcome.plain) options choices
-            (ap (λ (g : Given). g.plain) whole) (ap (λ (g : Given). g.plain) all),
+                (ap (λ (g : Given). g.plain) whole) (ap (λ (g : Given). g.plain) all),
             ap (λ (g : Given). g.context) whole ∙ outcome.context ∙ sym (ap (λ (g : Given). g.context) all),
           )
       by false e =
           let (first, gives, whole) = is.other e in
-          let (second, more, all) = also.other e in
-          (
+          let (second, more, all) = also.other e in (
             subst (λ (p : ReplyParts). SameParts p b.plain) (sym (ap (λ (g : Given). g.plain) whole))
-            (subst (λ (p : ReplyParts). SameParts first p) (sym (ap (λ (g : Given). g.plain) all)) (one-parts chains nsid (asked_of_transfer keys request source octets moment) request first second gives more)),
+                (subst (λ (p : ReplyParts). SameParts first p) (sym (ap (λ (g : Given). g.plain) all)) (one-parts chains nsid (asked_of_transfer keys request source octets moment) request first second gives more)),
             ap (λ (g : Given). g.context) whole ∙ sym (ap (λ (g : Given). g.context) all),
           )
