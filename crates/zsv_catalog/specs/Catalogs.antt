@@ -51,8 +51,10 @@ asked_of_query request source q = record {
 -- A question for a transfer, to the handlers of the zone registered under a name: its signature is
 -- tested for that zone, over all octets of the message, at a moment.
 abbrev pub asked_of_transfer : Keys → Message → SocketAddr → List ℕ → ℕ → Query → DomainName → Asked
-asked_of_transfer keys request source octets moment q zone = record (asked_of_query request source q)
-{ verdict = verdict_on keys zone octets moment request.signature }
+asked_of_transfer keys request source octets moment q zone =
+    record (asked_of_query request source q) {
+      verdict = verdict_on keys zone octets moment request.signature;
+    }
 
 -- ---- transfers (RFC 5936)
 -- The question of a query for a transfer.
@@ -198,7 +200,7 @@ GivesPlain chains nsid keys request source octets moment given =
     × PartsOf chains nsid (asked_of_transfer keys request source octets moment) request parts
     × (given ≡ record (only chains parts) {
       context = question_context chains (asked_of_transfer keys request source octets moment) moment
-      (served_transfer request);
+          (served_transfer request);
     })
 
 -- A message from a source, in these octets, at a moment: the full reply, the context to sign it
