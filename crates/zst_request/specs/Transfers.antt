@@ -46,12 +46,12 @@ transfer_of zone dnssec_ok =
 abbrev pub lent_sets : List (Bor RRset) → List RRset
 lent_sets rrsets = map (λ set. set.now) rrsets
 
--- The sets that a zone lends, if one does.
+-- The sets of a zone, if there is one.
 abbrev pub lent_if : Option (List RRset) → List RRset
 lent_if None = []
 lent_if (Some sets) = sets
 
--- Those of one set, of the listed sets from the n-th on, and of those that a zone lends.
+-- Those of one set, of the listed sets from the n-th on, and of the sets of a zone.
 abbrev pub axfr_left : DomainName → List Record → Bool → List (Bor RRset) → ℕ
     → Option (List RRset) → List Record
 axfr_left origin current dnssec_ok rrsets n lent =
