@@ -88,10 +88,12 @@ serves_transfer request q e = by (is_served_query request) refl e
     by false served is = let h : ⊥ = cc in absurd h
 
 -- A message that is served as a query, and as none for a transfer.
-pub no_question : (request : Message) → has_other_version request.edns ≡ false → served_transfer request ≡ None → is_kind_of_query request ≡ true → transfer_question request.asked.questions ≡ None
-no_question request version none kind =
+pub no_question : (request : Message) → has_other_version request.edns ≡ false → served_transfer request ≡ None → request.metadata.message_type ≡ messages.Query → request.metadata.op_code ≡ operations.Query
+    → transfer_question request.asked.questions ≡ None
+no_question request version none kind operation =
+    let served : is_kind_of_query request ≡ true = ap (λ (k : MessageType). is_query_type k && is_query request.metadata.op_code) kind ∙ ap is_query operation in
     subst (λ (b : Bool). cond b (transfer_question request.asked.questions) None ≡ None)
-    (ap (λ (b : Bool). not b && is_kind_of_query request) version ∙ kind) none
+    (ap (λ (b : Bool). not b && is_kind_of_query request) version ∙ served) none
 
 -- ---- the reply to one
 no_entry : {X : Type 0} (o : Option (DomainName × X)) → option_map (λ entry. entry.1) o ≡ None → o ≡ None

@@ -1,13 +1,13 @@
 //! What chains of handlers answer to a request (RFC 1034 section 4.3.2).
 
-ghost use Rattle.std.specs.Prelude.{◌≡◌, IfErr, IfOk, None, false, option_copied, true};
+ghost use Rattle.std.specs.Prelude.{◌≡◌, IfErr, IfOk, None, false, option_copied};
 ghost use Rattle.zsv_answer.specs.Responses.{parts_of};
 ghost use Rattle.zsv_answer.specs.zst_request.Updating.{Asked};
 ghost use Rattle.zsv_answer.specs.zst_request.dnw_codes.RecordType.{same_record_type};
 ghost use Rattle.zsv_answer.specs.zst_request.dnw_codes.declared.record_type.RecordType.TheVariants.{AXFR};
 ghost use Rattle.zsv_answer.specs.zst_request.dnw_name.DomainName.{DomainName};
 ghost use Rattle.zsv_answer.specs.zsv_reply.zsv_message.zsv_parts.declared.question.Query.{Query as Question};
-ghost use Rattle.zsv_catalog.specs.Catalogs.{AnswersQuery, KindParts, PartsOf, PlainParts, QueryParts, QuestionParts, RefusesBy, RepliesBy, RepliesPlain, SendsWith, is_kind_of_query, is_served_update, left_of, served_transfer, transfer_question};
+ghost use Rattle.zsv_catalog.specs.Catalogs.{AnswersQuery, KindParts, PartsOf, PlainParts, QueryParts, QuestionParts, RefusesBy, RepliesBy, RepliesPlain, SendsWith, is_served_update, left_of, served_transfer, transfer_question};
 ghost use Rattle.zsv_catalog.specs.Requests.{RefusesRequest, RepliesToRequest};
 ghost use Rattle.zsv_update.specs.zsv_chains.Chains.{views_of};
 
@@ -22,7 +22,7 @@ use std::mem;
 use std::net::SocketAddr;
 use zsv_answer::{
     Edns, LookupOptions, MessageRequest, MessageType, OpCode, Protocol, Query, Request, Response,
-    ResponseCode, ResponseInfo, ZoneHandler, chain_response, error_response,
+    ResponseCode, ResponseInfo, TsigVerdict, ZoneHandler, chain_response, error_response,
 };
 use zsv_update::{
     Chains, NameKey, Received, ServiceFault, TsigSuite, has_other_version, reply_edns, update_by,
@@ -47,7 +47,7 @@ fn question_response<'z, H: ZoneHandler>(
     let Some(handlers) = chains.find_at(key.borrow()) else {
         return Ok(error_response(metadata, ResponseCode::Refused));
     };
-    let request = asked(alloc, message, question, src);
+    let request = asked(alloc, message, question, src, TsigVerdict::UnknownKey);
     chain_response(handlers, alloc, &key, metadata, options, &request)
 }
 
@@ -78,7 +78,8 @@ fn kind_response<'z, H: ZoneHandler>(
     src: SocketAddr,
     options: LookupOptions,
 ) -> Result<Response<'z>, AllocError>
-    requires { is_kind_of_query message.now ≡ true → transfer_question message.now.asked.questions ≡ None }
+    requires { message.now.metadata.message_type ≡ MessageType.Query → message.now.metadata.op_code ≡ OpCode.Query
+        → transfer_question message.now.asked.questions ≡ None }
     ensures parts { IfOk result (λ r. (asks : Question → DomainName → Asked) → KindParts (views_of H.view chains.now.chains) message.now.metadata
         options.dnssec_ok asks message.now.metadata.message_type message.now.asked.questions (parts_of r)) }
     ensures operation { IfOk result (λ r. r.metadata.op_code ≡ message.now.metadata.op_code) }

@@ -1,8 +1,10 @@
 //! Transfers of zones, served (RFC 5936).
 
-ghost use Rattle.std.specs.Prelude.{◌≡◌, ◌≤◌, IfOk, IfSome, Some, length, option_copied, option_map};
+ghost use Rattle.std.specs.Prelude.{◌≡◌, ◌≤◌, IfOk, IfSome, None, Some, if◌then◌else◌, length, option_copied, option_map};
 ghost use Rattle.zsv_answer.specs.Transferring.{response_parts};
 ghost use Rattle.zsv_answer.specs.zst_request.Requested.{asked_of, context_of};
+ghost use Rattle.zsv_answer.specs.zst_request.dnw_codes.RecordType.{same_record_type};
+ghost use Rattle.zsv_answer.specs.zst_request.dnw_codes.declared.record_type.RecordType.TheVariants.{AXFR};
 ghost use Rattle.zsv_answer.specs.zsv_reply.Writing.{SendsParts, with_edns};
 ghost use Rattle.zsv_catalog.specs.Catalogs.{RepliesPlain, SendsSigned, asked_of_query, asked_of_transfer, asks_for_dnssec, entry_context, entry_parts, is_served_query, served_transfer, transfer_question};
 ghost use Rattle.zsv_update.specs.zsv_chains.Chains.{entry_for, views_of};
@@ -25,8 +27,19 @@ pub(crate) fn transfer_question<'q>(message: &'q MessageRequest<'_>) -> Option<&
     ensures { option_copied result ≡ transfer_question message.now.asked.questions }
 {
     match message.queries().queries() {
-        [question] if question.query_type == RecordType::AXFR => Some(question),
+        [question] => if_transfer(question),
         _ => None,
+    }
+}
+
+// A question, if it is one for a transfer.
+fn if_transfer(question: &Query) -> Option<&Query>
+    ensures { option_copied result ≡ (if same_record_type question.now.query_type AXFR then Some question.now else None) }
+{
+    if question.query_type == RecordType::AXFR {
+        Some(question)
+    } else {
+        None
     }
 }
 
@@ -44,22 +57,21 @@ fn is_served_query(message: &MessageRequest<'_>) -> bool
 pub(crate) fn served_transfer<'q>(message: &'q MessageRequest<'_>) -> Option<&'q Query>
     ensures { option_copied result ≡ served_transfer message.now }
 {
-    let question = transfer_question(message)?;
-    if is_served_query(message) {
-        Some(question)
-    } else {
-        None
+    if !is_served_query(message) {
+        return None;
     }
+    transfer_question(message)
 }
 
-/// A question as the handlers of its name are asked it. Its signature isn't tested.
+/// A question as the handlers of its name are asked it, with this verdict on its signature.
 pub(crate) fn asked<'q>(
     alloc: Global,
     message: &'q MessageRequest<'_>,
     question: &'q Query,
     src: SocketAddr,
+    verdict: TsigVerdict,
 ) -> ZoneRequest<'q>
-    ensures { asked_of result ≡ asked_of_query message.now src question.now }
+    ensures { asked_of result ≡ record (asked_of_query message.now src question.now) { verdict = verdict } }
 {
     let tsig = match message.signature() {
         Some(signature) => Some(tsig_of(signature)),
@@ -71,7 +83,7 @@ pub(crate) fn asked<'q>(
         id: message.metadata().id,
         source: src,
         tsig,
-        verdict: TsigVerdict::UnknownKey,
+        verdict,
         prerequisites: &[],
         updates: Vec::new(alloc),
     }
@@ -89,9 +101,8 @@ fn asked_for_transfer<'q, S: TsigSuite>(
     ensures { asked_of result ≡ asked_of_transfer (S.keys suite.now) message.now received.entry.source received.entry.octets.now
         received.entry.now question.now zone.now }
 {
-    let mut request = asked(alloc, message, question, received.source);
-    request.verdict = verdict_on(suite, zone, message.signature(), received);
-    request
+    let verdict = verdict_on(suite, zone, message.signature(), received);
+    asked(alloc, message, question, received.source, verdict)
 }
 
 /// The reply to a question for a transfer, by the chain registered under the nearest name from the question's up. The suite is
