@@ -24,7 +24,7 @@ use Rattle.zsv_update.specs.ReadingBack.{AdditionsAreServable, ChainsReadBack}
 use Rattle.zsv_update.specs.Updates.{with_updates}
 use Rattle.zsv_update.specs.declared.update.ServiceFault.{ServiceFault}
 use Rattle.zsv_update.specs.declared.update.ServiceFault.TheVariants.{OutOfMemory}
-use Rattle.zsv_catalog.specs.Catalogs.{RefusesBy, RepliesBy}
+use Rattle.zsv_catalog.specs.Catalogs.{RefusesBy, RepliesBy, is_served_update}
 use Rattle.zsv_catalog.specs.Requests.{AnswersUpdate, AreCopies, IsCopy, RefusesAsUpdate, RefusesRequest, RepliesToRequest}
 use Rattle.zsv_catalog.proofs.GivenBack.{given_back}
 
@@ -38,9 +38,9 @@ same_number : (m n : ℕ) → is_eq (nat_cmp m n) ≡ true → m ≡ n
 same_number m n is = by (nat_lt m n) (m == n) refl is
   where
     by : (b c : Bool) → (m == n) ≡ c → is_eq (cond b Less (cond c Equal Greater)) ≡ true → m ≡ n
-    by true c alike no = absurd (true≢false (sym no))
-    by false true alike yes = eqb-true m n alike
-    by false false alike no = absurd (true≢false (sym no))
+    by true c alike equal = absurd (true≢false (sym equal))
+    by false true alike equal = eqb-true m n alike
+    by false false alike equal = absurd (true≢false (sym equal))
 
 by_form : (v : RData) → is_update0 v ≡ (data_form v == 0)
 by_form (rdata.Update0 code) = refl
@@ -57,8 +57,8 @@ same_update0 a b equal =
 
 pub additions_copied : (rs copies : List Record) → AreCopies rs copies → AdditionsAreServable rs → AdditionsAreServable copies
 additions_copied [] [] all servable = tt
-additions_copied [] (c ∷ cs) all servable = tt
-additions_copied (r ∷ rs) [] all servable = tt
+additions_copied [] (c ∷ cs) all servable = absurd all
+additions_copied (r ∷ rs) [] all servable = absurd all
 additions_copied (r ∷ rs) (c ∷ cs) all servable = (
   λ class_in there. all.0.servable (servable.0 (sym all.0.dns_class ∙ class_in) (ap not (sym (same_update0 c.rdata r.rdata all.0.rdata)) ∙ there)),
   additions_copied rs cs all.1 servable.1,
@@ -66,36 +66,36 @@ additions_copied (r ∷ rs) (c ∷ cs) all servable = (
 
 -- ---- messages
 module _ (keys : Keys) (chains new : List (DomainName × List View)) (back : ChainsReadBack chains) where
-  pub message_replied : (nsid : Option (List ℕ)) (m : Message) (source : SocketAddr) (octets : List ℕ) (moment : ℕ) (transport : Protocol) (info : Header) (reply : List ℕ) → AdditionsAreServable m.authorities
+  pub message_replied : (nsid : Option (List ℕ)) (m : Message) (source : SocketAddr) (octets : List ℕ) (moment : ℕ) (transport : Protocol) (info : Header) (reply : List ℕ) → (is_served_update m ≡ true → AdditionsAreServable m.authorities)
       → RepliesBy chains nsid keys m source octets moment transport info reply new → ChainsReadBack new
   message_replied nsid m source octets moment transport info reply servable (given, gives, parts, signs, sent, reads, is) =
-      subst ChainsReadBack (sym is) (given_back keys m source octets moment chains (λ served. servable) back nsid given gives)
+      subst ChainsReadBack (sym is) (given_back keys m source octets moment chains servable back nsid given gives)
 
   pub message_refused : (m : Message) (source : SocketAddr) (octets : List ℕ) (moment : ℕ) (fault : ServiceFault) → AdditionsAreServable m.authorities → RefusesBy chains keys m source octets moment fault new → ChainsReadBack new
   message_refused m source octets moment (OutOfMemory false) servable is = subst ChainsReadBack (sym is) back
-  message_refused m source octets moment (OutOfMemory true) servable (served, refuses) = refused_back keys m source octets moment chains new back servable (OutOfMemory true) refuses
+  message_refused m source octets moment (OutOfMemory true) servable told = refused_back keys m source octets moment chains new back servable (OutOfMemory true) told.1
 
   module _ (request : Requested) (servable : AdditionsAreServable request.message.authorities) (moment : ℕ) where
     copied : (updates : List Record) → AreCopies request.message.authorities updates → AdditionsAreServable updates
     copied updates copies = additions_copied request.message.authorities updates copies servable
 
     pub request_replied : (nsid : Option (List ℕ)) (info : Header) (reply : List ℕ) → RepliesToRequest chains nsid keys request moment info reply new → ChainsReadBack new
-    request_replied nsid info reply (updates, copies, (given, gives, parts, signs, sent, reads, is)) =
-        subst ChainsReadBack (sym is) (given_back keys (with_updates request.message updates) request.source request.octets moment chains (λ served. copied updates (copies served)) back nsid given gives)
+    request_replied nsid info reply told =
+        message_replied nsid (with_updates request.message told.0) request.source request.octets moment request.transport info reply (λ served. copied told.0 (told.1 served)) told.2
 
     pub request_refused : (fault : ServiceFault) → RefusesRequest chains keys request moment fault new → ChainsReadBack new
     request_refused (OutOfMemory false) is = subst ChainsReadBack (sym is) back
-    request_refused (OutOfMemory true) (updates, copies, refuses) =
-        message_refused (with_updates request.message updates) request.source request.octets moment (OutOfMemory true) (copied updates copies) refuses
+    request_refused (OutOfMemory true) told =
+        message_refused (with_updates request.message told.0) request.source request.octets moment (OutOfMemory true) (copied told.0 told.1) told.2
 
     pub update_replied : (edns : Option Edns) (info : Header) (reply : List ℕ) → AnswersUpdate chains keys request edns moment info reply new → ChainsReadBack new
-    update_replied edns info reply (updates, copies, (parts, replies, sent)) =
+    update_replied edns info reply (updates, copies, parts, replies, sent) =
         replied_with_back keys (with_updates request.message updates) request.source request.octets moment chains new back (copied updates copies) edns parts replies
 
     pub update_refused : (fault : ServiceFault) → RefusesAsUpdate chains keys request moment fault new → ChainsReadBack new
     update_refused (OutOfMemory false) is = subst ChainsReadBack (sym is) back
-    update_refused (OutOfMemory true) (updates, copies, refuses) =
-        refused_back keys (with_updates request.message updates) request.source request.octets moment chains new back (copied updates copies) (OutOfMemory true) refuses
+    update_refused (OutOfMemory true) told =
+        refused_back keys (with_updates request.message told.0) request.source request.octets moment chains new back (copied told.0 told.1) (OutOfMemory true) told.2
 
 -- What is said of a value and of an error holds.
 pub either : {X E R : Type 0} (r : Result X E) (P : X → Type 0) (Q : E → Type 0) → IfOk r P → IfErr r Q → ((x : X) → P x → R) → ((e : E) → Q e → R) → R
