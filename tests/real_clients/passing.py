@@ -1,31 +1,57 @@
-"""A port of 127.0.0.1 that passes the frames of its connections on to one run of a program, and the replies back."""
+"""A port of 127.0.0.1 that passes the messages of its connections and datagrams on to one run of a program, and the replies back."""
 
 import contextlib
+import functools
 import socket
 import struct
 import subprocess
 import threading
 
+ONE_AT_A_TIME = threading.Lock()
+
 
 def answer_of(program, frame):
-    program.stdin.write(frame)
-    program.stdin.flush()
-    length = program.stdout.read(2)
-    if len(length) < 2:
-        raise EOFError("the program ended")
-    return length + program.stdout.read(*struct.unpack("!H", length))
+    with ONE_AT_A_TIME:
+        program.stdin.write(frame)
+        program.stdin.flush()
+        length = program.stdout.read(2)
+        if len(length) < 2:
+            raise EOFError("the program ended")
+        return length + program.stdout.read(*struct.unpack("!H", length))
 
 
-def pass_on(listener, program):
-    """Passes the frames of one connection after the other on to the program, and its replies back."""
+def pass_frames(connection, answer):
+    with connection, contextlib.suppress(OSError, EOFError), connection.makefile("rb") as frames:
+        while len(length := frames.read(2)) == 2:
+            connection.sendall(answer(length + frames.read(*struct.unpack("!H", length))))
+
+
+def pass_connections(listener, answer):
     while True:
         try:
             connection, _ = listener.accept()
         except OSError:
             return
-        with connection, contextlib.suppress(OSError), connection.makefile("rb") as frames:
-            while len(length := frames.read(2)) == 2:
-                connection.sendall(answer_of(program, length + frames.read(*struct.unpack("!H", length))))
+        threading.Thread(target=pass_frames, args=(connection, answer), daemon=True).start()
+
+
+def pass_datagrams(datagrams, answer):
+    with contextlib.suppress(OSError, EOFError):
+        while True:
+            octets, client = datagrams.recvfrom(65535)
+            datagrams.sendto(answer(struct.pack("!H", len(octets)) + octets)[2:], client)
+
+
+@contextlib.contextmanager
+def passed(answer):
+    """The port whose messages this function answers: from a frame to a frame."""
+    with socket.create_server(("127.0.0.1", 0)) as listener, socket.socket(type=socket.SOCK_DGRAM) as datagrams:
+        port = listener.getsockname()[1]
+        datagrams.bind(("127.0.0.1", port))
+        for passes, side in ((pass_connections, listener), (pass_datagrams, datagrams)):
+            threading.Thread(target=passes, args=(side, answer), daemon=True).start()
+        yield port
+        listener.shutdown(socket.SHUT_RDWR)
 
 
 @contextlib.contextmanager
@@ -34,9 +60,7 @@ def served(words, first):
     program = subprocess.Popen(words, stdin=subprocess.PIPE, stdout=subprocess.PIPE)
     # (clients don't wait as long as loading may take)
     answer_of(program, first)
-    with socket.create_server(("127.0.0.1", 0)) as listener:
-        threading.Thread(target=pass_on, args=(listener, program), daemon=True).start()
-        yield listener.getsockname()[1]
-        listener.shutdown(socket.SHUT_RDWR)
+    with passed(functools.partial(answer_of, program)) as port:
+        yield port
     program.stdin.close()
     program.wait()

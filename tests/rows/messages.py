@@ -142,7 +142,7 @@ def rows():
         (with_opt(entry("key.", TSIG, 0, b"\0" * 17, 255)), hit)]
     empty = lambda kind: entry(WWW, kind, 0, b"", 255)
     updated = lambda *records: request(0x2800, additionals=records)
-    denied = reply(0xA804)
+    denied = reply(0xA801)
     yield "records without data stand in updates alone, options aside; a signature by a shared key has data there too", "host", "tcp", [
         (with_opt(empty(A)), None), (request(answers=[empty(A)]), None), (updated(empty(A)), denied),
         (request(0x2800, answers=[empty(A)], authorities=[empty(255)]), denied), (updated(empty(SIG)), denied),

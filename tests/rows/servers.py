@@ -53,7 +53,7 @@ def no_zones():
         (asked(WWW, AXFR), told(0x8005, WWW, AXFR)), (asked(WWW, A, 0, opt()), told(0x8005, additionals=[opt()]))]
     yield "messages that no zone is asked for", "-", LOCAL, "tcp", [
         (bytes(11), None), (bytes(12), bytes.fromhex("000080010000000000000000")), (request(0x8000, []), reply(0x8001, [])),
-        (request(0x2000, []), reply(0xA004, [])), (request(0x2800, []), reply(0xA804, [])),
+        (request(0x2000, []), reply(0xA004, [])), (request(0x2800, []), reply(0xA801, [])),
         (request(0, [question()] * 2), request(0x8001, [question()] * 2)),
         (request(0, [], additionals=[opt(ttl=0x10000)]), reply(0x8000, [], additionals=[opt(ttl=0x01000000)])),
         (request(answers=[opt()]), None)]

@@ -19,6 +19,7 @@ use Rattle.authority_server.specs.Serving.{World}
 use Rattle.authority_server.specs.zsv_catalog.ReadingBack.{ViewReadsBack}
 use Rattle.authority_server.specs.zsv_catalog.zsv_answer.zst_request.Views.{Stored}
 use Rattle.authority_server.specs.zsv_catalog.zsv_answer.zst_request.dnw_name.DomainName.{DomainName}
+use Rattle.authority_server.specs.zsv_catalog.zsv_update.Keys.{no_keys}
 use Rattle.authority_load.specs.zst_zone.zst_handler.Zones.{Zone}
 use Rattle.authority_load.specs.ZoneText.{IsOwnerText, IsNumberText, IsZoneText, IsLoadFault}
 use Rattle.authority_server.specs.Frames.{ServesFrames, ServesUntil}
@@ -56,9 +57,9 @@ pub record Starts (words : List (List ℕ)) (file : Option (List ℕ)) : Type 0 
   pub loaded : IsZoneText (first_zone origin) text zone
   pub reads_back : ViewReadsBack (Stored zone)
 
--- The server of the program: the zone alone, under its own name, for every address.
+-- The server of the program: the zone alone, under its own name, for every address, without keys.
 abbrev pub one_zone : Zone → World
-one_zone zone = with_zones no_zones zone.origin (Stored zone ∷ [])
+one_zone zone = with_zones (no_zones no_keys) zone.origin (Stored zone ∷ [])
 
 -- Each message counts as sent from 127.0.0.1, port 53.
 pub record IsLoopback (source : SocketAddr) : Type 0 where
@@ -88,12 +89,12 @@ pub record LeavesStream (words : List (List ℕ)) (file left rest before after :
   pub frames : ServesUntil (one_zone starts.zone) source starts.now left rest before after
       (one_zone starts.zone) fault
 
--- Want of memory before the zone is served.
+-- Out of memory before the zone is served.
 abbrev pub out_of_memory : Fault
 out_of_memory = faults.Stream (streams.OutOfMemory false)
 
 -- The fault stands: wrong words; a file that could not be read; a text that is refused at a line;
--- want of memory before the zone is served. Want of memory may be answered at any time.
+-- out of memory before the zone is served, which may be answered at any time.
 abbrev pub FaultStands : List (List ℕ) → Option (List ℕ) → Fault → Type 0
 FaultStands words file faults.Words =
     (origin : DomainName) (now : ℕ) → AreWords words origin now → ⊥

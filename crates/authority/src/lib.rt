@@ -8,8 +8,8 @@ pub use authority_load::{
 };
 pub use authority_server::{
     A, AccessControl, Arrival, Authority, DNSClass, Faults, IpNet, Label, NS, NSIDPayload, Name,
-    NoSuite, Protocol, RData, Record, RecordSet, RecordType, SOA, ServeError, StreamError,
-    ZoneHandler,
+    NoSuite, Protocol, RData, Record, RecordSet, RecordType, SOA, ServeError, SignFault,
+    StreamError, TSigResponseContext, Tsig, TsigRecord, TsigSuite, TsigVerdict, ZoneHandler,
 };
 
 mod back;

@@ -1,10 +1,11 @@
 //! The body of the program: a zone's text in, framed questions in, framed replies out.
 
-ghost use Rattle.std.specs.Prelude.{◌≡◌, IfErr, IfOk, map, option_copied};
+ghost use Rattle.std.specs.Prelude.{◌≡◌, IfErr, IfOk, None, map, option_copied};
 ghost use Rattle.std.specs.String.{string_bytes};
 ghost use Rattle.authority_load.specs.zst_zone.zst_handler.Zones.{AreStored, ZoneReadsBack};
 ghost use Rattle.authority_server.specs.Servers.{world_of};
 ghost use Rattle.authority_server.specs.zsv_catalog.zsv_answer.zst_request.Views.{Stored};
+ghost use Rattle.authority_server.specs.zsv_catalog.zsv_update.Keys.{no_keys};
 ghost use Rattle.authority.specs.Programs.{Answers, IsLoopback, StatusIs, TextGives, WordsGive, one_zone, out_of_memory, read_or_usage, status_of};
 
 use authority_load::{
@@ -135,7 +136,7 @@ fn server_of(
     zone: InMemoryZoneHandler<NoSigner>,
 ) -> Result<Authority<NoSuite, InMemoryZoneHandler<NoSigner>>, Fault>
     requires { ZoneReadsBack zone }
-    ensures server { IfOk result (λ server. world_of (λ handler. Stored handler) server ≡ one_zone zone) }
+    ensures server { IfOk result (λ server. world_of (λ suite. no_keys) (λ handler. Stored handler) server ≡ one_zone zone) }
     ensures stored { AreStored zone.sets }
     ensures memory { IfErr result (λ fault. fault ≡ out_of_memory) }
 {
@@ -158,6 +159,7 @@ fn loopback() -> SocketAddr
 fn load(alloc: Global, origin: Name, text: &str) -> Result<InMemoryZoneHandler<NoSigner>, Fault>
     ensures text { TextGives origin text.now result }
     ensures reads_back { IfOk result ZoneReadsBack }
+    ensures unguarded { IfOk result (λ zone. zone.guard ≡ None) }
 {
     let settings = ZoneSettings {
         zone_type: ZoneType::Primary,

@@ -9,10 +9,10 @@ ghost use Rattle.std.specs.Borrow.{full_share, sem};
 ghost use Rattle.std.specs.Mem.{type_size};
 ghost use Rattle.std.specs.Ptr.{lies_at, room_at};
 ghost use Rattle.authority_handle.specs.Calls.{AddsBlocklist, AddsZone, Removes, ServesInto, SetsAccess, SetsNsid};
-ghost use Rattle.authority_handle.specs.Worlds.{world_in};
+ghost use Rattle.authority_handle.specs.Worlds.{new_world, world_in};
 ghost use Rattle.authority_handle.specs.contracts.Server.{the_row};
 ghost use Rattle.authority_handle.specs.declared.server.Server.{Server as Held};
-ghost use Rattle.authority_handle.specs.authority_server.Servers.{no_zones};
+ghost use Rattle.authority_handle.specs.authority_server.Servers.{AreUnguarded};
 
 use authority_handle::{BlocklistSettings, Network, Server};
 use std::alloc::Global;
@@ -29,7 +29,7 @@ pub extern "C" fn soarnef_size() -> usize
 #[unsafe(no_mangle)]
 pub unsafe extern "C" fn soarnef_open(alloc: Global, at: *mut u8)
     requires* { sem 𝓛 (room_at the_row at) }
-    ensures* { ∃ₛ (λ (server : Held). sem 𝓛 (lies_at the_row full_share at server) ∗ ⌜ world_in server ≡ no_zones ⌝) }
+    ensures* { ∃ₛ (λ (server : Held). sem 𝓛 (lies_at the_row full_share at server) ∗ ⌜ world_in server ≡ new_world ⌝) }
 {
     let at = at as *mut Server;
     at.write(authority_handle::empty(alloc));
@@ -120,8 +120,9 @@ pub unsafe extern "C" fn soarnef_serve(
 ) -> i64
     ghost held: { Server }
     requires* { sem 𝓛 (lies_at the_row full_share at held) }
-    ensures* { sem 𝓛 (lies_at the_row full_share at held)
-        ∗ ⌜ ServesInto (world_in held) message.now address.now port stream now reply.old result reply.new ⌝ }
+    ensures* { ∃ₛ (λ (server : Held). sem 𝓛 (lies_at the_row full_share at server)
+        ∗ ⌜ (AreUnguarded (world_in held).chains → world_in server ≡ world_in held)
+        × ServesInto (world_in held) message.now address.now port stream now reply.old result reply.new (world_in server) ⌝) }
 {
     let at = at as *mut Server;
     authority_handle::serve(&mut *at, message, address, port, stream, now, reply)

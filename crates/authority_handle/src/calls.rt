@@ -2,8 +2,8 @@
 
 ghost use Rattle.std.specs.Prelude.{◌≡◌, ◌<◌, ◌^◌, length, IfErr, IfOk, IfSome, MatchOption, None, OnErr};
 ghost use Rattle.authority_handle.specs.Calls.{AddsBlocklist, AddsZone, FillsStart, IsUnfit, RefusesMessage, Removes, ServesFrom, ServesInto, SetsAccess, SetsNsid, StandsIn, reply_of, transport_of};
-ghost use Rattle.authority_handle.specs.Worlds.{world_in};
-ghost use Rattle.authority_server.specs.Servers.{no_zones};
+ghost use Rattle.authority_handle.specs.Worlds.{new_world, world_in};
+ghost use Rattle.authority_server.specs.Servers.{AreUnguarded};
 
 use crate::blocklists::BlocklistSettings;
 use crate::refusal::{Refusal, length_or_code, number};
@@ -16,7 +16,7 @@ use std::io::Write;
 
 /// A server without zones, which every address may ask.
 pub fn empty(alloc: Global) -> Server
-    ensures { world_in result ≡ no_zones }
+    ensures { world_in result ≡ new_world }
 {
     Server::new(alloc)
 }
@@ -115,12 +115,14 @@ fn reply_to(
     now: u64,
     reply: &mut [u8],
 ) -> Result<usize, Refusal>
-    ensures unchanged { server.new ≡ server.old }
-    ensures served { IfOk result (λ length. ServesFrom (world_in server.old) message.now address.now port stream now (reply_of length reply.new)) }
+    ensures fixed { AreUnguarded (world_in server.old).chains → world_in server.new ≡ world_in server.old }
+    ensures served { IfOk result (λ length. ServesFrom (world_in server.old) message.now address.now port stream now (reply_of length reply.new)
+        (world_in server.new)) }
     ensures small { IfOk result (λ length. length < 2 ^ 63) }
     ensures start { IfOk result (λ length. FillsStart length reply.old reply.new) }
     ensures same { OnErr result (reply.new ≡ reply.old) }
-    ensures refused { IfErr result (RefusesMessage (world_in server.old) message.now address.now port stream now (length reply.new)) }
+    ensures refused { IfErr result (λ refusal. RefusesMessage (world_in server.old) message.now address.now port stream now (length reply.new) refusal
+        (world_in server.new)) }
 {
     let Some(source) = source_of(address, port) else {
         return Err(Refusal::WrongAddress);
@@ -149,8 +151,8 @@ pub fn serve(
     now: u64,
     reply: &mut [u8],
 ) -> i64
-    ensures unchanged { server.new ≡ server.old }
-    ensures served { ServesInto (world_in server.old) message.now address.now port stream now reply.old result reply.new }
+    ensures fixed { AreUnguarded (world_in server.old).chains → world_in server.new ≡ world_in server.old }
+    ensures served { ServesInto (world_in server.old) message.now address.now port stream now reply.old result reply.new (world_in server.new) }
 {
     length_or_code(reply_to(server, message, address, port, stream, now, reply))
 }

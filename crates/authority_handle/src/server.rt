@@ -5,10 +5,10 @@ ghost use Rattle.std.specs.Str.{IsUtf8};
 ghost use Rattle.authority_handle.specs.Blocklists.{RefusesBlocklist};
 ghost use Rattle.authority_handle.specs.Calls.{IsZoneOf, PutsBlocklist, PutsZone, RefusesLoad, RefusesName, RefusesNsid, RefusesRemoval, RefusesZone, TakesOut, TellsAccess, bare_zone, kind_of, nsid_of};
 ghost use Rattle.authority_handle.specs.Sources.{RefusesNetworks};
-ghost use Rattle.authority_handle.specs.Worlds.{view_of, world_in};
+ghost use Rattle.authority_handle.specs.Worlds.{new_world, view_of, world_in};
 ghost use Rattle.authority_handle.specs.declared.refusal.Refusal.TheVariants.{OutOfMemory};
 ghost use Rattle.authority_load.specs.ZoneText.{IsOwnerText, IsZoneText};
-ghost use Rattle.authority_server.specs.Servers.{no_zones, with_zones};
+ghost use Rattle.authority_server.specs.Servers.{with_zones};
 ghost use Rattle.authority_server.specs.Serving.{WorldReadsBack};
 ghost use Rattle.authority_server.specs.zsv_catalog.ReadingBack.{ViewReadsBack};
 ghost use Rattle.authority_server.specs.zsv_catalog.zsv_answer.zst_request.Views.{Stored};
@@ -116,7 +116,7 @@ fn chain_of<H: Drop>(alloc: Global, handler: H) -> Result<Vec<H>, Refusal>
 impl Server {
     /// A server without zones, which every address may ask.
     pub(crate) fn new(alloc: Global) -> Server
-        ensures { world_in result ≡ no_zones }
+        ensures { world_in result ≡ new_world }
     {
         Server {
             authority: Authority::new(alloc, NoSuite),

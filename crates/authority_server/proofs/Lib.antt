@@ -1,7 +1,10 @@
 mod Answered
+pub mod Chained
 pub mod RepliesOnce
+mod ServedBack
 mod ServedRuns
 mod StreamFaults
 mod StreamRuns
+mod Unguarded
 mod WorkedRows
 mod Zones

@@ -33,7 +33,8 @@ use Rattle.zsv_catalog.specs.zsv_answer.zst_request.zst_handler.Chains.{IsAliasC
 use Rattle.zsv_catalog.specs.zsv_answer.zst_request.zst_handler.Found.{found}
 use Rattle.zsv_catalog.specs.zsv_answer.zst_request.zst_handler.Lookups.{IsLookup, LookupFrom, Outcome, additionals, answered, is_flattened, name_exists, name_error, out_of_zone}
 use Rattle.zsv_catalog.specs.zsv_answer.zst_request.zst_handler.Zones.{Zone, AreInOrder, set_cmp}
-use Rattle.zsv_catalog.specs.Catalogs.{AnswersEdns, PartsOf, QueryParts, QuestionParts}
+use Rattle.zsv_catalog.specs.Catalogs.{PartsOf, QueryParts, QuestionParts}
+use Rattle.zsv_catalog.specs.zsv_update.Options.{AnswersEdns}
 use Rattle.zsv_catalog.specs.Chains.{chain_for}
 use Rattle.zsv_catalog.specs.zsv_answer.Parts.{AtOrigin, AuthoritativeParts, ChainParts, PartsAs}
 use Rattle.zsv_catalog.specs.zsv_answer.Resolution.{Resolution, Resolves, outcome_shown}

@@ -8,25 +8,26 @@ use Rattle.zsv_catalog.specs.Chains.{views_of, with_chain, without_chain}
 use Rattle.zsv_catalog.specs.ReadingBack.{ChainReadsBack}
 use Rattle.zsv_catalog.specs.zsv_answer.zst_request.Views.{View}
 use Rattle.zsv_catalog.specs.zsv_answer.zst_request.dnw_name.DomainName.{DomainName, lowercase_name, name_cmp}
+use Rattle.zsv_catalog.specs.zsv_update.Keys.{Keys}
 use Rattle.authority_server.specs.Servers.{with_zones, without_zones}
 use Rattle.authority_server.specs.Serving.{World, WorldReadsBack}
 
-abbrev of_parts : AccessControl → Option (List ℕ) → List (DomainName × List View) → World
-of_parts access nsid chains = record { access = access; nsid = nsid; chains = chains }
+abbrev of_parts : AccessControl → Keys → Option (List ℕ) → List (DomainName × List View) → World
+of_parts access keys nsid chains = record { access = access; keys = keys; nsid = nsid; chains = chains }
 
-pub same_parts : (access : AccessControl) (m n : Option (List ℕ)) (new old : List (DomainName × List View)) → m ≡ n → new ≡ old → of_parts access m new ≡ of_parts access n old
-same_parts access m n new old told is = ap (λ (o : Option (List ℕ)). of_parts access o new) told ∙ ap (of_parts access n) is
+pub same_parts : (access : AccessControl) (k l : Keys) (m n : Option (List ℕ)) (new old : List (DomainName × List View)) → k ≡ l → m ≡ n → new ≡ old → of_parts access k m new ≡ of_parts access l n old
+same_parts access k l m n new old keys told is = ap (λ (x : Keys). of_parts access x m new) keys ∙ ap (λ (o : Option (List ℕ)). of_parts access l o new) told ∙ ap (of_parts access l n) is
 
 -- What is put in, and what is taken out.
-pub put_in : {H : Type 0} (view : H → View) (access : AccessControl) (m n : Option (List ℕ)) (new old : List (DomainName × Vec H Global)) (name : DomainName) (chain : Vec H Global) → m ≡ n → new ≡ with_chain old name chain
-    → of_parts access m (views_of view new) ≡ with_zones (of_parts access n (views_of view old)) name (map view chain.items)
-put_in view access m n new old name chain told is =
-    same_parts access m n (views_of view new) (with_chain (views_of view old) name (map view chain.items)) told (ap (views_of view) is ∙ with_views view old name chain)
+pub put_in : {H : Type 0} (view : H → View) (access : AccessControl) (k l : Keys) (m n : Option (List ℕ)) (new old : List (DomainName × Vec H Global)) (name : DomainName) (chain : Vec H Global) → k ≡ l → m ≡ n → new ≡ with_chain old name chain
+    → of_parts access k m (views_of view new) ≡ with_zones (of_parts access l n (views_of view old)) name (map view chain.items)
+put_in view access k l m n new old name chain keys told is =
+    same_parts access k l m n (views_of view new) (with_chain (views_of view old) name (map view chain.items)) keys told (ap (views_of view) is ∙ with_views view old name chain)
 
-pub taken_out : {H : Type 0} (view : H → View) (access : AccessControl) (m n : Option (List ℕ)) (new old : List (DomainName × Vec H Global)) (name : DomainName) → m ≡ n → new ≡ without_chain old name
-    → of_parts access m (views_of view new) ≡ without_zones (of_parts access n (views_of view old)) name
-taken_out view access m n new old name told is =
-    same_parts access m n (views_of view new) (without_chain (views_of view old) name) told (ap (views_of view) is ∙ without_views view old name)
+pub taken_out : {H : Type 0} (view : H → View) (access : AccessControl) (k l : Keys) (m n : Option (List ℕ)) (new old : List (DomainName × Vec H Global)) (name : DomainName) → k ≡ l → m ≡ n → new ≡ without_chain old name
+    → of_parts access k m (views_of view new) ≡ without_zones (of_parts access l n (views_of view old)) name
+taken_out view access k l m n new old name keys told is =
+    same_parts access k l m n (views_of view new) (without_chain (views_of view old) name) keys told (ap (views_of view) is ∙ without_views view old name)
 
 -- ---- what reads back
 with_back : (world : World) (name : DomainName) (chain : List View) → WorldReadsBack world → ChainReadsBack chain → WorldReadsBack (with_zones world name chain)

@@ -7,9 +7,10 @@ use Rattle.std.specs.Int.{w16, to_be_bytes}
 use Rattle.std.specs.Io.KnownBytes.{Appends, Consumes, IsAtEnd}
 use Rattle.authority_server.specs.declared.stream.StreamError.{StreamError}
 use Rattle.authority_server.specs.declared.stream.StreamError.TheVariants as errors
-use Rattle.authority_server.specs.Serving.{World, Received, Serves, ServesAll}
+use Rattle.authority_server.specs.declared.server.ServeError.TheVariants as refusals
+use Rattle.authority_server.specs.Serving.{World, Received, Refuses, Serves, ServesAll}
 
--- A message behind its length.
+-- A message after its length.
 abbrev pub frame_of : List ℕ → List ℕ
 frame_of message = to_be_bytes w16 (length message) ++ message
 
@@ -18,7 +19,7 @@ abbrev pub frame_of_answer : Option (List ℕ) → List ℕ
 frame_of_answer None = []
 frame_of_answer (Some reply) = frame_of reply
 
--- A frame that is cut: not both octets of its length, or fewer octets than they tell.
+-- A frame that is cut: not both octets of its length, or fewer octets than they say.
 pub data IsCutFrame : List ℕ → Type 0 where
   in_length : (octets : List ℕ) → length octets < 2 → IsCutFrame octets
   in_message : (size : ℕ) (part octets : List ℕ) → size < 2 ^ 16 → length part < size
@@ -51,13 +52,12 @@ IsReadFault left rest (errors.OutOfMemory applied) =
     (applied ≡ false) × (size : ℕ) × (0 < size) × Consumes left rest (to_be_bytes w16 size)
 IsReadFault left rest errors.TooLong = ⊥
 
--- A front of these octets was written.
+-- A prefix of these octets was written.
 abbrev pub WritesFront : Option (List ℕ) → Option (List ℕ) → List ℕ → Type 0
 WritesFront before after octets = (count : ℕ) × Appends before after (take count octets)
 
 -- What serving a frame may answer instead. At a fault of the writer the message has taken effect,
--- and a front of its reply's frame stands; for want of memory nothing has, and the message has a
--- request's header.
+-- and a prefix of its reply's frame is written; out of memory nothing is.
 abbrev pub IsServeFault : World → Received → Option (List ℕ) → Option (List ℕ) → World → StreamError
     → Type 0
 IsServeFault old received before after new errors.Read = ⊥
@@ -66,10 +66,10 @@ IsServeFault old received before after new errors.Write =
     × WritesFront before after (frame_of reply)
 IsServeFault old received before after new errors.CutFrame = ⊥
 IsServeFault old received before after new (errors.OutOfMemory applied) =
-    (applied ≡ false) × (12 ≤ length received.message) × (after ≡ before) × (new ≡ old)
+    (after ≡ before) × Refuses old received (refusals.OutOfMemory applied) new
 IsServeFault old received before after new errors.TooLong = ⊥
 
--- One message served, and its answer's frame written behind what was written before.
+-- One message served, and its answer's frame written after what was written before.
 abbrev pub ServesFrame : World → Received → Option (List ℕ) → Option (List ℕ) → World → Type 0
 ServesFrame old received before after new =
     (answer : Option (List ℕ)) × Serves old received answer new
@@ -84,13 +84,12 @@ stream_message source moment message = record {
   now = moment;
 }
 
--- Two octets tell the length of a message on a stream.
+-- Two octets are the length of a message on a stream.
 abbrev pub IsFramed : List ℕ → Type 0
 IsFramed message = length message < 2 ^ 16
 
 -- The frames of these messages were read, and the messages served in order, each answer's frame
--- written behind those before. Of a reader or a writer that doesn't tell its octets nothing is
--- said.
+-- written after those before. Of a reader or a writer whose octets aren't known nothing is said.
 pub record ServesFrames (old : World) (source : SocketAddr) (moment : ℕ)
     (left rest before after : Option (List ℕ)) (new : World) : Type 0 where
   pub messages : List (List ℕ)
@@ -100,8 +99,8 @@ pub record ServesFrames (old : World) (source : SocketAddr) (moment : ℕ)
   pub run : ServesAll old (map (stream_message source moment) messages) answers new
   pub written : Appends before after (flat_map frame_of_answer answers)
 
--- What was done behind the frames that were served whole: a frame was read in part; one was read
--- and not served whole; or there was no number left to count it.
+-- What was done after the frames that were served whole: a frame was read in part; one was read and
+-- not served whole; or there was no number left to count it.
 pub data Leaves (source : SocketAddr) (moment : ℕ) (old : World)
     (left rest before after : Option (List ℕ)) (new : World) (fault : StreamError) : Type 0 where
   reading : IsReadFault left rest fault → after ≡ before → new ≡ old
@@ -112,7 +111,7 @@ pub data Leaves (source : SocketAddr) (moment : ℕ) (old : World)
   counting : fault ≡ errors.TooLong → rest ≡ left → after ≡ before → new ≡ old
       → Leaves source moment old left rest before after new fault
 
--- The stream was left for a fault: the whole frames before it were served as ever, and behind them
+-- The stream was left for a fault: the whole frames before it were served as ever, and after them
 -- is what the fault left.
 pub record ServesUntil (old : World) (source : SocketAddr) (moment : ℕ)
     (left rest before after : Option (List ℕ)) (new : World) (fault : StreamError) : Type 0 where

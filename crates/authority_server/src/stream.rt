@@ -4,7 +4,8 @@ ghost use Rattle.std.specs.Prelude.{◌≡◌, ◌<◌, ◌≤◌, ◌^◌, ℕ,
 ghost use Rattle.std.specs.Int.{w16, to_be_bytes};
 ghost use Rattle.std.specs.Io.KnownBytes.{Consumes, Appends, IsAtEnd};
 ghost use Rattle.authority_server.specs.Faults.{IsFaultOf, NoneFailed, WriterFailed, no_faults, reader_failed};
-ghost use Rattle.authority_server.specs.Servers.{world_of};
+ghost use Rattle.authority_server.specs.Servers.{AreUnguarded, world_of};
+ghost use Rattle.authority_server.specs.Serving.{WorldReadsBack};
 ghost use Rattle.authority_server.specs.Frames.{frame_of, stream_message, ReadsLess, IsMessageFault, IsReadFault, WritesFront, IsServeFault, ServesFrame, ServesFrames, ServesUntil};
 
 use crate::faults::Faults;
@@ -12,7 +13,7 @@ use crate::server::{Authority, ServeError};
 use std::io::{Read, Write};
 use std::net::SocketAddr;
 use thiserror::Error;
-use zsv_catalog::{Protocol, ZoneHandler};
+use zsv_catalog::{Protocol, TsigSuite, ZoneHandler};
 
 /// Why a stream was left. The frames that were whole before are answered.
 #[derive(Clone, Copy, Debug, Error)]
@@ -27,7 +28,7 @@ pub enum StreamError {
     /// The input ended inside a frame.
     #[error("CutFrame")]
     CutFrame,
-    /// Want of memory.
+    /// Out of memory.
     #[error("OutOfMemory")]
     OutOfMemory {
         /// Whether a change that the last message asked for stands.
@@ -183,7 +184,7 @@ fn write_frame<W: Write>(
     }
 }
 
-impl<S, H: ZoneHandler> Authority<S, H> {
+impl<S: TsigSuite, H: ZoneHandler> Authority<S, H> {
     // Serves one message, and writes its reply, if there is one.
     fn serve_frame<W: Write>(
         &mut self,
@@ -197,12 +198,13 @@ impl<S, H: ZoneHandler> Authority<S, H> {
         ensures flushed { OnOk result (faults.new ≡ no_faults) }
         ensures cause { IfErr result (IsFaultOf faults.new) }
         ensures served { OnOk result
-            (ServesFrame (world_of H.view self.old) (stream_message src now message.now) (W.contents writer.old)
-            (W.contents writer.new) (world_of H.view self.new)) }
+            (ServesFrame (world_of S.keys H.view self.old) (stream_message src now message.now) (W.contents writer.old)
+            (W.contents writer.new) (world_of S.keys H.view self.new)) }
         ensures fault { IfErr result
-            (IsServeFault (world_of H.view self.old) (stream_message src now message.now) (W.contents writer.old)
-            (W.contents writer.new) (world_of H.view self.new)) }
-        ensures unchanged { self.new ≡ self.old }
+            (IsServeFault (world_of S.keys H.view self.old) (stream_message src now message.now) (W.contents writer.old)
+            (W.contents writer.new) (world_of S.keys H.view self.new)) }
+        ensures back { WorldReadsBack (world_of S.keys H.view self.old) → WorldReadsBack (world_of S.keys H.view self.new) }
+        ensures fixed { AreUnguarded (world_of S.keys H.view self.old).chains → world_of S.keys H.view self.new ≡ world_of S.keys H.view self.old }
     {
         match self.serve(message, src, Protocol::Tcp, now) {
             Ok(Some(reply)) => write_frame(writer, faults, &reply),
@@ -220,14 +222,15 @@ impl<S, H: ZoneHandler> Authority<S, H> {
         src: SocketAddr,
         now: u64,
     ) -> Result<(), StreamError>
-        ensures unchanged { self.new ≡ self.old }
+        ensures back { WorldReadsBack (world_of S.keys H.view self.old) → WorldReadsBack (world_of S.keys H.view self.new) }
+        ensures fixed { AreUnguarded (world_of S.keys H.view self.old).chains → world_of S.keys H.view self.new ≡ world_of S.keys H.view self.old }
         ensures served { OnOk result
-            (ServesFrames (world_of H.view self.old) src now (R.remaining reader.old) (R.remaining reader.new)
-            (W.contents writer.old) (W.contents writer.new) (world_of H.view self.new)) }
+            (ServesFrames (world_of S.keys H.view self.old) src now (R.remaining reader.old) (R.remaining reader.new)
+            (W.contents writer.old) (W.contents writer.new) (world_of S.keys H.view self.new)) }
         ensures ended { OnOk result (IsAtEnd (R.remaining reader.new)) }
         ensures left { IfErr result
-            (ServesUntil (world_of H.view self.old) src now (R.remaining reader.old) (R.remaining reader.new)
-            (W.contents writer.old) (W.contents writer.new) (world_of H.view self.new)) }
+            (ServesUntil (world_of S.keys H.view self.old) src now (R.remaining reader.old) (R.remaining reader.new)
+            (W.contents writer.old) (W.contents writer.new) (world_of S.keys H.view self.new)) }
         ensures cut { result ≡ Err StreamError.CutFrame → IsAtEnd (R.remaining reader.new) }
     {
         self.serve_stream_with(reader, writer, &mut Faults::none(), src, now)
@@ -247,14 +250,15 @@ impl<S, H: ZoneHandler> Authority<S, H> {
         requires { faults.old ≡ no_faults }
         ensures flushed { OnOk result (faults.new ≡ no_faults) }
         ensures cause { IfErr result (IsFaultOf faults.new) }
-        ensures unchanged { self.new ≡ self.old }
+        ensures back { WorldReadsBack (world_of S.keys H.view self.old) → WorldReadsBack (world_of S.keys H.view self.new) }
+        ensures fixed { AreUnguarded (world_of S.keys H.view self.old).chains → world_of S.keys H.view self.new ≡ world_of S.keys H.view self.old }
         ensures served { OnOk result
-            (ServesFrames (world_of H.view self.old) src now (R.remaining reader.old) (R.remaining reader.new)
-            (W.contents writer.old) (W.contents writer.new) (world_of H.view self.new)) }
+            (ServesFrames (world_of S.keys H.view self.old) src now (R.remaining reader.old) (R.remaining reader.new)
+            (W.contents writer.old) (W.contents writer.new) (world_of S.keys H.view self.new)) }
         ensures ended { OnOk result (IsAtEnd (R.remaining reader.new)) }
         ensures left { IfErr result
-            (ServesUntil (world_of H.view self.old) src now (R.remaining reader.old) (R.remaining reader.new)
-            (W.contents writer.old) (W.contents writer.new) (world_of H.view self.new)) }
+            (ServesUntil (world_of S.keys H.view self.old) src now (R.remaining reader.old) (R.remaining reader.new)
+            (W.contents writer.old) (W.contents writer.new) (world_of S.keys H.view self.new)) }
         ensures cut { result ≡ Err StreamError.CutFrame → IsAtEnd (R.remaining reader.new) }
     {
         let mut frame = Vec::new(self.alloc());

@@ -1,7 +1,8 @@
-//! Many zones as they are served: messages, catalogs of handlers, guarded zones, lists of blocked names and access lists.
+//! Many zones as they are served: messages, catalogs of handlers, zones that take updates, lists of blocked names and access
+//! lists.
 //!
 //! This is the face of the crates below, and holds nothing of its own: requests, handlers and what a catalog answers from
-//! `zsv_catalog` and what it passes on, guarded zones and lists of blocked names from `zsv_handlers`, access lists from
+//! `zsv_catalog` and what it passes on, lists of blocked names and guarded zones from `zsv_handlers`, access lists from
 //! `zsv_access`.
 #![tactic(auto)]
 
@@ -10,10 +11,11 @@ pub use zsv_catalog::{
     A, AuthLookup, BlocklistConsultAction, Catalog, Chains, DNSClass, DecodeError, Edns, Header,
     HeaderCounts, Label, LookupControlFlow, LookupError, LookupOptions, LookupRecords, LowerName,
     LowerQuery, MessageRequest, MessageResponse, MessageResponseBuilder, MessageType, Metadata, NS,
-    NSIDPayload, Name, NoSuite, OpCode, Protocol, Queries, Query, RData, Record, RecordRef,
-    RecordSet, RecordType, Request, RequestHandler, RequestInfo, ResponseCode, ResponseHandler,
-    ResponseInfo, SOA, SendFault, ServiceFault, SignFault, TSigResponseContext, Tsig, TsigRecord,
-    TsigSuite, TsigVerdict, UpdateRequest, ZoneHandler, ZoneRequest, ZoneType, error_response,
+    NSIDPayload, Name, NoSuite, OpCode, Protocol, Queries, Query, RData, Received, Record,
+    RecordRef, RecordSet, RecordType, Request, RequestHandler, RequestInfo, RequestTsig,
+    ResponseCode, ResponseHandler, ResponseInfo, SOA, SendFault, ServiceFault, SignFault,
+    TSigResponseContext, Tsig, TsigRecord, TsigSuite, TsigVerdict, UpdateRequest, ZoneHandler,
+    ZoneRequest, ZoneType, error_response,
 };
 pub use zsv_handlers::{
     BlocklistConfig, BlocklistError, BlocklistZoneHandler, InMemoryZoneHandler, ReadFaults,

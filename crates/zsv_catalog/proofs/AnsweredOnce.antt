@@ -1,6 +1,7 @@
--- The full reply is a function of the zones, the NSID and the request.
+-- The full reply is a function of the zones, the NSID, the keys, the request and how it arrived.
 use Rattle.std.proofs.Common.{◌≡◌, ◌∙◌, ℕ, Bool, true, false, List, [], ◌∷◌, ◌++◌, ap, length, refl, subst, sym}
 use Rattle.std.specs.Prelude.{Option, Some, None, IsSome, option_map}
+use Rattle.std.specs.declared.net.SocketAddr.{SocketAddr}
 use Rattle.drd_types.specs.dnw_decoder.Octets.{octets_16, octets_32}
 use Rattle.drd_types.specs.drd_opt.Entries.{entries_octets}
 use Rattle.zsv_catalog.proofs.PartsOnce.{SameParts, equal-parts, one-chain-parts}
@@ -22,8 +23,12 @@ use Rattle.zsv_answer.specs.zsv_reply.zsv_message.zsv_parts.declared.header.Mess
 use Rattle.zsv_answer.specs.zsv_reply.zsv_message.zsv_parts.declared.header.OpCode.{OpCode}
 use Rattle.zsv_answer.specs.zsv_reply.zsv_message.zsv_parts.declared.header.OpCode.TheVariants as operations
 use Rattle.zsv_answer.specs.zsv_reply.zsv_message.zsv_parts.declared.question.Query.{Query}
-use Rattle.zsv_catalog.specs.Catalogs.{AnswersEdns, IsReplyEdns, KindParts, OperationParts, PartsOf, PlainParts, QueryParts, QuestionParts, asks_for_dnssec, has_other_version, nsid_for}
-use Rattle.zsv_chains.specs.Chains.{chain_for}
+use Rattle.zsv_catalog.specs.Catalogs.{GivesOf, KindParts, OperationParts, PartsOf, PlainParts, QueryParts, QuestionParts, asks_for_dnssec, is_served_update}
+use Rattle.zsv_update.proofs.Once.{one_update}
+use Rattle.zsv_update.specs.Keys.{Keys}
+use Rattle.zsv_update.specs.Options.{AnswersEdns, IsReplyEdns, has_other_version, nsid_for}
+use Rattle.zsv_update.specs.Updates.{Given}
+use Rattle.zsv_update.specs.zsv_chains.Chains.{chain_for}
 
 module _ (chains : List (DomainName × List View)) (m : Metadata) (dnssec_ok : Bool) where
   one-question : (q : Query) (a b : ReplyParts) → QuestionParts chains m dnssec_ok q a → QuestionParts chains m dnssec_ok q b → SameParts a b
@@ -82,19 +87,46 @@ one-answer (Some asked) nsid code (Some e) (Some f) is also = ap Some (one-edns 
 one-answer (Some asked) nsid code None f is also = absurd is
 one-answer (Some asked) nsid code e None is also = absurd also
 
--- A request has one full reply.
-pub one-parts : (chains : List (DomainName × List View)) (nsid : Option (List ℕ)) (request : Message) (a b : ReplyParts) → PartsOf chains nsid request a → PartsOf chains nsid request b → SameParts a b
-one-parts chains nsid request a b is also =
-    let same : SameParts is.plain also.plain = one-plain chains request is.plain also.plain is.gives also.gives in
-    let code : is.plain.metadata.response_code ≡ also.plain.metadata.response_code = ap (λ (m : Metadata). m.response_code) same.metadata in
-    subst (λ (p : ReplyParts). SameParts p b) (sym is.whole)
-    (subst (SameParts (with_edns a.edns is.plain)) (sym also.whole)
+-- Two replies with the same parts beside their options have the same options.
+same-whole : (request : Message) (nsid : Option (List ℕ)) (a b p q : ReplyParts) → SameParts p q → AnswersEdns request.edns (nsid_for request.edns nsid) p.metadata.response_code a.edns
+    → AnswersEdns request.edns (nsid_for request.edns nsid) q.metadata.response_code b.edns → a ≡ with_edns a.edns p → b ≡ with_edns b.edns q → SameParts a b
+same-whole request nsid a b p q same is also whole all =
+    let code : p.metadata.response_code ≡ q.metadata.response_code = ap (λ (m : Metadata). m.response_code) same.metadata in
+    subst (λ (r : ReplyParts). SameParts r b) (sym whole)
+    (subst (SameParts (with_edns a.edns p)) (sym all)
     (record {
       metadata = same.metadata;
       answers = same.answers;
       authorities = same.authorities;
       additionals = same.additionals;
-      edns = one-answer request.edns (nsid_for request.edns nsid) is.plain.metadata.response_code a.edns b.edns is.edns
-          (subst (λ (c : ResponseCode). AnswersEdns request.edns (nsid_for request.edns nsid) c b.edns) (sym code) also.edns);
+      edns = one-answer request.edns (nsid_for request.edns nsid) p.metadata.response_code a.edns b.edns is
+          (subst (λ (c : ResponseCode). AnswersEdns request.edns (nsid_for request.edns nsid) c b.edns) (sym code) also);
       signature = same.signature;
     }))
+
+-- A request that is no update has one full reply.
+pub one-parts : (chains : List (DomainName × List View)) (nsid : Option (List ℕ)) (request : Message) (a b : ReplyParts) → PartsOf chains nsid request a → PartsOf chains nsid request b → SameParts a b
+one-parts chains nsid request a b is also =
+    same-whole request nsid a b is.plain also.plain (one-plain chains request is.plain also.plain is.gives also.gives) is.edns also.edns is.whole also.whole
+
+-- A message has one full reply, signed with one context.
+module _ (chains : List (DomainName × List View)) (nsid : Option (List ℕ)) (keys : Keys) (request : Message) (source : SocketAddr) (octets : List ℕ) (moment : ℕ) where
+  pub one-given : (a b : Given) → GivesOf chains nsid keys request source octets moment a → GivesOf chains nsid keys request source octets moment b → SameParts a.plain b.plain × (a.context ≡ b.context)
+  one-given a b is also = by (is_served_update request) refl
+    where
+      by : (update : Bool) → is_served_update request ≡ update → SameParts a.plain b.plain × (a.context ≡ b.context)
+      by true e =
+          let (first, updates, options, whole) = is.update e in
+          let (second, changes, choices, all) = also.update e in
+          let outcome = one_update keys request source octets moment chains request.asked.questions first second updates changes in (
+            same-whole request nsid a.plain b.plain first.plain second.plain (equal-parts first.plain second.plain outcome.plain) options choices
+                (ap (λ (g : Given). g.plain) whole) (ap (λ (g : Given). g.plain) all),
+            ap (λ (g : Given). g.context) whole ∙ outcome.context ∙ sym (ap (λ (g : Given). g.context) all),
+          )
+      by false e =
+          let (first, gives, whole) = is.other e in
+          let (second, more, all) = also.other e in (
+            subst (λ (p : ReplyParts). SameParts p b.plain) (sym (ap (λ (g : Given). g.plain) whole))
+                (subst (λ (p : ReplyParts). SameParts first p) (sym (ap (λ (g : Given). g.plain) all)) (one-parts chains nsid request first second gives more)),
+            ap (λ (g : Given). g.context) whole ∙ sym (ap (λ (g : Given). g.context) all),
+          )

@@ -1,11 +1,15 @@
 pub mod AnsweredOnce
 pub mod Asked
 mod BlockedBack
-pub use Rattle.zsv_chains.proofs.Chained
-mod Named
+pub use Rattle.zsv_update.proofs.zsv_chains_lemmas.Chained
+pub use Rattle.zsv_update.proofs.ReadAdditions
+mod Copied
+pub mod GivenBack
 pub mod PartsBack
 pub mod PartsOnce
 pub mod Replied
+mod RequestsBack
 mod ResolvedBack
 mod ShownBack
+pub mod Updated
 pub mod zsv_answer_lemmas

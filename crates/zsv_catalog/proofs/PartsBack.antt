@@ -1,13 +1,7 @@
 -- What a full reply holds can be written and read back, where what the handlers hold can.
 use Rattle.std.proofs.Common.{◌≡◌, ◌<◌, ◌≤◌, ◌^◌, ℕ, refl, subst, sym, inl, inr, arith}
-use Rattle.std.proofs.lemmas.List.{length-append}
-use Rattle.std.proofs.lemmas.List.Elements.{All-nil, All-cons}
 use Rattle.std.specs.Prelude.{Bool, true, false, cond, ◌⊎◌, List, [], ◌∷◌, length, Option, Some, None, IfSome, IsSome, option_to_list}
 use Rattle.std.specs.List.{AllByRecursion}
-use Rattle.drd_types.specs.declared.EdnsCode.TheVariants.{NSID}
-use Rattle.drd_types.specs.declared.EdnsOption.TheVariants as option_with
-use Rattle.drd_types.specs.drd_opt.Entries.{Entry, FitsLengths, entries_octets, raw_option}
-use Rattle.drd_types.specs.drd_opt.Reading.{HoldsEntries}
 use Rattle.zsv_answer.specs.Forwarding.{ForwardedParts, forwarded_error, forwarded_metadata, resolved_parts}
 use Rattle.zsv_answer.specs.Parts.{AtOrigin, AuthoritativeParts, BesideAnswer, ChainParts, DeniedParts, PartsAs, answer_records, is_referral}
 use Rattle.zsv_answer.specs.Resolution.{Resolution, answering, no_such_name, no_such_type, not_here, resolved}
@@ -38,9 +32,11 @@ use Rattle.zsv_answer.specs.zsv_reply.zsv_message.zsv_parts.declared.header.Mess
 use Rattle.zsv_answer.specs.zsv_reply.zsv_message.zsv_parts.declared.header.OpCode.{OpCode}
 use Rattle.zsv_answer.specs.zsv_reply.zsv_message.zsv_parts.declared.header.OpCode.TheVariants as operations
 use Rattle.zsv_answer.specs.zsv_reply.zsv_message.zsv_parts.declared.question.Query.{Query}
-use Rattle.zsv_catalog.specs.Catalogs.{AnswersEdns, KindParts, OperationParts, PartsOf, PlainParts, QueryParts, QuestionParts, asks_for_dnssec, asks_for_nsid, has_other_version, identifier, nsid_for}
-use Rattle.zsv_chains.specs.Chains.{chain_for}
+use Rattle.zsv_catalog.specs.Catalogs.{KindParts, OperationParts, PartsOf, PlainParts, QueryParts, QuestionParts, asks_for_dnssec}
+use Rattle.zsv_update.specs.Options.{AnswersEdns, asks_for_nsid, has_other_version, identifier, nsid_for}
+use Rattle.zsv_update.specs.zsv_chains.Chains.{chain_for}
 use Rattle.zsv_catalog.specs.ReadingBack.{ChainReadsBack, ChainsReadBack, ViewReadsBack}
+use Rattle.zsv_update.proofs.EdnsBack.{FitsOption, edns_back}
 use Rattle.zsv_catalog.proofs.ResolvedBack.{ResolutionReadsBack, answering_back, for_back, resolves_back}
 use Rattle.zsv_catalog.proofs.ShownBack.{OutcomeReadsBack, append_back, filter_back, lookup_back, sets_shown_back, zone_sound}
 
@@ -159,35 +155,6 @@ plain_back chains request parts full all is = by (has_other_version request.edns
     by false e = kind_back chains request.metadata (asks_for_dnssec request.edns) request.metadata.message_type request.asked.questions parts full all (is.answered e)
 
 -- ---- the options
--- These options read back, and 16 bits count their octets.
-record OptionsBack (entries : List Entry) : Type 0 where
-  pub options : (entries ≡ []) ⊎ HoldsEntries (entries_octets entries) entries
-  pub counted : length (entries_octets entries) < 2 ^ 16
-
-one_option : (payload : List ℕ) → length payload ≤ 65531 → OptionsBack ((NSID, option_with.NSID payload) ∷ [])
-one_option payload short = record {
-  options = inr (inl (record {
-    raws = raw_option 3 payload ∷ [];
-    fit = All-cons FitsLengths (raw_option 3 payload) [] (record { code = omega arith; octets = omega (arith, short) }) (All-nil FitsLengths);
-    whole = refl;
-    entries_of = (record { code = refl; option = (refl, refl) }, tt);
-  }));
-  counted = omega (arith, short, length-append payload []);
-}
-
--- The RDATA of an OPT record have room for the NSID, after its code and its length (RFC 6891, section 6.1.2; RFC 5001, section
--- 2.3), as for every `NSIDPayload`.
-abbrev pub FitsOption : Option (List ℕ) → Type 0
-FitsOption nsid = IfSome nsid (λ octets. length octets ≤ 65531)
-
-identifier_back : (asked : Edns) (nsid : Option (List ℕ)) → FitsOption nsid → OptionsBack (identifier asked nsid)
-identifier_back asked None fits = record { options = inl refl; counted = omega arith }
-identifier_back asked (Some payload) fits = by (asks_for_nsid asked)
-  where
-    by : (b : Bool) → OptionsBack (cond b ((NSID, option_with.NSID payload) ∷ []) [])
-    by true = one_option payload fits
-    by false = record { options = inl refl; counted = omega arith }
-
 fits_for : (edns : Option Edns) (nsid : Option (List ℕ)) → FitsOption nsid → FitsOption (nsid_for edns nsid)
 fits_for edns nsid fits = by (has_other_version edns)
   where
@@ -195,13 +162,11 @@ fits_for edns nsid fits = by (has_other_version edns)
     by true = tt
     by false = fits
 
-edns_back : (asked : Option Edns) (nsid : Option (List ℕ)) (code : ResponseCode) (edns : Option Edns) → FitsOption nsid → AnswersEdns asked nsid code edns → AllByRecursion EdnsReadsBack (option_to_list edns)
-edns_back None nsid code None fits answers = tt
-edns_back None nsid code (Some edns) fits answers = absurd answers
-edns_back (Some asked) nsid code None fits answers = absurd answers
-edns_back (Some asked) nsid code (Some edns) fits answers =
-    let back = subst OptionsBack (sym answers.options) (identifier_back asked nsid fits) in
-    (record { flags = omega (arith, answers.other_flags); options = back.options; counted = back.counted }, tt)
+options_back : (asked : Option Edns) (nsid : Option (List ℕ)) (code : ResponseCode) (edns : Option Edns) → FitsOption nsid → AnswersEdns asked nsid code edns → AllByRecursion EdnsReadsBack (option_to_list edns)
+options_back None nsid code None fits answers = tt
+options_back None nsid code (Some edns) fits answers = absurd answers
+options_back (Some asked) nsid code None fits answers = absurd answers
+options_back (Some asked) nsid code (Some edns) fits answers = (edns_back asked nsid code edns (λ _. fits) answers, tt)
 
 -- ---- whole
 asked_full : (octets : List ℕ) (place : ℕ) (qs : List Query) (end : ℕ) → Entries (QuestionAt octets) place qs end → AllByRecursion IsFull qs
@@ -216,7 +181,7 @@ section_full asked section = asked_full section.message section.place asked.ques
 pub parts_back : (chains : List (DomainName × List View)) (nsid : Option (List ℕ)) (request : Message) (parts : ReplyParts) → IsSection request.asked → ChainsReadBack chains → FitsOption nsid → PartsOf chains nsid request parts → AllReadBack parts
 parts_back chains nsid request parts section all fits gives =
     let plain = plain_back chains request gives.plain (section_full request.asked section) all gives.gives in
-    let options = edns_back request.edns (nsid_for request.edns nsid) gives.plain.metadata.response_code parts.edns (fits_for request.edns nsid fits) gives.edns in
+    let options = options_back request.edns (nsid_for request.edns nsid) gives.plain.metadata.response_code parts.edns (fits_for request.edns nsid fits) gives.edns in
     subst AllReadBack (sym gives.whole) (record {
       answers = plain.answers;
       authorities = plain.authorities;

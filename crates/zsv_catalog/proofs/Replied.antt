@@ -1,26 +1,33 @@
 -- A reply has the identifier and the opcode of its request.
-use Rattle.std.proofs.Common.{◌≡◌, refl, sym, ap, subst}
-use Rattle.std.specs.Prelude.{ℕ, Bool, true, false, List, [], ◌∷◌, Option, Some, None, IsSome}
+use Rattle.std.proofs.Common.{◌≡◌, ◌∙◌, refl, sym, ap, subst}
+use Rattle.std.proofs.lemmas.Bool.{true≢false}
+use Rattle.std.specs.Prelude.{ℕ, Bool, true, false, not, ◌&&◌, List, [], ◌∷◌, Option, Some, None, IsSome}
+use Rattle.std.specs.declared.net.SocketAddr.{SocketAddr}
 use Rattle.zsv_answer.specs.Forwarding.{ForwardedParts, resolved_parts}
 use Rattle.zsv_answer.specs.Parts.{AuthoritativeParts, ChainParts, PartsAs}
 use Rattle.zsv_answer.specs.Resolution.{Resolution, answering, no_such_name, no_such_type, not_here, resolved}
+use Rattle.zsv_answer.specs.zst_request.Updating.{SigningContext}
 use Rattle.zsv_answer.specs.zst_request.Views.{View, zone_type_of}
 use Rattle.zsv_answer.specs.zst_request.dnw_codes.declared.record_type.RecordType.{RecordType}
-use Rattle.zsv_answer.specs.zst_request.dnw_codes.declared.record_type.RecordType.TheVariants.{AXFR}
+use Rattle.zsv_answer.specs.zst_request.dnw_codes.declared.record_type.RecordType.TheVariants.{AXFR, SOA}
 use Rattle.zsv_answer.specs.zst_request.dnw_codes.RecordType.{same_record_type}
 use Rattle.zsv_answer.specs.zst_request.dnw_name.DomainName.{DomainName}
 use Rattle.zsv_answer.specs.zst_request.zst_codes.declared.settings.ZoneType.{ZoneType}
 use Rattle.zsv_answer.specs.zst_request.zst_codes.declared.settings.ZoneType.TheVariants as zones
 use Rattle.zsv_answer.specs.zsv_reply.Replies.{ReplyParts}
-use Rattle.zsv_answer.specs.zsv_reply.zsv_message.Messages.{Message}
+use Rattle.zsv_answer.specs.zsv_reply.zsv_message.Messages.{Message, is_update}
 use Rattle.zsv_answer.specs.zsv_reply.zsv_message.zsv_parts.declared.header.MessageType.{MessageType}
 use Rattle.zsv_answer.specs.zsv_reply.zsv_message.zsv_parts.declared.header.MessageType.TheVariants as messages
 use Rattle.zsv_answer.specs.zsv_reply.zsv_message.zsv_parts.declared.header.Metadata.{Metadata}
 use Rattle.zsv_answer.specs.zsv_reply.zsv_message.zsv_parts.declared.header.OpCode.{OpCode}
 use Rattle.zsv_answer.specs.zsv_reply.zsv_message.zsv_parts.declared.header.OpCode.TheVariants as operations
 use Rattle.zsv_answer.specs.zsv_reply.zsv_message.zsv_parts.declared.question.Query.{Query}
-use Rattle.zsv_catalog.specs.Catalogs.{KindParts, OperationParts, PlainParts, QueryParts, QuestionParts, asks_for_dnssec, has_other_version}
-use Rattle.zsv_chains.specs.Chains.{chain_for}
+use Rattle.zsv_catalog.specs.Catalogs.{GivesOf, KindParts, OperationParts, PartsOf, PlainParts, QueryParts, QuestionParts, asks_for_dnssec, failure_of, is_query_type, is_served_update}
+use Rattle.zsv_update.specs.Keys.{Keys, Signature}
+use Rattle.zsv_update.specs.Options.{has_other_version}
+use Rattle.zsv_update.specs.Signing.{HasSignature, SignsParts}
+use Rattle.zsv_update.specs.Updates.{ChainUpdates, Given, GivesUpdate, ZoneUpdates}
+use Rattle.zsv_update.specs.zsv_chains.Chains.{chain_for, entry_for}
 
 -- What a reply repeats of its request.
 abbrev pub Repeated : Type 0
@@ -95,3 +102,59 @@ plain_id chains request parts is = by (has_other_version request.edns) refl
     by : (b : Bool) → has_other_version request.edns ≡ b → repeated_of parts ≡ own request.metadata
     by true e = ap repeated_of (is.other_version e)
     by false e = kind_id chains request.metadata (asks_for_dnssec request.edns) request.metadata.message_type request.asked.questions parts (is.answered e)
+
+parts_id : (chains : List (DomainName × List View)) (nsid : Option (List ℕ)) (request : Message) (parts : ReplyParts) → PartsOf chains nsid request parts → repeated_of parts ≡ own request.metadata
+parts_id chains nsid request parts is = ap repeated_of is.whole ∙ plain_id chains request is.plain is.gives
+
+-- ---- updates
+third : (a b c : Bool) → (not a && (b && c)) ≡ true → c ≡ true
+third true b c is = absurd (true≢false (sym is))
+third false true c is = is
+third false false c is = absurd (true≢false (sym is))
+
+update_code : (operation : OpCode) → is_update operation ≡ true → operation ≡ operations.Update
+update_code operations.Update is = refl
+update_code other is = absurd (true≢false (sym is))
+
+pub update_operation : (request : Message) → is_served_update request ≡ true → request.metadata.op_code ≡ operations.Update
+update_operation request served = update_code request.metadata.op_code (third (has_other_version request.edns) (is_query_type request.metadata.message_type) (is_update request.metadata.op_code) served)
+
+module _ (keys : Keys) (request : Message) (source : SocketAddr) (octets : List ℕ) (moment : ℕ) (chains : List (DomainName × List View)) (given : Given) (served : is_served_update request ≡ true) where
+  chain_update_id : (q : Query) (found : Option (DomainName × List View)) → ChainUpdates keys request source octets moment chains q found given → repeated_of given.plain ≡ own request.metadata
+  chain_update_id q None is = ap (λ (g : Given). repeated_of g.plain) is
+  chain_update_id q (Some (zone, [])) is = ap (λ (g : Given). repeated_of g.plain) is
+  chain_update_id q (Some (zone, view ∷ views)) (code, left, handles, plain, after) =
+      ap repeated_of plain ∙ ap (λ (operation : OpCode). (request.metadata.id, operation)) (sym (update_operation request served))
+
+  zone_update_id : (b : Bool) (q : Query) → ZoneUpdates keys request source octets moment b chains q given → repeated_of given.plain ≡ own request.metadata
+  zone_update_id true q is = chain_update_id q (entry_for chains q.name) is
+  zone_update_id false q is = ap (λ (g : Given). repeated_of g.plain) is
+
+  update_id : (qs : List Query) → GivesUpdate keys request source octets moment chains qs given → repeated_of given.plain ≡ own request.metadata
+  update_id [] is = ap (λ (g : Given). repeated_of g.plain) is
+  update_id (q ∷ []) is = zone_update_id (same_record_type q.query_type SOA) q is
+  update_id (q ∷ r ∷ qs) is = ap (λ (g : Given). repeated_of g.plain) is
+
+-- ---- all messages
+pub given_id : (chains : List (DomainName × List View)) (nsid : Option (List ℕ)) (keys : Keys) (request : Message) (source : SocketAddr) (octets : List ℕ) (moment : ℕ) (given : Given) → GivesOf chains nsid keys request source octets moment given
+    → repeated_of given.plain ≡ own request.metadata
+given_id chains nsid keys request source octets moment given gives = by (is_served_update request) refl
+  where
+    by : (b : Bool) → is_served_update request ≡ b → repeated_of given.plain ≡ own request.metadata
+    by true e =
+        let (bare, updates, answers, whole) = gives.update e in
+        ap (λ (g : Given). repeated_of g.plain) whole ∙ update_id keys request source octets moment chains bare e request.asked.questions updates
+    by false e =
+        let (parts, is, whole) = gives.other e in
+        ap (λ (g : Given). repeated_of g.plain) whole ∙ parts_id chains nsid request parts is
+
+-- A signature changes nothing of what a reply repeats.
+signed_id : (found : Option Signature) (plain failure parts : ReplyParts) (m : Metadata) → repeated_of plain ≡ own m → repeated_of failure ≡ own m → HasSignature found plain failure parts → repeated_of parts ≡ own m
+signed_id None plain failure parts m first second is = ap repeated_of is ∙ second
+signed_id (Some signature) plain failure parts m first second (tsig, same, back, is) = ap repeated_of is ∙ first
+
+pub sent_id : (keys : Keys) (request : Message) (given : Given) (context : Option SigningContext) (parts : ReplyParts) → repeated_of given.plain ≡ own request.metadata
+    → SignsParts keys request.asked given.plain (failure_of request given) context parts → repeated_of parts ≡ own request.metadata
+sent_id keys request given None parts repeated is = ap repeated_of is ∙ repeated
+sent_id keys request given (Some context) parts repeated (info, unsigned, over, is) =
+    signed_id (keys.signature context unsigned) given.plain (failure_of request given) parts request.metadata repeated refl is

@@ -3,7 +3,7 @@ use Rattle.std.proofs.Common.{◌≡◌, subst, sym}
 use Rattle.std.specs.Prelude.{Bool, true, false, cond, List, [], ◌∷◌, Option, Some, None, IfSome}
 use Rattle.std.specs.List.{AllByRecursion, find}
 use Rattle.std.specs.Ordering.{is_eq}
-use Rattle.zsv_chains.specs.zst_key.dnw_name.DomainName.{DomainName, domain_name, lowercase_name, name_cmp}
+use Rattle.zsv_update.specs.zsv_chains.zst_key.dnw_name.DomainName.{DomainName, domain_name, lowercase_name, name_cmp}
 use Rattle.zsv_answer.specs.Resolution.{GivesBlocked, ListResolves, Resolution, Resolves, ZoneResolves, answering, answers_name, enforced, enforced_by, last_of, outcome_shown, resolved}
 use Rattle.zsv_answer.specs.zst_request.Blocking.{BlockedAnswer, blocked_answer}
 use Rattle.zsv_answer.specs.zst_request.Handling.{is_enforced}
@@ -12,7 +12,7 @@ use Rattle.zsv_answer.specs.zst_request.dnw_codes.declared.record_type.RecordTyp
 use Rattle.zsv_answer.specs.zst_request.zst_handler.Lookups.{Outcome, answered, name_error, name_exists, out_of_zone}
 use Rattle.zsv_answer.specs.zst_request.zst_handler.Zones.{Zone}
 use Rattle.zsv_answer.specs.zsv_reply.zst_record.Records.{IsServable}
-use Rattle.zsv_chains.specs.Chains.{chain_at, chain_for}
+use Rattle.zsv_update.specs.zsv_chains.Chains.{chain_at, chain_for}
 use Rattle.zsv_catalog.specs.ReadingBack.{ChainReadsBack, ChainsReadBack, ViewReadsBack}
 use Rattle.zsv_catalog.proofs.BlockedBack.{AnswerReadsBack, answer_back, records_back}
 use Rattle.zsv_catalog.proofs.ShownBack.{OutcomeReadsBack, lookup_back, mapped, nearest_back, sets_shown_back, zone_sound}

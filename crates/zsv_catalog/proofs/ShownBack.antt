@@ -8,7 +8,7 @@ use Rattle.zsv_answer.specs.zst_request.dnw_codes.declared.record_type.RecordTyp
 use Rattle.zsv_answer.specs.zst_request.dnw_codes.declared.record_type.RecordType.TheVariants as kind
 use Rattle.zsv_answer.specs.zst_request.dnw_codes.RecordType.{same_record_type}
 use Rattle.zsv_answer.specs.zst_request.dnw_name.DomainName.{DomainName, domain_name, is_at_or_below, lowercase_name, name_eq}
-use Rattle.zsv_chains.specs.zst_key.Ancestors.{nearest_from, or_else, star}
+use Rattle.zsv_update.specs.zsv_chains.zst_key.Ancestors.{nearest_from, or_else, star}
 use Rattle.zsv_answer.specs.zsv_reply.zst_record.declared.records.Record.{Record}
 use Rattle.zsv_answer.specs.zsv_reply.drd_rdata.Exceeding.{ExceedsRdlength}
 use Rattle.zsv_answer.specs.zsv_reply.drd_rdata.declared.rdata.RData.{RData}

@@ -1,13 +1,9 @@
--- What a catalog of zones answers to a request: RFC 1034, section 4.3.2; RFC 5001; RFC 6891,
--- sections 6 and 7.
-use Rattle.std.specs.Prelude.{◌≡◌, ℕ, Bool, true, false, List, [], ◌∷◌, Option, Some, None, IsSome, nat_lt, ◌==◌, unwrap_or, option_map, if◌then◌else◌}
-use Rattle.std.specs.List.{list_any}
+-- What a catalog of zones answers to a request: RFC 1034, section 4.3.2; RFC 2136, section 3; RFC
+-- 6891, section 6.
+use Rattle.std.specs.Prelude.{◌≡◌, ℕ, Bool, true, false, if◌then◌else◌, not, ◌&&◌, List, [], ◌∷◌, Option, Some, None, IsSome, unwrap_or, option_map}
 use Rattle.std.specs.declared.net.SocketAddr.{SocketAddr}
-use Rattle.drd_types.specs.declared.EdnsCode.TheVariants.{NSID}
-use Rattle.drd_types.specs.declared.EdnsOption.TheVariants as option_with
-use Rattle.drd_types.specs.drd_opt.Entries.{Entry, raw_of}
 use Rattle.zsv_answer.specs.Parts.{ChainParts}
-use Rattle.zsv_answer.specs.zst_request.Updating.{Asked, SignedBy}
+use Rattle.zsv_answer.specs.zst_request.Updating.{Asked}
 use Rattle.zsv_answer.specs.zst_request.Views.{View}
 use Rattle.zsv_answer.specs.zst_request.dnw_codes.declared.record_type.RecordType.TheVariants.{AXFR}
 use Rattle.zsv_answer.specs.zst_request.dnw_codes.RecordType.{same_record_type}
@@ -17,7 +13,7 @@ use Rattle.zsv_answer.specs.zst_request.zst_codes.declared.response_code.Respons
 use Rattle.zsv_answer.specs.zst_request.zst_codes.declared.settings.TsigVerdict.TheVariants as verdicts
 use Rattle.zsv_answer.specs.zsv_reply.Replies.{ReplyParts}
 use Rattle.zsv_answer.specs.zsv_reply.Writing.{AllReadBack, Sends, SendsParts, error_parts, with_edns}
-use Rattle.zsv_answer.specs.zsv_reply.zsv_message.Messages.{Message}
+use Rattle.zsv_answer.specs.zsv_reply.zsv_message.Messages.{Message, is_update}
 use Rattle.zsv_answer.specs.zsv_reply.zsv_message.zst_edns.declared.edns.Edns.{Edns}
 use Rattle.zsv_answer.specs.zsv_reply.zsv_message.zsv_parts.declared.header.Header.{Header}
 use Rattle.zsv_answer.specs.zsv_reply.zsv_message.zsv_parts.declared.header.Metadata.{Metadata}
@@ -26,17 +22,18 @@ use Rattle.zsv_answer.specs.zsv_reply.zsv_message.zsv_parts.declared.header.Mess
 use Rattle.zsv_answer.specs.zsv_reply.zsv_message.zsv_parts.declared.header.OpCode.{OpCode}
 use Rattle.zsv_answer.specs.zsv_reply.zsv_message.zsv_parts.declared.header.OpCode.TheVariants as operations
 use Rattle.zsv_answer.specs.zsv_reply.zsv_message.zsv_parts.declared.question.Query.{Query}
-use Rattle.zsv_answer.specs.zsv_reply.zsv_message.zsv_parts.declared.tsig.TsigRecord.{TsigRecord}
-use Rattle.zsv_answer.specs.zsv_reply.zsv_message.zsv_parts.zst_codes.ResponseCode.{high_bits}
 use Rattle.zsv_answer.specs.zsv_request.declared.protocol.Protocol.{Protocol}
-use Rattle.zsv_chains.specs.Chains.{chain_for}
+use Rattle.zsv_update.specs.zsv_chains.Chains.{chain_for}
+use Rattle.zsv_update.specs.Keys.{Keys}
+use Rattle.zsv_update.specs.Options.{AnswersEdns, has_other_version, nsid_for}
+use Rattle.zsv_update.specs.Replying.{RefusesUpdate}
+use Rattle.zsv_update.specs.Signing.{SignsParts}
+use Rattle.zsv_update.specs.Updates.{Given, GivesUpdate, only, signer_of}
+use Rattle.zsv_update.specs.declared.update.ServiceFault.{ServiceFault}
+use Rattle.zsv_update.specs.declared.update.ServiceFault.TheVariants.{OutOfMemory}
 use Rattle.zsv_catalog.specs.ReadingBack.{ChainsReadBack}
 
 -- ---- what handlers are asked
--- Who signed a message, by its TSIG (RFC 8945, section 4.2).
-abbrev pub signer_of : TsigRecord → SignedBy
-signer_of r = record { key_name = r.name; algorithm = r.rdata.algorithm; mac = r.rdata.mac.items }
-
 -- A question of a query: no signature is tested of it, and it changes nothing.
 abbrev pub asked_of_query : Message → SocketAddr → Query → Asked
 asked_of_query request source q = record {
@@ -86,12 +83,7 @@ KindParts chains m dnssec_ok messages.Query qs parts =
 abbrev pub asks_for_dnssec : Option Edns → Bool
 asks_for_dnssec edns = unwrap_or (option_map (λ e. e.flags.dnssec_ok) edns) false
 
--- EDNS of another version than 0 (RFC 6891, section 6.1.3).
-abbrev pub has_other_version : Option Edns → Bool
-has_other_version edns = unwrap_or (option_map (λ e. nat_lt 0 e.version) edns) false
-
--- What a full reply to a request holds beside its options. Which version of EDNS is served is told
--- before all else.
+-- What a full reply to a request holds beside its options. The version of EDNS is tested first.
 pub record PlainParts (chains : List (DomainName × List View)) (request : Message)
     (parts : ReplyParts) : Type 0 where
   pub other_version : has_other_version request.edns ≡ true
@@ -99,39 +91,6 @@ pub record PlainParts (chains : List (DomainName × List View)) (request : Messa
   pub answered : has_other_version request.edns ≡ false
       → KindParts chains request.metadata (asks_for_dnssec request.edns)
       request.metadata.message_type request.asked.questions parts
-
--- An option of code 3 asks for the server's identifier, which it tells if it has one (RFC 5001,
--- section 2).
-abbrev pub asks_for_nsid : Edns → Bool
-asks_for_nsid edns = list_any (λ entry. (raw_of entry).code == 3) edns.options.options.items
-
-abbrev pub identifier : Edns → Option (List ℕ) → List Entry
-identifier asked None = []
-identifier asked (Some payload) =
-    if asks_for_nsid asked then (NSID, option_with.NSID payload) ∷ [] else []
-
--- The options of a reply (RFC 6891, sections 6.1.3 and 6.2.3; RFC 3225, section 3): the upper bits
--- of its code, version 0, DO as it was asked, no other flag, the payload as it was asked, which is
--- 512 at least, and no options but the identifier.
-pub record IsReplyEdns (asked : Edns) (nsid : Option (List ℕ)) (code : ResponseCode) (edns : Edns) :
-    Type 0 where
-  pub rcode_high : edns.rcode_high ≡ high_bits code
-  pub version : edns.version ≡ 0
-  pub dnssec_ok : edns.flags.dnssec_ok ≡ asked.flags.dnssec_ok
-  pub other_flags : edns.flags.z ≡ 0
-  pub max_payload : edns.max_payload ≡ asked.max_payload
-  pub options : edns.options.options.items ≡ identifier asked nsid
-
--- They are there where the request has some (RFC 6891, section 6.1.1).
-abbrev pub AnswersEdns : Option Edns → Option (List ℕ) → ResponseCode → Option Edns → Type 0
-AnswersEdns None nsid code None = Unit {0}
-AnswersEdns (Some asked) nsid code (Some edns) = IsReplyEdns asked nsid code edns
-AnswersEdns None nsid code (Some edns) = ⊥
-AnswersEdns (Some asked) nsid code None = ⊥
-
--- Who asks in another version is not told the identifier.
-abbrev pub nsid_for : Option Edns → Option (List ℕ) → Option (List ℕ)
-nsid_for edns nsid = if has_other_version edns then None else nsid
 
 -- What a full reply to a request holds.
 pub record PartsOf (chains : List (DomainName × List View)) (nsid : Option (List ℕ))
@@ -150,14 +109,75 @@ SendsWith plain nsid request transport info reply =
     × AnswersEdns request.edns (nsid_for request.edns nsid) plain.metadata.response_code edns
     × Sends plain edns request.asked transport info reply
 
--- The octets of a reply to a request, and its header: of the parts that the chains give, which read
--- back if the chains do.
-abbrev pub RepliesBy : List (DomainName × List View) → Option (List ℕ) → Message → Protocol
+-- The octets of a reply to a message that is no update, and its header: of the parts that the
+-- chains give, which read back if the chains do.
+abbrev pub RepliesPlain : List (DomainName × List View) → Option (List ℕ) → Message → Protocol
     → Header → List ℕ → Type 0
-RepliesBy chains nsid request transport info reply =
+RepliesPlain chains nsid request transport info reply =
     (parts : ReplyParts) × PartsOf chains nsid request parts
     × SendsParts parts request.asked transport info reply
     × (ChainsReadBack chains → AllReadBack parts)
+
+-- ---- what a message gives
+-- A message is served as an update if its version of EDNS is served, it is no reply, and its opcode
+-- is Update (RFC 2136, section 2.2).
+abbrev pub is_query_type : MessageType → Bool
+is_query_type messages.Query = true
+is_query_type messages.Response = false
+
+abbrev pub is_served_update : Message → Bool
+is_served_update request =
+    not (has_other_version request.edns)
+    && (is_query_type request.metadata.message_type && is_update request.metadata.op_code)
+
+-- A message after it was served: the records of an update are taken out.
+abbrev pub left_of : Message → Message
+left_of request =
+    if is_served_update request then record request { authorities = [] } else request
+
+-- The outcome of an update, with the options of its reply.
+abbrev pub UpdatesOf : List (DomainName × List View) → Option (List ℕ) → Keys → Message → SocketAddr
+    → List ℕ → ℕ → Given → Type 0
+UpdatesOf chains nsid keys request source octets moment given =
+    (bare : Given)
+    × GivesUpdate keys request source octets moment chains request.asked.questions bare
+    × AnswersEdns request.edns (nsid_for request.edns nsid) bare.plain.metadata.response_code
+    given.plain.edns
+    × (given ≡ record bare { plain = with_edns given.plain.edns bare.plain })
+
+-- A message from a source, in these octets, at a moment: the full reply, the context to sign it
+-- with, if any, and the chains after it. Updates alone change them.
+pub record GivesOf (chains : List (DomainName × List View)) (nsid : Option (List ℕ)) (keys : Keys)
+    (request : Message) (source : SocketAddr) (octets : List ℕ) (moment : ℕ) (given : Given) : Type
+    0 where
+  pub update : is_served_update request ≡ true
+      → UpdatesOf chains nsid keys request source octets moment given
+  pub other : is_served_update request ≡ false
+      → (parts : ReplyParts) × PartsOf chains nsid request parts × (given ≡ only chains parts)
+
+-- The parts in place of a reply that no key signs: the server failed, with the same options.
+abbrev pub failure_of : Message → Given → ReplyParts
+failure_of request given =
+    with_edns given.plain.edns (error_parts request.metadata responses.ServFail)
+
+-- The octets of a reply to a message, its header, and the chains after it: of the parts that the
+-- chains give, signed if they are to be, which read back if the chains do.
+abbrev pub RepliesBy : List (DomainName × List View) → Option (List ℕ) → Keys → Message → SocketAddr
+    → List ℕ → ℕ → Protocol → Header → List ℕ → List (DomainName × List View) → Type 0
+RepliesBy chains nsid keys request source octets moment transport info reply new =
+    (given : Given) × GivesOf chains nsid keys request source octets moment given
+    × (parts : ReplyParts)
+    × SignsParts keys request.asked given.plain (failure_of request given) given.context parts
+    × SendsParts parts request.asked transport info reply
+    × (ChainsReadBack chains → AllReadBack parts) × (new ≡ given.chains)
+
+-- No reply is sent. Nothing changed; or an update was accepted, and the chains are those after it.
+abbrev pub RefusesBy : List (DomainName × List View) → Keys → Message → SocketAddr → List ℕ → ℕ
+    → ServiceFault → List (DomainName × List View) → Type 0
+RefusesBy chains keys request source octets moment (OutOfMemory false) new = new ≡ chains
+RefusesBy chains keys request source octets moment (OutOfMemory true) new =
+    (is_served_update request ≡ true)
+    × RefusesUpdate keys request source octets moment chains (OutOfMemory true) new
 
 -- The octets of a reply to a query with these options, and its header: of the parts that the chains
 -- give to its question, whatever its opcode.

@@ -17,7 +17,7 @@ with_reply sink reply = record sink { taken = sink.taken ++ reply ∷ [] }
 abbrev pub with_fault : Sink → Sink
 with_fault sink = record sink { faults = sink.faults + 1 }
 
--- What is told of a reply that wasn't taken: that the server failed.
+-- The header in place of that of a reply that wasn't taken: the server failed.
 abbrev pub failed_header : Metadata → Header
 failed_header m = record {
   metadata = record (plain_metadata m.id messages.Response m.op_code) {
@@ -26,7 +26,7 @@ failed_header m = record {
   counts = record { queries = 0; answers = 0; authorities = 0; additionals = 0 };
 }
 
--- A reply with this header was handed over: it was taken, and its header is told, or it wasn't.
+-- A reply with this header was sent: it was taken, and the result is its header, or it wasn't.
 abbrev pub HandsOver : Sink → List ℕ → Header → Metadata → Sink → Header → Type 0
 HandsOver old reply sent m new told =
     ((new ≡ with_reply old reply) × (told ≡ sent))

@@ -4,10 +4,11 @@ ghost use Rattle.std.specs.Prelude.{◌≡◌, ℕ, List, IfErr, IfOk, OnErr};
 ghost use Rattle.zsv_answer.specs.zsv_reply.zsv_message.zsv_parts.declared.header.Header.{Header};
 ghost use Rattle.zsv_answer.specs.zsv_request.Requests.{Requested};
 ghost use Rattle.zsv_catalog.specs.Sinks.{HandsOver};
-ghost use Rattle.zsv_catalog.specs.declared.sink.ServiceFault.{ServiceFault as Fault};
+ghost use Rattle.zsv_update.specs.declared.update.ServiceFault.{ServiceFault as Fault};
 
-use crate::sink::{ResponseHandler, ServiceFault};
+use crate::sink::ResponseHandler;
 use zsv_answer::{Request, ResponseInfo};
+use zsv_update::ServiceFault;
 
 /// Answers requests. A contract sees which replies a request may get at a moment, each with its header as it was written, how a
 /// request may be refused, and what either leaves of the handler.
@@ -16,8 +17,8 @@ pub trait RequestHandler {
 
     ghost refuses: { Self → Requested → ℕ → Fault → Self → Type 0 };
 
-    /// Answers a request: its reply is handed to a sink. What is told is the header of the reply as it was written; where the
-    /// sink didn't take it, that the server failed. The moment is given in seconds since 1970.
+    /// Answers a request: its reply is sent to a sink. The result is the header of the reply as it was written, or that of a
+    /// failed server if the sink didn't take it. The moment is given in seconds since 1970.
     fn handle_request<R: ResponseHandler>(
         &mut self,
         request: &Request<'_>,

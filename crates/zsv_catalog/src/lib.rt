@@ -1,8 +1,7 @@
-//! Many zones in one server: chains of handlers, each under the name from which on it answers, and what they answer to a
-//! request.
+//! Many zones in one server: chains of handlers, each registered under a name, and what they answer to a request.
 //!
-//! `PartsOf` says what a full reply to a request holds, by what the handlers mean. `Catalog` holds them, in boxes where they are
-//! of several kinds.
+//! `RepliesBy` says which reply a request gets and what it leaves of the zones, by what the handlers mean. `Catalog` holds
+//! them, in boxes if they are of several kinds.
 #![tactic(auto)]
 
 pub use drd_types::NSIDPayload;
@@ -11,19 +10,18 @@ pub use zsv_answer::{
     HeaderCounts, Label, LookupControlFlow, LookupError, LookupOptions, LookupRecords, LowerName,
     LowerQuery, MessageRequest, MessageResponse, MessageResponseBuilder, MessageType, Metadata, NS,
     Name, OpCode, Protocol, Queries, Query, RData, Record, RecordRef, RecordSet, RecordType,
-    Request, RequestInfo, ResponseCode, ResponseInfo, SOA, TSigResponseContext, Tsig, TsigRecord,
-    TsigVerdict, UpdateRequest, ZoneHandler, ZoneRequest, ZoneType, encode_error, encode_refusal,
-    error_response,
+    Request, RequestInfo, RequestTsig, ResponseCode, ResponseInfo, SOA, TSigResponseContext, Tsig,
+    TsigRecord, TsigVerdict, UpdateRequest, ZoneHandler, ZoneRequest, ZoneType, encode_error,
+    encode_refusal, error_response,
 };
-pub use zsv_chains::Chains;
+pub use zsv_update::{Chains, NoSuite, Received, ServiceFault, SignFault, TsigSuite};
 
 mod catalog;
+mod copies;
 mod handler;
 mod reply;
 mod sink;
-mod suite;
 
 pub use catalog::Catalog;
 pub use handler::RequestHandler;
-pub use sink::{ResponseHandler, SendFault, ServiceFault};
-pub use suite::{NoSuite, SignFault, TsigSuite};
+pub use sink::{ResponseHandler, SendFault};

@@ -1,32 +1,26 @@
 //! What chains of handlers answer to a request (RFC 1034 section 4.3.2).
 
-ghost use Rattle.std.specs.Prelude.{◌≡◌, ◌≤◌, [], IfOk, IfSome, OnOk, length, option_copied};
+ghost use Rattle.std.specs.Prelude.{◌≡◌, ◌≤◌, IfErr, IfOk, IfSome, length, option_copied};
 ghost use Rattle.zsv_answer.specs.Responses.{parts_of};
-ghost use Rattle.zsv_answer.specs.zst_request.Requested.{asked_of, signed_by};
-ghost use Rattle.zsv_catalog.specs.Catalogs.{AnswersEdns, AnswersQuery, IsReplyEdns, KindParts, PlainParts, QueryParts, QuestionParts, RepliesBy, SendsWith, asked_of_query, has_other_version, identifier, nsid_for, signer_of};
-ghost use Rattle.zsv_chains.specs.Chains.{views_of};
+ghost use Rattle.zsv_answer.specs.zst_request.Requested.{asked_of};
+ghost use Rattle.zsv_catalog.specs.Catalogs.{AnswersQuery, KindParts, PartsOf, PlainParts, QueryParts, QuestionParts, RefusesBy, RepliesBy, RepliesPlain, SendsWith, asked_of_query, is_served_update, left_of};
+ghost use Rattle.zsv_catalog.specs.Requests.{RefusesRequest, RepliesToRequest};
+ghost use Rattle.zsv_update.specs.zsv_chains.Chains.{views_of};
 
-use drd_types::{EdnsCode, EdnsOption, NSIDPayload};
+use crate::copies::copies;
+use drd_types::NSIDPayload;
 use std::alloc::{AllocError, Global};
 use std::mem;
 use std::net::SocketAddr;
 use zsv_answer::{
-    Edns, LookupOptions, MessageRequest, MessageType, OpCode, Protocol, Query, RecordType,
-    RequestTsig, Response, ResponseCode, ResponseInfo, TsigRecord, TsigVerdict, ZoneHandler,
-    ZoneRequest, chain_response, error_response,
+    Edns, LookupOptions, MessageRequest, MessageType, OpCode, Protocol, Query, RecordType, Request,
+    Response, ResponseCode, ResponseInfo, TsigVerdict, ZoneHandler, ZoneRequest, chain_response,
+    error_response,
 };
-use zsv_chains::{Chains, NameKey};
-
-// Who signed a message.
-fn tsig_of(signature: &TsigRecord) -> RequestTsig<'_>
-    ensures { signed_by result ≡ signer_of signature.now }
-{
-    RequestTsig {
-        key_name: &signature.name,
-        algorithm: &signature.rdata.algorithm,
-        mac: &signature.rdata.mac,
-    }
-}
+use zsv_update::{
+    Chains, NameKey, Received, ServiceFault, TsigSuite, has_other_version, reply_edns, tsig_of,
+    update_by,
+};
 
 // A question as the handlers of its name are asked it. No signature is tested of a query.
 fn asked<'q>(
@@ -118,16 +112,6 @@ fn kind_response<'z, H: ZoneHandler>(
     }
 }
 
-// Whether a request has EDNS of another version than the one that is served.
-fn has_other_version(edns: Option<&Edns>) -> bool
-    ensures { result ≡ has_other_version (option_copied edns.entry) }
-{
-    match edns {
-        Some(edns) => edns.version() > 0,
-        None => false,
-    }
-}
-
 // What a full reply to a request holds beside its options.
 fn response_to<'z, H: ZoneHandler>(
     chains: &'z Chains<H>,
@@ -143,71 +127,6 @@ fn response_to<'z, H: ZoneHandler>(
     }
     let options = LookupOptions::from_edns(message.edns());
     kind_response(chains, alloc, message, src, options)
-}
-
-// A copy of an NSID.
-fn copy_of(alloc: Global, nsid: &NSIDPayload) -> Result<NSIDPayload, AllocError>
-    ensures { IfOk result (λ copy. copy ≡ nsid.now) }
-{
-    match NSIDPayload::new(Vec::from_slice(alloc, nsid.as_ref())?) {
-        Ok(copy) => Ok(copy),
-        Err(_) => Err(AllocError),
-    }
-}
-
-// Tells the server's identifier among the options of a reply, which has none yet, where it has one and is asked for it.
-fn identify(
-    alloc: Global,
-    edns: &mut Edns,
-    asked: &Edns,
-    nsid: Option<&NSIDPayload>,
-) -> Result<(), AllocError>
-    requires { edns.old.options.options.items ≡ [] }
-    ensures options { OnOk result (edns.new.options.options.items ≡ identifier asked.now (option_copied nsid.entry)) }
-    ensures others { OnOk result (edns.new ≡ record edns.old { options = edns.new.options }) }
-{
-    let Some(payload) = nsid else {
-        return Ok(());
-    };
-    if asked.option(EdnsCode::NSID).is_none() {
-        return Ok(());
-    }
-    let copy = copy_of(alloc, payload)?;
-    edns.options_mut().insert(EdnsOption::NSID(copy))
-}
-
-// The options of a reply: the upper bits of its code, DO and the payload as they were asked, and the server's identifier where
-// it has one and is asked for it.
-fn edns_of(
-    alloc: Global,
-    asked: &Edns,
-    nsid: Option<&NSIDPayload>,
-    response_code: ResponseCode,
-) -> Result<Edns, AllocError>
-    ensures { IfOk result (IsReplyEdns asked.now (option_copied nsid.entry) response_code) }
-{
-    let mut edns = Edns::new(alloc);
-    edns.set_rcode_high(response_code.high());
-    edns.set_dnssec_ok(asked.flags().dnssec_ok);
-    edns.set_max_payload(asked.max_payload());
-    identify(alloc, &mut edns, asked, nsid)?;
-    Ok(edns)
-}
-
-// The options of a reply, where the request has some. Who asks in another version is not told the identifier.
-fn reply_edns(
-    alloc: Global,
-    asked: Option<&Edns>,
-    nsid: Option<&NSIDPayload>,
-    response_code: ResponseCode,
-) -> Result<Option<Edns>, AllocError>
-    ensures { IfOk result (AnswersEdns (option_copied asked.entry) (nsid_for (option_copied asked.entry) (option_copied nsid.entry)) response_code) }
-{
-    let Some(asked) = asked else {
-        return Ok(None);
-    };
-    let nsid = if asked.version() > 0 { None } else { nsid };
-    Ok(Some(edns_of(alloc, asked, nsid, response_code)?))
 }
 
 // The octets of a response with the options that answer a request's, and its header as it was written.
@@ -235,8 +154,19 @@ fn nsid_octets<'n>(nsid: Option<&'n NSIDPayload>) -> &'n [u8]
     }
 }
 
-/// The reply of these chains to a request, and its header as it was written, within the limit of its transport.
-pub(crate) fn reply_by<H: ZoneHandler>(
+// Whether a message is served as an update.
+fn is_served_update(message: &MessageRequest<'_>) -> bool
+    ensures { result ≡ is_served_update message.now }
+{
+    let metadata = message.metadata();
+    !has_other_version(message.edns())
+        && metadata.message_type == MessageType::Query
+        && metadata.op_code == OpCode::Update
+}
+
+// The reply of these chains to a message that is no update, and its header as it was written, within the limit of its
+// transport.
+fn plain_reply<H: ZoneHandler>(
     chains: &Chains<H>,
     nsid: Option<&NSIDPayload>,
     alloc: Global,
@@ -244,7 +174,7 @@ pub(crate) fn reply_by<H: ZoneHandler>(
     src: SocketAddr,
     protocol: Protocol,
 ) -> Result<(ResponseInfo, Vec<u8>), AllocError>
-    ensures { IfOk result (λ sent. RepliesBy (views_of H.view chains.now.chains) (option_copied nsid.entry) message.now protocol sent.0 sent.1.items) }
+    ensures { IfOk result (λ sent. RepliesPlain (views_of H.view chains.now.chains) (option_copied nsid.entry) message.now protocol sent.0 sent.1.items) }
 {
     let (_octets, _questions) = (nsid_octets(nsid), message.queries().queries());
     let mut response = response_to(chains, alloc, message, src)?;
@@ -255,6 +185,90 @@ pub(crate) fn reply_by<H: ZoneHandler>(
     }
     mem::forget(response);
     sent
+}
+
+/// The reply of these chains to a message, and its header as it was written, within the limit of its transport. An update may
+/// change them; its records are taken out of the message.
+pub(crate) fn reply_by<S: TsigSuite, H: ZoneHandler>(
+    suite: &S,
+    chains: &mut Chains<H>,
+    nsid: Option<&NSIDPayload>,
+    alloc: Global,
+    message: &mut MessageRequest<'_>,
+    received: Received<'_>,
+) -> Result<(ResponseInfo, Vec<u8>), ServiceFault>
+    ensures replied { IfOk result (λ sent. RepliesBy (views_of H.view chains.old.chains) (option_copied nsid.entry) (S.keys suite.now) message.old
+        received.entry.source received.entry.octets.now received.entry.now received.entry.protocol sent.0 sent.1.items (views_of H.view chains.new.chains)) }
+    ensures refused { IfErr result (λ fault. RefusesBy (views_of H.view chains.old.chains) (S.keys suite.now) message.old
+        received.entry.source received.entry.octets.now received.entry.now fault (views_of H.view chains.new.chains)) }
+    ensures message { message.new ≡ left_of message.old }
+{
+    if is_served_update(message) {
+        let updates = message.take_authorities(alloc);
+        return update_by(suite, chains, nsid, alloc, message, updates, received);
+    }
+    match plain_reply(
+        chains,
+        nsid,
+        alloc,
+        message,
+        received.source,
+        received.protocol,
+    ) {
+        Ok(sent) => Ok(sent),
+        Err(_) => Err(ServiceFault::OutOfMemory { applied: false }),
+    }
+}
+
+/// How a request arrived.
+pub(crate) fn received_of<'r>(request: &'r Request<'_>, now: u64) -> Received<'r>
+    ensures source { result.source ≡ request.now.source }
+    ensures octets { result.octets.now ≡ request.now.octets }
+    ensures protocol { result.protocol ≡ request.now.transport }
+    ensures now { result.now ≡ now }
+{
+    Received {
+        source: request.src(),
+        octets: request.as_slice(),
+        protocol: request.protocol(),
+        now,
+    }
+}
+
+/// The reply of these chains to a request, and its header as it was written, within the limit of its transport. An update
+/// applies copies of the request's records.
+pub(crate) fn reply_to_request<S: TsigSuite, H: ZoneHandler>(
+    suite: &S,
+    chains: &mut Chains<H>,
+    nsid: Option<&NSIDPayload>,
+    alloc: Global,
+    request: &Request<'_>,
+    now: u64,
+) -> Result<(ResponseInfo, Vec<u8>), ServiceFault>
+    ensures replied { IfOk result (λ sent. RepliesToRequest (views_of H.view chains.old.chains) (option_copied nsid.entry) (S.keys suite.now)
+        request.now now sent.0 sent.1.items (views_of H.view chains.new.chains)) }
+    ensures refused { IfErr result (λ fault. RefusesRequest (views_of H.view chains.old.chains) (S.keys suite.now) request.now now fault
+        (views_of H.view chains.new.chains)) }
+{
+    let message = request.message();
+    if is_served_update(message) {
+        let Ok(updates) = copies(alloc, message.authorities()) else {
+            return Err(ServiceFault::OutOfMemory { applied: false });
+        };
+        let received = received_of(request, now);
+        return update_by(suite, chains, nsid, alloc, message, updates, received);
+    }
+    match plain_reply(
+        chains,
+        nsid,
+        alloc,
+        message,
+        request.src(),
+        request.protocol(),
+    ) {
+        Ok(sent) => Ok(sent),
+        Err(_) => Err(ServiceFault::OutOfMemory { applied: false }),
+    }
 }
 
 /// The reply of these chains to a query with these options, and its header as it was written, within the limit of its

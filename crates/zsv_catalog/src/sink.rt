@@ -4,7 +4,6 @@ ghost use Rattle.std.specs.Prelude.{◌≡◌, IfOk, OnErr, OnOk};
 ghost use Rattle.zsv_answer.specs.zsv_reply.zsv_message.zsv_parts.declared.header.Header.{Header as Written};
 ghost use Rattle.zsv_catalog.specs.Sinks.{HandsOver, Sink, failed_header, with_fault, with_reply};
 
-use thiserror::Error;
 use zsv_answer::{Header, HeaderCounts, MessageType, Metadata, ResponseCode, ResponseInfo};
 
 /// That a sink failed to take a reply.
@@ -21,18 +20,7 @@ pub trait ResponseHandler {
         ensures err { OnErr result (sink self.new ≡ with_fault (sink self.old)) };
 }
 
-/// Why a request was not answered.
-#[derive(Clone, Copy, Debug, Error)]
-pub enum ServiceFault {
-    /// Want of memory.
-    #[error("out of memory")]
-    OutOfMemory {
-        /// Whether a change that the request asked for stands.
-        applied: bool,
-    },
-}
-
-// What is told of a reply that wasn't taken.
+// The header in place of that of a reply that wasn't taken.
 fn failed_info(request: &Metadata) -> ResponseInfo
     ensures { result ≡ failed_header request.now }
 {
@@ -44,7 +32,7 @@ fn failed_info(request: &Metadata) -> ResponseInfo
     })
 }
 
-// Hands a reply over, and tells its header, or that the server failed where it wasn't taken.
+// Sends a reply. The result is its header, or that of a failed server if it wasn't taken.
 pub(crate) fn hand_over<R: ResponseHandler>(
     request: &Metadata,
     sent: (ResponseInfo, Vec<u8>),

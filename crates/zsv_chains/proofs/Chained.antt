@@ -12,7 +12,7 @@ use Rattle.zst_key.specs.Ancestors.{nearest_from, or_else}
 use Rattle.zst_key.specs.dnw_name.DomainName.{DomainName, domain_name, lowercase_name, name_cmp}
 use Rattle.zst_request.specs.Updating.{Asked}
 use Rattle.zst_request.specs.Views.{View}
-use Rattle.zsv_chains.specs.Chains.{Answer, UpdatesChain, UpdatesFirst, UpdatesFound, chain_at, chain_for, views_of, with_chain, with_chain_at, without_chain}
+use Rattle.zsv_chains.specs.Chains.{Answer, UpdatesChain, UpdatesFirst, UpdatesFound, chain_at, chain_for, entry_for, views_of, with_chain, with_chain_at, without_chain}
 
 -- ---- functions over what is found
 map_cond : {X Y : Type 0} (f : X → Y) (b : Bool) (x : X) (o : Option X) (p : Option Y) → p ≡ option_map f o → cond b (Some (f x)) p ≡ option_map f (cond b (Some x) o)
@@ -56,6 +56,13 @@ for_views view chains name =
     let near = nearest_from (chain_at chains) lower.fqdn lower.labels in
     ap (option_map (λ (e : DomainName × List View). e.1)) (nearest_same (views view) (chain_at chains) (chain_at (views_of view chains)) (at_views view chains) lower.fqdn lower.labels)
     ∙ map_twice (with_value (views view)) (λ (e : DomainName × List View). e.1) near ∙ sym (map_twice (λ (e : DomainName × Vec _ Global). e.1) (views view) near)
+
+-- The registered name and the chain for a name, by what the handlers mean.
+pub entry_views : {H : Type 0} (view : H → View) (chains : List (DomainName × Vec H Global)) (name : DomainName)
+    → entry_for (views_of view chains) name ≡ option_map (λ (entry : DomainName × Vec H Global). (entry.0, map view entry.1.items)) (entry_for chains name)
+entry_views view chains name =
+    let lower = lowercase_name name in
+    nearest_same (views view) (chain_at chains) (chain_at (views_of view chains)) (at_views view chains) lower.fqdn lower.labels
 
 -- The chain that was found means the chain for the name.
 pub found_views : {H : Type 0} (view : H → View) (chains : List (DomainName × Vec H Global)) (name : DomainName) (found : Option (List H)) → found ≡ option_map (λ chain. chain.items) (chain_for chains name)

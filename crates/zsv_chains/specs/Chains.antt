@@ -1,10 +1,10 @@
 -- Chains of handlers, each registered under a name: RFC 1034, section 4.3.2, step 2.
-use Rattle.std.specs.Prelude.{◌≡◌, ◌<◌, ℕ, Bool, List, [], ◌∷◌, length, map, Option, None, Some, Result, option_map}
+use Rattle.std.specs.Prelude.{◌≡◌, ◌<◌, ◌≤◌, ℕ, Bool, List, [], ◌∷◌, length, map, Option, None, Some, Result, option_map}
 use Rattle.std.specs.BTreeMap.{insert_entry}
 use Rattle.std.specs.Map.{remove_entry, set_value}
 use Rattle.std.specs.Ordering.{is_eq}
 use Rattle.std.proofs.Common.{Vec, Global}
-use Rattle.zst_key.specs.Ancestors.{nearest_in}
+use Rattle.zst_key.specs.Ancestors.{nearest_in, up}
 use Rattle.zst_key.specs.Sorted.{entry_at}
 use Rattle.zst_key.specs.dnw_name.DomainName.{DomainName, lowercase_name, name_cmp}
 use Rattle.zst_request.specs.Requested.{context_of}
@@ -25,6 +25,12 @@ chain_for chains name =
 -- The name from a name up that is the nearest one with a chain, and the chain.
 abbrev pub entry_for : {X : Type 0} → List (DomainName × X) → DomainName → Option (DomainName × X)
 entry_for chains name = nearest_in (chain_at chains) (lowercase_name name)
+
+-- The second name is the first one, or an ancestor of it.
+pub record IsSelfOrAncestor (name ancestor : DomainName) : Type 0 where
+  pub levels : ℕ
+  pub within : levels ≤ length name.labels
+  pub is : ancestor ≡ up name levels
 
 -- A chain in place of the one under a name.
 abbrev pub with_chain : {X : Type 0} → List (DomainName × X) → DomainName → X

@@ -1,15 +1,15 @@
 //! Chains of handlers, each registered under a name.
 
-ghost use Rattle.std.specs.Prelude.{◌≡◌, [], Some, IfOk, OnErr, OnOk, map, option_map};
+ghost use Rattle.std.specs.Prelude.{◌≡◌, [], Some, IfOk, OnErr, OnOk, length, map, option_map};
 ghost use Rattle.zst_key.specs.Ancestors.{nearest_in};
 ghost use Rattle.zst_key.specs.dnw_name.DomainName.{lowercase_name};
 ghost use Rattle.zst_request.specs.Requested.{asked_of};
-ghost use Rattle.zsv_chains.specs.Chains.{HasHandler, UpdatesChain, UpdatesFirst, answer_of, chain_at, chain_for, views_of, with_chain, without_chain};
+ghost use Rattle.zsv_chains.specs.Chains.{HasHandler, IsSelfOrAncestor, UpdatesChain, UpdatesFirst, answer_of, chain_at, chain_for, entry_for, views_of, with_chain, without_chain};
 
 use std::alloc::{AllocError, Global};
 use std::mem;
 use zst_key::{KeyRef, NameKey, NameList, WholeKey};
-use zst_request::{Name, ResponseCode, TSigResponseContext, ZoneHandler, ZoneRequest};
+use zst_request::{LowerName, Name, ResponseCode, TSigResponseContext, ZoneHandler, ZoneRequest};
 
 /// Chains of handlers, each registered under a name, up to case.
 #[derive(Drop)]
@@ -45,6 +45,25 @@ impl<H: Drop> Chains<H> {
             Some(entry) => Some(&entry.1),
             None => None,
         }
+    }
+
+    /// The registered name of the chain for a name: the name itself, or its nearest ancestor with a chain; as a key, and as a
+    /// name in lower case.
+    pub fn registered(
+        &self,
+        alloc: Global,
+        name: &Name,
+    ) -> Result<Option<(NameKey, LowerName)>, AllocError>
+        ensures key { IfOk result (λ found. option_map (λ at. at.0) found ≡ option_map (λ entry. entry.0) (entry_for self.now.chains name.now)) }
+        ensures name { IfOk result (λ found. option_map (λ at. at.1) found ≡ option_map (λ entry. entry.0) (entry_for self.now.chains name.now)) }
+    {
+        let key = NameKey::of(alloc, name)?;
+        let Some((registered, _)) = self.chains.nearest(key.borrow()) else {
+            return Ok(None);
+        };
+        let (key, labels) = go_up(key, name.iter().len(), registered);
+        let registered_name = name.trim_to(labels)?;
+        Ok(Some((key, LowerName::from(registered_name))))
     }
 
     /// Puts a chain in place of the one under a name, which is dropped.
@@ -90,6 +109,22 @@ impl<H: ZoneHandler> Chains<H> {
         mem::drop(self.chains.replace(&key, handlers));
         told
     }
+}
+
+// Goes up from a name with this many labels to the name itself or an ancestor of it, and counts the labels of that one.
+fn go_up(key: NameKey, labels: usize, ancestor: &NameKey) -> (NameKey, usize)
+    requires ancestor { IsSelfOrAncestor key ancestor.now }
+    requires labels { labels ≡ length key.labels }
+    ensures key { result.0 ≡ ancestor.now }
+    ensures labels { result.1 ≡ length ancestor.now.labels }
+{
+    let mut key = key;
+    let mut labels = labels;
+    'levels: while key != *ancestor {
+        key.to_parent();
+        labels -= 1;
+    }
+    (key, labels)
 }
 
 // Updates the zone of the first of these handlers, if there is one, and returns its answer.

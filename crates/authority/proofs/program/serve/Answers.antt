@@ -1,13 +1,17 @@
-use Rattle.std.proofs.Common.{◌≡◌, ap, refl, inr, option_copied}
-use Rattle.std.specs.Prelude.{ℕ, List, Option}
+use Rattle.std.proofs.Common.{◌≡◌, ap, refl, inr, option_copied, subst, sym}
+use Rattle.std.specs.Prelude.{ℕ, List, Option, None}
 use Rattle.std.specs.declared.net.SocketAddr.{SocketAddr}
 use Rattle.authority_load.specs.zst_zone.zst_handler.Zones.{Zone}
-use Rattle.authority_server.specs.Servers.{world_of}
+use Rattle.authority_server.specs.Servers.{AreUnguarded}
 use Rattle.authority_server.specs.Serving.{World}
-use Rattle.authority_server.specs.zsv_catalog.zsv_answer.zst_request.Views.{Stored}
 use Rattle.authority_server.specs.declared.stream.StreamError.{StreamError}
 use Rattle.authority_server.specs.Frames.{ServesFrames, ServesUntil}
+use Rattle.authority.specs.Programs.{one_zone}
 use Rattle.authority.proofs.program.serve.Goals as goal
+
+-- Its one zone takes no updates.
+unguarded : {world : World} (zone : Zone) → zone.guard ≡ None → world ≡ one_zone zone → AreUnguarded world.chains
+unguarded zone none is = subst (λ (w : World). AreUnguarded w.chains) (sym is) ((none, tt), tt)
 
 over_same : {old new first : World} {source : SocketAddr} {moment : ℕ} {left rest before after : Option (List ℕ)} → old ≡ first → new ≡ old → ServesFrames old source moment left rest before after new → ServesFrames first source moment left rest before after first
 over_same is same frames =
@@ -28,7 +32,7 @@ returns-in-Ok g c = record {
   };
   source = _;
   from_here = c.loopback.ensures;
-  frames = over_same c.in_ok-server.ensures.server (ap (world_of (λ (z : Zone). Stored z)) c.in-Ok.ensures.unchanged) c.in-Ok.ensures.served;
+  frames = over_same c.in_ok-server.ensures.server (c.in-Ok.ensures.fixed (unguarded c.in_ok-zone.zone c.in_ok-zone.ensures.unguarded c.in_ok-server.ensures.server)) c.in-Ok.ensures.served;
   ended = c.in-Ok.ensures.ended;
 }
 
@@ -54,6 +58,6 @@ returns g c = inr (
     };
     source = _;
     from_here = c.loopback.ensures;
-    frames = until_same c.in_ok-server.ensures.server (ap (world_of (λ (z : Zone). Stored z)) c.in-Err.ensures.unchanged) (rw c.in-Err.is at c.serve_stream.ensures.left);
+    frames = until_same c.in_ok-server.ensures.server (c.in-Err.ensures.fixed (unguarded c.in_ok-zone.zone c.in_ok-zone.ensures.unguarded c.in_ok-server.ensures.server)) (rw c.in-Err.is at c.serve_stream.ensures.left);
   },
 )

@@ -6,7 +6,7 @@ use Rattle.zsv_answer.specs.zsv_reply.Writing.{Sends}
 use Rattle.zsv_answer.specs.zsv_reply.zsv_message.zst_edns.declared.edns.Edns.{Edns}
 use Rattle.zsv_answer.specs.zsv_reply.zsv_message.zsv_parts.Questions.{Asked, IsSection}
 use Rattle.zsv_catalog.specs.Catalogs.{QueryParts, asks_for_dnssec}
-use Rattle.zsv_chains.specs.Chains.{views_of}
+use Rattle.zsv_update.specs.zsv_chains.Chains.{views_of}
 use Rattle.zsv_catalog.proofs.PartsBack.{query_back, section_full}
 use Rattle.zsv_catalog.proofs.reply.lookup_by.Goals as goal
 

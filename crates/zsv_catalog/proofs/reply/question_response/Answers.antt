@@ -12,9 +12,9 @@ use Rattle.zsv_answer.specs.zst_request.dnw_codes.declared.record_type.RecordTyp
 use Rattle.zsv_answer.specs.zst_request.dnw_name.DomainName.{DomainName}
 use Rattle.zsv_answer.specs.zst_request.zst_codes.declared.response_code.ResponseCode.TheVariants as responses
 use Rattle.zsv_answer.specs.zsv_reply.zsv_message.zsv_parts.declared.header.Metadata.{Metadata}
-use Rattle.zsv_chains.specs.zst_key.Ancestors.{nearest_in}
-use Rattle.zsv_chains.specs.Chains.{chain_at, chain_for}
-use Rattle.zsv_chains.proofs.Chained.{found_views}
+use Rattle.zsv_update.specs.zsv_chains.zst_key.Ancestors.{nearest_in}
+use Rattle.zsv_update.specs.zsv_chains.Chains.{chain_at, chain_for}
+use Rattle.zsv_update.proofs.zsv_chains_lemmas.Chained.{found_views}
 use Rattle.zsv_catalog.proofs.reply.question_response.Goals as goal
 
 pub returns-in_default-clause-parts : goal.returns-in_default-clause-parts

@@ -7,7 +7,7 @@ use Rattle.authority_server.proofs.server.Authority.remove.Goals as goal
 
 pub returns-clause-after : goal.returns-clause-after
 returns-clause-after g c =
-    taken_out g.H.ZoneHandler.view c.args.self.now.access _ _ _ _ c.args.name.now c.remove.ensures.nsid c.remove.ensures.after
+    taken_out g.H.ZoneHandler.view c.args.self.now.access _ _ _ _ _ _ c.args.name.now (ap g.S.TsigSuite.keys c.remove.ensures.suite) c.remove.ensures.nsid c.remove.ensures.after
 
 pub returns-clause-back : goal.returns-clause-back
 returns-clause-back g c = taken_back _ _ c.args.name.now (returns-clause-after g c)

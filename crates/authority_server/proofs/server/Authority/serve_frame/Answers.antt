@@ -10,8 +10,8 @@ use Rattle.authority_server.proofs.server.Authority.serve_frame.Goals as goal
 
 pub returns-in-Ok-Some-clause-served : goal.returns-in-Ok-Some-clause-served
 returns-in-Ok-Some-clause-served g c =
-    let before = world_of g.H.ZoneHandler.view c.args.self.now in
-    let after = world_of g.H.ZoneHandler.view c.serve.new.self in
+    let before = world_of g.S.TsigSuite.keys g.H.ZoneHandler.view c.args.self.now in
+    let after = world_of g.S.TsigSuite.keys g.H.ZoneHandler.view c.serve.new.self in
     let received = stream_message c.args.src c.args.now c.args.message.now in
     let served = subst (λ (answer : Option (Vec ℕ Global)). Serves before received (octets_of answer) after) c.in-Ok-Some.field-0-is c.in-Ok-Some.ensures.served in
     on_ok_weaker c.write_frame.result (λ written. (

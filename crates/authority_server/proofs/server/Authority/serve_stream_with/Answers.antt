@@ -1,10 +1,11 @@
-use Rattle.std.proofs.Common.{◌∙◌, refl, ap, Bool, Ok, rules}
+use Rattle.std.proofs.Common.{refl, ap, Bool, Ok, rules}
 use Rattle.std.proofs.lemmas.Result.{err_from_is_err_and}
+use Rattle.authority_server.proofs.ServedBack.{fixed_more}
 use Rattle.authority_server.proofs.StreamRuns.{counted_none, counted_more, left_counting, left_reading, left_serving}
 use Rattle.authority_server.proofs.server.Authority.serve_stream_with.Goals as goal
 
 pub frames-init : goal.frames-init
-frames-init g c = record { well = c.requires; same = refl; served = counted_none _ _ _ _ _ }
+frames-init g c = record { well = c.requires; back = λ back. back; fixed = λ unguarded. refl; served = counted_none _ _ _ _ _ }
 
 pub frames-preserved : goal.frames-preserved
 frames-preserved g c =
@@ -14,7 +15,8 @@ frames-preserved g c =
     let short_here = rw (← c.deref.ensures.value) at short in
     record {
       well = search rules;
-      same = c.in_ok-serve_frame.ensures.unchanged ∙ c.frames.invariant.same;
+      back = λ back. c.in_ok-serve_frame.ensures.back (c.frames.invariant.back back);
+      fixed = fixed_more _ _ _ c.frames.invariant.fixed c.in_ok-serve_frame.ensures.fixed;
       served = counted_more _ _ _ _ _ _ _ _ _ _ _ _ _ c.frames.invariant.served short_here framed_here c.in_ok-serve_frame.ensures.served;
     }
 

@@ -1,0 +1,11 @@
+pub mod AppliedBack
+pub mod ChainsBack
+pub mod Decided
+pub mod EdnsBack
+pub mod Named
+pub mod Once
+pub mod RaisedBack
+pub mod ReadAdditions
+pub mod ServedBack
+pub mod Signed
+pub mod zsv_chains_lemmas

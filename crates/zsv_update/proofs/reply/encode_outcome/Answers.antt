@@ -1,0 +1,41 @@
+use Rattle.std.proofs.Common.{◌≡◌, ◌∙◌, false, List, ℕ, Option, Some, ap, subst, sym}
+use Rattle.std.proofs.lemmas.Result.{IfOk-weaker}
+use Rattle.std.specs.Prelude.{IfSome, option_copied, option_map}
+use Rattle.zsv_chains.specs.zst_request.Requested.{context_of}
+use Rattle.zsv_chains.specs.zst_request.declared.request.TSigResponseContext.{TSigResponseContext}
+use Rattle.zsv_chains.specs.zst_request.zst_codes.declared.response_code.ResponseCode.TheVariants as responses
+use Rattle.zsv_reply.specs.Writing.{SendsParts, bare_parts, error_parts, reply_metadata, with_edns}
+use Rattle.zsv_reply.specs.zsv_message.zsv_parts.Questions.{Asked}
+use Rattle.zsv_reply.specs.zsv_message.zsv_parts.SignatureRecords.{TsigReadsBack}
+use Rattle.zsv_reply.specs.zsv_message.zsv_parts.declared.tsig.TsigRecord.{TsigRecord}
+use Rattle.zsv_update.specs.Keys.{signature_of}
+use Rattle.zsv_update.specs.Signing.{IsSignedOver, SignsParts}
+use Rattle.zsv_update.proofs.Signed.{has_signature, signed_back, signed_parts}
+use Rattle.zsv_update.proofs.reply.encode_outcome.Goals as goal
+
+pub returns-in-Some-2 : goal.returns-in-Some-2
+returns-in-Some-2 g c =
+    let keys = g.S.TsigSuite.keys c.args.suite.now in
+    let request = c.args.message.now in
+    let m = c.args.decided.now.metadata in
+    let edns = option_copied c.args.edns in
+    let tsig = c.in-Some-2.tsig in
+    let unsigned = c.in_ok-_info.unsigned.items in
+    let failure = reply_metadata request.metadata false responses.ServFail in
+    let plain = with_edns edns (bare_parts m) in
+    let parts = signed_parts m edns (Some tsig) in
+    let back : TsigReadsBack tsig = subst (λ (o : Option TsigRecord). IfSome o TsigReadsBack) c.in-Some-2.is c.in_ok-tsig.ensures.back in
+    let is : keys.signature (context_of c.in-Some.context) unsigned ≡ Some (signature_of tsig) =
+    subst (λ (octets : List ℕ). keys.signature (context_of c.in-Some.context) octets ≡ Some (signature_of tsig)) c.deref.ensures.value
+    (c.in_ok-tsig.ensures.signed ∙ ap (option_map signature_of) c.in-Some-2.is) in
+    let over : IsSignedOver plain request.asked c.in_ok-_info._info unsigned =
+    subst (λ (asked : Asked). IsSignedOver plain asked c.in_ok-_info._info unsigned) c.queries-queries.ensures
+    (record { within = c.in_ok-_info.ensures.within; whole = c.in_ok-_info.ensures.stands }) in
+    let signs : SignsParts keys request.asked plain (with_edns edns (error_parts request.metadata responses.ServFail)) (option_map context_of c.args.decided.now.context) parts =
+    subst (λ (o : Option TSigResponseContext). SignsParts keys request.asked plain (with_edns edns (error_parts request.metadata responses.ServFail)) (option_map context_of o) parts) (sym c.in-Some.is)
+    (c.in_ok-_info._info, unsigned, over, has_signature m failure edns (keys.signature (context_of c.in-Some.context) unsigned) tsig is back) in
+    IfOk-weaker c.encode_empty-in-Some-2.result _ _ (λ sent sends. (
+      parts,
+      record { signed = signs; back = λ options. signed_back m edns (Some tsig) back options },
+      subst (λ (asked : Asked). SendsParts parts asked c.args.protocol sent.0 sent.1.items) c.queries-queries.ensures sends,
+    )) c.encode_empty-in-Some-2.ensures

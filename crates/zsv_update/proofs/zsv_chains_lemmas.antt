@@ -1,0 +1,1 @@
+pub use Rattle.zsv_chains.proofs.Chained
