@@ -49,12 +49,15 @@ IsLower name = lowercase_name name ≡ name
 abbrev lowered : List (List ℕ) → List (List ℕ)
 lowered labels = map str_to_ascii_lowercase labels
 
-labels_lower : (xs ys : List (List ℕ)) → pointwise (λ x y. bytes_eq (str_to_ascii_lowercase x) (str_to_ascii_lowercase y)) xs ys ≡ true → lowered xs ≡ lowered ys
+abbrev same_lowered : List ℕ → List ℕ → Bool
+same_lowered x y = bytes_eq (str_to_ascii_lowercase x) (str_to_ascii_lowercase y)
+
+labels_lower : (xs ys : List (List ℕ)) → pointwise same_lowered xs ys ≡ true → lowered xs ≡ lowered ys
 labels_lower [] [] e = refl
 labels_lower [] (y ∷ ys) e = let h : ⊥ = cc in absurd h
 labels_lower (x ∷ xs) [] e = let h : ⊥ = cc in absurd h
 labels_lower (x ∷ xs) (y ∷ ys) e =
-    let parts = and_parts (bytes_eq (str_to_ascii_lowercase x) (str_to_ascii_lowercase y)) (pointwise (λ x y. bytes_eq (str_to_ascii_lowercase x) (str_to_ascii_lowercase y)) xs ys) e in
+    let parts = and_parts (same_lowered x y) (pointwise same_lowered xs ys) e in
     ap (λ (l : List ℕ). l ∷ lowered xs) ((bytes_eq-Decides (str_to_ascii_lowercase x) (str_to_ascii_lowercase y)).0 parts.0)
     ∙ ap (λ (ls : List (List ℕ)). str_to_ascii_lowercase y ∷ ls) (labels_lower xs ys parts.1)
 
@@ -66,7 +69,7 @@ same_flag false false e = refl
 
 pub one_lower : (a b : DomainName) → name_eq a b ≡ true → lowercase_name a ≡ lowercase_name b
 one_lower a b e =
-    let parts = and_parts (beq a.fqdn b.fqdn) (pointwise (λ x y. bytes_eq (str_to_ascii_lowercase x) (str_to_ascii_lowercase y)) a.labels b.labels) e in
+    let parts = and_parts (beq a.fqdn b.fqdn) (pointwise same_lowered a.labels b.labels) e in
     ap (λ (f : Bool). domain_name f (lowered a.labels)) (same_flag a.fqdn b.fqdn parts.0)
     ∙ ap (domain_name b.fqdn) (labels_lower a.labels b.labels parts.1)
 

@@ -7,9 +7,8 @@ use Rattle.zst_draft.proofs.zone.ZoneDraft.apply_all.Goals as goal
 
 pub loop-change-init : goal.loop-change-init
 loop-change-init g c =
-    let now = record c.args.self.now { owners = c.reserve.new.self } in
     record {
-      is = (c.requires.0, moved_zone c.args.zone.now c.args.self.now now c.requires.0 c.reserve.ensures.entries c.requires.1);
+      is = (c.requires.0, moved_zone c.args.zone.now c.args.self.now (record { owners = c.reserve.new.self }) c.requires.0 c.reserve.ensures.entries c.requires.1);
       changed = λ at drafts. refl;
       applied = λ at drafts. drafts;
     }
@@ -34,8 +33,8 @@ loop-change-preserved g c =
 
 pub returns-clause-changed : goal.returns-clause-changed
 returns-clause-changed g c = λ at drafts.
-    c.loop-change.invariant.changed at (moved_zone c.args.zone.now c.args.self.now (record c.args.self.now { owners = c.reserve.new.self }) at c.reserve.ensures.entries drafts)
+    c.loop-change.invariant.changed at (moved_zone c.args.zone.now c.args.self.now (record { owners = c.reserve.new.self }) at c.reserve.ensures.entries drafts)
 
 pub returns-clause-applied : goal.returns-clause-applied
 returns-clause-applied g c = λ at drafts.
-    c.loop-change.invariant.applied at (moved_zone c.args.zone.now c.args.self.now (record c.args.self.now { owners = c.reserve.new.self }) at c.reserve.ensures.entries drafts)
+    c.loop-change.invariant.applied at (moved_zone c.args.zone.now c.args.self.now (record { owners = c.reserve.new.self }) at c.reserve.ensures.entries drafts)
