@@ -110,7 +110,7 @@ impl ZoneDraft {
         ensures ok { OnOk result ((at : Owned) → DraftsZone zone.old self at → LeavesZone zone.old at zone.new) }
         ensures err { OnErr result (zone.new ≡ zone.old) }
     {
-        // These calls give the proof the invariants: owners and sets are in order, and no set is empty.
+        // These calls give the proof the invariants: owners differ, sets are in order, and no set is empty.
         let _count = self.owners.len();
         let _before = zone.origin();
         commit_owners(alloc, self.owners, zone)?;
