@@ -184,11 +184,39 @@ def lookup(qname, kind):
     return header(0, (1, 0, 0, 0)) + question(qname, kind)
 
 
+def pointer(place):
+    return struct.pack(">H", 0xc000 | place)
+
+
+def point(place, kind, data, ttl=3600):
+    """A record whose owner is written as a pointer."""
+    return pointer(place) + struct.pack(">HHIH", kind, IN, ttl, len(data)) + data
+
+
 def served():
-    """The comment, the reply, a question and its answer of each row, of names that are written uncompressed or as they are told."""
-    www = b"\xc0\x0c" + struct.pack(">HHIH", A, IN, 3600, 4) + bytes([192, 0, 2, 1])
-    yield "the zone of the transfer of Z answers row 1", message(Z), lookup(WWW, A), \
-        header(0x8400, (1, 1, 0, 0)) + question(WWW, A) + www
+    """The comment, the reply, a question and its answer of each row. In answers names point to earlier ones."""
+    www = bytes([192, 0, 2, 1])
+    yield "the zone of the transfer of Z, and row 1", message(Z), lookup(WWW, A), \
+        header(0x8400, (1, 1, 0, 0)) + question(WWW, A) + point(12, A, www)
+    # sub has an SOA of its own: it is no delegation. x.sub.example.com. begins at 12, example.com. at 18.
+    sub = between(entry("sub.example.com.", NS, name("ns.example.com.")), soa("sub.example.com.", 7), address())
+    start = b"\x02ns" + pointer(18) + b"\x05admin" + pointer(18) + struct.pack(">IIIII", 1, 3600, 1800, 604800, 86400)
+    yield "an SOA below the origin beside an NS (RFC 1034, section 4.2.1)", sub, lookup("x.sub.example.com.", A), \
+        header(0x8403, (1, 0, 1, 0)) + question("x.sub.example.com.", A) + point(18, SOA, start)
+    # The question ends at 29; the names of the two servers are at 41 and 59.
+    v6 = bytes([0x20, 1, 0xd, 0xb8]) + bytes(11) + b"\1"
+    servers = between(
+        entry(ORIGIN, NS, name("ns1.example.com.")), entry(ORIGIN, NS, name("ns2.example.com.")), address("ns1.example.com.", 2),
+        address("ns2.example.com.", 3), entry("ns2.example.com.", AAAA, v6))
+    yield "the addresses of both servers", servers, lookup(ORIGIN, NS), \
+        header(0x8400, (1, 2, 0, 3)) + question(ORIGIN, NS) + point(12, NS, b"\3ns1" + pointer(12)) \
+        + point(12, NS, b"\3ns2" + pointer(12)) + point(41, A, bytes([192, 0, 2, 2])) + point(59, A, bytes([192, 0, 2, 3])) \
+        + point(59, AAAA, v6)
+    # The exchange of the first record is at 43.
+    mail = between(entry(ORIGIN, MX, b"\0\x0a" + name(WWW)), entry(ORIGIN, MX, b"\0\x14" + name(WWW)), address())
+    yield "the addresses of an exchange that two records have, once", mail, lookup(ORIGIN, MX), \
+        header(0x8400, (1, 2, 0, 1)) + question(ORIGIN, MX) + point(12, MX, b"\0\x0a\3www" + pointer(12)) \
+        + point(12, MX, b"\0\x14" + pointer(43)) + point(43, A, www)
 
 
 def rows():
