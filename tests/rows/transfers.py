@@ -230,11 +230,12 @@ def compare():
     def lines(file):
         with open(os.path.join(VECTORS, file), encoding="utf-8") as it:
             return it.read().split("\n")
-    there = dict(zip(lines("stdin"), lines("stdout")))
-    wrong = [asked for _, asked, answer in rows() if there.get(asked) != answer]
+    asked, answers = lines("stdin"), lines("stdout")
+    there = dict(zip(asked, answers[len(answers) - len(asked) :]))
+    wrong = [row for _, row, answer in rows() if there.get(row) != answer]
     print(f"transfers: {sum(1 for _ in rows())} rows, {len(wrong)} differ from those of vectors")
-    for asked in wrong:
-        print(asked)
+    for row in wrong:
+        print(row)
     return 1 if wrong else 0
 
 

@@ -13,9 +13,9 @@ use Rattle.authority_load.specs.zst_zone.zst_handler.Chains.{IsAliasChain, Links
 use Rattle.authority_load.specs.zst_zone.zst_handler.Found.{above, cut_at, cut_found, delegation, found, found_set, here, is_address, nearest_above, wildcard_answer}
 use Rattle.authority_load.specs.zst_zone.zst_handler.Lookups.{Answer, AnswersFrom, IsLookup, LookupFrom, Outcome, addresses, additionals, alias_answer, alias_ttl, all_outcome, answered, behind_alias, denial, flattened, has_additionals, is_flattened, listed, name_error, name_exists, of_type, out_of_zone, sets_of_name}
 use Rattle.authority_load.specs.zst_zone.zst_handler.Zones.{Zone, exists_in, rrset_at}
-use Rattle.zst_key.specs.Ancestors.{nearest_from, nearest_in, or_else, star}
+use Rattle.authority_load.specs.zst_zone.zst_key.Ancestors.{nearest_from, nearest_in, or_else, star}
 use Rattle.std.specs.List.{flat_map}
-use Rattle.authority_load.specs.zst_zone.zst_handler.Lookups.{all_additionals, once, targets}
+use Rattle.authority_load.specs.zst_zone.zst_handler.Lookups.{once, targets}
 use Rattle.authority_transfer.specs.Alike.{AllSame, AnswersAlike, IsSameOutcome, IsSameRecord, IsSameSet, IsSameZone, SameOption}
 use Rattle.authority_transfer.proofs.Same.{key_same}
 
@@ -283,24 +283,14 @@ module _ (xs0 bs : List RRset) (same : Sames xs0 bs) where
       append_alike (addresses xs0 (Some name)) (flat_map (λ name. addresses xs0 (Some name)) names) (addresses bs (Some name)) (flat_map (λ name. addresses bs (Some name)) names)
       (addresses_alike (Some name)) (every_alike names)
 
-  all_additionals_alike : (a b : RRset) → IsSameSet a b → Sames (all_additionals xs0 a) (all_additionals bs b)
-  all_additionals_alike a b e =
-      subst (λ (t : RecordType). Sames (all_additionals xs0 a) (cond (has_additionals t) (flat_map (λ name. addresses bs (Some name)) (once (targets b.records))) [])) e.record_type
-      (subst (λ (ns : List DomainName). Sames (all_additionals xs0 a) (cond (has_additionals a.record_type) (flat_map (λ name. addresses bs (Some name)) (once ns)) [])) (targets_same a.records b.records e.records)
+  additionals_alike : (a b : RRset) → IsSameSet a b → Sames (additionals xs0 a) (additionals bs b)
+  additionals_alike a b e =
+      subst (λ (t : RecordType). Sames (additionals xs0 a) (cond (has_additionals t) (flat_map (λ name. addresses bs (Some name)) (once (targets b.records))) [])) e.record_type
+      (subst (λ (ns : List DomainName). Sames (additionals xs0 a) (cond (has_additionals a.record_type) (flat_map (λ name. addresses bs (Some name)) (once ns)) [])) (targets_same a.records b.records e.records)
       (by (has_additionals a.record_type)))
     where
       by : (c : Bool) → Sames (cond c (flat_map (λ name. addresses xs0 (Some name)) (once (targets a.records))) []) (cond c (flat_map (λ name. addresses bs (Some name)) (once (targets a.records))) [])
       by true = every_alike (once (targets a.records))
-      by false = tt
-
-  additionals_alike : (a b : RRset) → IsSameSet a b → Sames (additionals xs0 a) (additionals bs b)
-  additionals_alike a b e =
-      subst (λ (t : RecordType). Sames (additionals xs0 a) (cond (has_additionals t) (addresses bs (first_target b.records)) [])) e.record_type
-      (subst (λ (n : Option DomainName). Sames (additionals xs0 a) (cond (has_additionals a.record_type) (addresses bs n) [])) (target_same a.records b.records e.records)
-      (by (has_additionals a.record_type)))
-    where
-      by : (c : Bool) → Sames (cond c (addresses xs0 (first_target a.records)) []) (cond c (addresses bs (first_target a.records)) [])
-      by true = addresses_alike (first_target a.records)
       by false = tt
 
   type_alike : (t : RecordType) (o p : Option RRset) → SameO o p → SameO (of_type t o) (of_type t p)

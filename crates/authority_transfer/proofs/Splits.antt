@@ -1,9 +1,9 @@
 -- A list is what stands before a place, what stands there, and what stands behind it.
-use Rattle.std.proofs.Common.{◌≡◌, ◌∙◌, refl, sym, ap, ℕ, ◌<◌, zero, suc, List, [], ◌∷◌, ◌++◌, length, take, get_or, arith}
+use Rattle.std.proofs.Common.{◌⊎◌, inl, inr, ◌≡◌, ◌∙◌, refl, sym, ap, ℕ, ◌<◌, zero, suc, List, [], ◌∷◌, ◌++◌, length, take, get_or, arith}
 use Rattle.std.specs.Prelude.{Some}
 use Rattle.zsv_message.specs.zst_record.declared.records.Record.{Record}
 use Rattle.authority_load.specs.zst_zone.zst_handler.Zones.{Zone}
-use Rattle.authority_transfer.specs.Transfers.{RefusesOne, RefusesRecords, TakesAll, record_fault}
+use Rattle.authority_transfer.specs.Transfers.{RefusesRecords, TakesAll, record_fault}
 use Rattle.authority_transfer.specs.declared.error.TransferError.{TransferError}
 use Rattle.authority_transfer.specs.declared.error.TransferError.TheVariants as errors
 
@@ -19,23 +19,17 @@ parts (y ∷ ys) (suc k) x h e =
     let p = parts ys k x (omega (arith, h)) e in
     record { later = p.later; is = ap (λ (zs : List Record). y ∷ zs) p.is; count = let c = p.count in omega (arith, c) }
 
-refused_by : (old : Zone) (rs : List Record) (e : TransferError) → ((e ≡ errors.OutOfMemory → ⊥) → RefusesOne old rs e) → RefusesRecords old rs e
-refused_by old rs errors.OutOfMemory one = tt
-refused_by old rs errors.OutsideZone one = one (λ h. cc)
-refused_by old rs errors.DnssecRecord one = one (λ h. cc)
-refused_by old rs (errors.Record index) one = one (λ h. cc)
-
 pub refused_at : (old mid : Zone) (rs : List Record) (k index : ℕ) (x : Record) (e : TransferError) → (k < length rs) × (x ≡ get_or rs k x) → index ≡ k → TakesAll old (take k rs) mid
-    → ((e ≡ errors.OutOfMemory → ⊥) → record_fault mid index x ≡ Some e) → RefusesRecords old rs e
-refused_at old mid rs k index x e at same takes refused =
-    refused_by old rs e (λ other.
+    → (e ≡ errors.OutOfMemory) ⊎ (record_fault mid index x ≡ Some e) → RefusesRecords old rs e
+refused_at old mid rs k index x e at same takes (inl memory) = inl memory
+refused_at old mid rs k index x e at same takes (inr cause) =
     let p = parts rs k x at.0 at.1 in
-    record {
+    inr (record {
       front = take k rs;
-      standing = x;
+      refused = x;
       later = p.later;
       parts = p.is;
       zone = mid;
       before = takes;
-      refused = ap (λ (n : ℕ). record_fault mid n x) (p.count ∙ sym same) ∙ refused other;
+      cause = ap (λ (n : ℕ). record_fault mid n x) (p.count ∙ sym same) ∙ cause;
     })

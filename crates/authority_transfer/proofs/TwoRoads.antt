@@ -1,5 +1,5 @@
 -- The zone of the records that are sent of a loaded zone is that zone.
-use Rattle.std.proofs.Common.{◌≡◌, ◌∙◌, refl, sym, ap, subst, ℕ, ◌<◌, ◌≤◌, length, arith, append-nil}
+use Rattle.std.proofs.Common.{inl, inr, ◌≡◌, ◌∙◌, refl, sym, ap, subst, ℕ, ◌<◌, ◌≤◌, length, arith, append-nil}
 use Rattle.std.specs.Prelude.{Bool, true, false, not, ◌&&◌, ◌||◌, List, [], ◌∷◌, ◌++◌, Option, Some, None, IsSome, is_some, cond, find, ◌==◌}
 use Rattle.std.specs.List.{AllByRecursion, filter, flat_map}
 use Rattle.std.proofs.lemmas.Bool.{and_parts, eqb-true, eq-eqb, true≢false}
@@ -33,11 +33,11 @@ use Rattle.authority_transfer.proofs.Roads.{moved, none_before, none_new, transf
 use Rattle.authority_transfer.proofs.Taken.{RunsTo, stored_in, takes_ordered, takes_rest, takes_run}
 
 -- ---- lists
-all_append : (P : Record → Type 0) (xs ys : List Record) → AllByRecursion P xs → AllByRecursion P ys → AllByRecursion P (xs ++ ys)
+pub all_append : (P : Record → Type 0) (xs ys : List Record) → AllByRecursion P xs → AllByRecursion P ys → AllByRecursion P (xs ++ ys)
 all_append P [] ys a b = b
 all_append P (x ∷ xs) ys a b = (a.0, all_append P xs ys a.1 b)
 
-all_kept : (P : Record → Type 0) (test : Record → Bool) (xs : List Record) → AllByRecursion P xs → AllByRecursion P (filter test xs)
+pub all_kept : (P : Record → Type 0) (test : Record → Bool) (xs : List Record) → AllByRecursion P xs → AllByRecursion P (filter test xs)
 all_kept P test [] a = tt
 all_kept P test (x ∷ xs) a = by (test x) (all_kept P test xs a.1)
   where
@@ -45,7 +45,7 @@ all_kept P test (x ∷ xs) a = by (test x) (all_kept P test xs a.1)
     by true more = (a.0, more)
     by false more = more
 
-all_flat : (P : Record → Type 0) (sets : List RRset) → AllByRecursion (λ s. AllByRecursion P s.records) sets → AllByRecursion P (flat_map records_of sets)
+pub all_flat : (P : Record → Type 0) (sets : List RRset) → AllByRecursion (λ s. AllByRecursion P s.records) sets → AllByRecursion P (flat_map records_of sets)
 all_flat P [] a = tt
 all_flat P (s ∷ sets) a = all_append P s.records (flat_map records_of sets) a.0 (all_flat P sets a.1)
 
@@ -123,7 +123,7 @@ all_sent zone (s ∷ sets) loaded stored there =
     (sent_records zone s loaded.0 stored.0 there.0 s.records loaded.0.records (owns s stored.0 (s.name, s.record_type)), all_sent zone sets loaded.1 stored.1 there.1)
 
 -- ---- the records that are sent
-shown_plain : (origin : DomainName) (dnssec_ok : Bool) (sets : List RRset) → AllByRecursion (IsLoadedSet origin) sets → sets_shown dnssec_ok sets ≡ flat_map records_of sets
+pub shown_plain : (origin : DomainName) (dnssec_ok : Bool) (sets : List RRset) → AllByRecursion (IsLoadedSet origin) sets → sets_shown dnssec_ok sets ≡ flat_map records_of sets
 shown_plain origin dnssec_ok [] all = refl
 shown_plain origin dnssec_ok (s ∷ sets) all =
     ap (λ (rs : List Record). rs ++ sets_shown dnssec_ok sets) (one dnssec_ok) ∙ ap (λ (rs : List Record). s.records ++ rs) (shown_plain origin dnssec_ok sets all.1)
@@ -230,7 +230,7 @@ apart_left a b t e =
 is_some_of : {X : Type 0} (o : Option X) (x : X) → o ≡ Some x → IsSome o
 is_some_of o x e = subst IsSome (sym e) refl
 
-one_of : (rs : List Record) → length rs ≤ 1 → none_left rs ≡ false → (x : Record) × (rs ≡ x ∷ [])
+pub one_of : (rs : List Record) → length rs ≤ 1 → none_left rs ≡ false → (x : Record) × (rs ≡ x ∷ [])
 one_of [] h e = absurd (true≢false e)
 one_of (x ∷ []) h e = (x, refl)
 one_of (x ∷ y ∷ rs) h e = absurd (omega (arith, h))
@@ -363,12 +363,10 @@ none_refused empty zone dnssec_ok rs e bare same loaded is some refuses =
     let sent = sent_same zone met.r refuses.refused met.same met.holds in
     let origin : refuses.zone.origin ≡ zone.origin = ap (λ (z : Zone). z.origin) (takes_rest 0 empty refuses.front refuses.zone refuses.before) ∙ sym (ap (λ (z : Zone). z.origin) same) in
     let none = not_refused zone s.start loaded s.there rs alike refuses.front refuses.refused refuses.later refuses.parts refuses.zone run order sent (length refuses.front) origin in
-    let h : Some e ≡ None = sym refuses.refused ∙ none in
+    let h : Some e ≡ None = sym refuses.cause ∙ none in
     absurd (cc)
 
 pub memory_alone : (empty zone : Zone) (dnssec_ok : Bool) (rs : List Record) (e : TransferError) → empty.sets ≡ [] → zone ≡ record empty { sets = zone.sets } → IsLoaded zone → AllSame IsSameRecord (sent_of zone dnssec_ok) rs → 0 < length rs
     → RefusesRecords empty rs e → e ≡ errors.OutOfMemory
-memory_alone empty zone dnssec_ok rs errors.OutOfMemory bare same loaded is some refuses = refl
-memory_alone empty zone dnssec_ok rs errors.OutsideZone bare same loaded is some refuses = absurd (none_refused empty zone dnssec_ok rs errors.OutsideZone bare same loaded is some refuses)
-memory_alone empty zone dnssec_ok rs errors.DnssecRecord bare same loaded is some refuses = absurd (none_refused empty zone dnssec_ok rs errors.DnssecRecord bare same loaded is some refuses)
-memory_alone empty zone dnssec_ok rs (errors.Record index) bare same loaded is some refuses = absurd (none_refused empty zone dnssec_ok rs (errors.Record index) bare same loaded is some refuses)
+memory_alone empty zone dnssec_ok rs e bare same loaded is some (inl memory) = memory
+memory_alone empty zone dnssec_ok rs e bare same loaded is some (inr refuses) = absurd (none_refused empty zone dnssec_ok rs e bare same loaded is some refuses)

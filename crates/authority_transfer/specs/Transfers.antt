@@ -138,6 +138,13 @@ pub record IsTransferred (origin : DomainName) (octets : List ℕ) (rs : List Re
   pub records : rs ≡ but_last message.answers
   pub fits : AllNumbersFit message.answers
 
+-- Octets hold a message whose answers are not those of a transfer.
+pub record IsUnframed (origin : DomainName) (octets : List ℕ) : Type 0 where
+  pub message : Message
+  pub there : IsMessage octets message
+  pub fits : AllNumbersFit message.answers
+  pub unframed : is_framed origin message.answers ≡ false
+
 -- The message with other answers.
 abbrev pub answered_with : Message → List Record → Message
 answered_with m answers = record m { answers = answers }

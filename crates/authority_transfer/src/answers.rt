@@ -1,7 +1,6 @@
 //! The answers of a message, read a second time: what a message was read into lends its answers, and a zone keeps them.
 
-ghost use Rattle.std.specs.Prelude.{◌≡◌, ◌⊎◌, ℕ, length, IfOk, IfErr};
-ghost use Rattle.std.specs.List.{AllByRecursion};
+ghost use Rattle.std.specs.Prelude.{◌≡◌, ◌⊎◌, ◌∷◌, ◌++◌, [], ℕ, List, length, IfOk, IfErr, OnOk};
 ghost use Rattle.drd_record_data.specs.Numbers.{NumbersFit};
 ghost use Rattle.zsv_message.specs.Messages.{IsMessage, Message};
 ghost use Rattle.zsv_message.specs.zst_record.dnw_decoder.Reading.{IsWantOfMemory};

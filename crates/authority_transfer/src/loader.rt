@@ -1,7 +1,6 @@
 //! The records of a transfer, taken one after the other.
 
-ghost use Rattle.std.specs.Prelude.{◌≡◌, IfErr, IfOk, OnOk};
-ghost use Rattle.zsv_message.specs.zst_record.declared.records.Record.{Record as Entry};
+ghost use Rattle.std.specs.Prelude.{◌≡◌, ◌⊎◌, IfErr, IfOk, None, OnOk, Some};
 ghost use Rattle.authority_load.specs.zst_zone.zst_handler.Zones.{ZoneReadsBack, empty_zone};
 ghost use Rattle.authority_load.specs.Joining.{Joins};
 ghost use Rattle.authority_load.specs.Loaded.{IsLoaded};

@@ -1,8 +1,10 @@
 //! The reply as a whole: what it says, and whether its answers are those of a transfer.
 
-ghost use Rattle.std.specs.Prelude.{◌≡◌, ◌⊎◌, ◌≤◌, length, IfErr, MatchOption, MatchResult, list_any};
+ghost use Rattle.std.specs.Prelude.{◌≡◌, IfErr, MatchOption, None, Some};
+ghost use Rattle.std.specs.List.{list_any};
 ghost use Rattle.zsv_message.specs.Messages.{IsMessage, Message};
-ghost use Rattle.authority_transfer.specs.Transfers.{IsReplyFault, IsTransferred, ReplyGives, is_answer, is_response, is_sig, is_signed, reply_fault};
+ghost use Rattle.zsv_message.specs.zst_record.dnw_name.DomainName.{DomainName};
+ghost use Rattle.authority_transfer.specs.Transfers.{IsReplyFault, IsUnframed, ReplyGives, is_answer, is_response, is_sig, is_signed, reply_fault};
 
 use crate::answers::read_answers;
 use crate::error::TransferError;
@@ -63,11 +65,11 @@ fn reply_fault(message: &MessageRequest<'_>) -> Option<TransferError>
     None
 }
 
-// Reads the message for this cause alone: none, or the first that refuses it whatever its answers are.
+// Why the octets are no message, or the first cause that refuses it whatever its answers are.
 fn message_fault(alloc: Global, reply: &[u8]) -> Option<TransferError>
-    ensures { MatchOption result
-        ((m : Message) × IsMessage reply.now m × (reply_fault m ≡ None))
-        (IsReplyFault origin reply.now) }
+    ensures first { MatchOption result ((m : Message) × IsMessage reply.now m × (reply_fault m ≡ None))
+        (λ e. (origin : DomainName) → IsReplyFault origin reply.now e) }
+    ensures framed { result ≡ Some TransferError.NoFrame → ⊥ }
 {
     match MessageRequest::read(alloc, reply) {
         Ok(message) => {
@@ -86,7 +88,8 @@ pub fn transferred(
     origin: &Name,
     reply: &[u8],
 ) -> Result<Vec<Record>, TransferError>
-    ensures { ReplyGives origin.now reply.now (λ records. records.items) result }
+    ensures gives { ReplyGives origin.now reply.now (λ records. records.items) result }
+    ensures unframed { IfErr result (λ e. e ≡ TransferError.NoFrame → IsUnframed origin.now reply.now) }
 {
     if let Some(fault) = message_fault(alloc, reply) {
         return Err(fault);

@@ -1,0 +1,14 @@
+pub mod Carried
+pub mod Frames
+pub mod Keys
+pub mod Lookups
+pub mod Made
+pub mod MessageOnce
+pub mod Orders
+pub mod Received
+pub mod RecordOnce
+pub mod Roads
+pub mod Same
+pub mod Splits
+pub mod Taken
+pub mod TwoRoads
