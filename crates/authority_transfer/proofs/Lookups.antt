@@ -144,6 +144,7 @@ targets_same (r ∷ rs) (s ∷ ss) same =
     with_target : Option DomainName → List DomainName → List DomainName
     with_target None names = names
     with_target (Some name) names = name ∷ names
+
     either : (o p : Option DomainName) → o ≡ p → targets rs ≡ targets ss → with_target o (targets rs) ≡ with_target p (targets ss)
     either o p e rest = ap (λ (q : Option DomainName). with_target q (targets rs)) e ∙ ap (with_target p) rest
 

@@ -83,11 +83,7 @@ fn message_fault(alloc: Global, reply: &[u8]) -> Option<TransferError>
 }
 
 /// The records that a reply transfers to the zone of an origin: its answers but the last one.
-pub fn transferred(
-    alloc: Global,
-    origin: &Name,
-    reply: &[u8],
-) -> Result<Vec<Record>, TransferError>
+pub fn transferred(alloc: Global, origin: &Name, reply: &[u8]) -> Result<Vec<Record>, TransferError>
     ensures gives { ReplyGives origin.now reply.now (λ records. records.items) result }
     ensures unframed { IfErr result (λ e. e ≡ TransferError.NoFrame → IsUnframed origin.now reply.now) }
 {
@@ -101,7 +97,12 @@ pub fn transferred(
         Some(last) => {
             let framed = begins_with(origin, answers.first(), &last);
             mem::drop(last);
-            if framed { Ok(answers) } else { mem::drop(answers); Err(TransferError::NoFrame) }
+            if framed {
+                Ok(answers)
+            } else {
+                mem::drop(answers);
+                Err(TransferError::NoFrame)
+            }
         }
         None => Err(TransferError::NoFrame),
     }
