@@ -4,8 +4,7 @@ use Rattle.std.proofs.lemmas.Bool.{and_parts, eqb-true, true≢false}
 use Rattle.std.specs.Prelude.{Bool, true, false, not, ◌&&◌, ◌||◌, ◌==◌, List, [], ◌∷◌, ◌++◌, Option, Some, None, cond}
 use Rattle.std.specs.List.{AllByRecursion, filter, flat_map}
 use Rattle.drd_record_data.specs.Numbers.{NumbersFit}
-use Rattle.zsv_message.specs.Messages.{IsMessage, Message, is_update, joined_metadata}
-use Rattle.zsv_message.specs.zst_edns.declared.edns.Edns.{Edns}
+use Rattle.zsv_message.specs.Messages.{IsMessage, Message}
 use Rattle.zsv_message.specs.zst_record.declared.records.Record.{Record}
 use Rattle.zsv_message.specs.zst_record.dnw_codes.RecordType.{record_type_number, same_record_type}
 use Rattle.zsv_message.specs.zst_record.dnw_codes.declared.record_type.RecordType.{RecordType}
@@ -13,12 +12,7 @@ use Rattle.zsv_message.specs.zst_record.dnw_codes.declared.record_type.RecordTyp
 use Rattle.zsv_message.specs.zst_record.dnw_name.DomainName.{DomainName, name_eq}
 use Rattle.zsv_message.specs.zst_record.drd_rdata.Types.{type_of}
 use Rattle.zsv_message.specs.zst_record.RecordSets.{RRset, is_single}
-use Rattle.zsv_message.specs.zsv_parts.Headers.{header_of, same_op_code}
 use Rattle.zsv_message.specs.zsv_parts.declared.header.Metadata.{Metadata}
-use Rattle.zsv_message.specs.zsv_parts.declared.header.OpCode.{OpCode}
-use Rattle.zsv_message.specs.zsv_parts.declared.header.OpCode.TheVariants as operations
-use Rattle.zsv_message.specs.zsv_parts.zst_codes.ResponseCode.{same_response_code}
-use Rattle.zsv_message.specs.zsv_parts.zst_codes.declared.response_code.ResponseCode.TheVariants as codes
 use Rattle.authority_load.proofs.ReadBack.{found_is, found_of}
 use Rattle.authority_load.specs.Joining.{is_of}
 use Rattle.authority_load.specs.Loaded.{IsLoaded, IsLoadedRecord, IsLoadedSet}
@@ -27,7 +21,7 @@ use Rattle.authority_load.specs.zst_zone.zst_handler.Zones.{AreStored, IsStored,
 use Rattle.authority_transfer.specs.Alike.{AllSame, AnswersAlike, IsSameRecord, IsSameZone}
 use Rattle.authority_transfer.specs.Sending.{axfr_records as others_of}
 use Rattle.authority_transfer.specs.Sending.{between_soas, is_start, transfer_of}
-use Rattle.authority_transfer.specs.Transfers.{AllNumbersFit, IsReplyFault, IsTransferOf, IsTransferred, IsUnframed, RefusesRecords, but_last, frame_fault, is_answer, is_framed, is_response, is_signed, reply_fault, whole_fault}
+use Rattle.authority_transfer.specs.Transfers.{AllNumbersFit, IsReplyFault, IsTransferOf, IsTransferred, IsUnframed, RefusesRecords, but_last, frame_fault, is_answer, is_framed, is_signed, reply_fault, whole_fault}
 use Rattle.authority_transfer.specs.TwoRoads.{HandsOverAll}
 use Rattle.authority_transfer.specs.declared.error.TransferError.{TransferError}
 use Rattle.authority_transfer.specs.declared.error.TransferError.TheVariants as errors
@@ -35,28 +29,9 @@ use Rattle.authority_transfer.proofs.Frames.{Begins, axfr_records, begins, but_p
 use Rattle.authority_transfer.proofs.Keys.{owns, record_of, records_of, set_of_key}
 use Rattle.authority_transfer.proofs.Lookups.{answers_alike}
 use Rattle.authority_transfer.proofs.MessageOnce.{answers_same, say_alike}
+use Rattle.authority_transfer.proofs.Asked.{asks}
 use Rattle.authority_transfer.proofs.Received.{answers_plain}
 use Rattle.authority_transfer.proofs.TwoRoads.{all_append, all_flat, all_kept, memory_alone, one_of, same_zone, shown_plain}
-
--- ---- a reply to a query is no update
-no_update : (op : OpCode) → same_op_code op operations.Query ≡ true → is_update op ≡ false
-no_update operations.Update e = absurd (cc e)
-no_update other e = refl
-
-and_parts_of : (a b c : Bool) → (a && (b && c)) ≡ true → b ≡ true
-and_parts_of true true c e = refl
-and_parts_of true false c e = absurd (cc e)
-and_parts_of false b c e = absurd (cc e)
-
-same_operation : (h : Metadata) (o : Option Edns) → (joined_metadata h o).op_code ≡ h.op_code
-same_operation h None = refl
-same_operation h (Some edns) = refl
-
-pub asks : (octets : List ℕ) (m : Message) → IsMessage octets m → is_answer m.metadata ≡ true → is_update (header_of octets).metadata.op_code ≡ false
-asks octets m is answer =
-    let query = and_parts_of (is_response m.metadata.message_type) (same_op_code m.metadata.op_code operations.Query) (same_response_code m.metadata.response_code codes.NoError) answer in
-    let same : m.metadata.op_code ≡ (header_of octets).metadata.op_code = ap (λ (x : Metadata). x.op_code) is.metadata ∙ same_operation (header_of octets).metadata m.edns in
-    no_update (header_of octets).metadata.op_code (ap (λ (op : OpCode). same_op_code op operations.Query) (sym same) ∙ query)
 
 -- ---- the records of a loaded zone
 abbrev Fits : Record → Type 0

@@ -1,6 +1,8 @@
+pub mod Asked
 pub mod Carried
 pub mod Frames
 pub mod Keys
+pub mod Loading
 pub mod Lookups
 pub mod Made
 pub mod MessageOnce

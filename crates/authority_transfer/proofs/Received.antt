@@ -117,32 +117,42 @@ readable : (t : RecordType) (message : List ℕ) (first len : ℕ) (value : RDat
 readable t message first len value zones has (inl empty) = absurd (true≢false (sym (empty_data t value zones empty.1) ∙ has))
 readable t message first len value zones has (inr holds) = record { message = message; place = first; end = first + len; some = omega (arith, holds.0); there = holds.1.1 }
 
-pub read_servable : (message : List ℕ) (place : ℕ) (r : Record) (end : ℕ) → RecordAt message place r end → IsPlain r → IsServable r
-read_servable message place r end at plain = record {
-  alone = inl (
+-- A record that was read, outside an update and before the additional section.
+pub record IsReceived (r : Record) : Type 0 where
+  pub own_type : IsOwnType (type_of r.rdata)
+  pub servable : IsServable r
+
+read_received : (message : List ℕ) (place : ℕ) (r : Record) (end : ℕ) → RecordAt message place r end → IsPlain r → IsReceived r
+read_received message place r end at plain =
+    let own = own_type (type_of r.rdata) at.record_type.number at.record_type.small at.record_type.means in
     record {
-      owner = at.owner.full;
-      own_type = own_type (type_of r.rdata) at.record_type.number at.record_type.small at.record_type.means;
-      own_class = own_class r.dns_class at.dns_class.number at.dns_class.small at.dns_class.means;
-    },
-    readable (type_of r.rdata) message at.first at.len r.rdata plain.zones plain.has at.rdata,
-  );
-  of_zones = plain.zones;
-}
+      own_type = own;
+      servable = record {
+        alone = inl (
+          record {
+            owner = at.owner.full;
+            own_type = own;
+            own_class = own_class r.dns_class at.dns_class.number at.dns_class.small at.dns_class.means;
+          },
+          readable (type_of r.rdata) message at.first at.len r.rdata plain.zones plain.has at.rdata,
+        );
+        of_zones = plain.zones;
+      };
+    }
 
-pub placed_servable : (at : _) (message : List ℕ) (place : ℕ) (rs : List Record) (end : ℕ) → PlacedRecords at message place rs end → at.is_additional ≡ false → at.is_update ≡ false → AllByRecursion IsServable rs
-placed_servable at message place [] end there before asks = tt
-placed_servable at message place (r ∷ rs) end (next, here, may, later) before asks =
-    (read_servable message place r next here (plain_there at r may before asks), placed_servable (past at r) message next rs end later before asks)
+placed_received : (at : _) (message : List ℕ) (place : ℕ) (rs : List Record) (end : ℕ) → PlacedRecords at message place rs end → at.is_additional ≡ false → at.is_update ≡ false → AllByRecursion IsReceived rs
+placed_received at message place [] end there before asks = tt
+placed_received at message place (r ∷ rs) end (next, here, may, later) before asks =
+    (read_received message place r next here (plain_there at r may before asks), placed_received (past at r) message next rs end later before asks)
 
-pub placed_plain : (at : _) (message : List ℕ) (place : ℕ) (rs : List Record) (end : ℕ) → PlacedRecords at message place rs end → at.is_additional ≡ false → at.is_update ≡ false → NoOptions rs
+placed_plain : (at : _) (message : List ℕ) (place : ℕ) (rs : List Record) (end : ℕ) → PlacedRecords at message place rs end → at.is_additional ≡ false → at.is_update ≡ false → NoOptions rs
 placed_plain at message place [] end there before asks = tt
 placed_plain at message place (r ∷ rs) end (next, here, may, later) before asks =
     ((plain_there at r may before asks).no_options, placed_plain (past at r) message next rs end later before asks)
 
 -- ---- the message
-pub answers_servable : (octets : List ℕ) (m : Message) → IsMessage octets m → is_update (header_of octets).metadata.op_code ≡ false → AllByRecursion IsServable m.answers
-answers_servable octets m is asks = placed_servable _ octets is.questions_end m.answers is.answers_end is.answers.0 refl asks
+pub answers_received : (octets : List ℕ) (m : Message) → IsMessage octets m → is_update (header_of octets).metadata.op_code ≡ false → AllByRecursion IsReceived m.answers
+answers_received octets m is asks = placed_received _ octets is.questions_end m.answers is.answers_end is.answers.0 refl asks
 
 pub answers_plain : (octets : List ℕ) (m : Message) → IsMessage octets m → is_update (header_of octets).metadata.op_code ≡ false → NoOptions m.answers
 answers_plain octets m is asks = placed_plain _ octets is.questions_end m.answers is.answers_end is.answers.0 refl asks

@@ -126,11 +126,11 @@ abbrev pub RefusesRecords : Zone → List Record → TransferError → Type 0
 RefusesRecords old rs e = (e ≡ errors.OutOfMemory) ⊎ RefusesOne old rs e
 
 -- ---- the zone
--- Octets hold a reply that transfers the zone of an origin, and these are its answers but the last.
--- The numbers of each fit their fields.
 abbrev pub AllNumbersFit : List Record → Type 0
 AllNumbersFit rs = AllByRecursion (λ r. NumbersFit r.rdata) rs
 
+-- Octets hold a reply that transfers the zone of an origin, and these are its answers but the last.
+-- The numbers of each answer fit their fields.
 pub record IsTransferred (origin : DomainName) (octets : List ℕ) (rs : List Record) : Type 0 where
   pub message : Message
   pub there : IsMessage octets message
