@@ -9,6 +9,7 @@ pub mod MessageOnce
 pub mod Orders
 pub mod Received
 pub mod RecordOnce
+pub mod Reread
 pub mod Roads
 pub mod Same
 pub mod Splits

@@ -25,7 +25,7 @@ use Rattle.authority_transfer.specs.Transfers.{AllNumbersFit, answered_with, is_
 use Rattle.authority_transfer.proofs.RecordOnce.{NoOptions, are_alike, as_entries, entries_same, placed_again, ttl_once}
 
 -- ---- the ends of sections
-questions_end : (message : List ℕ) (place : ℕ) (qs ps : List Query) (e f : ℕ) → Entries (QuestionAt message) place qs e → Entries (QuestionAt message) place ps f → length qs ≡ length ps → e ≡ f
+pub questions_end : (message : List ℕ) (place : ℕ) (qs ps : List Query) (e f : ℕ) → Entries (QuestionAt message) place qs e → Entries (QuestionAt message) place ps f → length qs ≡ length ps → e ≡ f
 questions_end message place [] [] e f a b same = a ∙ sym b
 questions_end message place [] (p ∷ ps) e f a b same = absurd (omega (arith, same))
 questions_end message place (q ∷ qs) [] e f a b same = absurd (omega (arith, same))

@@ -47,7 +47,7 @@ fn take_records<K>(
     ensures refused { IfErr result (RefusesRecords zone.old records.items) }
 {
     let mut index = 0usize;
-    for next in records {
+    'answers: for next in records {
         take_record(alloc, zone, index, next)?;
         index += 1;
     }
