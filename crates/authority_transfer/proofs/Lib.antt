@@ -1,6 +1,7 @@
 pub mod Asked
 pub mod Carried
 pub mod Frames
+pub mod Given
 pub mod Keys
 pub mod Loading
 pub mod Lookups
