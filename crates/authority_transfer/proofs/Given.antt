@@ -2,7 +2,7 @@
 use Rattle.std.proofs.Common.{inl, inr, ◌≡◌, ◌∙◌, ◌⊎◌, refl, sym, ap, subst, ℕ, ◌≤◌, length, arith}
 use Rattle.std.specs.Prelude.{Bool, true, false, not, List, [], ◌∷◌, ◌++◌, Option, Some, None, cond, slice_get}
 use Rattle.std.specs.List.{AllByRecursion}
-use Rattle.zsv_message.specs.Messages.{IsMessage, Message, RefusesMessage}
+use Rattle.zsv_message.specs.Messages.{IsMessage, Message, RefusesMessage, no_additionals, no_answers, no_authorities, no_header, no_questions}
 use Rattle.zsv_message.specs.zst_record.declared.records.Record.{Record}
 use Rattle.zsv_message.specs.zst_record.dnw_codes.declared.error.DecodeError.{DecodeError}
 use Rattle.zsv_message.specs.zst_record.dnw_codes.declared.error.DecodeError.TheVariants as reads
