@@ -100,6 +100,9 @@ all_fit zone dnssec_ok loaded has =
     subst AllNumbersFit (sym has.begins.sends)
     (has.fits, all_append Fits (axfr_records zone.origin dnssec_ok zone.sets) (has.soa ∷ []) (others_fit zone dnssec_ok loaded) (has.fits, tt))
 
+clean : (a b c : Bool) → a ≡ true → b ≡ false → c ≡ false → cond (not a) (Some errors.NotAReply) (cond b (Some errors.Truncated) (cond c (Some errors.Signed) None)) ≡ None
+clean a b c e f g = rw (e, f, g) refl
+
 -- ---- what was read of a transfer
 module _ (empty zone : Zone) (dnssec_ok : Bool) (octets : List ℕ) (bare : empty.sets ≡ []) (same : zone ≡ record empty { sets = zone.sets }) (loaded : IsLoaded zone) (sends : HandsOverAll zone dnssec_ok octets) where
   some : 0 < length (transfer_of zone dnssec_ok)
@@ -124,7 +127,7 @@ module _ (empty zone : Zone) (dnssec_ok : Bool) (octets : List ℕ) (bare : empt
       let answer : is_answer m.metadata ≡ true = sym (ap is_answer alike.metadata) ∙ sends.reply in
       let whole : m.metadata.truncation ≡ false = sym (ap (λ (x : Metadata). x.truncation) alike.metadata) ∙ sends.whole in
       let unsigned : is_signed m ≡ false = sym alike.signed ∙ sends.unsigned in
-      rw (answer, whole, unsigned) refl
+      clean (is_answer m.metadata) m.metadata.truncation (is_signed m) answer whole unsigned
 
   framed : (m : Message) → IsMessage octets m → AllNumbersFit m.answers → is_framed empty.origin m.answers ≡ true
   framed m is fits =

@@ -115,13 +115,19 @@ but_same (r ∷ []) (s ∷ u ∷ ss) same = absurd same.1
 but_same (r ∷ t ∷ rs) (s ∷ []) same = absurd same.1
 but_same (r ∷ t ∷ rs) (s ∷ u ∷ ss) same = (same.0, but_same (t ∷ rs) (u ∷ ss) same.1)
 
+two_true : (a b : Bool) → a ≡ true → b ≡ true → (a && b) ≡ true
+two_true a b e f = rw (e, f) refl
+
+three_true : (a b c : Bool) → a ≡ true → b ≡ true → c ≡ true → (a && (b && c)) ≡ true
+three_true a b c e f g = rw (e, f, g) refl
+
 -- What is the same as one record is equal.
 pub both_same : (x r s : Record) → IsSameRecord x r → IsSameRecord x s → record_eq r s ≡ true
 both_same x r s first second =
     let owner : name_eq r.name s.name ≡ true = ap (λ (n : DomainName). name_eq n s.name) (sym first.name) ∙ ap (name_eq x.name) (sym second.name) ∙ name_eq_equiv.refl x.name in
     let class : same_class r.dns_class s.dns_class ≡ true = ap (λ (c : DNSClass). same_class c s.dns_class) (sym first.dns_class) ∙ ap (same_class x.dns_class) (sym second.dns_class) ∙ class_equiv.refl x.dns_class in
     let data_same : rdata_eq r.rdata s.rdata ≡ true = sym (rdata_equiv.congr x.rdata r.rdata s.rdata first.rdata) ∙ second.rdata in
-    rw (owner, class, data_same) refl
+    three_true (name_eq r.name s.name) (same_class r.dns_class s.dns_class) (rdata_eq r.rdata s.rdata) owner class data_same
 
 start_same : (origin : DomainName) (r s : Record) → IsSameRecord r s → is_start origin r ≡ true → is_start origin s ≡ true
 start_same origin r s same is =
@@ -140,8 +146,8 @@ framed_same origin x others (r ∷ s ∷ rs) is same =
     let start = start_same origin x r same.0 is in
     let end : IsSameRecord x (last_of s rs) = at_end others same.1 in
     let equal = both_same x r (last_of s rs) same.0 end in
-    rw (start, equal) refl
+    two_true (is_start origin r) (record_eq r (last_of s rs)) start equal
   where
     at_end : (ys : List Record) → AllSame IsSameRecord (ys ++ x ∷ []) (s ∷ rs) → IsSameRecord x (last_of s rs)
-    at_end [] h = subst (λ (z : Record). IsSameRecord z (last_of s rs)) refl (last_same x s [] rs h.0 h.1)
+    at_end [] h = last_same x s [] rs h.0 h.1
     at_end (y ∷ ys) h = subst (λ (z : Record). IsSameRecord z (last_of s rs)) (last_pushed y ys x) (last_same y s (ys ++ x ∷ []) rs h.0 h.1)

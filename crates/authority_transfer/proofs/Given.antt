@@ -1,6 +1,6 @@
 -- What the steps of a loader give together.
 use Rattle.std.proofs.Common.{inl, inr, ◌≡◌, ◌∙◌, ◌⊎◌, refl, sym, ap, subst, ℕ, ◌≤◌, length, arith}
-use Rattle.std.specs.Prelude.{Bool, true, false, not, List, [], ◌∷◌, ◌++◌, Option, Some, None, cond, slice_get}
+use Rattle.std.specs.Prelude.{Bool, true, false, not, List, [], ◌∷◌, ◌++◌, MatchOption, Option, Some, None, cond, slice_get}
 use Rattle.std.specs.List.{AllByRecursion}
 use Rattle.zsv_message.specs.Messages.{IsMessage, Message, RefusesMessage, no_additionals, no_answers, no_authorities, no_header, no_questions}
 use Rattle.zsv_message.specs.zst_record.declared.records.Record.{Record}
@@ -107,3 +107,9 @@ transfer_loaded empty octets rs end bare t takes ordered stored =
 pub refused_given : (empty : Zone) (octets : List ℕ) (rs : List Record) (e : TransferError) → IsTransferred empty.origin octets rs → RefusesRecords empty rs e → IsTransferFault empty octets e
 refused_given empty octets rs e t (inl memory) = subst (IsTransferFault empty octets) (sym memory) (inl t.there.long)
 refused_given empty octets rs e t (inr one) = inr (record { records = rs; transferred = t; refuses = one })
+
+-- ---- the message
+pub fault_gives : (octets : List ℕ) (m : Message) → IsMessage octets m → (o : Option TransferError) → o ≡ reply_fault m
+    → MatchOption o ((m : Message) × IsMessage octets m × (reply_fault m ≡ None)) (λ e. (origin : DomainName) → IsReplyFault origin octets e)
+fault_gives octets m is None e = (m, is, sym e)
+fault_gives octets m is (Some x) e = reply_refused octets m x is (sym e)

@@ -1,4 +1,4 @@
-use Rattle.std.proofs.Common.{ap, inl, inr, ◌∙◌}
+use Rattle.std.proofs.Common.{ap, subst, ◌∙◌}
 use Rattle.std.proofs.lemmas.Result.{err_from_is_err_and}
 use Rattle.zsv_message.specs.zst_record.dnw_decoder.Reading.{Reading}
 use Rattle.zsv_message.proofs.Whole.{asks_of, header_err, questions_err}

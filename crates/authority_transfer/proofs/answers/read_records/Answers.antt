@@ -5,7 +5,7 @@ use Rattle.authority_transfer.proofs.answers.read_records.Goals as goal
 
 pub returns-in_err-next-clause-none : goal.returns-in_err-next-clause-none
 returns-in_err-next-clause-none c =
-    let p = err_from_is_err_and c.from_residual-in_err-next.result c.from_residual-in_err-next.ensures.1 in
+    let p = err_from_is_err_and c.from_residual.result c.from_residual.ensures.1 in
     let none = rw c.records.invariant.same at c.in_err-next.ensures.none in
     rw (p.1, p.2) (none_as_many c.args.decoder.now.octets c.args.decoder.now.index c.args.count _ _ _ c.records.invariant.there (omega arith) none)
 

@@ -13,7 +13,7 @@ pub returns-in_err-take_record-clause-refused : goal.returns-in_err-take_record-
 returns-in_err-take_record-clause-refused g c =
     let p = err_from_is_err_and c.from_residual.result c.from_residual.ensures.1 in
     let t = YieldsList-turn (YieldsList-from_vec {s = c.into_iter-next-iterator.result} c.args.records.items (search rules) (search rules)) c.answers.yielded c.answers.next-iterator c.answers.yielded_by c.next.result c.next.new.self c.in-Some.next c.in-Some.is c.next.ensures.steps in
-    rw (p.1, p.2) (refused_at c.args.zone.now c.answers.zone c.args.records.items (length c.answers.yielded) c.answers.index c.in-Some.next _ t c.answers.invariant.count c.answers.invariant.takes c.in_err-take_record.ensures.err)
+    rw (p.1, p.2) (refused_at c.args.zone.now c.answers.zone c.args.records.items (length c.answers.yielded) c.answers.index c.in-Some.next _ t c.answers.invariant.count c.answers.invariant.takes c.in_err-take_record.ensures.refused)
 
 pub answers-preserved : goal.answers-preserved
 answers-preserved g c =
