@@ -1,8 +1,8 @@
 -- What the steps of a loader give together.
-use Rattle.std.proofs.Common.{inl, inr, ◌≡◌, ◌∙◌, ◌⊎◌, refl, sym, ap, subst, ℕ, ◌≤◌, length, arith}
-use Rattle.std.specs.Prelude.{Bool, true, false, not, List, [], ◌∷◌, ◌++◌, MatchOption, Option, Some, None, cond, slice_get}
+use Rattle.std.proofs.Common.{inl, inr, ◌≡◌, ◌∙◌, ◌⊎◌, refl, sym, ap, subst, ℕ, ◌<◌, ◌≤◌, length, arith, true≢false}
+use Rattle.std.specs.Prelude.{Bool, true, false, not, List, [], ◌∷◌, ◌++◌, Err, IsSome, MatchOption, Option, Some, None, cond, slice_get}
 use Rattle.std.specs.List.{AllByRecursion}
-use Rattle.zsv_message.specs.Messages.{IsMessage, Message, RefusesMessage, no_additionals, no_answers, no_authorities, no_header, no_questions}
+use Rattle.zsv_message.specs.Messages.{IsMessage, Message, ReadsMessage, RefusesMessage, no_additionals, no_answers, no_authorities, no_header, no_questions}
 use Rattle.zsv_message.specs.zst_record.declared.records.Record.{Record}
 use Rattle.zsv_message.specs.zst_record.dnw_codes.declared.error.DecodeError.{DecodeError}
 use Rattle.zsv_message.specs.zst_record.dnw_codes.declared.error.DecodeError.TheVariants as reads
@@ -10,7 +10,7 @@ use Rattle.zsv_message.specs.zst_record.dnw_decoder.Reading.{IsWantOfMemory}
 use Rattle.zsv_message.specs.zst_record.dnw_name.DomainName.{DomainName}
 use Rattle.authority_load.specs.Loaded.{IsLoaded}
 use Rattle.authority_load.specs.zst_zone.zst_handler.Zones.{AreInOrder, AreStored, Zone}
-use Rattle.authority_transfer.specs.Transfers.{AllNumbersFit, IsReplyFault, IsTransferFault, IsTransferred, IsUnframed, RefusesRecords, TakesAll, answered_with, begins_with, but_last, frame_fault, is_answer, is_framed, is_signed, reply_fault, whole_fault}
+use Rattle.authority_transfer.specs.Transfers.{AllNumbersFit, IsReplyFault, IsTransferFault, IsTransferred, IsUnframed, RefusesRecords, TakesAll, answered_with, begins_with, but_last, frame_fault, is_answer, is_framed, is_signed, reply_fault, unread, whole_fault}
 use Rattle.authority_transfer.specs.declared.error.TransferError.{TransferError}
 use Rattle.authority_transfer.specs.declared.error.TransferError.TheVariants as errors
 use Rattle.authority_transfer.proofs.Asked.{asks, faultless, said}
@@ -113,3 +113,28 @@ pub fault_gives : (octets : List ℕ) (m : Message) → IsMessage octets m → (
     → MatchOption o ((m : Message) × IsMessage octets m × (reply_fault m ≡ None)) (λ e. (origin : DomainName) → IsReplyFault origin octets e)
 fault_gives octets m is None e = (m, is, sym e)
 fault_gives octets m is (Some x) e = reply_refused octets m x is (sym e)
+
+pub unread_gives : (octets : List ℕ) (e : DecodeError) → ReadsMessage octets (Err e) → (origin : DomainName) → IsReplyFault origin octets (unread e)
+unread_gives octets reads.Memory r origin = memory_long octets r.0
+unread_gives octets other r origin = no_memory r.1
+  where
+    no_memory : ⊥ ⊎ ((m : Message) → IsMessage octets m → ⊥) → (m : Message) → IsMessage octets m → ⊥
+    no_memory (inl memory) = absurd memory
+    no_memory (inr none) = none
+
+pub unread_framed : (e : DecodeError) → Some (unread e) ≡ Some errors.NoFrame → ⊥
+unread_framed reads.Memory h = absurd (cc h)
+unread_framed other h = absurd (cc h)
+
+-- ---- the answers
+pub by_none : {A : Type 0} {B : TransferError → Type 0} (o : Option TransferError) → ((x : TransferError) → o ≡ Some x → ⊥) → MatchOption o A B → A
+by_none None none is = is
+by_none (Some x) none is = absurd (none x refl)
+
+pub starts : (origin : DomainName) (items : List Record) (last : Record) (b c : Bool) (o : Option Record) (xs : List Record) → b ≡ begins_with origin o last → o ≡ slice_get xs 0 → xs ≡ items → b ≡ c → begins_with origin (first_in items) last ≡ c
+starts origin items last b c o xs is first same test =
+    sym (ap (λ (p : Option Record). begins_with origin p last) (first ∙ ap (λ (ys : List Record). slice_get ys 0) same ∙ first_there items)) ∙ sym is ∙ test
+
+pub none_popped : (rs : List Record) → (0 < length rs → IsSome {A = Record} None) → rs ≡ []
+none_popped [] some = refl
+none_popped (r ∷ rs) some = absurd (true≢false (sym (some (omega arith))))

@@ -1,6 +1,7 @@
 -- The answers of a message, read again.
 use Rattle.std.proofs.Common.{inl, inr, ◌≡◌, ◌∙◌, ◌⊎◌, refl, sym, ap, subst, ℕ, ◌<◌, List, [], ◌∷◌, ◌++◌, length, arith}
 use Rattle.std.specs.List.{AllByRecursion}
+use Rattle.std.specs.Prelude.{Err, IfErr, IfOk, Ok, Result}
 use Rattle.drd_record_data.specs.Numbers.{NumbersFit}
 use Rattle.zsv_message.specs.Messages.{IsMessage, Message}
 use Rattle.zsv_message.specs.zst_record.Records.{RecordAt}
@@ -63,3 +64,15 @@ answers_none octets h asked place e a (inr none) = inr (λ m is.
     none m.answers is.answers_end
     (subst (λ (n : ℕ). Entries (RecordAt octets) n m.answers is.answers_end) (sym (place_is octets h asked place m is a)) (as_entries _ octets is.questions_end m.answers is.answers_end is.answers.0))
     (is.answers.1 ∙ sym (ap (λ (h : Header). h.counts.answers) a.means)))
+
+pub all_again : {X : Type 0} (r : Result X DecodeError) (items : X → List Record) (octets : List ℕ) (h : Header) (asked : Asked) (place end : ℕ) → Asks octets h asked place
+    → IfOk r (λ rs. Entries (RecordAt octets) place (items rs) end) → IfOk r (λ rs. length (items rs) ≡ h.counts.answers)
+    → IfOk r (λ rs. (m : Message) → IsMessage octets m → IsMessage octets (answered_with m (items rs)))
+all_again (Ok rs) items octets h asked place end a there long = answers_again octets h asked place (items rs) end a there long
+all_again (Err e) items octets h asked place end a there long = there
+
+pub none_again : {X : Type 0} (r : Result X DecodeError) (octets : List ℕ) (h : Header) (asked : Asked) (place : ℕ) → Asks octets h asked place
+    → IfErr r (λ e. IsWantOfMemory e ⊎ ((rs : List Record) (end : ℕ) → Entries (RecordAt octets) place rs end → length rs ≡ h.counts.answers → ⊥))
+    → IfErr r (λ e. IsWantOfMemory e ⊎ ((m : Message) → IsMessage octets m → ⊥))
+none_again (Ok rs) octets h asked place a none = none
+none_again (Err e) octets h asked place a none = answers_none octets h asked place e a none

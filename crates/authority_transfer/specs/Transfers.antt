@@ -8,6 +8,8 @@ use Rattle.zsv_message.specs.zst_record.RecordSets.{RRset}
 use Rattle.zsv_message.specs.zst_record.declared.records.Record.{Record}
 use Rattle.zsv_message.specs.zst_record.dnw_codes.DNSClass.{same_class}
 use Rattle.zsv_message.specs.zst_record.dnw_codes.RecordType.{same_record_type}
+use Rattle.zsv_message.specs.zst_record.dnw_codes.declared.error.DecodeError.{DecodeError}
+use Rattle.zsv_message.specs.zst_record.dnw_codes.declared.error.DecodeError.TheVariants as reading
 use Rattle.zsv_message.specs.zst_record.dnw_codes.declared.dns_class.DNSClass.TheVariants.{IN}
 use Rattle.zsv_message.specs.zst_record.dnw_codes.declared.record_type.RecordType.TheVariants as kind
 use Rattle.zsv_message.specs.zst_record.dnw_name.DomainName.{DomainName, is_at_or_below}
@@ -43,6 +45,11 @@ is_sig r = same_record_type (type_of r.rdata) kind.SIG
 -- A message with a TSIG (RFC 8945, section 4.2) or a SIG (RFC 2931, section 3).
 abbrev pub is_signed : Message → Bool
 is_signed m = is_some m.signature || list_any is_sig m.additionals
+
+-- Why no message is read: out of memory, or there is none.
+abbrev pub unread : DecodeError → TransferError
+unread reading.Memory = errors.OutOfMemory
+unread other = errors.NotAMessage
 
 -- The first cause that refuses a message, whatever its answers are.
 abbrev pub reply_fault : Message → Option TransferError

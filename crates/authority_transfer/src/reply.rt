@@ -4,7 +4,7 @@ ghost use Rattle.std.specs.Prelude.{◌≡◌, IfErr, MatchOption, None, Some};
 ghost use Rattle.std.specs.List.{list_any};
 ghost use Rattle.zsv_message.specs.Messages.{IsMessage, Message};
 ghost use Rattle.zsv_message.specs.zst_record.dnw_name.DomainName.{DomainName};
-ghost use Rattle.authority_transfer.specs.Transfers.{IsReplyFault, IsUnframed, ReplyGives, is_answer, is_response, is_sig, is_signed, reply_fault};
+ghost use Rattle.authority_transfer.specs.Transfers.{IsReplyFault, IsUnframed, ReplyGives, is_answer, is_response, is_sig, is_signed, reply_fault, unread};
 
 use crate::answers::read_answers;
 use crate::error::TransferError;
@@ -65,6 +65,16 @@ fn reply_fault(message: &MessageRequest<'_>) -> Option<TransferError>
     None
 }
 
+// Why no message is read.
+fn unread(cause: DecodeError) -> TransferError
+    ensures { result ≡ unread cause }
+{
+    match cause {
+        DecodeError::Memory => TransferError::OutOfMemory,
+        _ => TransferError::NotAMessage,
+    }
+}
+
 // Why the octets are no message, or the first cause that refuses it whatever its answers are.
 fn message_fault(alloc: Global, reply: &[u8]) -> Option<TransferError>
     ensures first { MatchOption result ((m : Message) × IsMessage reply.now m × (reply_fault m ≡ None))
@@ -77,8 +87,7 @@ fn message_fault(alloc: Global, reply: &[u8]) -> Option<TransferError>
             mem::drop(message);
             fault
         }
-        Err(DecodeError::Memory) => Some(TransferError::OutOfMemory),
-        Err(_) => Some(TransferError::NotAMessage),
+        Err(cause) => Some(unread(cause)),
     }
 }
 
