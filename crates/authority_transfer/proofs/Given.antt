@@ -1,6 +1,6 @@
 -- What the steps of a loader give together.
 use Rattle.std.proofs.Common.{inl, inr, ◌≡◌, ◌∙◌, ◌⊎◌, refl, sym, ap, subst, ℕ, ◌<◌, ◌≤◌, length, arith, true≢false}
-use Rattle.std.specs.Prelude.{Bool, true, false, not, List, [], ◌∷◌, ◌++◌, Err, IsSome, MatchOption, Option, Some, None, cond, slice_get}
+use Rattle.std.specs.Prelude.{Bool, true, false, not, List, [], ◌∷◌, ◌++◌, Err, MatchOption, Option, Some, None, cond, slice_get}
 use Rattle.std.specs.List.{AllByRecursion}
 use Rattle.zsv_message.specs.Messages.{IsMessage, Message, ReadsMessage, RefusesMessage, no_additionals, no_answers, no_authorities, no_header, no_questions}
 use Rattle.zsv_message.specs.zst_record.declared.records.Record.{Record}
@@ -127,14 +127,10 @@ unread_framed reads.Memory h = absurd (cc h)
 unread_framed other h = absurd (cc h)
 
 -- ---- the answers
-pub by_none : {A : Type 0} {B : TransferError → Type 0} (o : Option TransferError) → ((x : TransferError) → o ≡ Some x → ⊥) → MatchOption o A B → A
-by_none None none is = is
-by_none (Some x) none is = absurd (none x refl)
-
 pub starts : (origin : DomainName) (items : List Record) (last : Record) (b c : Bool) (o : Option Record) (xs : List Record) → b ≡ begins_with origin o last → o ≡ slice_get xs 0 → xs ≡ items → b ≡ c → begins_with origin (first_in items) last ≡ c
 starts origin items last b c o xs is first same test =
     sym (ap (λ (p : Option Record). begins_with origin p last) (first ∙ ap (λ (ys : List Record). slice_get ys 0) same ∙ first_there items)) ∙ sym is ∙ test
 
-pub none_popped : (rs : List Record) → (0 < length rs → IsSome {A = Record} None) → rs ≡ []
-none_popped [] some = refl
-none_popped (r ∷ rs) some = absurd (true≢false (sym (some (omega arith))))
+pub none_popped : (rs : List Record) (n : ℕ) → n ≡ length rs → (0 < n → false ≡ true) → rs ≡ []
+none_popped [] n long some = refl
+none_popped (r ∷ rs) n long some = absurd (true≢false (sym (some (omega (arith, long)))))
