@@ -9,7 +9,7 @@ use Rattle.zsv_message.specs.zsv_parts.declared.header.OpCode.{OpCode}
 use Rattle.zsv_message.specs.zsv_parts.declared.header.OpCode.TheVariants as operations
 use Rattle.zsv_message.specs.zsv_parts.zst_codes.ResponseCode.{same_response_code}
 use Rattle.zsv_message.specs.zsv_parts.zst_codes.declared.response_code.ResponseCode.TheVariants as codes
-use Rattle.authority_transfer.specs.Transfers.{frame_fault, is_answer, is_framed, is_response, is_signed, reply_fault, whole_fault}
+use Rattle.authority_transfer.specs.Transfers.{frame_fault, is_answer, is_response, is_signed, reply_fault, whole_fault}
 use Rattle.authority_transfer.specs.declared.error.TransferError.{TransferError}
 use Rattle.authority_transfer.specs.declared.error.TransferError.TheVariants as errors
 use Rattle.zsv_message.specs.zst_record.dnw_name.DomainName.{DomainName}

@@ -1,8 +1,8 @@
 -- The transfer of a loaded zone gives the zone again.
-use Rattle.std.proofs.Common.{inl, inr, ◌≡◌, ◌∙◌, ◌⊎◌, refl, sym, ap, subst, ℕ, ◌<◌, ◌≤◌, length, arith}
+use Rattle.std.proofs.Common.{◌≡◌, ◌∙◌, refl, sym, ap, subst, ℕ, ◌<◌, length, arith}
 use Rattle.std.proofs.lemmas.Bool.{and_parts, eqb-true, true≢false}
-use Rattle.std.specs.Prelude.{Bool, true, false, not, ◌&&◌, ◌||◌, ◌==◌, List, [], ◌∷◌, ◌++◌, Option, Some, None, cond}
-use Rattle.std.specs.List.{AllByRecursion, filter, flat_map}
+use Rattle.std.specs.Prelude.{Bool, true, false, not, ◌&&◌, ◌||◌, ◌==◌, List, [], ◌∷◌, Option, Some, None, cond}
+use Rattle.std.specs.List.{AllByRecursion}
 use Rattle.drd_record_data.specs.Numbers.{NumbersFit}
 use Rattle.zsv_message.specs.Messages.{IsMessage, Message}
 use Rattle.zsv_message.specs.zst_record.declared.records.Record.{Record}
@@ -17,7 +17,7 @@ use Rattle.authority_load.proofs.ReadBack.{found_is, found_of}
 use Rattle.authority_load.specs.Joining.{is_of}
 use Rattle.authority_load.specs.Loaded.{IsLoaded, IsLoadedRecord, IsLoadedSet}
 use Rattle.authority_load.specs.zst_zone.zst_handler.Answers.{sets_shown}
-use Rattle.authority_load.specs.zst_zone.zst_handler.Zones.{AreStored, IsStored, Zone, rrset_at}
+use Rattle.authority_load.specs.zst_zone.zst_handler.Zones.{IsStored, Zone, rrset_at}
 use Rattle.authority_transfer.specs.Alike.{AllSame, AnswersAlike, IsSameRecord, IsSameZone}
 use Rattle.authority_transfer.specs.Sending.{axfr_records as others_of}
 use Rattle.authority_transfer.specs.Sending.{between_soas, is_start, transfer_of}
@@ -26,7 +26,7 @@ use Rattle.authority_transfer.specs.TwoRoads.{HandsOverAll}
 use Rattle.authority_transfer.specs.declared.error.TransferError.{TransferError}
 use Rattle.authority_transfer.specs.declared.error.TransferError.TheVariants as errors
 use Rattle.authority_transfer.proofs.Frames.{Begins, axfr_records, begins, but_pushed, but_same, framed_same, sent_of}
-use Rattle.authority_transfer.proofs.Keys.{owns, record_of, records_of, set_of_key}
+use Rattle.authority_transfer.proofs.Keys.{owns, record_of, set_of_key}
 use Rattle.authority_transfer.proofs.Lookups.{answers_alike}
 use Rattle.authority_transfer.proofs.MessageOnce.{answers_same, say_alike}
 use Rattle.authority_transfer.proofs.Asked.{asks}

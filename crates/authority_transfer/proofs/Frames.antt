@@ -1,5 +1,5 @@
 -- A transfer without its last record.
-use Rattle.std.proofs.Common.{◌≡◌, ◌∙◌, refl, sym, ap, subst, ℕ, ◌<◌, ◌≤◌, length, arith, true≢false}
+use Rattle.std.proofs.Common.{◌≡◌, ◌∙◌, refl, sym, ap, subst}
 use Rattle.std.specs.Prelude.{Bool, true, false, not, ◌&&◌, List, [], ◌∷◌, ◌++◌, Option, Some, None, cond}
 use Rattle.std.specs.List.{filter}
 use Rattle.zsv_message.specs.zst_record.dnw_codes.DNSClass.{same_class}
@@ -12,7 +12,7 @@ use Rattle.zsv_message.specs.zst_record.drd_rdata.Order.{rdata_eq}
 use Rattle.zsv_message.specs.zst_record.drd_rdata.Types.{type_of}
 use Rattle.zsv_message.specs.zst_record.declared.records.Record.{Record}
 use Rattle.zsv_message.specs.zst_record.Records.{record_eq}
-use Rattle.zsv_message.specs.zst_record.RecordLaws.{class_equiv, name_eq_equiv, record_equiv}
+use Rattle.zsv_message.specs.zst_record.RecordLaws.{class_equiv, name_eq_equiv}
 use Rattle.zsv_message.specs.zst_record.RecordSets.{RRset}
 use Rattle.drd_record_data.specs.drd_rdata.OrderLaws.{rdata_equiv}
 use Rattle.authority_load.specs.Joining.{is_of}

@@ -1,7 +1,7 @@
 -- What is taken of a reply leaves a zone as loaders make it.
-use Rattle.std.proofs.Common.{◌≡◌, ◌∙◌, refl, sym, ap, subst, ℕ, ◌+◌}
+use Rattle.std.proofs.Common.{◌≡◌, refl, sym, subst, ℕ, ◌+◌}
 use Rattle.std.proofs.lemmas.Bool.{true≢false}
-use Rattle.std.specs.Prelude.{Bool, true, false, not, ◌&&◌, List, [], ◌∷◌, Option, Some, None, cond}
+use Rattle.std.specs.Prelude.{Bool, true, false, not, ◌&&◌, List, [], ◌∷◌, Some, None, cond}
 use Rattle.std.specs.List.{AllByRecursion}
 use Rattle.drd_record_data.specs.Numbers.{NumbersFit}
 use Rattle.zsv_message.specs.zst_record.Records.{IsServable}
@@ -11,7 +11,7 @@ use Rattle.zsv_message.specs.zst_record.dnw_codes.DNSClass.{same_class}
 use Rattle.zsv_message.specs.zst_record.dnw_codes.declared.dns_class.DNSClass.TheVariants.{IN}
 use Rattle.zsv_message.specs.zst_record.dnw_name.DomainName.{DomainName, is_at_or_below}
 use Rattle.zsv_message.specs.zst_record.drd_rdata.Types.{type_of}
-use Rattle.authority_load.specs.Joining.{Joins, is_beside_alias, is_second_start}
+use Rattle.authority_load.specs.Joining.{is_beside_alias, is_second_start}
 use Rattle.authority_load.specs.Loaded.{AliasesAlone, IsLoaded, IsLoadedRecord, IsLoadedSet, added_by_signing}
 use Rattle.authority_load.specs.zst_zone.zst_handler.Zones.{AreInOrder, AreStored, SetReadsBack, Zone, ZoneReadsBack}
 use Rattle.authority_load.proofs.Sound.{IsAccepted, IsSound, joins_sound}

@@ -2,9 +2,9 @@
 use Rattle.std.proofs.Common.{◌≡◌, ◌∙◌, ◌/◌, ◌^◌, ℕ, refl, sym, ap, subst, true, false, List, [], ◌∷◌, length, arith}
 use Rattle.std.proofs.lemmas.Bool.{true≢false}
 use Rattle.std.specs.Prelude.{Bool, not, ◌||◌, Option, Some, None, cond, find, is_some}
-use Rattle.std.specs.List.{filter, list_any}
+use Rattle.std.specs.List.{list_any}
 use Rattle.zsv_message.specs.zst_edns.declared.edns.Edns.{Edns}
-use Rattle.zsv_message.specs.Messages.{AdditionalsAt, IsEdnsFor, IsMessage, IsSignatureFor, Message, before_additionals, in_additionals, joined_metadata, other_records}
+use Rattle.zsv_message.specs.Messages.{IsEdnsFor, IsMessage, IsSignatureFor, Message, before_additionals, in_additionals, joined_metadata, other_records}
 use Rattle.zsv_message.specs.zst_record.Records.{RecordAt}
 use Rattle.zsv_message.specs.zst_record.declared.records.Record.{Record}
 use Rattle.zsv_message.specs.zst_record.dnw_codes.RecordType.{same_record_type}

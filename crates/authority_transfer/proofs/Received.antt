@@ -17,7 +17,6 @@ use Rattle.zsv_message.specs.zst_record.drd_rdata.Types.{is_update0, type_of}
 use Rattle.zsv_message.specs.zst_record.drd_rdata.declared.rdata.RData.{RData}
 use Rattle.zsv_message.specs.zsv_sections.Sections.{PlacedRecords, is_opt, is_signature, is_tsig, misplaced, past}
 use Rattle.zsv_message.specs.zsv_parts.Headers.{header_of}
-use Rattle.zsv_message.specs.zsv_parts.declared.header.OpCode.{OpCode}
 use Rattle.authority_transfer.proofs.RecordOnce.{NoOptions}
 
 -- ---- types and classes of numbers

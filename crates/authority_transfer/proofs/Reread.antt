@@ -1,6 +1,5 @@
 -- The answers of a message, read again.
 use Rattle.std.proofs.Common.{inl, inr, ◌≡◌, ◌∙◌, ◌⊎◌, refl, sym, ap, subst, ℕ, ◌<◌, List, [], ◌∷◌, ◌++◌, length, arith}
-use Rattle.std.specs.List.{AllByRecursion}
 use Rattle.std.specs.Prelude.{Err, IfErr, IfOk, Ok, Result}
 use Rattle.drd_record_data.specs.Numbers.{NumbersFit}
 use Rattle.zsv_message.specs.Messages.{IsMessage, Message}
@@ -12,7 +11,6 @@ use Rattle.zsv_message.specs.zsv_parts.Headers.{header_of}
 use Rattle.zsv_message.specs.zsv_parts.Questions.{Asked, AskedAt}
 use Rattle.zsv_message.specs.zsv_parts.Wire.{Entries}
 use Rattle.zsv_message.specs.zsv_parts.declared.header.Header.{Header}
-use Rattle.zsv_message.specs.zsv_parts.declared.header.HeaderCounts.{HeaderCounts}
 use Rattle.zsv_message.proofs.Whole.{Asks}
 use Rattle.authority_transfer.specs.Transfers.{AllNumbersFit, answered_with}
 use Rattle.authority_transfer.proofs.MessageOnce.{answered_again, questions_end}

@@ -1,4 +1,4 @@
-use Rattle.std.proofs.Common.{[], ◌∷◌, ap, arith, inl, length, length-append, ◌∙◌}
+use Rattle.std.proofs.Common.{[], ◌∷◌, ap, arith, length, length-append, ◌∙◌}
 use Rattle.std.proofs.lemmas.Result.{err_from_is_err_and}
 use Rattle.authority_transfer.proofs.Reread.{entries_push, fits_push, none_as_many}
 use Rattle.authority_transfer.proofs.answers.read_records.Goals as goal
