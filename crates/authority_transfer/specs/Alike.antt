@@ -1,4 +1,4 @@
--- What is read of the octets of a record is the same record, but for where its octets lie in memory.
+-- What is read of a record's octets is the same record, but for where it lies in memory.
 use Rattle.std.specs.Prelude.{◌≡◌, true, List, [], ◌∷◌, Option, Some, None}
 use Rattle.zsv_message.specs.zst_record.drd_rdata.Order.{rdata_eq}
 use Rattle.zsv_message.specs.zst_record.drd_rdata.Types.{type_of}

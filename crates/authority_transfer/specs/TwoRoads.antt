@@ -9,7 +9,8 @@ use Rattle.authority_transfer.specs.Transfers.{is_answer, is_signed}
 use Rattle.authority_transfer.specs.declared.error.TransferError.{TransferError}
 use Rattle.authority_transfer.specs.declared.error.TransferError.TheVariants as errors
 
--- Octets hold the transfer of a zone, whole: an unsigned reply, whose answers are the zone's records.
+-- Octets hold the transfer of a zone, whole: an unsigned reply, whose answers are the zone's
+-- records.
 pub record HandsOverAll (zone : Zone) (dnssec_ok : Bool) (octets : List ℕ) : Type 0 where
   pub message : Message
   pub there : IsMessage octets message
