@@ -210,7 +210,8 @@ pub record FillsStart (n : ℕ) (before after : List ℕ) : Type 0 where
 
 -- A message is served, and the result is the length of the reply at the start of the buffer; or it
 -- is refused, and the buffer is as before.
-abbrev pub ServesInto : World → List ℕ → List ℕ → ℕ → Bool → ℕ → List ℕ → ℤ → List ℕ → World → Type 0
+abbrev pub ServesInto : World → List ℕ → List ℕ → ℕ → Bool → ℕ → List ℕ → ℤ → List ℕ → World
+    → Type 0
 ServesInto old message address port stream now before result after new =
     ((n : ℕ) × (result ≡ pos n) × FillsStart n before after
     × ServesFrom old message address port stream now (reply_of n after) new)
