@@ -9,9 +9,10 @@ ghost use Rattle.std.specs.Borrow.{full_share, sem};
 ghost use Rattle.std.specs.Mem.{type_size};
 ghost use Rattle.std.specs.Ptr.{lies_at, room_at};
 ghost use Rattle.authority_handle.specs.Calls.{AddsBlocklist, AddsZone, Removes, ServesInto, SetsAccess, SetsNsid};
-ghost use Rattle.authority_handle.specs.Worlds.{new_world};
+ghost use Rattle.authority_handle.specs.Worlds.{new_world, world_in};
 ghost use Rattle.authority_handle.specs.contracts.Server.{the_row};
-ghost use Rattle.authority_handle.specs.authority_server.Serving.{World};
+ghost use Rattle.authority_handle.specs.declared.server.Server.{Server as Held};
+ghost use Rattle.authority_handle.specs.authority_server.Servers.{AreUnguarded};
 
 use authority_handle::{BlocklistSettings, Network, Server};
 use std::alloc::Global;
@@ -28,7 +29,7 @@ pub extern "C" fn soarnef_size() -> usize
 #[unsafe(no_mangle)]
 pub unsafe extern "C" fn soarnef_open(alloc: Global, at: *mut u8)
     requires* { sem 𝓛 (room_at the_row at) }
-    ensures* { ∃ₛ (λ (server : World). sem 𝓛 (lies_at the_row full_share at server) ∗ ⌜ server ≡ new_world ⌝) }
+    ensures* { ∃ₛ (λ (server : Held). sem 𝓛 (lies_at the_row full_share at server) ∗ ⌜ world_in server ≡ new_world ⌝) }
 {
     let at = at as *mut Server;
     at.write(authority_handle::empty(alloc));
@@ -45,8 +46,8 @@ pub unsafe extern "C" fn soarnef_add_zone(
 ) -> i64
     ghost held: { Server }
     requires* { sem 𝓛 (lies_at the_row full_share at held) }
-    ensures* { ∃ₛ (λ (server : World). sem 𝓛 (lies_at the_row full_share at server)
-        ∗ ⌜ AddsZone held kind origin.now text.now result server ⌝) }
+    ensures* { ∃ₛ (λ (server : Held). sem 𝓛 (lies_at the_row full_share at server)
+        ∗ ⌜ AddsZone (world_in held) kind origin.now text.now result (world_in server) ⌝) }
 {
     let at = at as *mut Server;
     authority_handle::add_zone(&mut *at, kind, origin, text, refusal)
@@ -63,8 +64,8 @@ pub unsafe extern "C" fn soarnef_add_blocklist(
 ) -> i64
     ghost held: { Server }
     requires* { sem 𝓛 (lies_at the_row full_share at held) }
-    ensures* { ∃ₛ (λ (server : World). sem 𝓛 (lies_at the_row full_share at server)
-        ∗ ⌜ AddsBlocklist held settings.now name.now text.now message.now result server ⌝) }
+    ensures* { ∃ₛ (λ (server : Held). sem 𝓛 (lies_at the_row full_share at server)
+        ∗ ⌜ AddsBlocklist (world_in held) settings.now name.now text.now message.now result (world_in server) ⌝) }
 {
     let at = at as *mut Server;
     authority_handle::add_blocklist(&mut *at, settings, name, text, message)
@@ -75,8 +76,8 @@ pub unsafe extern "C" fn soarnef_add_blocklist(
 pub unsafe extern "C" fn soarnef_remove(at: *mut u8, name: &[u8]) -> i64
     ghost held: { Server }
     requires* { sem 𝓛 (lies_at the_row full_share at held) }
-    ensures* { ∃ₛ (λ (server : World). sem 𝓛 (lies_at the_row full_share at server)
-        ∗ ⌜ Removes held name.now result server ⌝) }
+    ensures* { ∃ₛ (λ (server : Held). sem 𝓛 (lies_at the_row full_share at server)
+        ∗ ⌜ Removes (world_in held) name.now result (world_in server) ⌝) }
 {
     let at = at as *mut Server;
     authority_handle::remove(&mut *at, name)
@@ -87,8 +88,8 @@ pub unsafe extern "C" fn soarnef_remove(at: *mut u8, name: &[u8]) -> i64
 pub unsafe extern "C" fn soarnef_set_access(at: *mut u8, networks: &[Network]) -> i64
     ghost held: { Server }
     requires* { sem 𝓛 (lies_at the_row full_share at held) }
-    ensures* { ∃ₛ (λ (server : World). sem 𝓛 (lies_at the_row full_share at server)
-        ∗ ⌜ SetsAccess held networks.now result server ⌝) }
+    ensures* { ∃ₛ (λ (server : Held). sem 𝓛 (lies_at the_row full_share at server)
+        ∗ ⌜ SetsAccess (world_in held) networks.now result (world_in server) ⌝) }
 {
     let at = at as *mut Server;
     authority_handle::set_access(&mut *at, networks)
@@ -99,8 +100,8 @@ pub unsafe extern "C" fn soarnef_set_access(at: *mut u8, networks: &[Network]) -
 pub unsafe extern "C" fn soarnef_set_nsid(at: *mut u8, octets: &[u8]) -> i64
     ghost held: { Server }
     requires* { sem 𝓛 (lies_at the_row full_share at held) }
-    ensures* { ∃ₛ (λ (server : World). sem 𝓛 (lies_at the_row full_share at server)
-        ∗ ⌜ SetsNsid held octets.now result server ⌝) }
+    ensures* { ∃ₛ (λ (server : Held). sem 𝓛 (lies_at the_row full_share at server)
+        ∗ ⌜ SetsNsid (world_in held) octets.now result (world_in server) ⌝) }
 {
     let at = at as *mut Server;
     authority_handle::set_nsid(&mut *at, octets)
@@ -119,8 +120,9 @@ pub unsafe extern "C" fn soarnef_serve(
 ) -> i64
     ghost held: { Server }
     requires* { sem 𝓛 (lies_at the_row full_share at held) }
-    ensures* { sem 𝓛 (lies_at the_row full_share at held)
-        ∗ ⌜ ServesInto held message.now address.now port stream now reply.old result reply.new ⌝ }
+    ensures* { ∃ₛ (λ (server : Held). sem 𝓛 (lies_at the_row full_share at server)
+        ∗ ⌜ (AreUnguarded (world_in held).chains → world_in server ≡ world_in held)
+        × ServesInto (world_in held) message.now address.now port stream now reply.old result reply.new (world_in server) ⌝) }
 {
     let at = at as *mut Server;
     authority_handle::serve(&mut *at, message, address, port, stream, now, reply)

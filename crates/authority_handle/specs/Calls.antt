@@ -16,7 +16,8 @@ use Rattle.authority_load.specs.zst_zone.zst_codes.declared.settings.ZoneType.{Z
 use Rattle.authority_load.specs.zst_zone.zst_codes.declared.settings.ZoneType.TheVariants as kinds
 use Rattle.authority_load.specs.zst_zone.zst_handler.Zones.{Zone}
 use Rattle.authority_server.specs.Servers.{with_zones, without_zones}
-use Rattle.authority_server.specs.Serving.{Serves, World}
+use Rattle.authority_server.specs.Serving.{Received, Refuses, Serves, World}
+use Rattle.authority_server.specs.declared.server.ServeError.{ServeError}
 use Rattle.authority_server.specs.zsv_access.Access.{no_networks}
 use Rattle.authority_server.specs.zsv_access.declared.access.AccessControl.{AccessControl}
 use Rattle.authority_server.specs.zsv_catalog.Chains.{chain_at}
@@ -174,25 +175,33 @@ abbrev pub reply_of : ℕ → List ℕ → Option (List ℕ)
 reply_of zero buffer = None
 reply_of (suc n) buffer = Some (take (suc n) buffer)
 
--- A message from this address and port is served. The server doesn't change.
-abbrev pub ServesFrom : World → List ℕ → List ℕ → ℕ → Bool → ℕ → Option (List ℕ) → Type 0
-ServesFrom world message address port stream now reply =
+-- A message from a source.
+abbrev pub received_from : List ℕ → SocketAddr → Bool → ℕ → Received
+received_from message source stream now = record {
+  message = message;
+  source = source;
+  transport = transport_of stream;
+  now = now;
+}
+
+-- A message from this address and port is served.
+abbrev pub ServesFrom : World → List ℕ → List ℕ → ℕ → Bool → ℕ → Option (List ℕ) → World → Type 0
+ServesFrom old message address port stream now reply new =
     (source : SocketAddr) × IsSource address port source
-    × Serves world
-    (record { message = message; source = source; transport = transport_of stream; now = now })
-    reply world
+    × Serves old (received_from message source stream now) reply new
 
 -- Why a message isn't served: out of memory, a reply that doesn't fit the buffer, or an address of
 -- neither 4 nor 16 octets.
-abbrev pub RefusesMessage : World → List ℕ → List ℕ → ℕ → Bool → ℕ → ℕ → Refusal → Type 0
-RefusesMessage world message address port stream now room refusals.OutOfMemory =
-    (source : SocketAddr) × IsSource address port source × (12 ≤ length message)
-RefusesMessage world message address port stream now room refusals.NoRoom =
-    (reply : List ℕ) × ServesFrom world message address port stream now (Some reply)
+abbrev pub RefusesMessage : World → List ℕ → List ℕ → ℕ → Bool → ℕ → ℕ → Refusal → World → Type 0
+RefusesMessage old message address port stream now room refusals.OutOfMemory new =
+    (source : SocketAddr) × IsSource address port source
+    × (e : ServeError) × Refuses old (received_from message source stream now) e new
+RefusesMessage old message address port stream now room refusals.NoRoom new =
+    (reply : List ℕ) × ServesFrom old message address port stream now (Some reply) new
     × IsUnfit reply room
-RefusesMessage world message address port stream now room refusals.WrongAddress =
-    IsNoAddress address
-RefusesMessage world message address port stream now room other = ⊥
+RefusesMessage old message address port stream now room refusals.WrongAddress new =
+    IsNoAddress address × (new ≡ old)
+RefusesMessage old message address port stream now room other new = ⊥
 
 -- A reply of a length is at the start of a buffer, whose other octets are as before.
 pub record FillsStart (n : ℕ) (before after : List ℕ) : Type 0 where
@@ -201,9 +210,10 @@ pub record FillsStart (n : ℕ) (before after : List ℕ) : Type 0 where
 
 -- A message is served, and the result is the length of the reply at the start of the buffer; or it
 -- is refused, and the buffer is as before.
-abbrev pub ServesInto : World → List ℕ → List ℕ → ℕ → Bool → ℕ → List ℕ → ℤ → List ℕ → Type 0
-ServesInto world message address port stream now before result after =
+abbrev pub ServesInto : World → List ℕ → List ℕ → ℕ → Bool → ℕ → List ℕ → ℤ → List ℕ → World
+    → Type 0
+ServesInto old message address port stream now before result after new =
     ((n : ℕ) × (result ≡ pos n) × FillsStart n before after
-    × ServesFrom world message address port stream now (reply_of n after))
+    × ServesFrom old message address port stream now (reply_of n after) new)
     ⊎ ((refusal : Refusal) × (result ≡ code_of refusal) × (after ≡ before)
-    × RefusesMessage world message address port stream now (length after) refusal)
+    × RefusesMessage old message address port stream now (length after) refusal new)

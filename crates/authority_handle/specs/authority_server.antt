@@ -1,1 +1,1 @@
-pub use Rattle.authority_server.specs.Serving
+pub use Rattle.authority_server.specs.Servers

@@ -2,7 +2,8 @@
 
 ghost use Rattle.std.specs.Prelude.{◌≡◌, ◌<◌, ◌^◌, length, IfErr, IfOk, IfSome, MatchOption, None, OnErr};
 ghost use Rattle.authority_handle.specs.Calls.{AddsBlocklist, AddsZone, FillsStart, IsUnfit, RefusesMessage, Removes, ServesFrom, ServesInto, SetsAccess, SetsNsid, StandsIn, reply_of, transport_of};
-ghost use Rattle.authority_handle.specs.Worlds.{new_world};
+ghost use Rattle.authority_handle.specs.Worlds.{new_world, world_in};
+ghost use Rattle.authority_server.specs.Servers.{AreUnguarded};
 
 use crate::blocklists::BlocklistSettings;
 use crate::refusal::{Refusal, length_or_code, number};
@@ -15,7 +16,7 @@ use std::io::Write;
 
 /// A server without zones, which every address may ask.
 pub fn empty(alloc: Global) -> Server
-    ensures { result ≡ new_world }
+    ensures { world_in result ≡ new_world }
 {
     Server::new(alloc)
 }
@@ -29,7 +30,7 @@ pub fn add_zone(
     text: &[u8],
     refusal: &mut [u8],
 ) -> i64
-    ensures { AddsZone server.old kind origin.now text.now result server.new }
+    ensures { AddsZone (world_in server.old) kind origin.now text.now result (world_in server.new) }
 {
     let added = server.add_zone(kind, origin, text);
     if let Err(Refusal::Line(error)) = &added {
@@ -54,28 +55,28 @@ pub fn add_blocklist(
     text: &[u8],
     message: &[u8],
 ) -> i64
-    ensures { AddsBlocklist server.old settings.now name.now text.now message.now result server.new }
+    ensures { AddsBlocklist (world_in server.old) settings.now name.now text.now message.now result (world_in server.new) }
 {
     number(server.add_blocklist(settings, name, text, message))
 }
 
 /// Removes the chain of a name.
 pub fn remove(server: &mut Server, name: &[u8]) -> i64
-    ensures { Removes server.old name.now result server.new }
+    ensures { Removes (world_in server.old) name.now result (world_in server.new) }
 {
     number(server.remove(name))
 }
 
 /// Replaces the access list.
 pub fn set_access(server: &mut Server, networks: &[Network]) -> i64
-    ensures { SetsAccess server.old networks.now result server.new }
+    ensures { SetsAccess (world_in server.old) networks.now result (world_in server.new) }
 {
     number(server.set_access(networks))
 }
 
 /// Sets the NSID (RFC 5001); no octets unset it.
 pub fn set_nsid(server: &mut Server, octets: &[u8]) -> i64
-    ensures { SetsNsid server.old octets.now result server.new }
+    ensures { SetsNsid (world_in server.old) octets.now result (world_in server.new) }
 {
     number(server.set_nsid(octets))
 }
@@ -114,22 +115,28 @@ fn reply_to(
     now: u64,
     reply: &mut [u8],
 ) -> Result<usize, Refusal>
-    ensures unchanged { server.new ≡ server.old }
-    ensures served { IfOk result (λ length. ServesFrom server.old message.now address.now port stream now (reply_of length reply.new)) }
+    ensures fixed { AreUnguarded (world_in server.old).chains → world_in server.new ≡ world_in server.old }
+    ensures served { IfOk result (λ length. ServesFrom (world_in server.old) message.now address.now port stream now (reply_of length reply.new)
+        (world_in server.new)) }
     ensures small { IfOk result (λ length. length < 2 ^ 63) }
     ensures start { IfOk result (λ length. FillsStart length reply.old reply.new) }
     ensures same { OnErr result (reply.new ≡ reply.old) }
-    ensures refused { IfErr result (RefusesMessage server.old message.now address.now port stream now (length reply.new)) }
+    ensures refused { IfErr result (λ refusal. RefusesMessage (world_in server.old) message.now address.now port stream now (length reply.new) refusal
+        (world_in server.new)) }
 {
     let Some(source) = source_of(address, port) else {
         return Err(Refusal::WrongAddress);
     };
-    let Some(octets) = server.serve(message, source, transport(stream), now)? else {
-        return Ok(0);
-    };
-    match put(&octets, reply) {
-        Some(count) => Ok(count),
-        None => Err(Refusal::NoRoom),
+    match server
+        .authority
+        .serve(message, source, transport(stream), now)
+    {
+        Ok(None) => Ok(0),
+        Ok(Some(octets)) => match put(&octets, reply) {
+            Some(count) => Ok(count),
+            None => Err(Refusal::NoRoom),
+        },
+        Err(_) => Err(Refusal::OutOfMemory),
     }
 }
 
@@ -144,8 +151,8 @@ pub fn serve(
     now: u64,
     reply: &mut [u8],
 ) -> i64
-    ensures unchanged { server.new ≡ server.old }
-    ensures served { ServesInto server.old message.now address.now port stream now reply.old result reply.new }
+    ensures fixed { AreUnguarded (world_in server.old).chains → world_in server.new ≡ world_in server.old }
+    ensures served { ServesInto (world_in server.old) message.now address.now port stream now reply.old result reply.new (world_in server.new) }
 {
     length_or_code(reply_to(server, message, address, port, stream, now, reply))
 }

@@ -5,12 +5,11 @@ ghost use Rattle.std.specs.Str.{IsUtf8};
 ghost use Rattle.authority_handle.specs.Blocklists.{RefusesBlocklist};
 ghost use Rattle.authority_handle.specs.Calls.{IsZoneOf, PutsBlocklist, PutsZone, RefusesLoad, RefusesName, RefusesNsid, RefusesRemoval, RefusesZone, TakesOut, TellsAccess, bare_zone, kind_of, nsid_of};
 ghost use Rattle.authority_handle.specs.Sources.{RefusesNetworks};
-ghost use Rattle.authority_handle.specs.Worlds.{new_world, view_of};
+ghost use Rattle.authority_handle.specs.Worlds.{new_world, view_of, world_in};
 ghost use Rattle.authority_handle.specs.declared.refusal.Refusal.TheVariants.{OutOfMemory};
 ghost use Rattle.authority_load.specs.ZoneText.{IsOwnerText, IsZoneText};
-ghost use Rattle.authority_server.specs.Servers.{IsUnguarded, with_zones};
-ghost use Rattle.authority_server.specs.Runs.{octets_of};
-ghost use Rattle.authority_server.specs.Serving.{Serves, WorldReadsBack};
+ghost use Rattle.authority_server.specs.Servers.{with_zones};
+ghost use Rattle.authority_server.specs.Serving.{WorldReadsBack};
 ghost use Rattle.authority_server.specs.zsv_catalog.ReadingBack.{ViewReadsBack};
 ghost use Rattle.authority_server.specs.zsv_catalog.zsv_answer.zst_request.Views.{Stored};
 
@@ -22,30 +21,16 @@ use authority_load::{
     AxfrPolicy, InMemoryZoneHandler, LoadCause, TextError, ZoneSettings, ZoneType, load_zone,
     parse_owner,
 };
-use authority_server::{Authority, NSIDPayload, Name, NoSuite, Protocol};
+use authority_server::{Authority, NSIDPayload, Name, NoSuite};
 use std::alloc::Global;
-use std::marker::Model;
-use std::net::SocketAddr;
 use std::{mem, str};
 use zsv_blocklist::BlocklistZoneHandler;
 
-/// A server of zones and blocklists, whose zones no message changes. A contract sees it as a `World`.
+/// A server of zones and blocklists.
 #[derive(Drop)]
 pub struct Server {
-    authority: Authority<NoSuite, Handler>,
-    alloc: Global,
-}
-
-impl Model for Server {
-    ghost use Rattle.authority_handle.specs.Worlds.{world_of_zones};
-    ghost use Rattle.authority_server.specs.Servers.{AreUnguarded};
-    ghost use Rattle.authority_server.specs.Serving.{World};
-
-    ghost Value = { World };
-
-    ghost view = { λ server. world_of_zones server.authority };
-
-    ghost invariant = { λ server. AreUnguarded (world_of_zones server.authority).chains };
+    pub(crate) authority: Authority<NoSuite, Handler>,
+    pub(crate) alloc: Global,
 }
 
 // The zone type of a number.
@@ -131,7 +116,7 @@ fn chain_of<H: Drop>(alloc: Global, handler: H) -> Result<Vec<H>, Refusal>
 impl Server {
     /// A server without zones, which every address may ask.
     pub(crate) fn new(alloc: Global) -> Server
-        ensures { result ≡ new_world }
+        ensures { world_in result ≡ new_world }
     {
         Server {
             authority: Authority::new(alloc, NoSuite),
@@ -141,11 +126,10 @@ impl Server {
 
     // Replaces the chain of a name by one handler.
     fn put(&mut self, name: &Name, handler: Handler) -> Result<(), Refusal>
-        requires back { ViewReadsBack (view_of handler) }
-        requires unguarded { IsUnguarded (view_of handler) }
-        ensures ok { OnOk result (self.new ≡ with_zones self.old name.now (view_of handler ∷ [])) }
-        ensures err { OnErr result (self.new ≡ self.old) }
-        ensures back { WorldReadsBack self.old → WorldReadsBack self.new }
+        requires { ViewReadsBack (view_of handler) }
+        ensures ok { OnOk result (world_in self.new ≡ with_zones (world_in self.old) name.now (view_of handler ∷ [])) }
+        ensures err { OnErr result (world_in self.new ≡ world_in self.old) }
+        ensures back { WorldReadsBack (world_in self.old) → WorldReadsBack (world_in self.new) }
         ensures memory { IfErr result (λ refusal. refusal ≡ OutOfMemory) }
     {
         let chain = chain_of(self.alloc, handler)?;
@@ -155,10 +139,10 @@ impl Server {
 
     /// Loads a zone, which replaces the chain of its name.
     pub(crate) fn add_zone(&mut self, kind: u8, origin: &[u8], text: &[u8]) -> Result<(), Refusal>
-        ensures ok { OnOk result (PutsZone self.old kind origin.now text.now self.new) }
+        ensures ok { OnOk result (PutsZone (world_in self.old) kind origin.now text.now (world_in self.new)) }
         ensures err { IfErr result (RefusesZone kind origin.now text.now) }
-        ensures unchanged { OnErr result (self.new ≡ self.old) }
-        ensures back { WorldReadsBack self.old → WorldReadsBack self.new }
+        ensures unchanged { OnErr result (world_in self.new ≡ world_in self.old) }
+        ensures back { WorldReadsBack (world_in self.old) → WorldReadsBack (world_in self.new) }
     {
         let (name, zone) = zone_of(self.alloc, kind, origin, text)?;
         self.put(&name, Handler::Zone(zone))
@@ -172,10 +156,10 @@ impl Server {
         text: &[u8],
         message: &[u8],
     ) -> Result<(), Refusal>
-        ensures ok { OnOk result (PutsBlocklist self.old settings.now name.now text.now message.now self.new) }
+        ensures ok { OnOk result (PutsBlocklist (world_in self.old) settings.now name.now text.now message.now (world_in self.new)) }
         ensures err { IfErr result (RefusesBlocklist settings.now name.now text.now message.now) }
-        ensures unchanged { OnErr result (self.new ≡ self.old) }
-        ensures back { WorldReadsBack self.old → WorldReadsBack self.new }
+        ensures unchanged { OnErr result (world_in self.new ≡ world_in self.old) }
+        ensures back { WorldReadsBack (world_in self.old) → WorldReadsBack (world_in self.new) }
     {
         let (name, list) = blocklist_of(self.alloc, settings, name, text, message)?;
         self.put(&name, Handler::Blocklist(list))
@@ -183,10 +167,10 @@ impl Server {
 
     /// Removes the chain of a name.
     pub(crate) fn remove(&mut self, name: &[u8]) -> Result<(), Refusal>
-        ensures ok { OnOk result (TakesOut self.old name.now self.new) }
-        ensures err { IfErr result (RefusesRemoval self.old name.now) }
-        ensures unchanged { OnErr result (self.new ≡ self.old) }
-        ensures back { WorldReadsBack self.old → WorldReadsBack self.new }
+        ensures ok { OnOk result (TakesOut (world_in self.old) name.now (world_in self.new)) }
+        ensures err { IfErr result (RefusesRemoval (world_in self.old) name.now) }
+        ensures unchanged { OnErr result (world_in self.new ≡ world_in self.old) }
+        ensures back { WorldReadsBack (world_in self.old) → WorldReadsBack (world_in self.new) }
     {
         let name = name_of(self.alloc, name)?;
         match self.authority.remove(&name) {
@@ -200,10 +184,10 @@ impl Server {
 
     /// Replaces the access list.
     pub(crate) fn set_access(&mut self, networks: &[Network]) -> Result<(), Refusal>
-        ensures ok { OnOk result (TellsAccess self.old networks.now self.new) }
+        ensures ok { OnOk result (TellsAccess (world_in self.old) networks.now (world_in self.new)) }
         ensures err { IfErr result (RefusesNetworks networks.now) }
-        ensures unchanged { OnErr result (self.new ≡ self.old) }
-        ensures back { WorldReadsBack self.old → WorldReadsBack self.new }
+        ensures unchanged { OnErr result (world_in self.new ≡ world_in self.old) }
+        ensures back { WorldReadsBack (world_in self.old) → WorldReadsBack (world_in self.new) }
     {
         let access = access_of(self.alloc, networks)?;
         self.authority.set_access(access);
@@ -212,33 +196,14 @@ impl Server {
 
     /// Sets the NSID; no octets unset it.
     pub(crate) fn set_nsid(&mut self, octets: &[u8]) -> Result<(), Refusal>
-        ensures ok { OnOk result (self.new ≡ record self.old { nsid = nsid_of octets.now }) }
+        ensures ok { OnOk result (world_in self.new ≡ record (world_in self.old) { nsid = nsid_of octets.now }) }
         ensures err { IfErr result (RefusesNsid octets.now) }
-        ensures unchanged { OnErr result (self.new ≡ self.old) }
-        ensures back { WorldReadsBack self.old → WorldReadsBack self.new }
+        ensures unchanged { OnErr result (world_in self.new ≡ world_in self.old) }
+        ensures back { WorldReadsBack (world_in self.old) → WorldReadsBack (world_in self.new) }
     {
         let nsid = nsid_of(self.alloc, octets)?;
         self.authority.set_nsid(nsid);
         Ok(())
-    }
-
-    /// Serves a message, out of memory if it is refused.
-    pub(crate) fn serve(
-        &mut self,
-        message: &[u8],
-        source: SocketAddr,
-        protocol: Protocol,
-        now: u64,
-    ) -> Result<Option<Vec<u8>>, Refusal>
-        ensures unchanged { self.new ≡ self.old }
-        ensures served { IfOk result (λ answer. Serves self.old
-            (record { message = message.now; source = source; transport = protocol; now = now }) (octets_of answer) self.old) }
-        ensures refused { IfErr result (λ refusal. (refusal ≡ OutOfMemory) × (12 ≤ length message.now)) }
-    {
-        match self.authority.serve(message, source, protocol, now) {
-            Ok(answer) => Ok(answer),
-            Err(_) => Err(Refusal::OutOfMemory),
-        }
     }
 }
 

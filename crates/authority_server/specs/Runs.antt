@@ -38,8 +38,8 @@ abbrev pub RefusesFirst : World → List Received → ServeError → World → T
 RefusesFirst old [] e new = ⊥
 RefusesFirst old (received ∷ later) e new = Refuses old received e new
 
--- The first messages served in order, one for each answer; the next one was refused, and the rest is
--- untouched.
+-- The first messages served in order, one for each answer; the next one was refused, and the rest
+-- is untouched.
 abbrev pub ServesUntil : World → List Received → List (Option (List ℕ)) → List (Option (List ℕ))
     → ServeError → World → Type 0
 ServesUntil old messages before after e new =

@@ -59,8 +59,8 @@ IsReplyOf received request parts limit reply =
     → IsReply received.message reply parts request.asked request.metadata.id limit
 
 -- The parts that are sent: those that the request gets; if they are to be signed, with the
--- signature of the reply as it is without one in 65,535 octets (RFC 8945, section 5.3), or a failure
--- if no key signs it.
+-- signature of the reply as it is without one in 65,535 octets (RFC 8945, section 5.3), or a
+-- failure if no key signs it.
 abbrev pub SendsGiven : World → Received → Message → Given → Option SigningContext → ReplyParts
     → Type 0
 SendsGiven world received request given None parts = parts ≡ given.plain

@@ -30,7 +30,7 @@ use Rattle.std.specs.contracts.alloc.Global as heap
 use Rattle.std.proofs.alloc.Global.TheLaws as heap_laws
 use Rattle.authority_handle.specs.contracts.Server as server
 use Rattle.authority_handle.proofs.Server.TheLaws as server_laws
-use Rattle.authority_handle.specs.Worlds.{new_world}
+use Rattle.authority_handle.specs.Worlds.{new_world, world_in}
 use Rattle.authority_handle.specs.contracts.empty as g
 use Rattle.authority_handle.proofs.empty.Met.{met}
 use Rattle.authority_c.specs.contracts.soarnef_open as f
@@ -63,9 +63,9 @@ soarnef_open_spec 𝓤 𝓛 𝓜 𝓡 wired =
     move ! (1 ∷ []) $ nothing ! $ move ! (1 ∷ 0 ∷ []) $ fjoin ! $ nothing ! $ join ! $ nothing ! $ move ! (1 ∷ 0 ∷ []) $ join ! $
     use1 𝓛 (raw (E.pre y)) (id⊢ 𝓤 _) $
     calls_at ! (framed 𝓤 H 𝓜 𝓣) E (met 𝓤 𝓛 𝓜 𝓡 (code.calls-authority_handle::empty 𝓡.env wired)) y (and_then ! (get ! refl) (no_more !)) (λ v.
-    use1 𝓛 (later (some (λ (r : S.Denot). (‵ ftrue ⊛ ‵ (S.own_val r (v ∷ []))) ⊛ some (λ (ws : Lasts g.ended tt (a, tt)). ‵ (lasts g.ended tt (a, tt) ws) ⊛ raw (fact 𝓤 (r ≡ new_world)))))) (id⊢ 𝓤 _) $
+    use1 𝓛 (later (some (λ (r : S.Denot). (‵ ftrue ⊛ ‵ (S.own_val r (v ∷ []))) ⊛ some (λ (ws : Lasts g.ended tt (a, tt)). ‵ (lasts g.ended tt (a, tt) ws) ⊛ raw (fact 𝓤 (world_in r ≡ new_world)))))) (id⊢ 𝓤 _) $
     await ! tt $ pick ! (λ r. split ! $ move ! (1 ∷ []) $ pick ! (λ ws. split ! $ drop ! $
-    heard ! (r ≡ new_world) (λ is_new. split ! $ drop ! $
+    heard ! (world_in r ≡ new_world) (λ is_new. split ! $ drop ! $
     -- [the server; the room]
     peeks ! S (Is S) (shows 𝓛 S) r (v ∷ []) (λ is. let good = ((server_laws.the_row_laws.lawful 𝓛).typed r (v ∷ []) is).0 in
     lands_as ! refl refl good $
@@ -75,7 +75,7 @@ soarnef_open_spec 𝓤 𝓛 𝓜 𝓡 wired =
     returns ! (look_at ! 0 refl) $ free_all ! refl $
     move ! (1 ∷ 0 ∷ []) $ use2 𝓛 (‵ (part_at S full_share r b o)) (part_in 𝓛 S refl full_share r b o v) $
     rewrite ! 0 (λ (q : Ptr). ‵ (lies_at S full_share q r)) (sym e) refl $
-    let Opened : S.Denot → SProp 𝓤 = λ s. sep 𝓤 (sem 𝓛 (lies_at S full_share p s)) (fact 𝓤 (s ≡ new_world)) in
-    use0 𝓛 (raw (fact 𝓤 (r ≡ new_world))) (fact_i 𝓤 (r ≡ new_world) (emp 𝓤) is_new) $ move ! (1 ∷ 0 ∷ []) $ use2 𝓛 (raw (ex 𝓤 Opened)) (ex_i 𝓤 Opened r) $
+    let Opened : S.Denot → SProp 𝓤 = λ s. sep 𝓤 (sem 𝓛 (lies_at S full_share p s)) (fact 𝓤 (world_in s ≡ new_world)) in
+    use0 𝓛 (raw (fact 𝓤 (world_in r ≡ new_world))) (fact_i 𝓤 (world_in r ≡ new_world) (emp 𝓤) is_new) $ move ! (1 ∷ 0 ∷ []) $ use2 𝓛 (raw (ex 𝓤 Opened)) (ex_i 𝓤 Opened r) $
     feq_i ! (List Val) (vunit ∷ []) (vunit ∷ []) refl $ nothing ! $ nothing ! $ fjoin ! $ nothing ! $ fjoin ! $ nothing ! $
     by ! (leaves 𝓛 f.ended stayed c z vunit tt (tt, (tt, tt)) (tt, (tt, tt)))))))))))

@@ -1,14 +1,15 @@
--- The server of the caller is borrowed by `serve`, and returned unchanged.
+-- The server of the caller is borrowed by `serve`, and returned as that left it.
 use Rattle.std.proofs.Common.{◌≡◌, ℕ, List, [], ◌∷◌, ◌++◌, length, refl, sym, ap, w16, w64}
 use base.Fraction.{full_share}
-use base.Logic.{SProp, emp, id⊢}
-use base.Fml.{flft, fres, flent}
+use base.Logic.{SProp, sep, emp, ex, ex_i, id⊢}
+use types.Logic.{sem}
+use base.Fml.{flft, flent}
 use mir.Syntax.{named}
 use mir.Val.{Val, vint, vbool, vptr}
 use prog.Wp.{WpFn}
 use contract.Monad.{fact, fact_i}
 use contract.Running.{tables}
-use types.Kit.{‵, raw, ◌⊛◌, some, later, prop, ◌$◌, ◌∵◌, !, qed, by, move, drop, use0, use1, use3, split, split3, join, fsplit, fjoin, feq_l, rewrite, pick, await, regoal}
+use types.Kit.{‵, raw, ◌⊛◌, some, later, prop, ◌$◌, ◌∵◌, !, qed, by, move, drop, use0, use1, use2, use3, split, split3, join, fsplit, fjoin, feq_l, rewrite, pick, await, regoal}
 use types.Tokens.{lft_new, lft_end}
 use types.Part.{agg, sub, whole}
 use types.Run.{enter, of_opd, addr, stop, fld, hop, from, no_more, and_then, returns}
@@ -35,6 +36,8 @@ use denote.Triple.Table.{framed}
 use denote.Triple.Walked.{Stays, walk_of, stay_dropped, Goes-dropped, gave_slice, Goes-gave_slice}
 use Rattle.std.proofs.raw_atomic.Walks.{proved, leaves}
 use Rattle.authority_handle.specs.Calls.{ServesInto}
+use Rattle.authority_handle.specs.Worlds.{world_in}
+use Rattle.authority_handle.specs.authority_server.Servers.{AreUnguarded}
 use Rattle.authority_handle.specs.contracts.Server as server
 use Rattle.authority_handle.specs.contracts.serve as g
 use Rattle.authority_handle.proofs.serve.Met.{met}
@@ -98,12 +101,12 @@ soarnef_serve_spec 𝓤 𝓛 𝓜 𝓡 wired =
     calls_at ! (framed 𝓤 H 𝓜 𝓣) G (met 𝓤 𝓛 𝓜 𝓡 (code.calls-authority_handle::serve 𝓡.env wired)) y
     (and_then ! (get ! refl) (and_then ! (get ! refl) (and_then ! (get ! refl) (and_then ! (get ! refl) (and_then ! (get ! refl) (and_then ! (get ! refl) (and_then ! (get ! refl) (no_more !)))))))) (λ v.
     use1 𝓛 (later (some (λ (r : i64.Denot). ((‵ (flft (α ∷ []) full_share) ⊛ raw (alive 𝓛 f.ended.signature κs qs)) ⊛ ‵ (i64.own_val r (v ∷ []))) ⊛
-    some (λ (ws : Lasts g.ended y.0.0 y.0.3). ‵ (lasts g.ended y.0.0 y.0.3 ws) ⊛ raw (fact 𝓤 (ws.0 ≡ held)) ⊛ raw (fact 𝓤 (ServesInto held message.now address.now port stream now reply.now r ws.1.1.1.1.1.1.0)))))) (id⊢ 𝓤 _) $
+    some (λ (ws : Lasts g.ended y.0.0 y.0.3). ‵ (lasts g.ended y.0.0 y.0.3 ws) ⊛ raw (fact 𝓤 (AreUnguarded (world_in held).chains → world_in ws.0 ≡ world_in held)) ⊛ raw (fact 𝓤 (ServesInto (world_in held) message.now address.now port stream now reply.now r ws.1.1.1.1.1.1.0 (world_in ws.0))))))) (id⊢ 𝓤 _) $
     await ! tt $ pick ! (λ r. split ! $ move ! (1 ∷ []) $ pick ! (λ ws. split3 ! $ move ! (1 ∷ []) $ heard ! _ (λ same. move ! (1 ∷ []) $ heard ! _ (λ answered.
     fsplit ! $ fsplit ! $ move ! (3 ∷ []) $ split ! $ split ! $ lft_end ! tt $
     -- [α is over; the tokens; the result; the loan's last value; its borrow; what is said of the others; what the lender keeps]
-    move ! (0 ∷ 6 ∷ 3 ∷ []) $ rewrite ! 2 (λ (m : S.Denot). ‵ (fres γ (S.coded.code m))) same refl $
-    use3 𝓛 (later (‵ (part_at S full_share held b o))) (ref_back 𝓛 S (α ∷ []) γ held b o) $ await ! tt $
+    move ! (0 ∷ 6 ∷ 3 ∷ []) $
+    use3 𝓛 (later (‵ (part_at S full_share ws.0 b o))) (ref_back 𝓛 S (α ∷ []) γ ws.0 b o) $ await ! tt $
     -- [the server; the tokens; the result; the loan's borrow; what is said of the others]
     move ! (3 ∷ []) $ drop ! $ move ! (3 ∷ []) $ fsplit ! $ drop ! $ fsplit ! $ drop ! $ fsplit ! $ drop ! $ fsplit ! $ drop ! $ fsplit ! $ drop ! $ fsplit ! $ fsplit ! $ fsplit ! $
     move ! (1 ∷ []) $ feq_l ! (λ len. fjoin ! $ fjoin ! $ nothing ! $ fjoin ! $ nothing ! $ fjoin ! $ nothing ! $ fjoin ! $ nothing ! $ fjoin ! $ nothing ! $ fjoin ! $ nothing ! $ fjoin ! $
@@ -111,9 +114,10 @@ soarnef_serve_spec 𝓤 𝓛 𝓜 𝓡 wired =
     move ! (3 ∷ []) $ peeks ! i64 (Is i64) (shows 𝓛 i64) r (v ∷ []) (λ is.
     lands_as ! refl refl ((sint_Lawful 𝓛 w64).typed r (v ∷ []) is).0 $
     returns ! (look_at ! 0 refl) $ free_all ! refl $
-    move ! (2 ∷ []) $ rewrite ! 0 (λ (q : Ptr). ‵ (lies_at S full_share q held)) (sym e) refl $
-    let Told : Type 0 = ServesInto held message.now address.now port stream now reply.now r ws.1.1.1.1.1.1.0 in
-    use0 𝓛 (raw (fact 𝓤 Told)) (fact_i 𝓤 Told (emp 𝓤) answered) $ move ! (1 ∷ 0 ∷ []) $ join ! $
+    move ! (2 ∷ []) $ rewrite ! 0 (λ (q : Ptr). ‵ (lies_at S full_share q ws.0)) (sym e) refl $
+    let Told : S.Denot → Type 0 = λ server. (AreUnguarded (world_in held).chains → world_in server ≡ world_in held) × ServesInto (world_in held) message.now address.now port stream now reply.now r ws.1.1.1.1.1.1.0 (world_in server) in
+    let Left : S.Denot → SProp 𝓤 = λ server. sep 𝓤 (sem 𝓛 (lies_at S full_share p server)) (fact 𝓤 (Told server)) in
+    use0 𝓛 (raw (fact 𝓤 (Told ws.0))) (fact_i 𝓤 (Told ws.0) (emp 𝓤) (same, answered)) $ move ! (1 ∷ 0 ∷ []) $ use2 𝓛 (raw (ex 𝓤 Left)) (ex_i 𝓤 Left ws.0) $
     -- [the ensures; the result; what is left of the parameters; the tokens]
     move ! (3 ∷ 2 ∷ 1 ∷ 0 ∷ []) $
     by ! (leaves 𝓛 f.ended stayed c z v r (tt, (tt, (tt, (tt, (tt, (tt, (ws.1.1.1.1.1.1.0, tt))))))) (tt, (tt, (tt, (tt, (tt, (tt, (len, tt))))))))))))))))))))

@@ -34,6 +34,7 @@ use denote.Triple.Table.{framed}
 use denote.Triple.Walked.{Stays, walk_of, stay_dropped, Goes-dropped}
 use Rattle.std.proofs.raw_atomic.Walks.{proved, leaves}
 use Rattle.authority_handle.specs.Calls.{SetsAccess}
+use Rattle.authority_handle.specs.Worlds.{world_in}
 use Rattle.authority_handle.specs.contracts.Network as network
 use Rattle.authority_handle.specs.contracts.Server as server
 use Rattle.authority_handle.specs.contracts.set_access as g
@@ -87,7 +88,7 @@ soarnef_set_access_spec 𝓤 𝓛 𝓜 𝓡 wired =
     calls_at ! (framed 𝓤 H 𝓜 𝓣) G (met 𝓤 𝓛 𝓜 𝓡 (code.calls-authority_handle::set_access 𝓡.env wired)) y
     (and_then ! (get ! refl) (and_then ! (get ! refl) (no_more !))) (λ v.
     use1 𝓛 (later (some (λ (r : i64.Denot). ((‵ (flft (α ∷ []) full_share) ⊛ raw (alive 𝓛 f.ended.signature κs qs)) ⊛ ‵ (i64.own_val r (v ∷ []))) ⊛
-    some (λ (ws : Lasts g.ended y.0.0 y.0.3). ‵ (lasts g.ended y.0.0 y.0.3 ws) ⊛ raw (fact 𝓤 (SetsAccess held networks.now r ws.0)))))) (id⊢ 𝓤 _) $
+    some (λ (ws : Lasts g.ended y.0.0 y.0.3). ‵ (lasts g.ended y.0.0 y.0.3 ws) ⊛ raw (fact 𝓤 (SetsAccess (world_in held) networks.now r (world_in ws.0))))))) (id⊢ 𝓤 _) $
     await ! tt $ pick ! (λ r. split ! $ move ! (1 ∷ []) $ pick ! (λ ws. split ! $ move ! (1 ∷ []) $ heard ! _ (λ changed.
     fsplit ! $ fsplit ! $ move ! (3 ∷ []) $ split ! $ split ! $ lft_end ! tt $
     -- [α is over; the tokens; the result; the loan's last value; its borrow; what is said of the others; what the lender keeps]
@@ -100,7 +101,7 @@ soarnef_set_access_spec 𝓤 𝓛 𝓜 𝓡 wired =
     lands_as ! refl refl ((sint_Lawful 𝓛 w64).typed r (v ∷ []) is).0 $
     returns ! (look_at ! 0 refl) $ free_all ! refl $
     move ! (2 ∷ []) $ rewrite ! 0 (λ (q : Ptr). ‵ (lies_at S full_share q ws.0)) (sym e) refl $
-    let Told : S.Denot → Type 0 = λ server. SetsAccess held networks.now r server in
+    let Told : S.Denot → Type 0 = λ server. SetsAccess (world_in held) networks.now r (world_in server) in
     let Left : S.Denot → SProp 𝓤 = λ server. sep 𝓤 (sem 𝓛 (lies_at S full_share p server)) (fact 𝓤 (Told server)) in
     use0 𝓛 (raw (fact 𝓤 (Told ws.0))) (fact_i 𝓤 (Told ws.0) (emp 𝓤) changed) $ move ! (1 ∷ 0 ∷ []) $ use2 𝓛 (raw (ex 𝓤 Left)) (ex_i 𝓤 Left ws.0) $
     -- [the ensures; the result; what is left of the parameters; the tokens]
