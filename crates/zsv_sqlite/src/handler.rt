@@ -9,7 +9,7 @@ ghost use Rattle.zst_request.specs.Updating.{ChangesBy, context_for, is_good, so
 ghost use Rattle.zst_request.specs.Views.{Stored};
 ghost use Rattle.zst_request.specs.zst_codes.declared.response_code.ResponseCode.TheVariants as codes;
 ghost use Rattle.zst_map.specs.zst_key.Ancestors.{or_else};
-ghost use Rattle.zsv_sqlite.specs.Guarded.{AppliesAll, LendsZone, forbidden, guarded_zone, refused_before, unless_refused};
+ghost use Rattle.zsv_sqlite.specs.Guarded.{AppliesAll, LendsZone, forbidden, guarded_zone, refused_before, refused_unasked, unless_refused};
 ghost use Rattle.zsv_sqlite.specs.Laws.{AliasesAlone, HasNs, HasOneSoa};
 
 use crate::changes::apply_changes;
@@ -82,7 +82,7 @@ impl<K> SqliteZoneHandler<K> {
     }
 
     /// Whether the zone is as the prerequisites of an update ask (RFC 2136 section 3.2), or by which code they are refused.
-    /// Without prerequisites it takes no memory.
+    /// It takes no memory without prerequisites, nor to refuse one by its form before one asks what the zone has.
     pub fn verify_prerequisites(
         &self,
         alloc: Global,
@@ -90,6 +90,7 @@ impl<K> SqliteZoneHandler<K> {
     ) -> Result<Result<(), ResponseCode>, AllocError>
         ensures verified { IfOk result (λ verified. verified ≡ unless_refused (prerequisites_refused (guarded_zone self.now) prerequisites.now)) }
         ensures none { prerequisites.now ≡ [] → IsOk result }
+        ensures form { (code : ResponseCode) → refused_unasked (guarded_zone self.now).origin prerequisites.now ≡ Some code → result ≡ Ok (Err code) }
     {
         let refused = prerequisites_refusal(alloc, &self.in_memory, prerequisites)?;
         Ok(unless_refused(refused))
@@ -156,6 +157,7 @@ impl<K> SqliteZoneHandler<K> {
     ) -> Result<Option<ResponseCode>, AllocError>
         ensures refused { IfOk result (λ refused. refused ≡ refused_before (guarded_zone self.now) prerequisites.now changes.now) }
         ensures none { prerequisites.now ≡ [] → result ≡ Ok (first_refused (prescan_refused (guarded_zone self.now).origin) changes.now) }
+        ensures form { (code : ResponseCode) → refused_unasked (guarded_zone self.now).origin prerequisites.now ≡ Some code → result ≡ Ok (Some code) }
     {
         let refused = prerequisites_refusal(alloc, &self.in_memory, prerequisites)?;
         if refused.is_some() {
@@ -177,6 +179,7 @@ impl<K> SqliteZoneHandler<K> {
         ensures err { OnErr result (self.new ≡ self.old) }
         ensures form { prerequisites.now ≡ [] → (code : ResponseCode) → first_refused (prescan_refused (guarded_zone self.old).origin) changes.items ≡ Some code
             → result ≡ Ok (Err code) }
+        ensures asked { (code : ResponseCode) → refused_unasked (guarded_zone self.old).origin prerequisites.now ≡ Some code → result ≡ Ok (Err code) }
     {
         let Ok(refused) = self.refusal(alloc, prerequisites, &changes) else {
             mem::drop(changes);
