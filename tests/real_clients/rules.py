@@ -120,6 +120,8 @@ def additionals_of_first_set(zone, reply, name, kind):
 
 NAMED = [aa_on_a_referral, name_servers_of_a_cut, name_servers_with_soa, star_past_a_name_that_exists, wildcard_without_the_type,
          nothing_after_an_alias, additionals_of_first_set]
+KNOT = NAMED
+NSD = [name_servers_beside_an_answer, *NAMED]
 
 
 def as_here(rules, zone, reply, name, kind):
