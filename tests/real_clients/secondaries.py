@@ -19,8 +19,8 @@ import dns.query
 
 KEY, SECRET = "transfer.example.", base64.b64encode(b"a secret of the tests").decode()
 COMPANY, EXAMPLE, SIGNED, DENIED = "company.example.", "example.com.", "signed.example.", "denied.example."
-BELOW, FULL, LARGE = "below.example.", "full.example.", "large.example."
-POLICIES = {COMPANY: "all", EXAMPLE: "all", SIGNED: "signed", DENIED: "deny", BELOW: "all", FULL: "all", LARGE: "all"}
+BELOW, FULL, TIGHT, LARGE = "below.example.", "full.example.", "fits.example.", "large.example."
+POLICIES = {COMPANY: "all", EXAMPLE: "all", SIGNED: "signed", DENIED: "deny", BELOW: "all", FULL: "all", TIGHT: "signed", LARGE: "all"}
 FULL_COUNT = 1048
 NEW, CHANGED = f"new.{COMPANY}", (COMPANY, SIGNED)
 BELOW_TEXT = """below.example. 300 IN SOA ns.below.example. hostmaster.below.example. 1 7200 900 1209600 300
@@ -53,7 +53,7 @@ def write_zones(folder):
     texts[SIGNED] = texts[COMPANY].replace(COMPANY, SIGNED)
     texts[DENIED] = texts[EXAMPLE].replace(EXAMPLE, DENIED)
     texts[BELOW] = BELOW_TEXT
-    texts[FULL] = full_zone(FULL)
+    texts[FULL], texts[TIGHT] = full_zone(FULL), full_zone(TIGHT)
     lines = BELOW_TEXT.replace(BELOW, LARGE).splitlines()[:3]
     texts[LARGE] = "\n".join([*lines, *(f'{at:04}.{LARGE} 300 IN TXT "{at:060}"' for at in range(1500)), ""])
     for origin, text in texts.items():
