@@ -108,6 +108,7 @@ NSD_ZONE = """zone:
 KNOT = """server:
   listen: 127.0.0.1@{port}
   rundir: "{folder}"
+  tcp-remote-io-timeout: 20000
 log:
   - target: "{folder}/log"
     any: info
@@ -190,8 +191,8 @@ def has(port, origins):
 
 
 def settled(port, origins, wanted, with_named, seconds):
-    """What a secondary has some seconds after it has what is expected, or after thirty seconds."""
-    for _ in range(150):
+    """What a secondary has some seconds after it has what is expected, or after a minute."""
+    for _ in range(300):
         time.sleep(0.2)
         if clients.agrees(has(port, origins), wanted, with_named):
             break
