@@ -6,3 +6,6 @@ pub mod LoneWords
 pub mod Sound
 pub mod TextTypes
 pub mod WordPlaces
+pub use Rattle.zst_zone.proofs.LowerNames
+pub use Rattle.zst_zone.proofs.OwnCodes
+pub use Rattle.zst_zone.proofs.ReadBack

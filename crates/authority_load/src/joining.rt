@@ -55,8 +55,8 @@ fn is_other_alias(alias: Option<&RecordSet>, next: &Record) -> bool
     }
 }
 
-// Whether the record's owner owns an alias, or the record is an alias and its owner owns something else.
-fn is_beside_alias<K>(zone: &InMemoryZoneHandler<K>, key: &NameKey, next: &Record) -> bool
+/// Whether the record's owner owns an alias, or the record is an alias and its owner owns something else.
+pub fn is_beside_alias<K>(zone: &InMemoryZoneHandler<K>, key: &NameKey, next: &Record) -> bool
     requires { key.now ≡ lowercase_name next.now.name }
     ensures { result ≡ is_beside_alias zone.now.sets next.now }
 {
@@ -74,8 +74,8 @@ fn has_start<K>(zone: &InMemoryZoneHandler<K>, key: &NameKey) -> bool
     zone.get_at(key, RecordType::SOA).is_some()
 }
 
-// Whether the record is an SOA and its owner owns one.
-fn is_second_start<K>(zone: &InMemoryZoneHandler<K>, key: &NameKey, next: &Record) -> bool
+/// Whether the record is an SOA and its owner owns one.
+pub fn is_second_start<K>(zone: &InMemoryZoneHandler<K>, key: &NameKey, next: &Record) -> bool
     requires { key.now ≡ lowercase_name next.now.name }
     ensures { result ≡ is_second_start zone.now.sets next.now }
 {

@@ -6,8 +6,8 @@
 
 pub use zst_zone::{
     AuthLookup, AxfrPolicy, InMemoryZoneHandler, LookupControlFlow, LookupError, LookupOptions,
-    LowerName, NxProofKind, ProtoError, ResponseCode, RrKey, Salt, ZoneError, ZoneSettings,
-    ZoneTransfer, ZoneType,
+    LowerName, NameKey, NxProofKind, ProtoError, ResponseCode, RrKey, Salt, ZoneError,
+    ZoneSettings, ZoneTransfer, ZoneType,
 };
 
 mod joining;
@@ -17,6 +17,7 @@ mod number;
 mod text;
 mod words;
 
+pub use joining::{is_beside_alias, is_second_start, join};
 pub use loader::{LoadCause, LoadError, load_zone};
 pub use number::parse_u64;
 pub use text::{TextError, parse_owner};

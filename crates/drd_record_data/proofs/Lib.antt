@@ -1,2 +1,3 @@
+pub mod EqualLaws
 pub mod OnceLaws
 pub mod OtherNumbers

@@ -1,17 +1,13 @@
 -- What the draft of a zone is of, owner by owner, and that it is what a commit leaves.
 use Rattle.std.proofs.Common.{◌≡◌, refl, ap, sym, ◌∙◌, subst}
 use Rattle.std.specs.Prelude.{Bool, true, false, List, [], ◌∷◌, Option, Some, None, cond}
-use Rattle.std.specs.BTreeMap.{IsOrdered, get, is_at}
-use Rattle.std.specs.List.{AllByRecursion}
-use Rattle.std.specs.List.Sorted.{IsStrictlySortedBy}
+use Rattle.std.specs.HashMap.{IsUnique, get}
+use Rattle.std.specs.List.{AllByRecursion, IsDistinct}
 use Rattle.std.specs.Map.{keys_of, lookup}
-use Rattle.std.specs.Ordering.{is_eq}
-use Rattle.std.specs.declared.cmp.Ordering.TheVariants.{Less}
 use Rattle.std.proofs.lemmas.Bool.{eq-eqb}
 use Rattle.zst_map.specs.dnw_codes.declared.record_type.RecordType.{RecordType}
 use Rattle.zst_map.specs.dnw_codes.RecordType.{record_type_number}
-use Rattle.zst_map.specs.dnw_name.DomainName.{DomainName, name_cmp, name_eq}
-use Rattle.zst_map.specs.dnw_name.NameOrderLaws.{name_eq-by_cmp}
+use Rattle.zst_map.specs.dnw_name.DomainName.{DomainName, name_eq}
 use Rattle.zst_map.specs.zst_handler.Lookups.{sets_of_name}
 use Rattle.zst_map.specs.zst_handler.Updates.{set_of_type}
 use Rattle.zst_map.specs.zst_handler.Zones.{AreInOrder, AreStored, Zone, rrset_at}
@@ -29,6 +25,7 @@ use Rattle.zst_draft.specs.declared.owner.OwnerDraft.{OwnerDraft}
 use Rattle.zst_draft.specs.declared.records.RecordsDraft.{RecordsDraft}
 use Rattle.zst_draft.specs.declared.set.SetDraft.{SetDraft}
 use Rattle.zst_draft.specs.declared.zone.ZoneDraft.{ZoneDraft}
+use Rattle.zst_draft.proofs.Names.{IsLower}
 use Rattle.zst_draft.proofs.OwnedSets.{IsOwned, found_owned}
 use Rattle.zst_draft.proofs.OwnerSets.{owner_once}
 use Rattle.zst_draft.proofs.Settled.{apart_flipped, away_flipped as type_apart}
@@ -71,59 +68,55 @@ can_each sets at name all (e ∷ es) owned alike each own = (
   can_each sets at name all es owned alike each.1 own.1,
 )
 
-can_owner : (sets at : List RRset) (name : DomainName) (es : List SetDraft) → AreOwned name at → DraftsSets (rrset_at sets name) es at → IsOwnerDraft (rrset_at sets name) es → CanSettleOwner sets name es
-can_owner sets at name es owned drafts is = record {
+can_owner : (sets at : List RRset) (name : DomainName) (es : List SetDraft) → AreOwned name at → IsLower name → DraftsSets (rrset_at sets name) es at → IsOwnerDraft (rrset_at sets name) es
+    → CanSettleOwner sets name es
+can_owner sets at name es owned lower drafts is = record {
   each = can_each sets at name es es owned drafts.alike is.each (each_of_type (rrset_at sets name) es is.differ);
   differ = is.differ;
   all = is.all;
+  lower = lower;
 }
 
 -- ---- all owners
-none_less : (key name : DomainName) → name_cmp key name ≡ Less → name_eq key name ≡ false
-none_less key name less = name_eq-by_cmp key name ∙ ap is_eq less
-
-keys_apart : (key : DomainName) (ps : Drafted) → AllByRecursion (λ later. name_cmp key later ≡ Less) (keys_of ps) → AllByRecursion (λ other. name_eq key other.0 ≡ false) ps
+keys_apart : (key : DomainName) (ps : Drafted) → AllByRecursion (λ later. name_eq key later ≡ false) (keys_of ps) → AllByRecursion (λ other. name_eq key other.0 ≡ false) ps
 keys_apart key [] all = tt
-keys_apart key (p ∷ ps) all = (none_less key p.0 all.0, keys_apart key ps all.1)
+keys_apart key (p ∷ ps) all = (all.0, keys_apart key ps all.1)
 
-pub keys_differ : (ps : Drafted) → IsStrictlySortedBy name_cmp (keys_of ps) → KeysDiffer ps
-unfolding IsStrictlySortedBy
-keys_differ [] order = tt
-keys_differ (p ∷ ps) order = (keys_apart p.0 ps order.0, keys_differ ps order.1)
+pub keys_differ : (ps : Drafted) → IsDistinct name_eq (keys_of ps) → KeysDiffer ps
+unfolding IsDistinct
+keys_differ [] unique = tt
+keys_differ (p ∷ ps) unique = (keys_apart p.0 ps unique.0, keys_differ ps unique.1)
 
 abbrev owner_of : DomainName → Drafted → Option OwnerDraft
-owner_of name ps = lookup (is_at (name_cmp name)) ps
-
-found_at : (name key : DomainName) → is_at (name_cmp name) key ≡ name_eq name key
-found_at name key = sym (name_eq-by_cmp name key)
+owner_of name ps = lookup (name_eq name) ps
 
 own_owner : (p : DomainName × OwnerDraft) (ps : Drafted) → owner_of p.0 (p ∷ ps) ≡ Some p.1
-own_owner p ps = ap (λ (b : Bool). cond b (Some p.1) (owner_of p.0 ps)) (found_at p.0 p.0 ∙ name_eq_equiv.refl p.0)
+own_owner p ps = ap (λ (b : Bool). cond b (Some p.1) (owner_of p.0 ps)) (name_eq_equiv.refl p.0)
 
 later_owner : (p : DomainName × OwnerDraft) (ps later : Drafted) → AllByRecursion (λ other. name_eq p.0 other.0 ≡ false) later → AllByRecursion (λ q. owner_of q.0 ps ≡ Some q.1) later
     → AllByRecursion (λ q. owner_of q.0 (p ∷ ps) ≡ Some q.1) later
 later_owner p ps [] apart own = tt
 later_owner p ps (q ∷ later) apart own =
-    (ap (λ (b : Bool). cond b (Some p.1) (owner_of q.0 ps)) (found_at q.0 p.0 ∙ apart_flipped p.0 q.0 apart.0) ∙ own.0, later_owner p ps later apart.1 own.1)
+    (ap (λ (b : Bool). cond b (Some p.1) (owner_of q.0 ps)) (apart_flipped p.0 q.0 apart.0) ∙ own.0, later_owner p ps later apart.1 own.1)
 
 each_owner : (ps : Drafted) → KeysDiffer ps → AllByRecursion (λ q. owner_of q.0 ps ≡ Some q.1) ps
 each_owner [] differ = tt
 each_owner (p ∷ ps) differ = (own_owner p ps, later_owner p ps ps differ.0 (each_owner ps differ.1))
 
-can_owners : (zone : Zone) (draft : ZoneDraft) (at : Owned) (ps : Drafted) → DraftsZone zone draft at → AllByRecursion (λ q. get name_cmp draft.owners q.0 ≡ Some q.1) ps
-    → AllByRecursion (λ owner. CanSettleOwner zone.sets owner.0 owner.1.sets.items) ps
-can_owners zone draft at [] drafts own = tt
-can_owners zone draft at (p ∷ ps) drafts own = (
-  can_owner zone.sets (at p.0) p.0 p.1.sets.items (drafts.owned p.0)
+can_owners : (zone : Zone) (draft : ZoneDraft) (at : Owned) (ps : Drafted) → DraftsZone zone draft at → AllByRecursion (λ q. get name_eq draft.owners q.0 ≡ Some q.1) ps
+    → AllByRecursion IsLower (keys_of ps) → AllByRecursion (λ owner. CanSettleOwner zone.sets owner.0 owner.1.sets.items) ps
+can_owners zone draft at [] drafts own lower = tt
+can_owners zone draft at (p ∷ ps) drafts own lower = (
+  can_owner zone.sets (at p.0) p.0 p.1.sets.items (drafts.owned p.0) lower.0
       (subst (λ (o : Option OwnerDraft). DraftsAt zone.sets p.0 o (at p.0)) own.0 (drafts.alike p.0))
       (subst (IsDraftAt zone.sets p.0) own.0 (drafts.each p.0)),
-  can_owners zone draft at ps drafts own.1,
+  can_owners zone draft at ps drafts own.1 lower.1,
 )
 
-pub can_commit : (zone : Zone) (draft : ZoneDraft) (at : Owned) → IsOrdered name_cmp draft.owners → DraftsZone zone draft at → CanSettleAll zone.sets draft.owners.entries
-can_commit zone draft at order drafts =
-    let differ = keys_differ draft.owners.entries order in
-    record { each = can_owners zone draft at draft.owners.entries drafts (each_owner draft.owners.entries differ); differ = differ }
+pub can_commit : (zone : Zone) (draft : ZoneDraft) (at : Owned) → IsUnique name_eq draft.owners → DraftsZone zone draft at → CanSettleAll zone.sets draft.owners.entries
+can_commit zone draft at unique drafts =
+    let differ = keys_differ draft.owners.entries unique in
+    record { each = can_owners zone draft at draft.owners.entries drafts (each_owner draft.owners.entries differ) drafts.lower; differ = differ }
 
 -- ---- the set of each name and type
 abbrev value_of : List RRset → DomainName → Option OwnerDraft → RecordType → Option RRset
@@ -135,7 +128,6 @@ value_found sets [] name t = refl
 value_found sets (p ∷ ps) name t =
     ap (cond (name_eq name p.0) (drafted_in (rrset_at sets p.0) p.1.sets.items t)) (value_found sets ps name t)
     ∙ by (name_eq name p.0) refl
-    ∙ ap (λ (b : Bool). value_of sets name (cond b (Some p.1) (owner_of name ps)) t) (sym (found_at name p.0))
   where
     by : (b : Bool) → name_eq name p.0 ≡ b
         → cond b (drafted_in (rrset_at sets p.0) p.1.sets.items t) (value_of sets name (owner_of name ps) t) ≡ value_of sets name (cond (name_eq name p.0) (Some p.1) (owner_of name ps)) t
@@ -157,9 +149,9 @@ pub leaves_zone : (old new : Zone) (draft : ZoneDraft) (at : Owned) → AreInOrd
     → ((name : DomainName) (t : RecordType) → rrset_at new.sets name t ≡ value_at old.sets draft.owners.entries name t) → DraftsZone old draft at → LeavesZone old at new
 leaves_zone old new draft at first order stored rest values drafts = record {
   sets = λ name. owner_once (sets_of_name new.sets name) (at name) (name_rises name new.sets order)
-      (rises old.sets (at name) name (get name_cmp draft.owners name) first (drafts.alike name))
+      (rises old.sets (at name) name (get name_eq draft.owners name) first (drafts.alike name))
       (λ t. sym (type_among new.sets name t) ∙ values name t ∙ value_found old.sets draft.owners.entries name t
-      ∙ drafted_value old.sets (at name) name (get name_cmp draft.owners name) t (drafts.alike name));
+      ∙ drafted_value old.sets (at name) name (get name_eq draft.owners name) t (drafts.alike name));
   ordered = order;
   stored = stored;
   rest = rest;

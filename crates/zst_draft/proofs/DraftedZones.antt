@@ -1,14 +1,17 @@
 -- The drafts of a zone, name by name, and what a record of an update makes of them.
 use Rattle.std.proofs.Common.{◌≡◌, ℕ, ◌<◌, refl, ap, sym, ◌∙◌, arith, subst}
 use Rattle.std.specs.Prelude.{Bool, true, false, ◌&&◌, ◌||◌, ◌==◌, List, [], ◌∷◌, ◌++◌, Option, Some, None, cond, find}
-use Rattle.std.specs.BTreeMap.{Updates, get, is_at}
+use Rattle.std.specs.HashMap.{IsReordered, PutsEntry, Updates, get, keys}
 use Rattle.std.specs.List.{AllByRecursion}
-use Rattle.std.specs.Map.{lookup}
+use Rattle.std.specs.List.Sorted.{IsPermutation}
+use Rattle.std.specs.Map.{keys_of, lookup}
 use Rattle.std.specs.Ordering.{MatchOrdering, is_eq, nat_cmp, ordering_then}
 use Rattle.std.specs.declared.cmp.Ordering.{Ordering}
 use Rattle.std.specs.declared.cmp.Ordering.TheVariants.{Less, Equal, Greater}
 use Rattle.std.proofs.lemmas.Bool.{eqb-true, ne_eqb}
 use Rattle.std.proofs.lemmas.Cmp.{ranked}
+use Rattle.std.proofs.lemmas.List.Elements.{All-from_recursion, recursion_from_All}
+use Rattle.std.proofs.lemmas.List.Sorted.{All-permutation, IsPermutation-map}
 use Rattle.zst_map.specs.dnw_codes.declared.record_type.RecordType.{RecordType}
 use Rattle.zst_map.specs.dnw_codes.RecordType.{record_type_number, same_record_type}
 use Rattle.zst_map.specs.dnw_name.DomainName.{DomainName, lowercase_name, name_cmp, name_eq}
@@ -31,7 +34,7 @@ use Rattle.zst_draft.specs.declared.owner.OwnerDraft.{OwnerDraft}
 use Rattle.zst_draft.specs.declared.set.SetDraft.{SetDraft}
 use Rattle.zst_draft.specs.declared.zone.ZoneDraft.{ZoneDraft}
 use Rattle.zst_draft.proofs.DraftedTypes.{IsByNumber}
-use Rattle.zst_draft.proofs.Names.{chained, eq_lower, flipped, key_is, sets_same}
+use Rattle.zst_draft.proofs.Names.{IsLower, chained, eq_lower, flipped, key_is, lower_key, sets_same}
 use Rattle.zst_draft.proofs.OwnedSets.{left_owned}
 use Rattle.zst_draft.proofs.OwnerSets.{all_kept, found_own}
 
@@ -220,31 +223,47 @@ new_zone zone draft none order stored = record {
   each = λ name. subst (IsDraftAt zone.sets name) (sym (nothing name)) tt;
   alike = λ name. subst (λ (o : Option OwnerDraft). DraftsAt zone.sets name o (sets_of_name zone.sets name)) (sym (nothing name)) refl;
   owned = λ name. name_owned name zone.sets stored;
+  lower = subst (λ (es : List (DomainName × OwnerDraft)). AllByRecursion IsLower (keys_of es)) (sym none) tt;
 }
   where
-    nothing : (name : DomainName) → get name_cmp draft.owners name ≡ None
-    nothing name = ap (lookup (is_at (name_cmp name))) none
+    nothing : (name : DomainName) → get name_eq draft.owners name ≡ None
+    nothing name = ap (lookup (name_eq name)) none
 
 -- ---- the map of owners
+moved_lower : (es fs : List (DomainName × OwnerDraft)) → IsPermutation es fs → AllByRecursion IsLower (keys_of es) → AllByRecursion IsLower (keys_of fs)
+moved_lower es fs moves all =
+    recursion_from_All IsLower (keys_of fs)
+    (All-permutation IsLower (keys_of es) (keys_of fs) (IsPermutation-map (λ (e : DomainName × OwnerDraft). e.0) es fs moves) (All-from_recursion IsLower (keys_of es) all))
+
+-- The entries may be in another order.
+pub moved_zone : (zone : Zone) (old new : ZoneDraft) (at : Owned) → IsReordered name_eq old.owners new.owners → DraftsZone zone old at → DraftsZone zone new at
+moved_zone zone old new at moves drafts = record {
+  each = λ name. subst (IsDraftAt zone.sets name) (sym (moves.2 name)) (drafts.each name);
+  alike = λ name. subst (λ (o : Option OwnerDraft). DraftsAt zone.sets name o (at name)) (sym (moves.2 name)) (drafts.alike name);
+  owned = drafts.owned;
+  lower = moved_lower old.owners.entries new.owners.entries moves.0 drafts.lower;
+}
+
 name_alike : (sets : List RRset) (a b : DomainName) → name_eq a b ≡ true → (u : RecordType) → rrset_at sets b u ≡ rrset_at sets a u
 name_alike sets a b same u = rrset_same sets a b u same
 
 -- What is applied to an owner's drafts is applied to the zone's.
 pub applied_owner : (zone : Zone) (old new : ZoneDraft) (key : DomainName) (r : Record) (first last : OwnerDraft) (at_apex changed : Bool) (at : Owned)
     → key ≡ lowercase_name r.name → at_apex ≡ name_eq r.name zone.origin
-    → ((q : DomainName) → get name_cmp new.owners q ≡ cond (is_eq (name_cmp key q)) (Some last) (get name_cmp old.owners q))
+    → ((q : DomainName) → get name_eq new.owners q ≡ cond (name_eq key q) (Some last) (get name_eq old.owners q)) → AllByRecursion IsLower (keys new.owners)
     → Applies (rrset_at zone.sets key) first.sets.items at_apex r r.dns_class changed last.sets.items
     → ((name : DomainName) → name_eq r.name name ≡ true → DraftsSets (rrset_at zone.sets key) first.sets.items (at name))
     → DraftsZone zone old at → (changed ≡ changes zone.origin at r) × DraftsZone zone new (applied zone.origin at r)
-applied_owner zone old new key r first last at_apex changed at keyed start put applies from drafts = (
+applied_owner zone old new key r first last at_apex changed at keyed start put lower applies from drafts = (
   applies.changes (at r.name) (from r.name (name_eq_equiv.refl r.name)) ∙ ap (λ (b : Bool). changes_by b (at r.name) r r.dns_class) start,
   record {
-    each = λ name. subst (IsDraftAt zone.sets name) (sym (put name ∙ ap (λ (b : Bool). cond b (Some last) (get name_cmp old.owners name)) (key_is (type_of r.rdata) key r.name name keyed)))
+    each = λ name. subst (IsDraftAt zone.sets name) (sym (put name ∙ ap (λ (b : Bool). cond b (Some last) (get name_eq old.owners name)) (key_is (type_of r.rdata) key r.name name keyed)))
         (each name (name_eq r.name name) refl);
     alike = λ name. subst (λ (o : Option OwnerDraft). DraftsAt zone.sets name o (applied zone.origin at r name))
-        (sym (put name ∙ ap (λ (b : Bool). cond b (Some last) (get name_cmp old.owners name)) (key_is (type_of r.rdata) key r.name name keyed)))
+        (sym (put name ∙ ap (λ (b : Bool). cond b (Some last) (get name_eq old.owners name)) (key_is (type_of r.rdata) key r.name name keyed)))
         (alike name (name_eq r.name name) refl);
     owned = λ name. owned name (name_eq r.name name) refl;
+    lower = lower;
   },
 )
   where
@@ -254,12 +273,12 @@ applied_owner zone old new key r first last at_apex changed at keyed start put a
         ∙ rrset_same zone.sets name (lowercase_name r.name) u
         (flipped (lowercase_name r.name) name (eq_lower (type_of r.rdata) r.name name ∙ same))
 
-    each : (name : DomainName) (b : Bool) → name_eq r.name name ≡ b → IsDraftAt zone.sets name (cond b (Some last) (get name_cmp old.owners name))
+    each : (name : DomainName) (b : Bool) → name_eq r.name name ≡ b → IsDraftAt zone.sets name (cond b (Some last) (get name_eq old.owners name))
     each name true same = owner_alike (rrset_at zone.sets key) (rrset_at zone.sets name) last.sets.items (keyed_as name same) applies.is
     each name false same = drafts.each name
 
     alike : (name : DomainName) (b : Bool) → name_eq r.name name ≡ b
-        → DraftsAt zone.sets name (cond b (Some last) (get name_cmp old.owners name)) (cond b (left_by (name_eq r.name zone.origin) (at name) r r.dns_class) (at name))
+        → DraftsAt zone.sets name (cond b (Some last) (get name_eq old.owners name)) (cond b (left_by (name_eq r.name zone.origin) (at name) r r.dns_class) (at name))
     alike name true same =
         drafts_alike (rrset_at zone.sets key) (rrset_at zone.sets name) last.sets.items (left_by (name_eq r.name zone.origin) (at name) r r.dns_class) (keyed_as name same)
         (subst (λ (b : Bool). DraftsSets (rrset_at zone.sets key) last.sets.items (left_by b (at name) r r.dns_class)) start (applies.leaves (at name) (from name same)))
@@ -269,22 +288,23 @@ applied_owner zone old new key r first last at_apex changed at keyed start put a
     owned name true same = left_owned name (name_eq r.name zone.origin) (at name) r r.dns_class (drafts.owned name) same
     owned name false same = drafts.owned name
 
-get_same : (es : List (DomainName × OwnerDraft)) (a b : DomainName) → name_eq a b ≡ true → lookup (is_at (name_cmp a)) es ≡ lookup (is_at (name_cmp b)) es
+get_same : (es : List (DomainName × OwnerDraft)) (a b : DomainName) → name_eq a b ≡ true → lookup (name_eq a) es ≡ lookup (name_eq b) es
 get_same [] a b same = refl
 get_same (e ∷ es) a b same =
-    ap (λ (c : Bool). cond c (Some e.1) (lookup (is_at (name_cmp a)) es)) (sym (name_eq-by_cmp a e.0) ∙ name_eq_equiv.congr a b e.0 same ∙ name_eq-by_cmp b e.0)
-    ∙ ap (cond (is_eq (name_cmp b e.0)) (Some e.1)) (get_same es a b same)
+    ap (λ (c : Bool). cond c (Some e.1) (lookup (name_eq a) es)) (name_eq_equiv.congr a b e.0 same)
+    ∙ ap (cond (name_eq b e.0) (Some e.1)) (get_same es a b same)
 
 own_key : (key name : DomainName) (r : Record) → key ≡ lowercase_name r.name → name_eq r.name name ≡ true → name_eq name key ≡ true
 own_key key name r keyed same =
     flipped key name (ap (λ (n : DomainName). name_eq n name) keyed ∙ eq_lower (type_of r.rdata) r.name name ∙ same)
 
 pub applied_found : (zone : Zone) (old new : ZoneDraft) (key : DomainName) (r : Record) (first last : OwnerDraft) (at_apex changed : Bool) (at : Owned)
-    → key ≡ lowercase_name r.name → at_apex ≡ name_eq r.name zone.origin → get name_cmp old.owners key ≡ Some first → Updates name_cmp old.owners new.owners key (Some last)
+    → key ≡ lowercase_name r.name → at_apex ≡ name_eq r.name zone.origin → get name_eq old.owners key ≡ Some first → Updates name_eq old.owners new.owners key (Some last)
+    → keys new.owners ≡ keys old.owners
     → Applies (rrset_at zone.sets key) first.sets.items at_apex r r.dns_class changed last.sets.items
     → DraftsZone zone old at → (changed ≡ changes zone.origin at r) × DraftsZone zone new (applied zone.origin at r)
-applied_found zone old new key r first last at_apex changed at keyed start found put applies drafts =
-    applied_owner zone old new key r first last at_apex changed at keyed start put.0 applies from drafts
+applied_found zone old new key r first last at_apex changed at keyed start found put same_keys applies drafts =
+    applied_owner zone old new key r first last at_apex changed at keyed start put.0 (subst (AllByRecursion IsLower) (sym same_keys) drafts.lower) applies from drafts
   where
     from : (name : DomainName) → name_eq r.name name ≡ true → DraftsSets (rrset_at zone.sets key) first.sets.items (at name)
     from name same =
@@ -293,11 +313,17 @@ applied_found zone old new key r first last at_apex changed at keyed start found
         (subst (λ (o : Option OwnerDraft). DraftsAt zone.sets name o (at name)) (get_same old.owners.entries name key own ∙ found) (drafts.alike name))
 
 pub applied_begun : (zone : Zone) (old new : ZoneDraft) (key : DomainName) (r : Record) (at_apex changed : Bool) (at : Owned)
-    → key ≡ lowercase_name r.name → at_apex ≡ name_eq r.name zone.origin → get name_cmp old.owners key ≡ None → Begins zone.sets old.owners key at_apex r changed new.owners
+    → key ≡ lowercase_name r.name → at_apex ≡ name_eq r.name zone.origin → get name_eq old.owners key ≡ None → Begins zone.sets old.owners key at_apex r changed new.owners
     → DraftsZone zone old at → (changed ≡ changes zone.origin at r) × DraftsZone zone new (applied zone.origin at r)
 applied_begun zone old new key r at_apex changed at keyed start none begins drafts =
-    applied_owner zone old new key r begins.first begins.last at_apex changed at keyed start begins.put.0 begins.applies from drafts
+    applied_owner zone old new key r begins.first begins.last at_apex changed at keyed start begins.put.0 lower begins.applies from drafts
   where
+    entries : PutsEntry name_eq old.owners new.owners key begins.last None
+    entries = subst (PutsEntry name_eq old.owners new.owners key begins.last) none begins.entries
+
+    lower : AllByRecursion IsLower (keys new.owners)
+    lower = moved_lower ((key, begins.last) ∷ old.owners.entries) new.owners.entries entries (lower_key (type_of r.rdata) key r.name keyed, drafts.lower)
+
     from : (name : DomainName) → name_eq r.name name ≡ true → DraftsSets (rrset_at zone.sets key) begins.first.sets.items (at name)
     from name same =
         let own = own_key key name r keyed same in

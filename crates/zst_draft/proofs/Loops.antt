@@ -1,8 +1,13 @@
 -- What holds while an owner's drafts are gone through.
 use Rattle.std.proofs.Common.{◌≡◌, ◌∙◌, ℕ, ◌+◌, ◌<◌, ◌≤◌, refl, ap, sym, subst, arith, drop, length, take}
-use Rattle.std.specs.Prelude.{Bool, true, false, ◌&&◌, ◌||◌, List, [], ◌∷◌, ◌++◌, Some, None, get_or, set, slice_get}
+use Rattle.std.specs.Prelude.{Bool, true, false, ◌&&◌, ◌||◌, List, [], ◌∷◌, ◌++◌, Option, Some, None, get_or, set, slice_get}
+use Rattle.std.specs.Iterator.{Yields}
 use Rattle.std.specs.List.{AllByRecursion, list_any}
-use Rattle.std.proofs.lemmas.List.{append_assoc, drop-set-lt, drop_more, length-set, take_all, take_more, take_more_set}
+use Rattle.std.specs.Vec.Iter.{into_iter_items, into_iter_len, into_iter_steps}
+use Rattle.std.specs.declared.vec.IntoIter.{IntoIter}
+use Rattle.std.proofs.lemmas.Iterator.Adapters.{YieldsList-from_vec}
+use Rattle.std.proofs.lemmas.Iterator.Consumers.{YieldsList-end}
+use Rattle.std.proofs.lemmas.List.{append_assoc, drop-set-lt, drop_more, length-set, map-id, take_all, take_more, take_more_set}
 use Rattle.zst_map.specs.dnw_name.DomainName.{DomainName}
 use Rattle.zst_map.specs.zst_handler.Zones.{Zone}
 use Rattle.zst_map.specs.zst_record.declared.records.Record.{Record}
@@ -14,6 +19,12 @@ use Rattle.zst_draft.specs.declared.set.SetDraft.{SetDraft}
 use Rattle.zst_draft.proofs.DraftedTypes.{each_more}
 use Rattle.zst_draft.proofs.Found.{drop_at}
 use Rattle.zst_draft.proofs.Settled.{ready_at, ready_before, settles_at, settles_both, settles_nothing, settles_owner, settles_twice, still_ready}
+
+-- ---- records are applied
+-- A loop over a vector has yielded all its items at the end.
+pub all_yielded : {A Z : Type 0} (s t u : IntoIter A Z) (xs ys : List A) (r : Option A) → into_iter_items s ≡ ys → into_iter_len s ≡ length ys → Yields (into_iter_steps {X = A} {Z = Z}) s xs t
+    → r ≡ None → into_iter_steps t r u → xs ≡ ys
+all_yielded s t u xs ys r items len yielded none step = sym (map-id xs) ∙ (YieldsList-end (YieldsList-from_vec {s = s} ys items len) xs t yielded r u none step).0
 
 -- ---- sets are deleted
 deletes_more : (at_apex : Bool) (r : Record) (olds news : List SetDraft) (e f : SetDraft) → DeletesAll at_apex r olds news → DeletesSet at_apex r e f → DeletesAll at_apex r (olds ++ e ∷ []) (news ++ f ∷ [])

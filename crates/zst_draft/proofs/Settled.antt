@@ -153,6 +153,7 @@ settles_at old new key es i e f can at settles = record {
     each = moved (CanSettle old.sets key) (CanSettle new.sets key) e f (λ d away. can_away old.sets new.sets key e d same away) es i at can.differ can.each settles.can;
     differ = differ_set (rrset_at new.sets key) (by_number new.sets key) e f kind es i at can.differ;
     all = all_set (rrset_at new.sets key) (by_number new.sets key) e f kind es i at (λ t none. same t (got_passes t es i e at none) ∙ can.all t none);
+    lower = can.lower;
   };
   rest = settles.rest;
 }
@@ -197,6 +198,7 @@ can_alike old new key es same can = record {
   each = each es can.each;
   differ = can.differ;
   all = λ t none. same t ∙ can.all t none;
+  lower = can.lower;
 }
   where
     one : (d : SetDraft) → CanSettle old key d → CanSettle new key d

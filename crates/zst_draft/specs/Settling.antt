@@ -5,7 +5,7 @@ use Rattle.std.specs.Prelude.{◌≡◌, ◌⊎◌, ◌&&◌, true, false, List,
 use Rattle.std.specs.List.{AllByRecursion}
 use Rattle.zst_map.specs.dnw_codes.declared.record_type.RecordType.{RecordType}
 use Rattle.zst_map.specs.dnw_codes.RecordType.{same_record_type}
-use Rattle.zst_map.specs.dnw_name.DomainName.{DomainName, name_eq}
+use Rattle.zst_map.specs.dnw_name.DomainName.{DomainName, lowercase_name, name_eq}
 use Rattle.zst_map.specs.zst_handler.Updates.{ZoneReplaces}
 use Rattle.zst_map.specs.zst_handler.Zones.{AreInOrder, IsStored, Zone, rrset_at}
 use Rattle.zst_map.specs.zst_record.RecordSets.{RRset}
@@ -54,6 +54,7 @@ pub record CanSettleOwner (sets : List RRset) (key : DomainName) (drafts : List 
   pub each : AllByRecursion (CanSettle sets key) drafts
   pub differ : TypesDiffer drafts
   pub all : AllDrafted (rrset_at sets key) drafts
+  pub lower : lowercase_name key ≡ key
 
 pub record SettlesOwner (old : Zone) (key : DomainName) (drafts : List SetDraft) (new : Zone)
     (remaining : List SetDraft) : Type 0 where

@@ -11,7 +11,7 @@ use crate::owner::OwnerDraft;
 use crate::puts::Puts;
 use crate::set::SetDraft;
 use std::alloc::{AllocError, Global};
-use std::collections::BTreeMap;
+use std::collections::HashMap;
 use std::mem;
 use zst_map::push;
 use zst_zone::{Edit, InMemoryZoneHandler, NameKey};
@@ -19,7 +19,7 @@ use zst_zone::{Edit, InMemoryZoneHandler, NameKey};
 /// Puts the drafts of all owners into the zone, or none of them.
 pub(crate) fn commit_owners<K>(
     alloc: Global,
-    owners: BTreeMap<NameKey, OwnerDraft>,
+    owners: HashMap<NameKey, OwnerDraft>,
     zone: &mut InMemoryZoneHandler<K>,
 ) -> Result<(), AllocError>
     requires { CanSettleAll zone.old.sets owners.entries }
@@ -45,7 +45,7 @@ pub(crate) fn commit_owners<K>(
 // Puts all drafted sets whose owner has no set of their type.
 fn put_owners<K>(
     alloc: Global,
-    owners: BTreeMap<NameKey, OwnerDraft>,
+    owners: HashMap<NameKey, OwnerDraft>,
     zone: &mut InMemoryZoneHandler<K>,
     puts: &mut Puts,
 ) -> Result<Vec<(NameKey, OwnerDraft)>, AllocError>
@@ -55,9 +55,8 @@ fn put_owners<K>(
     ensures back { (start : Zone) → Returns start (reverse puts.old.done.items) zone.old
         → Returns start (reverse puts.new.done.items) zone.new }
 {
-    let mut left = owners;
-    let mut put = Vec::new(alloc);
-    'owners: while let Some((key, owner)) = left.pop_first() {
+    let mut put = Vec::with_capacity(alloc, owners.len())?;
+    'owners: for (key, owner) in owners {
         let mut owner = owner;
         put_owner(alloc, &key, &mut owner, zone, puts)?;
         push(&mut put, (key, owner))?;

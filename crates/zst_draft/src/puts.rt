@@ -1,7 +1,7 @@
 //! New sets put into a zone, and removed again if memory runs out.
 
 ghost use Rattle.std.specs.Prelude.{◌≡◌, false, true, List, None, Some, OnErr, OnOk, reverse};
-ghost use Rattle.zst_map.specs.dnw_name.DomainName.{DomainName, name_eq};
+ghost use Rattle.zst_map.specs.dnw_name.DomainName.{DomainName, lowercase_name, name_eq};
 ghost use Rattle.zst_map.specs.zst_handler.Updates.{ZoneReplaces};
 ghost use Rattle.zst_map.specs.zst_handler.Zones.{AreInOrder, Zone, rrset_at};
 ghost use Rattle.zst_map.specs.zst_record.RecordSets.{none_left};
@@ -36,7 +36,8 @@ impl Puts {
         draft: &mut SetDraft,
         zone: &mut InMemoryZoneHandler<K>,
     ) -> Result<(), AllocError>
-        requires { CanSettle zone.old.sets key.now draft.old }
+        requires can { CanSettle zone.old.sets key.now draft.old }
+        requires lower { lowercase_name key.now ≡ key.now }
         ensures settles { OnOk result (Settles zone.old key.now draft.old zone.new draft.new) }
         ensures ready { OnOk result (IsReady zone.new.sets key.now draft.new) }
         ensures back { (start : Zone) → Returns start (reverse self.old.done.items) zone.old
@@ -46,18 +47,20 @@ impl Puts {
             return Ok(());
         }
         match draft.take_set(alloc) {
-            Some(set) => self.put_set(alloc, set, zone),
+            Some(set) => self.put_set(alloc, key, set, zone),
             None => Ok(()),
         }
     }
 
-    // Puts a set into a zone that has none of its owner and type.
+    // Puts a set into a zone that has none of its owner and type. The key is its owner's.
     fn put_set<K>(
         &mut self,
         alloc: Global,
+        at: &NameKey,
         set: RecordSet,
         zone: &mut InMemoryZoneHandler<K>,
     ) -> Result<(), AllocError>
+        requires key { at.now ≡ lowercase_name set.name }
         requires none { rrset_at zone.old.sets set.name set.record_type ≡ None }
         requires filled { none_left set.records ≡ false }
         ensures ok { OnOk result (ZoneReplaces zone.old set.name set.record_type (Some set) zone.new) }
@@ -65,7 +68,7 @@ impl Puts {
             → Returns start (reverse self.new.done.items) zone.new }
     {
         let record_type = set.record_type();
-        let Ok(key) = NameKey::of(alloc, set.name()) else {
+        let Ok(key) = at.clone() else {
             mem::drop(set);
             return Err(AllocError);
         };

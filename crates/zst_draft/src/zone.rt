@@ -1,7 +1,7 @@
 //! The draft of a zone: records are applied to it one by one, then it is committed.
 
 ghost use Rattle.std.specs.Prelude.{◌≡◌, Some, IfOk, OnErr, OnOk};
-ghost use Rattle.std.specs.BTreeMap.{Updates};
+ghost use Rattle.std.specs.HashMap.{PutsEntry, Updates, get};
 ghost use Rattle.zst_map.specs.zst_handler.Lookups.{sets_of_name};
 ghost use Rattle.zst_map.specs.zst_handler.Zones.{AreInOrder, AreStored, Zone};
 ghost use Rattle.zst_request.specs.Applied.{LeavesZone, Owned, all_applied, any_changes, applied, changes};
@@ -10,7 +10,8 @@ ghost use Rattle.zst_draft.specs.ZoneDrafts.{Begins, DraftsZone, IsDraftOfZone};
 use crate::commit::commit_owners;
 use crate::owner::{OwnerDraft, either};
 use std::alloc::{AllocError, Global};
-use std::collections::BTreeMap;
+use std::collections::HashMap;
+use std::hash::Hash;
 use std::mem;
 use zst_zone::{InMemoryZoneHandler, NameKey, Record, ZoneSets};
 
@@ -18,7 +19,7 @@ use zst_zone::{InMemoryZoneHandler, NameKey, Record, ZoneSets};
 #[derive(Drop)]
 pub struct ZoneDraft {
     /// The owners named by records of the update.
-    owners: BTreeMap<NameKey, OwnerDraft>,
+    owners: HashMap<NameKey, OwnerDraft>,
 }
 
 impl ZoneDraft {
@@ -27,7 +28,7 @@ impl ZoneDraft {
         ensures { (zone : Zone) → AreInOrder zone.sets → AreStored zone.sets → DraftsZone zone result (sets_of_name zone.sets) }
     {
         ZoneDraft {
-            owners: BTreeMap::new(alloc),
+            owners: HashMap::new(alloc),
         }
     }
 
@@ -90,6 +91,7 @@ impl ZoneDraft {
         ensures applied { OnOk result ((at : Owned) → DraftsZone zone.now self.old at
             → DraftsZone zone.now self.new (all_applied zone.now.origin at records.items)) }
     {
+        self.owners.reserve(records.len())?;
         let mut changed = false;
         for change in records {
             let more = self.apply(zone, alloc, change)?;
@@ -108,7 +110,7 @@ impl ZoneDraft {
         ensures ok { OnOk result ((at : Owned) → DraftsZone zone.old self at → LeavesZone zone.old at zone.new) }
         ensures err { OnErr result (zone.new ≡ zone.old) }
     {
-        // These calls give the proof the invariants: owners and sets are in order, and no set is empty.
+        // These calls give the proof the invariants: owners differ, sets are in order, and no set is empty.
         let _count = self.owners.len();
         let _before = zone.origin();
         commit_owners(alloc, self.owners, zone)?;
@@ -118,8 +120,13 @@ impl ZoneDraft {
 }
 
 // Puts a value under a key.
-fn put<K: Ord + Drop, V: Drop>(map: &mut BTreeMap<K, V>, key: K, value: V) -> Result<(), AllocError>
-    ensures { OnOk result (Updates K.cmp map.old map.new key (Some value)) }
+fn put<K: Eq + Hash + Drop, V: Drop>(
+    map: &mut HashMap<K, V>,
+    key: K,
+    value: V,
+) -> Result<(), AllocError>
+    ensures updates { OnOk result (Updates K.eq map.old map.new key (Some value)) }
+    ensures entries { OnOk result (PutsEntry K.eq map.old map.new key value (get K.eq map.old key)) }
 {
     match map.insert(key, value) {
         Ok(_) => Ok(()),

@@ -1,4 +1,4 @@
-use Rattle.std.proofs.Common.{length, reverse}
+use Rattle.std.proofs.Common.{reverse}
 use Rattle.zst_map.specs.zst_handler.Zones.{Zone}
 use Rattle.zst_draft.specs.Settling.{Returns}
 use Rattle.zst_draft.proofs.Loops.{PutsOwners}
@@ -6,9 +6,6 @@ use Rattle.zst_draft.proofs.commit.put_owners.Given as goal
 
 abbrev pub invariant-owners : goal.invariant-owners
 invariant-owners g l = record {
-  puts : PutsOwners l.initial.zone l.fn.owners.entries l.zone l.put.items l.left.entries;
+  puts : PutsOwners l.initial.zone l.fn.owners.entries l.zone l.put.items l.key-iterator;
   back : (start : Zone) → Returns start (reverse l.initial.puts.done.items) l.initial.zone → Returns start (reverse l.puts.done.items) l.zone;
 }
-
-abbrev pub decreases-owners : goal.decreases-owners
-decreases-owners g l = length l.left.entries

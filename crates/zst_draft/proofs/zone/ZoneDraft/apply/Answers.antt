@@ -1,6 +1,6 @@
 use Rattle.std.proofs.Common.{◌≡◌, ◌∙◌, ap, subst, sym}
 use Rattle.std.specs.Prelude.{Bool, List, is_some}
-use Rattle.std.specs.BTreeMap.{BTreeMap}
+use Rattle.std.specs.HashMap.{HashMap}
 use Rattle.zst_map.specs.dnw_name.DomainName.{DomainName, name_eq}
 use Rattle.zst_map.specs.zst_handler.Zones.{rrset_at}
 use Rattle.zst_map.specs.zst_record.RecordSets.{RRset}
@@ -12,10 +12,10 @@ use Rattle.zst_draft.proofs.DraftedRecords.{if_ok, ok_on}
 use Rattle.zst_draft.proofs.DraftedZones.{applied_begun, applied_found}
 use Rattle.zst_draft.proofs.zone.ZoneDraft.apply.Goals as goal
 
-begins_as : {a b : List RRset} {m n : BTreeMap DomainName OwnerDraft} (key : DomainName) (at_apex : Bool) (r : Record) (changed : Bool) (new : BTreeMap DomainName OwnerDraft) → a ≡ b → m ≡ n
-    → Begins a m key at_apex r changed new → Begins b n key at_apex r changed new
-begins_as {b = b} {m = m} key at_apex r changed new sets owners begins =
-    subst (λ (l : BTreeMap DomainName OwnerDraft). Begins b l key at_apex r changed new) owners
+begins_as : {S : Type 0} {a b : List RRset} {m n : HashMap DomainName OwnerDraft S} (key : DomainName) (at_apex : Bool) (r : Record) (changed : Bool) (new : HashMap DomainName OwnerDraft S) → a ≡ b
+    → m ≡ n → Begins a m key at_apex r changed new → Begins b n key at_apex r changed new
+begins_as {S = S} {b = b} {m = m} key at_apex r changed new sets owners begins =
+    subst (λ (l : HashMap DomainName OwnerDraft S). Begins b l key at_apex r changed new) owners
     (subst (λ (l : List RRset). Begins l m key at_apex r changed new) sets begins)
 
 pub returns-in-Some-clause-changed : goal.returns-in-Some-clause-changed
@@ -26,7 +26,7 @@ returns-in-Some-clause-changed g c =
     (λ changed applies. λ at drafts.
     (applied_found c.args.zone.now c.args.self.now (record { owners = c.get_mut.follows.lender w }) c.in-Ok.key c.args.change c.in-Some.owner.now w c.eq-at_apex.result changed at
     c.in-Ok.ensures.key (c.eq-at_apex.ensures ∙ ap (name_eq c.args.change.name) c.origin.ensures.value) (sym there)
-    ((c.get_mut.follows.holds w).3 (sym (ap is_some there)))
+    ((c.get_mut.follows.holds w).3 (sym (ap is_some there))) (c.get_mut.follows.holds w).1
     (subst (λ (sets : List RRset). Applies (rrset_at sets c.in-Ok.key) c.in-Some.owner.now.sets.items c.eq-at_apex.result c.args.change c.args.change.dns_class changed w.sets.items) c.records-sets.ensures applies)
     drafts).0)
     c.apply.ensures
@@ -39,7 +39,7 @@ returns-in-Some-clause-applied g c =
     (λ changed applies. λ at drafts.
     (applied_found c.args.zone.now c.args.self.now (record { owners = c.get_mut.follows.lender w }) c.in-Ok.key c.args.change c.in-Some.owner.now w c.eq-at_apex.result changed at
     c.in-Ok.ensures.key (c.eq-at_apex.ensures ∙ ap (name_eq c.args.change.name) c.origin.ensures.value) (sym there)
-    ((c.get_mut.follows.holds w).3 (sym (ap is_some there)))
+    ((c.get_mut.follows.holds w).3 (sym (ap is_some there))) (c.get_mut.follows.holds w).1
     (subst (λ (sets : List RRset). Applies (rrset_at sets c.in-Ok.key) c.in-Some.owner.now.sets.items c.eq-at_apex.result c.args.change c.args.change.dns_class changed w.sets.items) c.records-sets.ensures applies)
     drafts).1)
     c.apply.ensures

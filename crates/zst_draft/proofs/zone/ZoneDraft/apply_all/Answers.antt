@@ -1,9 +1,19 @@
-use Rattle.std.proofs.Common.{◌∙◌, ap, subst, sym}
-use Rattle.std.specs.Prelude.{Bool, ◌||◌}
+use Rattle.std.proofs.Common.{◌∙◌, ap, refl, subst, sym}
+use Rattle.std.specs.Prelude.{Bool, List, ◌||◌}
+use Rattle.zst_map.specs.zst_record.declared.records.Record.{Record}
 use Rattle.zst_request.specs.Applied.{Owned, all_applied, any_changes, applied}
 use Rattle.zst_draft.specs.ZoneDrafts.{DraftsZone}
-use Rattle.zst_draft.proofs.DraftedZones.{applied_more, changes_more}
+use Rattle.zst_draft.proofs.DraftedZones.{applied_more, changes_more, moved_zone}
+use Rattle.zst_draft.proofs.Loops.{all_yielded}
 use Rattle.zst_draft.proofs.zone.ZoneDraft.apply_all.Goals as goal
+
+pub loop-change-init : goal.loop-change-init
+loop-change-init g c =
+    record {
+      is = (c.requires.0, moved_zone c.args.zone.now c.args.self.now (record { owners = c.reserve.new.self }) c.requires.0 c.reserve.ensures.entries c.requires.1);
+      changed = λ at drafts. refl;
+      applied = λ at drafts. drafts;
+    }
 
 pub loop-change-preserved : goal.loop-change-preserved
 loop-change-preserved g c =
@@ -22,3 +32,17 @@ loop-change-preserved g c =
           subst (λ (after : Owned). DraftsZone c.args.zone.now c.apply.new.self after) (sym (applied_more origin at rs r))
           (c.in_ok-more.ensures.applied (all_applied origin at rs) (c.loop-change.invariant.applied at drafts));
     }
+
+pub returns-clause-changed : goal.returns-clause-changed
+returns-clause-changed g c = λ at drafts.
+    let all = all_yielded c.into_iter-change-iterator.result c.loop-change.change-iterator c.next.new.self c.loop-change.yielded c.args.records.items c.next.result
+    c.into_iter-change-iterator.ensures.into_iter_gives.0 (c.into_iter-change-iterator.ensures.into_iter_gives.1 ∙ c.args.records.ok.0) c.loop-change.yielded_by c.in-None.is c.next.ensures.steps in
+    c.loop-change.invariant.changed at (moved_zone c.args.zone.now c.args.self.now (record { owners = c.reserve.new.self }) at c.reserve.ensures.entries drafts)
+    ∙ ap (any_changes c.args.zone.now.origin at) all
+
+pub returns-clause-applied : goal.returns-clause-applied
+returns-clause-applied g c = λ at drafts.
+    let all = all_yielded c.into_iter-change-iterator.result c.loop-change.change-iterator c.next.new.self c.loop-change.yielded c.args.records.items c.next.result
+    c.into_iter-change-iterator.ensures.into_iter_gives.0 (c.into_iter-change-iterator.ensures.into_iter_gives.1 ∙ c.args.records.ok.0) c.loop-change.yielded_by c.in-None.is c.next.ensures.steps in
+    subst (λ (rs : List Record). DraftsZone c.args.zone.now c.loop-change.self (all_applied c.args.zone.now.origin at rs)) all
+    (c.loop-change.invariant.applied at (moved_zone c.args.zone.now c.args.self.now (record { owners = c.reserve.new.self }) at c.reserve.ensures.entries drafts))

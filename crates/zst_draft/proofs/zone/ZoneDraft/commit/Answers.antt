@@ -2,7 +2,7 @@ use Rattle.zst_draft.proofs.Committed.{can_commit, leaves_zone}
 use Rattle.zst_draft.proofs.zone.ZoneDraft.commit.Goals as goal
 
 pub commit_owners-requires : goal.commit_owners-requires
-commit_owners-requires g c = can_commit c.args.zone.now c.args.self c.requires.0 c.len-count.ensures.ordered c.requires.1
+commit_owners-requires g c = can_commit c.args.zone.now c.args.self c.requires.0 c.len-count.ensures.unique c.requires.1
 
 pub returns-clause-ok : goal.returns-clause-ok
 returns-clause-ok g c = λ at drafts.
