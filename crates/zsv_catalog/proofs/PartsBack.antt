@@ -28,7 +28,7 @@ use Rattle.zsv_answer.specs.zsv_reply.zst_record.declared.records.Record.{Record
 use Rattle.zsv_answer.specs.zsv_reply.zsv_message.Messages.{Message}
 use Rattle.zsv_answer.specs.zsv_reply.zsv_message.zst_edns.Writing.{EdnsReadsBack}
 use Rattle.zsv_answer.specs.zsv_reply.zsv_message.zst_edns.declared.edns.Edns.{Edns}
-use Rattle.zsv_answer.specs.zsv_reply.zsv_message.zsv_parts.Questions.{Asked, IsSection, QuestionAt}
+use Rattle.zsv_answer.specs.zsv_reply.zsv_message.zsv_parts.Questions.{Asked as Section, IsSection, QuestionAt}
 use Rattle.zsv_answer.specs.zsv_reply.zsv_message.zsv_parts.Wire.{Entries}
 use Rattle.zsv_answer.specs.zsv_reply.zsv_message.zsv_parts.declared.header.Metadata.{Metadata}
 use Rattle.zsv_answer.specs.zsv_reply.zsv_message.zsv_parts.declared.header.MessageType.{MessageType}
@@ -195,7 +195,7 @@ asked_full octets place [] end there = tt
 asked_full octets place (q ∷ qs) end there = (there.1.name.full, asked_full octets there.0 qs end there.2)
 
 -- The names of questions that were read end at the root.
-pub section_full : (asked : Asked) → IsSection asked → AllByRecursion IsFull asked.questions
+pub section_full : (asked : Section) → IsSection asked → AllByRecursion IsFull asked.questions
 section_full asked section = asked_full section.message section.place asked.questions section.end section.there.questions.0
 
 -- All that a full reply to a message holds reads back.

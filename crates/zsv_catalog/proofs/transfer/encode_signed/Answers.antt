@@ -59,31 +59,3 @@ returns-in-Some-2 g c =
       subst (λ (asked : Asked). SendsParts parts asked c.args.protocol sent.0 sent.1.items) c.queries-queries.ensures sends,
       λ all. signed_back edns own tsig back all,
     )) c.encode_response-in-Some-2.ensures
-
-pub returns-in-None : goal.returns-in-None
-returns-in-None g c =
-    let keys = g.S.TsigSuite.keys c.args.suite.now in
-    let request = c.args.message.now in
-    let edns = option_copied c.args.edns in
-    let unsigned = c.in_ok-_info.unsigned.items in
-    let own = response_parts c.args.response.now in
-    let plain = with_edns edns own in
-    let failure = with_edns edns (error_parts request.metadata responses.ServFail) in
-    let is : keys.signature (context_of c.in-Some.context) unsigned ≡ None =
-    subst (λ (octets : List ℕ). keys.signature (context_of c.in-Some.context) octets ≡ None) c.deref.ensures.value
-    (c.in_ok-tsig.ensures.signed ∙ ap (option_map signature_of) c.in-None.is) in
-    let over : IsSignedOver plain request.asked c.in_ok-_info._info unsigned =
-    subst (λ (asked : Asked). IsSignedOver plain asked c.in_ok-_info._info unsigned) c.queries-queries.ensures
-    (record { within = c.in_ok-_info.ensures.within; whole = c.in_ok-_info.ensures.stands }) in
-    let signs : SignsParts keys request.asked plain failure (option_map context_of c.args.response.now.context) failure =
-    subst (λ (o : Option TSigResponseContext). SignsParts keys request.asked plain failure (option_map context_of o) failure) (sym c.in-Some.is)
-    (c.in_ok-_info._info, unsigned, over, has_none plain failure (keys.signature (context_of c.in-Some.context) unsigned) is) in
-    let failed : response_parts c.transfer_error-failure.result ≡ error_parts request.metadata responses.ServFail =
-    c.transfer_error-failure.ensures.parts ∙ ap (λ (m : Metadata). error_parts m responses.ServFail) c.metadata.ensures.value in
-    IfOk-weaker c.encode_response-in-None.result _ _ (λ sent sends. (
-      failure,
-      signs,
-      subst (λ (asked : Asked). SendsParts failure asked c.args.protocol sent.0 sent.1.items) c.queries-queries.ensures
-          (subst (λ (p : ReplyParts). SendsParts (with_edns edns p) c.queries-queries.result.now c.args.protocol sent.0 sent.1.items) failed sends),
-      λ all. failed_back edns own request.metadata all,
-    )) c.encode_response-in-None.ensures

@@ -37,21 +37,6 @@ returns-in_default-clause-context g c =
     let none = no_entry g.H.ZoneHandler.view c.args.chains.now.chains q.name (ap (option_map (λ at. at.0)) (sym c.in_default.is) ∙ c.in_ok-key.ensures.key) in
     ap (option_map context_of) c.transfer_error.ensures.context ∙ sym (ap (entry_context asks r.now) none)
 
--- There is a chain under the registered name.
-pub returns-in_default-2 : goal.returns-in_default-2
-returns-in_default-2 g c =
-    let view = g.H.ZoneHandler.view in
-    let chains = c.args.chains.now.chains in
-    let q = c.args.question.now in
-    let key = c.in-Some.key in
-    let first = ap (option_map (λ at. at.0)) (sym c.in-Some.is) ∙ c.in_ok-key.ensures.key in
-    let (chain, entry) = found_entry view chains q.name key first in
-    let there = entry_there (views_of view chains) q.name (key, chain) entry in
-    let found = subst (λ (name : DomainName). option_map (λ handlers. handlers.now) c.find_at.result ≡ option_map (λ handlers. handlers.items) (option_map (λ entry. entry.1) (nearest_in (chain_at chains) name))) c.borrow.ensures c.find_at.ensures in
-    let meant = found_itself view chains key (option_map (λ handlers. handlers.now) c.find_at.result) chain found there in
-    let none : None ≡ Some chain = subst (λ (o : Option _). option_map (map view) (option_map (λ h. h.now) o) ≡ Some chain) c.in_default-2.is meant in
-    absurd (none-some chain none)
-
 pub returns-clause-parts : goal.returns-clause-parts
 returns-clause-parts g c =
     let view = g.H.ZoneHandler.view in
@@ -67,10 +52,10 @@ returns-clause-parts g c =
     let same : c.in-Some.zone ≡ key = some_same c.in-Some.zone key (second ∙ sym first) in
     let (chain, entry) = found_entry view chains q.name key first in
     let there = entry_there (views_of view chains) q.name (key, chain) entry in
-    let handlers = c.in-Some-2.handlers.now in
+    let handlers = c.in-Some-find_at.handlers.now in
     let found = subst (λ (name : DomainName). option_map (λ handlers. handlers.now) c.find_at.result ≡ option_map (λ handlers. handlers.items) (option_map (λ entry. entry.1) (nearest_in (chain_at chains) name))) c.borrow.ensures c.find_at.ensures in
     let meant = found_itself view chains key (option_map (λ handlers. handlers.now) c.find_at.result) chain found there in
-    let is : map view handlers ≡ chain = some_same (map view handlers) chain (subst (λ (o : Option _). option_map (map view) (option_map (λ h. h.now) o) ≡ Some chain) c.in-Some-2.is meant) in
+    let is : map view handlers ≡ chain = some_same (map view handlers) chain (subst (λ (o : Option _). option_map (map view) (option_map (λ h. h.now) o) ≡ Some chain) c.in-Some-find_at.is meant) in
     let asked : asked_of c.asked_for_transfer-request.result ≡ asks key = c.asked_for_transfer-request.ensures ∙ ap asks same in
     let flag : c.from_edns-options.result.dnssec_ok ≡ d = c.from_edns-options.ensures ∙ ap flag_of c.edns.ensures ∙ same_flag request.edns in
     let zone = transferring (map view handlers) in
@@ -95,12 +80,41 @@ returns-clause-context g c =
     let same : c.in-Some.zone ≡ key = some_same c.in-Some.zone key (second ∙ sym first) in
     let (chain, entry) = found_entry view chains q.name key first in
     let there = entry_there (views_of view chains) q.name (key, chain) entry in
-    let handlers = c.in-Some-2.handlers.now in
+    let handlers = c.in-Some-find_at.handlers.now in
     let found = subst (λ (name : DomainName). option_map (λ handlers. handlers.now) c.find_at.result ≡ option_map (λ handlers. handlers.items) (option_map (λ entry. entry.1) (nearest_in (chain_at chains) name))) c.borrow.ensures c.find_at.ensures in
     let meant = found_itself view chains key (option_map (λ handlers. handlers.now) c.find_at.result) chain found there in
-    let is : map view handlers ≡ chain = some_same (map view handlers) chain (subst (λ (o : Option _). option_map (map view) (option_map (λ h. h.now) o) ≡ Some chain) c.in-Some-2.is meant) in
+    let is : map view handlers ≡ chain = some_same (map view handlers) chain (subst (λ (o : Option _). option_map (map view) (option_map (λ h. h.now) o) ≡ Some chain) c.in-Some-find_at.is meant) in
     let asked : asked_of c.asked_for_transfer-request.result ≡ asks key = c.asked_for_transfer-request.ensures ∙ ap asks same in
     IfOk-weaker c.transfer_response.result _ _ (λ response told.
     told ∙ ap (λ (a : Asked). zone_context a r.now (transferring (map view handlers))) asked
     ∙ ap (λ (views : List View). zone_context (asks key) r.now (transferring views)) is
     ∙ sym (ap (entry_context asks r.now) entry)) c.transfer_response.ensures.context
+
+-- There is a chain under the registered name.
+pub returns-in_default-find_at-clause-parts : goal.returns-in_default-find_at-clause-parts
+returns-in_default-find_at-clause-parts g c =
+    let view = g.H.ZoneHandler.view in
+    let chains = c.args.chains.now.chains in
+    let q = c.args.question.now in
+    let key = c.in-Some.key in
+    let first = ap (option_map (λ at. at.0)) (sym c.in-Some.is) ∙ c.in_ok-key.ensures.key in
+    let (chain, entry) = found_entry view chains q.name key first in
+    let there = entry_there (views_of view chains) q.name (key, chain) entry in
+    let found = subst (λ (name : DomainName). option_map (λ handlers. handlers.now) c.find_at.result ≡ option_map (λ handlers. handlers.items) (option_map (λ entry. entry.1) (nearest_in (chain_at chains) name))) c.borrow.ensures c.find_at.ensures in
+    let meant = found_itself view chains key (option_map (λ handlers. handlers.now) c.find_at.result) chain found there in
+    let none : None ≡ Some chain = subst (λ (o : Option _). option_map (map view) (option_map (λ h. h.now) o) ≡ Some chain) c.in_default-find_at.is meant in
+    absurd (none-some chain none)
+
+pub returns-in_default-find_at-clause-context : goal.returns-in_default-find_at-clause-context
+returns-in_default-find_at-clause-context g c =
+    let view = g.H.ZoneHandler.view in
+    let chains = c.args.chains.now.chains in
+    let q = c.args.question.now in
+    let key = c.in-Some.key in
+    let first = ap (option_map (λ at. at.0)) (sym c.in-Some.is) ∙ c.in_ok-key.ensures.key in
+    let (chain, entry) = found_entry view chains q.name key first in
+    let there = entry_there (views_of view chains) q.name (key, chain) entry in
+    let found = subst (λ (name : DomainName). option_map (λ handlers. handlers.now) c.find_at.result ≡ option_map (λ handlers. handlers.items) (option_map (λ entry. entry.1) (nearest_in (chain_at chains) name))) c.borrow.ensures c.find_at.ensures in
+    let meant = found_itself view chains key (option_map (λ handlers. handlers.now) c.find_at.result) chain found there in
+    let none : None ≡ Some chain = subst (λ (o : Option _). option_map (map view) (option_map (λ h. h.now) o) ≡ Some chain) c.in_default-find_at.is meant in
+    absurd (none-some chain none)
