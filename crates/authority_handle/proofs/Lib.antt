@@ -1,4 +1,0 @@
-mod Lists
-mod Networks
-mod Removed
-mod Replies

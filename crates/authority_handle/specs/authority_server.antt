@@ -1,1 +1,0 @@
-pub use Rattle.authority_server.specs.Servers

@@ -1,3 +1,0 @@
-pub use Rattle.zst_zone.specs.declared
-pub use Rattle.zst_zone.specs.zst_codes
-pub use Rattle.zst_zone.specs.zst_handler

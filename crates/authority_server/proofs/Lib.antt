@@ -1,7 +1,0 @@
-mod Answered
-pub mod RepliesOnce
-mod ServedRuns
-mod StreamFaults
-mod StreamRuns
-mod WorkedRows
-mod Zones

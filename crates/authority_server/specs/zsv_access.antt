@@ -1,2 +1,0 @@
-pub use Rattle.zsv_access.specs.Access
-pub use Rattle.zsv_access.specs.declared

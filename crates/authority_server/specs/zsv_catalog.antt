@@ -1,4 +1,0 @@
-pub use Rattle.zsv_catalog.specs.Catalogs
-pub use Rattle.zsv_catalog.specs.Chains
-pub use Rattle.zsv_catalog.specs.ReadingBack
-pub use Rattle.zsv_catalog.specs.zsv_answer

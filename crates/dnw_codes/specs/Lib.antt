@@ -1,6 +1,0 @@
-pub mod Ascii
-pub mod DNSClass
-pub mod Digits
-pub mod ProtoError
-pub mod RecordType
-pub mod SerialNumber

@@ -1,3 +1,0 @@
-pub use Rattle.dnw_name.specs.DomainName
-pub use Rattle.dnw_name.specs.NameHash
-pub use Rattle.dnw_name.specs.NameHashLaws

@@ -1,9 +1,0 @@
-pub mod LabelHashLaws
-pub mod LabelRefusalsLaws
-pub mod Label
-pub mod LabelHash
-pub mod LabelPrint
-pub mod LabelRefusals
-pub mod LabelText
-pub mod Labels
-pub mod dnw_codes

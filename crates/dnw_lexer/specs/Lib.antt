@@ -1,4 +1,0 @@
-pub mod Lexer
-pub mod Tokens
-pub mod Ttl
-pub mod dnw_codes

@@ -1,1 +1,0 @@
-pub use Rattle.dnw_net.specs.Networks

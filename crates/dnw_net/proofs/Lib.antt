@@ -1,3 +1,0 @@
-pub mod NetworkLemmas
-pub mod SuffixLemmas
-pub mod dnw_label_lemmas

@@ -1,1 +1,0 @@
-pub use Rattle.dnw_encoder.proofs.Laws

@@ -1,4 +1,0 @@
-pub mod Blanks
-pub mod Cuts
-pub mod Issuers
-pub mod Parameters

@@ -1,1 +1,0 @@
-pub use Rattle.drd_words.proofs.TextLemmas

@@ -1,9 +1,0 @@
-use Rattle.std.proofs.Common.{◌≡◌, length}
-use Rattle.drd_opt.specs.Entries.{options_of}
-use Rattle.drd_opt.proofs.opt.OPT.get.Given as goal
-
-abbrev pub invariant-options : goal.invariant-options
-invariant-options l = options_of l.code l.initial.left ≡ options_of l.code l.left
-
-abbrev pub decreases-options : goal.decreases-options
-decreases-options l = length l.left

@@ -1,2 +1,0 @@
-pub use Rattle.drd_words.proofs.EachWord
-pub use Rattle.drd_words.proofs.Numbers

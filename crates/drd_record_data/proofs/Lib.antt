@@ -1,2 +1,0 @@
-pub mod OnceLaws
-pub mod OtherNumbers

@@ -1,2 +1,0 @@
-pub use Rattle.dnw_name.proofs.Fronts
-pub use Rattle.dnw_name.proofs.TextLemmas

@@ -1,4 +1,0 @@
-pub use Rattle.dnw_name.specs.DomainName
-pub use Rattle.dnw_name.specs.NameOrderLaws
-pub use Rattle.dnw_name.specs.NamePrint
-pub use Rattle.dnw_name.specs.NameText

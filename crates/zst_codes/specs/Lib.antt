@@ -1,3 +1,0 @@
-pub mod ControlFlow
-pub mod LookupError
-pub mod ResponseCode

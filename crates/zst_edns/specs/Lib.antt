@@ -1,5 +1,0 @@
-pub mod Edns
-pub mod Flags
-pub mod Lending
-pub mod Writing
-pub mod zst_codes

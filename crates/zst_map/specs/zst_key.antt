@@ -1,1 +1,0 @@
-pub use Rattle.zst_key.specs.Ancestors

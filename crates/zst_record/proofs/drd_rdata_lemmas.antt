@@ -1,1 +1,0 @@
-pub use Rattle.drd_rdata.proofs.ReadableLaws

@@ -1,3 +1,0 @@
-pub mod UpdateRows
-pub mod WorkedRows
-pub use Rattle.zst_handler.proofs.LookupOnce

@@ -1,3 +1,0 @@
-pub mod AccessLaws
-mod PrefixLemmas
-mod NoNetworks

@@ -1,9 +1,0 @@
-pub mod Consulting
-pub mod Forwarding
-pub mod Parts
-pub mod Resolution
-pub mod Responses
-pub mod Shown
-pub mod zst_request
-pub mod zsv_reply
-pub mod zsv_request

@@ -1,2 +1,0 @@
-pub use Rattle.zsv_request.specs.Requests
-pub use Rattle.zsv_request.specs.declared

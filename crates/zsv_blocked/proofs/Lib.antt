@@ -1,6 +1,0 @@
-mod AddsLemmas
-mod EntryLemmas
-mod NamesLemmas
-mod ReadLemmas
-mod TextLemmas
-mod WildcardLemmas

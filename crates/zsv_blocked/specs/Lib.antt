@@ -1,4 +1,0 @@
-pub mod BlockedNames
-pub mod Entries
-pub mod ListText
-pub mod Reading

@@ -1,1 +1,0 @@
-pub use Rattle.zsv_answer.proofs.zsv_reply_lemmas

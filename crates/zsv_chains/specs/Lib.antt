@@ -1,3 +1,0 @@
-pub mod Chains
-pub mod zst_key
-pub mod zst_request

@@ -1,2 +1,0 @@
-pub use Rattle.zsv_sections.specs.Sections
-pub use Rattle.zsv_sections.specs.declared

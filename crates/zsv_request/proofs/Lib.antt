@@ -1,2 +1,0 @@
-pub mod WantOfMemory
-pub mod zsv_message_lemmas

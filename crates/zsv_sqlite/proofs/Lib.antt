@@ -1,6 +1,0 @@
-pub mod Alike
-pub mod Gathered
-pub mod Guarding
-pub mod Kept
-pub mod Raised
-pub mod Unchanged
