@@ -19,7 +19,7 @@ use Rattle.authority_transfer.proofs.Loading.{all_but, takes_loaded}
 use Rattle.authority_transfer.proofs.Received.{IsReceived, answers_received}
 
 -- ---- why octets are no reply
--- Reading takes memory behind a whole header alone.
+-- Reading allocates only after a whole header.
 pub memory_long : (octets : List ℕ) → (IsWantOfMemory reads.Memory × (12 ≤ length octets)) ⊎ RefusesMessage octets reads.Memory → 12 ≤ length octets
 memory_long octets (inl memory) = memory.1
 memory_long octets (inr refused) = long refused

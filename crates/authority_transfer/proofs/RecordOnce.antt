@@ -97,7 +97,7 @@ record_same message place r s e f p q fits also plain =
       rdata = reads_equal (type_of r.rdata) message p.first p.len r.rdata s.rdata fits also p.rdata second plain;
     }
 
--- ---- records that may stand there
+-- ---- records that may be read there
 both_empty : (t : RecordType) (v w : RData) → IsEmptyOf t v → IsEmptyOf t w → is_update0 v ≡ is_update0 w
 both_empty kind.OPT v w a b = ap is_update0 a.1 ∙ sym (ap is_update0 b.1)
 both_empty other v w a b = ap is_update0 (a ∙ sym b)

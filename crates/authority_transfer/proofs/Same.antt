@@ -97,7 +97,7 @@ not_both x y below above =
 key_of : RRset → Key
 key_of set = (set.name, set.record_type)
 
--- What is found under a set's own name and type: the first set, or one behind it.
+-- What is found under a set's own name and type: the first set, or a later one.
 record Finds (x y : RRset) : Type 0 where
   set : RRset
   same : IsSameSet x set

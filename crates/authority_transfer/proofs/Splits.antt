@@ -1,4 +1,4 @@
--- A list is what stands before a place, what stands there, and what stands behind it.
+-- A list is its items before an index, the item at the index, and the items after it.
 use Rattle.std.proofs.Common.{◌⊎◌, inl, inr, ◌≡◌, ◌∙◌, refl, sym, ap, ℕ, ◌<◌, zero, suc, List, [], ◌∷◌, ◌++◌, length, take, get_or, arith}
 use Rattle.std.specs.Prelude.{Some}
 use Rattle.zsv_message.specs.zst_record.declared.records.Record.{Record}

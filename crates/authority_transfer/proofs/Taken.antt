@@ -31,7 +31,7 @@ pub takes_ordered : (index : ℕ) (zone : Zone) (rs : List Record) (end : Zone) 
 takes_ordered index zone [] end same order = subst (λ z. AreInOrder z.sets) (sym same) order
 takes_ordered index zone (r ∷ rs) end (none, next, joins, later) order = takes_ordered (index + 1) next rs end later joins.ordered
 
--- One more behind those that were taken.
+-- One more after those that were taken.
 pub takes_more : (index : ℕ) (zone : Zone) (front : List Record) (r : Record) (mid end : Zone) → TakesFrom index zone front mid → record_fault mid (index + length front) r ≡ None → Joins mid r end
     → TakesFrom index zone (front ++ r ∷ []) end
 takes_more index zone [] r mid end same none joins =
