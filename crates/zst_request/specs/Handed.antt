@@ -7,7 +7,7 @@ use Rattle.zst_handler.specs.Zones.{Zone}
 use Rattle.zst_handler.specs.zst_record.declared.records.Record.{Record}
 use Rattle.zst_request.specs.Requested.{context_of}
 use Rattle.zst_request.specs.Transfers.{transfer_context, transfer_of, transfer_refused}
-use Rattle.zst_request.specs.Updating.{Asked}
+use Rattle.zst_request.specs.Updating.{Asked, SigningContext}
 use Rattle.zst_request.specs.Views.{Blocked, Stored, View}
 use Rattle.zst_request.specs.declared.request.TSigResponseContext.{TSigResponseContext}
 use Rattle.zst_request.specs.declared.transfer.ZoneTransfer.{ZoneTransfer}
@@ -32,3 +32,8 @@ TransfersView (Stored zone) asked dnssec_ok moment given =
     IsSomeAnd given
     (λ answer. TransfersZone zone asked dnssec_ok answer.0
     × (option_map context_of answer.1 ≡ transfer_context zone asked moment))
+
+-- What the reply is signed with.
+abbrev pub view_context : View → Asked → ℕ → Option SigningContext
+view_context (Blocked blocklist) asked moment = None
+view_context (Stored zone) asked moment = transfer_context zone asked moment

@@ -32,11 +32,12 @@ without_start origin rs = filter (λ r. not (is_start origin r)) rs
 abbrev pub axfr_records : DomainName → Bool → List RRset → List Record
 axfr_records origin dnssec_ok sets = without_start origin (sets_shown dnssec_ok sets)
 
--- All other records, between the SOA and the SOA again; nothing without an SOA.
+-- Records between an SOA and the same SOA again; nothing without an SOA.
 abbrev pub between_soas : Option RRset → List Record → List Record
 between_soas None others = []
 between_soas (Some soa) others = soa.records ++ (others ++ soa.records)
 
+-- A zone as it is transferred: the SOA of its origin, every other record, and that SOA again.
 abbrev pub transfer_of : Zone → Bool → List Record
 transfer_of zone dnssec_ok =
     between_soas (rrset_at zone.sets zone.origin SOA)

@@ -1,7 +1,7 @@
 //! A zone in memory, as a server asks its handler.
 
 ghost use Rattle.std.specs.Prelude.{◌≡◌, None, Ok, Err, IfOk, IsOk, OnErr, option_map};
-ghost use Rattle.zst_request.specs.Handed.{TransfersView};
+ghost use Rattle.zst_request.specs.Handed.{TransfersView, view_context};
 ghost use Rattle.zst_request.specs.Requested.{asked_of, context_of};
 ghost use Rattle.zst_request.specs.Updating.{UpdatesView, update_context};
 ghost use Rattle.zst_request.specs.Views.{Stored};
@@ -130,6 +130,7 @@ impl<K: Drop> ZoneHandler for InMemoryZoneHandler<K> {
         AllocError,
     >
         ensures given { IfOk result (TransfersView (Stored self.now) (asked_of request.now) options.dnssec_ok now) }
+        ensures unsigned { view_context (Stored self.now) (asked_of request.now) now ≡ None → IsOk result }
         ensures memory { IsOk result }
     {
         Ok(Some((self.transfer(alloc, options), None)))

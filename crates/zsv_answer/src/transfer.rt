@@ -1,6 +1,6 @@
 //! Transfers of zones (RFC 5936 section 2.2).
 
-ghost use Rattle.std.specs.Prelude.{◌≡◌, [], None, false, IfOk, map, option_copied, option_map};
+ghost use Rattle.std.specs.Prelude.{◌≡◌, [], None, false, IfOk, IsOk, map, option_copied, option_map};
 ghost use Rattle.zst_request.specs.Handed.{transfer_records};
 ghost use Rattle.zst_request.specs.Requested.{asked_of, context_of};
 ghost use Rattle.zsv_answer.specs.Responses.{parts_with};
@@ -58,7 +58,7 @@ pub fn encode_transfer(
     response.encode(alloc, protocol)
 }
 
-// What the first handler of a chain answers that has a zone.
+// What the first handler of a chain answers that has a zone. It takes no memory where the reply isn't signed.
 fn first_transfer<'z, H: ZoneHandler>(
     handlers: &'z [H],
     alloc: Global,
@@ -74,7 +74,8 @@ fn first_transfer<'z, H: ZoneHandler>(
     >,
     AllocError,
 >
-    ensures { IfOk result (TransfersFound (transferring (map H.view handlers.now)) (asked_of request.now) options.dnssec_ok now) }
+    ensures found { IfOk result (TransfersFound (transferring (map H.view handlers.now)) (asked_of request.now) options.dnssec_ok now) }
+    ensures unsigned { zone_context (asked_of request.now) now (transferring (map H.view handlers.now)) ≡ None → IsOk result }
 {
     let mut rest = handlers;
     'handlers: while let Some((first, later)) = rest.split_first() {
@@ -133,8 +134,8 @@ pub fn transfer_error(metadata: Metadata, response_code: ResponseCode) -> Transf
     }
 }
 
-/// The reply of a chain of handlers to a request for a transfer. It repeats what the request's header says. The moment is given
-/// in seconds since 1970.
+/// The reply of a chain of handlers to a request for a transfer. It repeats what the request's header says. It takes no memory
+/// where the reply isn't signed. The moment is given in seconds since 1970.
 pub fn transfer_response<'z, H: ZoneHandler>(
     handlers: &'z [H],
     alloc: Global,
@@ -145,6 +146,7 @@ pub fn transfer_response<'z, H: ZoneHandler>(
 ) -> Result<TransferResponse<'z>, AllocError>
     ensures parts { IfOk result (λ r. response_parts r ≡ zone_parts metadata options.dnssec_ok (asked_of request.now) (transferring (map H.view handlers.now))) }
     ensures context { IfOk result (λ r. option_map context_of r.context ≡ zone_context (asked_of request.now) now (transferring (map H.view handlers.now))) }
+    ensures unsigned { zone_context (asked_of request.now) now (transferring (map H.view handlers.now)) ≡ None → IsOk result }
 {
     match first_transfer(handlers, alloc, request, options, now)? {
         Some((answer, context)) => Ok(answered(metadata, answer, context)),

@@ -1,8 +1,8 @@
 //! A list of blocked names, as a server asks its handler.
 
-ghost use Rattle.std.specs.Prelude.{◌≡◌, None, Ok, Err, IfOk, OnErr, option_map};
+ghost use Rattle.std.specs.Prelude.{◌≡◌, None, Ok, Err, IfOk, IsOk, OnErr, option_map};
 ghost use Rattle.zst_request.specs.Blocking.{blocked_answer};
-ghost use Rattle.zst_request.specs.Handed.{TransfersView};
+ghost use Rattle.zst_request.specs.Handed.{TransfersView, view_context};
 ghost use Rattle.zst_request.specs.Handling.{Blocks, enforced_answer, is_enforced};
 ghost use Rattle.zst_request.specs.dnw_name.DomainName.{lowercase_name};
 ghost use Rattle.zst_request.specs.Requested.{asked_of, context_of};
@@ -132,6 +132,7 @@ impl ZoneHandler for BlocklistZoneHandler {
         AllocError,
     >
         ensures given { IfOk result (TransfersView (Blocked self.now) (asked_of request.now) options.dnssec_ok now) }
+        ensures unsigned { view_context (Blocked self.now) (asked_of request.now) now ≡ None → IsOk result }
         ensures none { result ≡ Ok None }
     {
         Ok(None)

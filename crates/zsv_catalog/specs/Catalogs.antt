@@ -171,8 +171,8 @@ is_kind_of_query request =
 abbrev pub is_served_query : Message → Bool
 is_served_query request = not (has_other_version request.edns) && is_kind_of_query request
 
--- The question of a message that is served as a query for a transfer. The reply to it alone may be
--- signed, of all but those to updates.
+-- The question of a message that is served as a query for a transfer. Of replies to queries, its
+-- reply alone may be signed.
 abbrev pub served_transfer : Message → Option Query
 served_transfer request =
     if is_served_query request then transfer_question request.asked.questions else None

@@ -1,9 +1,8 @@
 //! A guarded zone, as a server asks its handler.
 
 ghost use Rattle.std.specs.Prelude.{◌≡◌, None, Ok, Err, IfOk, IsOk, OnErr, option_map};
-ghost use Rattle.zst_request.specs.Handed.{TransfersView};
+ghost use Rattle.zst_request.specs.Handed.{TransfersView, view_context};
 ghost use Rattle.zst_request.specs.Requested.{asked_of, context_of};
-ghost use Rattle.zst_request.specs.Transfers.{transfer_context};
 ghost use Rattle.zst_request.specs.Updating.{UpdatesView, update_context};
 ghost use Rattle.zst_request.specs.Views.{Stored};
 ghost use Rattle.zsv_sqlite.specs.Guarded.{guarded_zone};
@@ -127,7 +126,7 @@ impl<K: Drop> ZoneHandler for SqliteZoneHandler<K> {
         AllocError,
     >
         ensures given { IfOk result (TransfersView (Stored (guarded_zone self.now)) (asked_of request.now) options.dnssec_ok now) }
-        ensures unsigned { transfer_context (guarded_zone self.now) (asked_of request.now) now ≡ None → IsOk result }
+        ensures unsigned { view_context (Stored (guarded_zone self.now)) (asked_of request.now) now ≡ None → IsOk result }
     {
         let (permitted, context) = self.authorize_transfer(alloc, request, now)?;
         match permitted {

@@ -10,4 +10,4 @@ returns-in-Some-clause-parts g c =
     let asked = asked_of c.args.request.now in
     let d = c.args.options.dnssec_ok in
     c.answered.ensures.parts
-    ∙ found_parts c.args.metadata d asked c.args.now zone (c.in-Some.answer, c.in-Some.context) (subst (λ given. TransfersFound zone asked d c.args.now given) c.in-Some.is c.in_ok-answer.ensures)
+    ∙ found_parts c.args.metadata d asked c.args.now zone (c.in-Some.answer, c.in-Some.context) (subst (λ given. TransfersFound zone asked d c.args.now given) c.in-Some.is c.in_ok-answer.ensures.found)
