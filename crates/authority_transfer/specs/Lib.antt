@@ -1,4 +1,3 @@
 pub mod Alike
-pub mod Sending
 pub mod Transfers
 pub mod TwoRoads
