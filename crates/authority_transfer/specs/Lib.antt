@@ -1,3 +1,4 @@
 pub mod Alike
 pub mod Transfers
 pub mod TwoRoads
+pub mod authority_load
