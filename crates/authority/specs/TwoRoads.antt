@@ -14,8 +14,8 @@ use Rattle.authority_server.specs.zsv_catalog.zsv_answer.zst_request.dnw_codes.d
 use Rattle.authority_server.specs.zsv_catalog.zsv_answer.zst_request.zst_handler.Zones.{Guard, Zone}
 use Rattle.authority_server.specs.zsv_catalog.zsv_update.Updates.{Given}
 
--- A server whose records read back handed a zone over, whole: a reply that is neither truncated nor
--- signed has records for a question of type AXFR (RFC 5936, section 2).
+-- A server whose records read back transferred a zone, whole: its reply to a question of type AXFR
+-- is neither truncated nor signed, and has answers (RFC 5936, section 2.2).
 pub record HandsOver (zone : Zone) (dnssec_ok : Bool) (reply : List ℕ) : Type 0 where
   pub world : World
   pub received : Received
@@ -24,14 +24,14 @@ pub record HandsOver (zone : Zone) (dnssec_ok : Bool) (reply : List ℕ) : Type 
   pub reads_back : WorldReadsBack world
   pub there : IsMessage received.message request
   pub answers : Answers world received request given reply
-  -- One question was asked, and no pointer of its name goes into the header.
+  -- The request asks one question, and no pointer of its name has its target in the header.
   pub question : Query
   pub one : request.asked.questions ≡ question ∷ []
   pub axfr : same_record_type question.query_type AXFR ≡ true
   pub avoids_header : AvoidsHeader received.message 12 request.asked.questions there.questions_end
       there.questions.questions.0
   pub dnssec : asks_for_dnssec request.edns ≡ dnssec_ok
-  -- The server has the zone, guarded or not: it is the one that the nearest chain transfers.
+  -- The zone is the first of the chain for that name, whoever may update it.
   pub chain : List View
   pub nearest : chain_for world.chains question.name ≡ Some chain
   pub guard : Option Guard
