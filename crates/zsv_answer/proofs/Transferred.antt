@@ -5,7 +5,7 @@ use Rattle.std.specs.Iterator.Adapters.{once_item, once_steps}
 use Rattle.std.specs.Prelude.{Option, Some, None, Result, Ok, Err, IsOkAnd, MatchOption, option_copied}
 use Rattle.std.specs.declared.iter.Once.{Once}
 use Rattle.zst_request.proofs.TransferCodes.{transfer_codes}
-use Rattle.zst_request.specs.Handed.{TransfersView, transfer_records, view_context}
+use Rattle.zst_request.specs.Handed.{TransfersView, transfer_records}
 use Rattle.zst_request.specs.Transfers.{transfer_of, transfer_refused}
 use Rattle.zst_request.specs.Updating.{Asked}
 use Rattle.zst_request.specs.Views.{Blocked, Stored, View}
@@ -17,7 +17,7 @@ use Rattle.zst_request.specs.zst_codes.declared.response_code.ResponseCode.{Resp
 use Rattle.zst_request.specs.zst_codes.declared.response_code.ResponseCode.TheVariants as codes
 use Rattle.zst_request.specs.zst_handler.Zones.{Zone}
 use Rattle.zsv_answer.specs.Responses.{parts_with}
-use Rattle.zsv_answer.specs.Transferring.{TransfersFound, answer_parts, failure_code, transfer_parts, transferring, zone_context, zone_parts}
+use Rattle.zsv_answer.specs.Transferring.{TransfersFound, answer_parts, failure_code, transfer_parts, transferring, zone_parts}
 use Rattle.zsv_reply.proofs.Lending.{lent_yielded, none_yielded}
 use Rattle.zsv_reply.specs.Lending.{Holds}
 use Rattle.zsv_reply.specs.Replies.{ReplyParts}
@@ -62,10 +62,6 @@ found_first (Blocked blocklist) views asked dnssec_ok moment answer is = let h :
 pub passed_over : (view : View) (views : List View) (asked : Asked) (dnssec_ok : Bool) (moment : ℕ) → TransfersView view asked dnssec_ok moment None → transferring (view ∷ views) ≡ transferring views
 passed_over (Stored zone) views asked dnssec_ok moment is = absurd is
 passed_over (Blocked blocklist) views asked dnssec_ok moment is = refl
-
-pub first_unsigned : (view : View) (views : List View) (asked : Asked) (moment : ℕ) → zone_context asked moment (transferring (view ∷ views)) ≡ None → view_context view asked moment ≡ None
-first_unsigned (Stored zone) views asked moment none = none
-first_unsigned (Blocked blocklist) views asked moment none = refl
 
 -- ---- codes
 abbrev IsRepeated : Option ResponseCode → Type 0
