@@ -60,17 +60,17 @@ def name_order(record):
 
 
 def asked(zone, origin):
-    """Each owner's types and one that it has not, what is below the origin, cuts and wildcards, and what is above owners."""
+    """Each owner's types and one that it has not; names below owners of NS and A, below wildcards, and above owners."""
     sets = dict.fromkeys((it.owner, it.type) for it in zone)
     owners = dict.fromkeys(owner for owner, _ in sets)
     yield from sets
     yield from ((tuple(map(bytes.upper, owner)), DS) for owner in owners)
-    below = [(b"x", *owner) for owner in owners if (owner, NS) in sets or owner[0] == b"ns"]
-    starred = [(label, *owner[1:]) for owner in owners if owner[0] == b"*" for label in (b"X", b"x.y")]
+    below = [(b"x", *owner) for owner in owners if {(owner, NS), (owner, A)} & sets.keys()]
+    starred = [(*labels, *owner[1:]) for owner in owners if owner[0] == b"*" for labels in ((b"X",), (b"x", b"y"))]
     above = dict.fromkeys(owner[1:] for owner in owners if len(owner) > len(origin) + 1 and owner[1:] not in owners)
     yield from ((name, kind) for name in (*below, *starred, *above) for kind in (A, SOA, TXT))
     yield from ((origin, kind) for kind in (ANY, AXFR))
-    yield origin[1:], A
+    yield from ((origin[1:], kind) for kind in (A, SOA))
 
 
 def reply_of(zone, origin, request):
