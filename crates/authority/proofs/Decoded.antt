@@ -45,10 +45,15 @@ all_of parts = record {
 
 pub fronts_whole : (points : Bool) (reply : List ℕ) (limit place : ℕ) (parts : ReplyParts) (kept : Fronts) → FrontsAt points reply limit place parts kept → is_truncated parts kept ≡ false → kept ≡ all_of parts
 fronts_whole points reply limit place parts kept f whole =
-    let (answers, others) = neither (is_cut parts.answers kept.answers) (is_cut parts.authorities kept.authorities || ((is_cut parts.additionals kept.additionals || is_cut (option_to_list parts.edns) kept.edns) || is_cut (option_to_list parts.signature) kept.signature)) whole in
-    let (authorities, last) = neither (is_cut parts.authorities kept.authorities) ((is_cut parts.additionals kept.additionals || is_cut (option_to_list parts.edns) kept.edns) || is_cut (option_to_list parts.signature) kept.signature) others in
-    let (behind, signature) = neither (is_cut parts.additionals kept.additionals || is_cut (option_to_list parts.edns) kept.edns) (is_cut (option_to_list parts.signature) kept.signature) last in
-    let (additionals, edns) = neither (is_cut parts.additionals kept.additionals) (is_cut (option_to_list parts.edns) kept.edns) behind in
+    let cut_a = is_cut parts.answers kept.answers in
+    let cut_b = is_cut parts.authorities kept.authorities in
+    let cut_c = is_cut parts.additionals kept.additionals in
+    let cut_d = is_cut (option_to_list parts.edns) kept.edns in
+    let cut_e = is_cut (option_to_list parts.signature) kept.signature in
+    let (first, last) = neither (cut_a || cut_b) ((cut_c || cut_d) || cut_e) whole in
+    let (answers, authorities) = neither cut_a cut_b first in
+    let (behind, signature) = neither (cut_c || cut_d) cut_e last in
+    let (additionals, edns) = neither cut_c cut_d behind in
     let a = uncut (ReplyRecordAt points place) plain reply limit place parts.answers kept.answers f.answers_end f.answers answers in
     let b = uncut (ReplyRecordAt points place) plain reply limit f.answers_end parts.authorities kept.authorities f.authorities_end f.authorities authorities in
     let c = uncut (ReplyRecordAt points place) plain reply limit f.authorities_end parts.additionals kept.additionals f.additionals_end f.additionals additionals in
