@@ -1,6 +1,6 @@
 -- What a full reply holds can be written and read back, where what the handlers hold can.
-use Rattle.std.proofs.Common.{◌≡◌, ◌<◌, ◌≤◌, ◌^◌, ℕ, refl, subst, sym, inl, inr, arith}
-use Rattle.std.specs.Prelude.{Bool, true, false, cond, ◌⊎◌, List, [], ◌∷◌, length, Option, Some, None, IfSome, option_to_list}
+use Rattle.std.proofs.Common.{◌≡◌, ℕ, refl, subst, sym}
+use Rattle.std.specs.Prelude.{Bool, true, false, cond, List, [], ◌∷◌, Option, Some, None, IfSome, option_to_list}
 use Rattle.std.specs.List.{AllByRecursion}
 use Rattle.zsv_answer.specs.Forwarding.{ForwardedParts, forwarded_error, forwarded_metadata, resolved_parts}
 use Rattle.zsv_answer.specs.Parts.{AtOrigin, AuthoritativeParts, BesideAnswer, ChainParts, DeniedParts, PartsAs, answer_records, is_referral}
@@ -37,7 +37,7 @@ use Rattle.zsv_answer.specs.zsv_reply.zsv_message.zsv_parts.declared.header.OpCo
 use Rattle.zsv_answer.specs.zsv_reply.zsv_message.zsv_parts.declared.header.OpCode.TheVariants as operations
 use Rattle.zsv_answer.specs.zsv_reply.zsv_message.zsv_parts.declared.question.Query.{Query}
 use Rattle.zsv_catalog.specs.Catalogs.{KindParts, OperationParts, PartsOf, PlainParts, QueryParts, QuestionParts, asks_for_dnssec, entry_parts}
-use Rattle.zsv_update.specs.Options.{AnswersEdns, asks_for_nsid, has_other_version, identifier, nsid_for}
+use Rattle.zsv_update.specs.Options.{AnswersEdns, has_other_version, nsid_for}
 use Rattle.zsv_update.specs.zsv_chains.Chains.{chain_for, entry_for}
 use Rattle.zsv_catalog.specs.ReadingBack.{ChainReadsBack, ChainsReadBack, ViewReadsBack}
 use Rattle.zsv_update.proofs.EdnsBack.{FitsOption, edns_back}

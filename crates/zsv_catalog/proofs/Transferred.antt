@@ -2,20 +2,17 @@
 use Rattle.std.proofs.Common.{◌≡◌, ◌∙◌, ℕ, Bool, true, false, not, List, [], ◌∷◌, ap, refl, subst, sym}
 use Rattle.std.proofs.lemmas.Bool.{and_parts, true≢false}
 use Rattle.std.specs.Prelude.{◌&&◌, Option, Some, None, cond, option_map}
-use Rattle.zsv_answer.specs.zst_request.Requested.{context_of}
 use Rattle.zsv_answer.specs.zst_request.Updating.{Asked, SigningContext}
 use Rattle.zsv_answer.specs.zst_request.Views.{View}
-use Rattle.zsv_answer.specs.zst_request.declared.request.TSigResponseContext.{TSigResponseContext}
 use Rattle.zsv_answer.specs.zst_request.dnw_codes.declared.record_type.RecordType.TheVariants.{AXFR}
 use Rattle.zsv_answer.specs.zst_request.dnw_codes.RecordType.{same_record_type}
 use Rattle.zsv_answer.specs.zst_request.dnw_name.DomainName.{DomainName}
 use Rattle.zsv_answer.specs.zst_request.zst_codes.declared.response_code.ResponseCode.TheVariants as responses
 use Rattle.zsv_answer.specs.zsv_reply.Replies.{ReplyParts}
-use Rattle.zsv_answer.specs.zsv_reply.Writing.{AllReadBack, SendsParts, error_parts, with_edns}
+use Rattle.zsv_answer.specs.zsv_reply.Writing.{AllReadBack, error_parts, with_edns}
 use Rattle.zsv_answer.specs.zsv_reply.zsv_message.Messages.{Message}
 use Rattle.zsv_answer.specs.zsv_reply.zsv_message.zst_edns.declared.edns.Edns.{Edns}
 use Rattle.zsv_answer.specs.zsv_reply.zsv_message.zsv_parts.SignatureRecords.{TsigReadsBack}
-use Rattle.zsv_answer.specs.zsv_reply.zsv_message.zsv_parts.declared.header.Header.{Header}
 use Rattle.zsv_answer.specs.zsv_reply.zsv_message.zsv_parts.declared.header.Metadata.{Metadata}
 use Rattle.zsv_answer.specs.zsv_reply.zsv_message.zsv_parts.declared.header.MessageType.{MessageType}
 use Rattle.zsv_answer.specs.zsv_reply.zsv_message.zsv_parts.declared.header.MessageType.TheVariants as messages
@@ -24,10 +21,10 @@ use Rattle.zsv_answer.specs.zsv_reply.zsv_message.zsv_parts.declared.header.OpCo
 use Rattle.zsv_answer.specs.zsv_reply.zsv_message.zsv_parts.declared.question.Query.{Query}
 use Rattle.zsv_answer.specs.zsv_reply.zsv_message.zsv_parts.declared.tsig.TsigRecord.{TsigRecord}
 use Rattle.zsv_catalog.specs.Catalogs.{KindParts, OperationParts, PlainParts, QueryParts, QuestionParts, asks_for_dnssec, entry_context, entry_parts, is_kind_of_query, is_query, is_query_type, is_served_query, question_context, served_transfer, transfer_question}
-use Rattle.zsv_update.specs.Keys.{Keys, Signature, signature_of}
+use Rattle.zsv_update.specs.Keys.{Signature, signature_of}
 use Rattle.zsv_update.specs.Options.{has_other_version}
-use Rattle.zsv_update.specs.Signing.{HasSignature, IsSignedOver, SignsParts}
-use Rattle.zsv_update.specs.zsv_chains.Chains.{chain_for, entry_for}
+use Rattle.zsv_update.specs.Signing.{HasSignature}
+use Rattle.zsv_update.specs.zsv_chains.Chains.{entry_for}
 
 -- ---- which messages are served as queries for a transfer
 is_false : (b : Bool) → not b ≡ true → b ≡ false

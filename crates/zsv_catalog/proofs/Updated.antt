@@ -1,7 +1,6 @@
 -- What is sent in reply to an update, or to another message, is what the chains reply.
-use Rattle.std.proofs.Common.{◌≡◌, ◌∙◌, ℕ, Bool, true, false, List, [], Option, ap, refl, subst, sym}
+use Rattle.std.proofs.Common.{◌≡◌, ◌∙◌, ℕ, true, false, List, [], Option, ap, refl, subst, sym}
 use Rattle.std.proofs.lemmas.Bool.{true≢false}
-use Rattle.std.specs.Prelude.{Result, Ok, Err, IfOk, IfErr, OnErr}
 use Rattle.std.specs.declared.net.SocketAddr.{SocketAddr}
 use Rattle.zsv_answer.specs.zst_request.Views.{View}
 use Rattle.zsv_answer.specs.zst_request.dnw_name.DomainName.{DomainName}

@@ -9,7 +9,6 @@ use Rattle.zsv_answer.specs.zst_request.Views.{View}
 use Rattle.zsv_answer.specs.zst_request.dnw_codes.declared.record_type.RecordType.TheVariants.{AXFR}
 use Rattle.zsv_answer.specs.zst_request.dnw_codes.RecordType.{same_record_type}
 use Rattle.zsv_answer.specs.zst_request.dnw_name.DomainName.{DomainName}
-use Rattle.zsv_answer.specs.zst_request.zst_codes.declared.response_code.ResponseCode.{ResponseCode}
 use Rattle.zsv_answer.specs.zst_request.zst_codes.declared.response_code.ResponseCode.TheVariants as responses
 use Rattle.zsv_answer.specs.zst_request.zst_codes.declared.settings.TsigVerdict.TheVariants as verdicts
 use Rattle.zsv_answer.specs.zsv_reply.Replies.{ReplyParts}

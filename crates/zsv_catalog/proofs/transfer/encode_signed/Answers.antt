@@ -1,19 +1,17 @@
-use Rattle.std.proofs.Common.{◌≡◌, ◌∙◌, ℕ, List, Option, Some, None, ap, refl, subst, sym}
+use Rattle.std.proofs.Common.{◌≡◌, ◌∙◌, ℕ, List, Option, Some, ap, refl, subst, sym}
 use Rattle.std.proofs.lemmas.Result.{IfOk-weaker}
 use Rattle.std.specs.Prelude.{IfSome, option_copied, option_map}
 use Rattle.zsv_answer.specs.Transferring.{response_parts}
 use Rattle.zsv_answer.specs.zst_request.Requested.{context_of}
 use Rattle.zsv_answer.specs.zst_request.declared.request.TSigResponseContext.{TSigResponseContext}
 use Rattle.zsv_answer.specs.zst_request.zst_codes.declared.response_code.ResponseCode.TheVariants as responses
-use Rattle.zsv_answer.specs.zsv_reply.Replies.{ReplyParts}
 use Rattle.zsv_answer.specs.zsv_reply.Writing.{SendsParts, error_parts, with_edns}
 use Rattle.zsv_answer.specs.zsv_reply.zsv_message.zsv_parts.Questions.{Asked}
 use Rattle.zsv_answer.specs.zsv_reply.zsv_message.zsv_parts.SignatureRecords.{TsigReadsBack}
-use Rattle.zsv_answer.specs.zsv_reply.zsv_message.zsv_parts.declared.header.Metadata.{Metadata}
 use Rattle.zsv_answer.specs.zsv_reply.zsv_message.zsv_parts.declared.tsig.TsigRecord.{TsigRecord}
 use Rattle.zsv_update.specs.Keys.{signature_of}
 use Rattle.zsv_update.specs.Signing.{IsSignedOver, SignsParts}
-use Rattle.zsv_catalog.proofs.Transferred.{failed_back, has_none, has_signature, signed_back, signed_parts}
+use Rattle.zsv_catalog.proofs.Transferred.{has_signature, signed_back, signed_parts}
 use Rattle.zsv_catalog.proofs.transfer.encode_signed.Goals as goal
 
 pub returns-in_default : goal.returns-in_default

@@ -1,14 +1,13 @@
-use Rattle.std.proofs.Common.{◌≡◌, ap, refl, subst}
+use Rattle.std.proofs.Common.{◌≡◌, refl, subst}
 use Rattle.std.proofs.lemmas.Result.{IfOk-weaker}
 use Rattle.std.specs.Prelude.{Option, option_copied, option_map}
 use Rattle.zsv_answer.specs.Transferring.{response_parts}
 use Rattle.zsv_answer.specs.zst_request.Requested.{context_of}
 use Rattle.zsv_answer.specs.zst_request.Updating.{SigningContext}
-use Rattle.zsv_answer.specs.zsv_reply.Writing.{AllReadBack, error_parts, with_edns}
-use Rattle.zsv_answer.specs.zst_request.zst_codes.declared.response_code.ResponseCode.TheVariants as responses
+use Rattle.zsv_answer.specs.zsv_reply.Writing.{with_edns}
 use Rattle.zsv_answer.specs.zsv_reply.zsv_message.zst_edns.declared.edns.Edns.{Edns}
 use Rattle.zsv_answer.specs.zsv_reply.zsv_message.zsv_parts.Questions.{IsSection}
-use Rattle.zsv_catalog.specs.Catalogs.{PartsOf, SendsSigned, asked_of_transfer, failure_of, question_context, served_transfer}
+use Rattle.zsv_catalog.specs.Catalogs.{PartsOf, SendsSigned, asked_of_transfer, question_context, served_transfer}
 use Rattle.zsv_update.specs.Options.{AnswersEdns, nsid_for}
 use Rattle.zsv_update.specs.Updates.{Given, only}
 use Rattle.zsv_update.specs.zsv_chains.Chains.{views_of}
