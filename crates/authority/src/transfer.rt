@@ -1,6 +1,6 @@
 //! A zone from the reply of a server that transfers it.
 
-ghost use Rattle.std.specs.Prelude.{◌≡◌, IfOk, MatchResult};
+ghost use Rattle.std.specs.Prelude.{◌≡◌, Bool, IfOk, MatchResult};
 ghost use Rattle.authority_transfer.specs.Alike.{AnswersAlike, IsSameZone};
 ghost use Rattle.authority_transfer.specs.Transfers.{TransferGives};
 ghost use Rattle.authority_transfer.specs.TwoRoads.{TwoRoads};
