@@ -1,20 +1,17 @@
 -- A reply of which nothing is left out is read as the very parts that were sent.
-use Rattle.std.proofs.Common.{◌≡◌, ◌∙◌, ℕ, zero, suc, ◌+◌, ◌<◌, ◌≤◌, Bool, true, false, ◌||◌, List, [], ◌∷◌, length, refl, sym, ap, subst, arith}
+use Rattle.std.proofs.Common.{◌≡◌, ◌∙◌, ℕ, ◌+◌, ◌<◌, ◌≤◌, Bool, true, false, ◌||◌, List, [], ◌∷◌, length, refl, sym, ap, subst, arith}
 use Rattle.std.proofs.lemmas.Bool.{ltb-false, ltb-true, true≢false}
 use Rattle.std.specs.Prelude.{nat_lt, Option, Some, None, option_to_list}
 use Rattle.zsv_reply.proofs.ReadBack.{first_of, message_of, reply_is_message}
-use Rattle.zsv_reply.specs.Replies.{Front, Fronts, FrontsAt, IsReply, IsWholeReply, ReplyParts, ReplyRecordAt, header_of_fronts, header_of_reply, is_cut, is_truncated, leaves_room, opt_plain, tsig_plain}
+use Rattle.zsv_reply.specs.Replies.{Front, Fronts, FrontsAt, IsReply, IsWholeReply, ReplyParts, ReplyRecordAt, header_of_reply, is_cut, is_truncated, leaves_room, opt_plain, tsig_plain}
 use Rattle.zsv_reply.specs.Writing.{AllReadBack}
 use Rattle.zsv_reply.specs.zst_record.Records.{plain}
-use Rattle.zsv_reply.specs.zst_record.declared.records.Record.{Record}
 use Rattle.zsv_reply.specs.zsv_message.Messages.{IsMessage, Message, OptAt, joined_metadata}
-use Rattle.zsv_reply.specs.zsv_message.zst_edns.declared.edns.Edns.{Edns}
 use Rattle.zsv_reply.specs.zsv_message.zsv_parts.Headers.{header_of}
 use Rattle.zsv_reply.specs.zsv_message.zsv_parts.Questions.{Asked, AskedAt, AvoidsHeader, QuestionAt}
 use Rattle.zsv_reply.specs.zsv_message.zsv_parts.SignatureRecords.{TsigRecordAt}
 use Rattle.zsv_reply.specs.zsv_message.zsv_parts.Wire.{Entries}
 use Rattle.zsv_reply.specs.zsv_message.zsv_parts.declared.header.Header.{Header}
-use Rattle.zsv_reply.specs.zsv_message.zsv_parts.declared.tsig.TsigRecord.{TsigRecord}
 
 -- ---- fronts
 neither : (a b : Bool) → (a || b) ≡ false → (a ≡ false) × (b ≡ false)

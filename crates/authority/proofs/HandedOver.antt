@@ -1,13 +1,13 @@
--- What a server hands over is the whole transfer of its zone.
+-- The reply of a server that transferred a zone holds the whole transfer, and nothing else.
 use Rattle.std.proofs.Common.{◌≡◌, ◌∙◌, ℕ, ◌<◌, Bool, true, false, ◌&&◌, ◌||◌, List, [], ◌∷◌, length, refl, sym, ap, subst, arith}
-use Rattle.std.specs.Prelude.{Option, Some, None, is_some, option_map, option_to_list}
+use Rattle.std.specs.Prelude.{Option, Some, None, is_some, option_map}
 use Rattle.std.specs.List.{list_any}
 use Rattle.std.specs.Net.Socket.{socket_ip}
 use Rattle.authority_server.specs.zsv_access.Access.{is_allowed}
-use Rattle.zsv_reply.specs.Replies.{IsReply, ReplyParts, header_of_reply}
-use Rattle.zsv_reply.specs.Writing.{AllReadBack, error_parts, reply_metadata, with_edns}
+use Rattle.zsv_reply.specs.Replies.{ReplyParts, header_of_reply}
+use Rattle.zsv_reply.specs.Writing.{reply_metadata, with_edns}
 use Rattle.zsv_reply.specs.zst_record.declared.records.Record.{Record}
-use Rattle.zsv_reply.specs.zsv_message.Messages.{IsMessage, Message, joined_metadata}
+use Rattle.zsv_reply.specs.zsv_message.Messages.{Message, joined_metadata}
 use Rattle.zsv_reply.specs.zsv_message.zst_edns.declared.edns.Edns.{Edns}
 use Rattle.zsv_reply.specs.zsv_message.zsv_parts.Headers.{header_of, same_op_code}
 use Rattle.zsv_reply.specs.zsv_message.zsv_parts.declared.header.Header.{Header}
@@ -17,12 +17,11 @@ use Rattle.zsv_reply.specs.zsv_message.zsv_parts.declared.header.MessageType.The
 use Rattle.zsv_reply.specs.zsv_message.zsv_parts.declared.header.OpCode.{OpCode}
 use Rattle.zsv_reply.specs.zsv_message.zsv_parts.declared.header.OpCode.TheVariants as operations
 use Rattle.zsv_reply.specs.zsv_message.zsv_parts.declared.question.Query.{Query}
-use Rattle.zsv_reply.specs.zsv_message.zsv_parts.declared.tsig.TsigRecord.{TsigRecord}
 use Rattle.zsv_reply.specs.zsv_message.zsv_parts.zst_codes.ResponseCode.{joined_code, low_bits, same_response_code}
 use Rattle.zsv_reply.specs.zsv_message.zsv_parts.zst_codes.declared.response_code.ResponseCode.{ResponseCode}
 use Rattle.zsv_reply.specs.zsv_message.zsv_parts.zst_codes.declared.response_code.ResponseCode.TheVariants as codes
-use Rattle.authority_server.specs.Serving.{Answers, Gives, Received, SendsGiven, World}
-use Rattle.authority_server.specs.zsv_catalog.Catalogs.{GivesOf, GivesPlain, KindParts, OperationParts, PartsOf, PlainParts, QueryParts, QuestionParts, UpdatesOf, asked_of_transfer, asks_for_dnssec, entry_parts, failure_of, is_served_update}
+use Rattle.authority_server.specs.Serving.{Gives, Received, SendsGiven, World}
+use Rattle.authority_server.specs.zsv_catalog.Catalogs.{GivesOf, KindParts, OperationParts, PartsOf, PlainParts, QueryParts, QuestionParts, asked_of_transfer, asks_for_dnssec, entry_parts, failure_of, is_served_update}
 use Rattle.authority_server.specs.zsv_catalog.Chains.{chain_for, entry_for}
 use Rattle.authority_server.specs.zsv_catalog.zsv_answer.Transferring.{transfer_parts, transferring, zone_parts}
 use Rattle.authority_server.specs.zsv_catalog.zsv_answer.zst_request.Transfers.{transfer_of, transfer_refused}
@@ -37,10 +36,10 @@ use Rattle.authority_server.specs.zsv_catalog.zsv_update.Keys.{Signature}
 use Rattle.authority_server.specs.zsv_catalog.zsv_update.Options.{AnswersEdns, has_other_version}
 use Rattle.authority_server.specs.zsv_catalog.zsv_update.Signing.{HasSignature}
 use Rattle.authority_server.specs.zsv_catalog.zsv_update.Updates.{ChainUpdates, Given, GivesUpdate, ZoneUpdates}
-use Rattle.authority_transfer.specs.Transfers.{is_answer, is_sig, is_signed}
+use Rattle.authority_transfer.specs.Transfers.{is_answer, is_sig}
 use Rattle.authority_transfer.specs.TwoRoads.{HandsOverAll}
 use Rattle.authority.specs.TwoRoads.{HandsOver}
-use Rattle.authority.proofs.Decoded.{HoldsAll, message_with, more_than_header, reply_holds_all}
+use Rattle.authority.proofs.Decoded.{message_with, more_than_header, reply_holds_all}
 
 -- ---- parts without records are those of no transfer
 abbrev answers_in : ReplyParts → List Record
@@ -63,9 +62,6 @@ entry_of {X} (Some (name, found)) chain e =
 
 module _ (chains : List (DomainName × List View)) (m : Metadata) (dnssec_ok : Bool) (asks : Query → DomainName → Asked) (q : Query) (zone : Zone) (chain : List View)
     (axfr : same_record_type q.query_type AXFR ≡ true) (nearest : chain_for chains q.name ≡ Some chain) (first : transferring chain ≡ Some zone) (plain : ReplyParts) (some : 0 < length plain.answers) where
-  rs : List Record
-  rs = transfer_of zone dnssec_ok
-
   granted : (refused : Option ResponseCode) → plain ≡ transfer_parts m refused (transfer_of zone dnssec_ok) → plain ≡ transfer_parts m None (transfer_of zone dnssec_ok)
   granted None is = is
   granted (Some code) is = no_records plain (ap answers_in is) some

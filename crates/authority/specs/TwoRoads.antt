@@ -31,11 +31,12 @@ pub record HandsOver (zone : Zone) (dnssec_ok : Bool) (reply : List ℕ) : Type 
   pub avoids_header : AvoidsHeader received.message 12 request.asked.questions there.questions_end
       there.questions.questions.0
   pub dnssec : asks_for_dnssec request.edns ≡ dnssec_ok
-  -- The zone is the first of the chain for that name, whoever may update it.
+  -- The zone is the first of the chain for that name, with a guard or without.
   pub chain : List View
   pub nearest : chain_for world.chains question.name ≡ Some chain
   pub guard : Option Guard
   pub first : transferring chain ≡ Some (record zone { guard = guard })
+  -- The reply has no TSIG, isn't truncated, and has answers.
   pub unsigned : answers.parts.signature ≡ None
   pub whole : (header_of reply).metadata.truncation ≡ false
   pub some : 0 < (header_of reply).counts.answers

@@ -17,7 +17,8 @@ use std::alloc::Global;
 /// All answers but the last join the zone in order, as the lines of a zone's text do: a repeated record is taken once, with the
 /// later TTL; of the ANAME records of an owner the last is. What the question was isn't looked at, nor AA.
 ///
-/// Where an `Authority` hands a loaded zone over in the reply, the zone that is made answers every question as that zone does.
+/// Of the unsigned, untruncated reply of an `Authority` that transferred a loaded zone, given its origin and settings, it makes a zone
+/// that answers every question as that zone does (`two_roads`); so it does of the same records from any other server.
 pub fn load_transfer<K>(
     alloc: Global,
     origin: Name,
