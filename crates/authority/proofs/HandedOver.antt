@@ -48,11 +48,19 @@ answers_in parts = parts.answers
 no_records : {R : Type 0} (parts : ReplyParts) → answers_in parts ≡ [] → 0 < length parts.answers → R
 no_records parts none some = absurd (omega (arith, ap length none, some))
 
--- ---- the parts of a question for a transfer
--- The whole zone, in reply to a query.
-record Transfers (m : Metadata) (rs : List Record) (parts : ReplyParts) : Type 0 where
-  operation : m.op_code ≡ operations.Query
-  is : parts ≡ transfer_parts m None rs
+-- ---- the request
+-- Its one question is for the transfer of a zone.
+record AsksZone (chains : List (DomainName × List View)) (request : Message) (zone : Zone) : Type 0 where
+  question : Query
+  one : request.asked.questions ≡ question ∷ []
+  axfr : same_record_type question.query_type AXFR ≡ true
+  chain : List View
+  nearest : chain_for chains question.name ≡ Some chain
+  first : transferring chain ≡ Some zone
+
+-- The records that it asks for.
+abbrev records_for : Message → Zone → List Record
+records_for request zone = transfer_of zone (asks_for_dnssec request.edns)
 
 entry_of : {X : Type 0} (o : Option (DomainName × X)) (chain : X) → option_map (λ entry. entry.1) o ≡ Some chain → (name : DomainName) × (o ≡ Some (name, chain))
 entry_of None chain e = absurd (cc e)
@@ -60,46 +68,7 @@ entry_of {X} (Some (name, found)) chain e =
     let same : found ≡ chain = cc e in
     (name, ap (λ (x : X). Some (name, x)) same)
 
-module _ (chains : List (DomainName × List View)) (m : Metadata) (dnssec_ok : Bool) (asks : Query → DomainName → Asked) (q : Query) (zone : Zone) (chain : List View)
-    (axfr : same_record_type q.query_type AXFR ≡ true) (nearest : chain_for chains q.name ≡ Some chain) (first : transferring chain ≡ Some zone) (plain : ReplyParts) (some : 0 < length plain.answers) where
-  granted : (refused : Option ResponseCode) → plain ≡ transfer_parts m refused (transfer_of zone dnssec_ok) → plain ≡ transfer_parts m None (transfer_of zone dnssec_ok)
-  granted None is = is
-  granted (Some code) is = no_records plain (ap answers_in is) some
-
-  question_hands : QuestionParts chains m dnssec_ok (asks q) q plain → plain ≡ transfer_parts m None (transfer_of zone dnssec_ok)
-  question_hands is =
-      let (name, found) = entry_of (entry_for chains q.name) chain nearest in
-      granted (transfer_refused zone (asks q name)) (is.transfer axfr ∙ ap (entry_parts m dnssec_ok (asks q)) found ∙ ap (zone_parts m dnssec_ok (asks q name)) first)
-
-  query_hands : (qs : List Query) → qs ≡ q ∷ [] → QueryParts chains m dnssec_ok asks qs plain → plain ≡ transfer_parts m None (transfer_of zone dnssec_ok)
-  query_hands qs one is = question_hands (subst (λ (l : List Query). QueryParts chains m dnssec_ok asks l plain) one is)
-
-  operation_hands : (operation : OpCode) (qs : List Query) → m.op_code ≡ operation → qs ≡ q ∷ [] → OperationParts chains m dnssec_ok asks operation qs plain → Transfers m (transfer_of zone dnssec_ok) plain
-  operation_hands operations.Query qs e one is = record { operation = e; is = query_hands qs one is }
-  operation_hands other qs e one is = no_records plain (ap answers_in is) some
-
-  kind_hands : (kind : MessageType) (qs : List Query) → qs ≡ q ∷ [] → KindParts chains m dnssec_ok asks kind qs plain → Transfers m (transfer_of zone dnssec_ok) plain
-  kind_hands messages.Response qs one is = no_records plain (ap answers_in is) some
-  kind_hands messages.Query qs one is = operation_hands m.op_code qs refl one is
-
-plain_hands : (chains : List (DomainName × List View)) (asks : Query → DomainName → Asked) (request : Message) (q : Query) (zone : Zone) (chain : List View) (plain : ReplyParts)
-    → request.asked.questions ≡ q ∷ [] → same_record_type q.query_type AXFR ≡ true → chain_for chains q.name ≡ Some chain → transferring chain ≡ Some zone
-    → PlainParts chains asks request plain → 0 < length plain.answers → Transfers request.metadata (transfer_of zone (asks_for_dnssec request.edns)) plain
-plain_hands chains asks request q zone chain plain one axfr nearest first is some = by (has_other_version request.edns) refl
-  where
-    by : (b : Bool) → has_other_version request.edns ≡ b → Transfers request.metadata (transfer_of zone (asks_for_dnssec request.edns)) plain
-    by true e = no_records plain (ap answers_in (is.other_version e)) some
-    by false e =
-        kind_hands chains request.metadata (asks_for_dnssec request.edns) asks q zone chain axfr nearest first plain some
-        request.metadata.message_type request.asked.questions one (is.answered e)
-
--- ---- with options
--- Of the response code all bits are zero.
-record Sends (request : Message) (rs : List Record) (parts : ReplyParts) : Type 0 where
-  operation : request.metadata.op_code ≡ operations.Query
-  is : parts ≡ with_edns parts.edns (transfer_parts request.metadata None rs)
-  high : (edns : Edns) → parts.edns ≡ Some edns → edns.rcode_high ≡ 0
-
+-- Of the response code all bits in the options are zero.
 high_of : (asked : Option Edns) (nsid : Option (List ℕ)) (o : Option Edns) → AnswersEdns asked nsid codes.NoError o → (edns : Edns) → o ≡ Some edns → edns.rcode_high ≡ 0
 high_of asked nsid None is edns e = absurd (cc e)
 high_of None nsid (Some given) is edns e = absurd is
@@ -107,21 +76,60 @@ high_of (Some asked) nsid (Some given) is edns e =
     let same : edns ≡ given = cc e in
     ap (λ (x : Edns). x.rcode_high) same ∙ is.rcode_high
 
-parts_send : (chains : List (DomainName × List View)) (nsid : Option (List ℕ)) (asks : Query → DomainName → Asked) (request : Message) (q : Query) (zone : Zone) (chain : List View) (parts : ReplyParts)
-    → request.asked.questions ≡ q ∷ [] → same_record_type q.query_type AXFR ≡ true → chain_for chains q.name ≡ Some chain → transferring chain ≡ Some zone
-    → PartsOf chains nsid asks request parts → 0 < length parts.answers → Sends request (transfer_of zone (asks_for_dnssec request.edns)) parts
-parts_send chains nsid asks request q zone chain parts one axfr nearest first is some =
-    let there : 0 < length is.plain.answers = subst (λ (rs : List Record). 0 < length rs) (ap answers_in is.whole) some in
-    let hands = plain_hands chains asks request q zone chain is.plain one axfr nearest first is.gives there in
-    let code : is.plain.metadata.response_code ≡ codes.NoError = ap (λ (p : ReplyParts). p.metadata.response_code) hands.is in
-    record {
-      operation = hands.operation;
-      is = is.whole ∙ ap (with_edns parts.edns) hands.is;
-      high = high_of request.edns _ parts.edns (subst (λ (c : ResponseCode). AnswersEdns request.edns _ c parts.edns) code is.edns);
-    }
+-- ---- parts with records, in reply to that question
+-- The whole zone, in reply to a query.
+record Transfers (request : Message) (zone : Zone) (parts : ReplyParts) : Type 0 where
+  operation : request.metadata.op_code ≡ operations.Query
+  is : parts ≡ transfer_parts request.metadata None (records_for request zone)
 
--- ---- an update gets no records
+-- The same with options.
+record Sends (request : Message) (zone : Zone) (parts : ReplyParts) : Type 0 where
+  operation : request.metadata.op_code ≡ operations.Query
+  is : parts ≡ with_edns parts.edns (transfer_parts request.metadata None (records_for request zone))
+  high : (edns : Edns) → parts.edns ≡ Some edns → edns.rcode_high ≡ 0
+
+module _ (chains : List (DomainName × List View)) (request : Message) (zone : Zone) (q : AsksZone chains request zone) (asks : Query → DomainName → Asked) where
+  module _ (plain : ReplyParts) (some : 0 < length plain.answers) where
+    granted : (refused : Option ResponseCode) → plain ≡ transfer_parts request.metadata refused (records_for request zone) → plain ≡ transfer_parts request.metadata None (records_for request zone)
+    granted None is = is
+    granted (Some code) is = no_records plain (ap answers_in is) some
+
+    of_question : QuestionParts chains request.metadata (asks_for_dnssec request.edns) (asks q.question) q.question plain → plain ≡ transfer_parts request.metadata None (records_for request zone)
+    of_question is =
+        let (name, found) = entry_of (entry_for chains q.question.name) q.chain q.nearest in
+        let asked = asks q.question name in
+        granted (transfer_refused zone asked)
+        (is.transfer q.axfr ∙ ap (entry_parts request.metadata (asks_for_dnssec request.edns) (asks q.question)) found ∙ ap (zone_parts request.metadata (asks_for_dnssec request.edns) asked) q.first)
+
+    of_operation : (operation : OpCode) → request.metadata.op_code ≡ operation → OperationParts chains request.metadata (asks_for_dnssec request.edns) asks operation request.asked.questions plain → Transfers request zone plain
+    of_operation operations.Query e is =
+        record { operation = e; is = of_question (subst (λ (qs : List Query). QueryParts chains request.metadata (asks_for_dnssec request.edns) asks qs plain) q.one is) }
+    of_operation other e is = no_records plain (ap answers_in is) some
+
+    of_kind : (kind : MessageType) → KindParts chains request.metadata (asks_for_dnssec request.edns) asks kind request.asked.questions plain → Transfers request zone plain
+    of_kind messages.Response is = no_records plain (ap answers_in is) some
+    of_kind messages.Query is = of_operation request.metadata.op_code refl is
+
+    of_version : PlainParts chains asks request plain → Transfers request zone plain
+    of_version is = by (has_other_version request.edns) refl
+      where
+        by : (b : Bool) → has_other_version request.edns ≡ b → Transfers request zone plain
+        by true e = no_records plain (ap answers_in (is.other_version e)) some
+        by false e = of_kind request.metadata.message_type (is.answered e)
+
+  with_options : (nsid : Option (List ℕ)) (parts : ReplyParts) → PartsOf chains nsid asks request parts → 0 < length parts.answers → Sends request zone parts
+  with_options nsid parts is some =
+      let there : 0 < length is.plain.answers = subst (λ (rs : List Record). 0 < length rs) (ap answers_in is.whole) some in
+      let transfers = of_version is.plain there is.gives in
+      let code : is.plain.metadata.response_code ≡ codes.NoError = ap (λ (p : ReplyParts). p.metadata.response_code) transfers.is in
+      record {
+        operation = transfers.operation;
+        is = is.whole ∙ ap (with_edns parts.edns) transfers.is;
+        high = high_of request.edns _ parts.edns (subst (λ (c : ResponseCode). AnswersEdns request.edns _ c parts.edns) code is.edns);
+      }
+
 module _ (world : World) (received : Received) (request : Message) where
+  -- ---- an update gets no records
   chain_none : (q : Query) (found : Option (DomainName × List View)) (given : Given) → ChainUpdates world.keys request received.source received.message received.now world.chains q found given → answers_in given.plain ≡ []
   chain_none q None given is = ap (λ (g : Given). answers_in g.plain) is
   chain_none q (Some (zone, [])) given is = ap (λ (g : Given). answers_in g.plain) is
@@ -137,24 +145,20 @@ module _ (world : World) (received : Received) (request : Message) where
   update_none (q ∷ r ∷ qs) given is = ap (λ (g : Given). answers_in g.plain) is
 
   -- ---- what the request got
-  given_sends : (q : Query) (zone : Zone) (chain : List View) (given : Given)
-      → request.asked.questions ≡ q ∷ [] → same_record_type q.query_type AXFR ≡ true → chain_for world.chains q.name ≡ Some chain → transferring chain ≡ Some zone
-      → Gives world received request given → 0 < length given.plain.answers → Sends request (transfer_of zone (asks_for_dnssec request.edns)) given.plain
-  given_sends q zone chain given one axfr nearest first gives some = allowed (is_allowed world.access (socket_ip received.source)) refl
+  given_sends : (zone : Zone) (given : Given) → AsksZone world.chains request zone → Gives world received request given → 0 < length given.plain.answers → Sends request zone given.plain
+  given_sends zone given q gives some = allowed (is_allowed world.access (socket_ip received.source)) refl
     where
-      served : (b : Bool) → is_served_update request ≡ b → GivesOf world.chains world.nsid world.keys request received.source received.message received.now given
-          → Sends request (transfer_of zone (asks_for_dnssec request.edns)) given.plain
+      served : (b : Bool) → is_served_update request ≡ b → GivesOf world.chains world.nsid world.keys request received.source received.message received.now given → Sends request zone given.plain
       served true e is =
           let (bare, updates, options, whole) = is.update e in
           no_records given.plain (ap (λ (g : Given). answers_in g.plain) whole ∙ update_none request.asked.questions bare updates) some
       served false e is =
           let (parts, of, whole) = is.other e in
           let same : given.plain ≡ parts = ap (λ (g : Given). g.plain) whole in
-          subst (Sends request (transfer_of zone (asks_for_dnssec request.edns))) (sym same)
-          (parts_send world.chains world.nsid (asked_of_transfer world.keys request received.source received.message received.now) request q zone chain parts one axfr nearest first of
-          (subst (λ (p : ReplyParts). 0 < length p.answers) same some))
+          let asks = asked_of_transfer world.keys request received.source received.message received.now in
+          subst (Sends request zone) (sym same) (with_options world.chains request zone q asks world.nsid parts of (subst (λ (p : ReplyParts). 0 < length p.answers) same some))
 
-      allowed : (b : Bool) → is_allowed world.access (socket_ip received.source) ≡ b → Sends request (transfer_of zone (asks_for_dnssec request.edns)) given.plain
+      allowed : (b : Bool) → is_allowed world.access (socket_ip received.source) ≡ b → Sends request zone given.plain
       allowed true e = served (is_served_update request) refl (gives.answered e)
       allowed false e = no_records given.plain (ap (λ (g : Given). answers_in g.plain) (gives.refused e)) some
 
@@ -197,9 +201,9 @@ handed_over zone dnssec_ok reply h =
     (more_than_header h.received.message reply parts h.request.asked m.id limit r h.some) h.whole in
     let some : 0 < length parts.answers = subst (λ (n : ℕ). 0 < n) (ap (λ (x : Header). x.counts.answers) holds.header) h.some in
     let same = sent_given h.world h.received h.request h.given h.given.context parts h.answers.sent h.unsigned some in
-    let sends = subst (Sends h.request (transfer_of zone (asks_for_dnssec h.request.edns))) (sym same)
-    (given_sends h.world h.received h.request h.question (record zone { guard = h.guard }) h.chain h.given h.one h.axfr h.nearest h.first h.answers.gives
-    (subst (λ (p : ReplyParts). 0 < length p.answers) same some)) in
+    let there : Zone = record zone { guard = h.guard } in
+    let asks : AsksZone h.world.chains h.request there = record { question = h.question; one = h.one; axfr = h.axfr; chain = h.chain; nearest = h.nearest; first = h.first } in
+    let sends = subst (Sends h.request there) (sym same) (given_sends h.world h.received h.request there h.given asks h.answers.gives (subst (λ (p : ReplyParts). 0 < length p.answers) same some)) in
     let said : (header_of reply).metadata ≡ transfer_metadata m = ap (λ (x : Header). x.metadata) holds.header
     ∙ ap (λ (p : ReplyParts). (header_of_reply p.metadata false 0 0 0 0).metadata) sends.is in
     let nothing : additionals_in parts ≡ [] = ap additionals_in sends.is in
