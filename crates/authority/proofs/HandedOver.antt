@@ -38,7 +38,7 @@ use Rattle.authority_server.specs.zsv_catalog.zsv_update.Signing.{HasSignature}
 use Rattle.authority_server.specs.zsv_catalog.zsv_update.Updates.{ChainUpdates, Given, GivesUpdate, ZoneUpdates}
 use Rattle.authority_transfer.specs.Transfers.{is_answer, is_sig}
 use Rattle.authority_transfer.specs.TwoRoads.{HandsOverAll}
-use Rattle.authority.specs.TwoRoads.{HandsOver}
+use Rattle.authority.specs.TwoRoads.{SendsZone}
 use Rattle.authority.proofs.Decoded.{message_with, more_than_header, reply_holds_all}
 
 -- ---- parts without records are those of no transfer
@@ -190,7 +190,7 @@ reads_answer m (Some edns) operation high = λ i. same_op_code (operation i) ope
 abbrev additionals_in : ReplyParts → List Record
 additionals_in parts = parts.additionals
 
-pub handed_over : (zone : Zone) (dnssec_ok : Bool) (reply : List ℕ) → HandsOver zone dnssec_ok reply → HandsOverAll zone dnssec_ok reply
+pub handed_over : (zone : Zone) (dnssec_ok : Bool) (reply : List ℕ) → SendsZone zone dnssec_ok reply → HandsOverAll zone dnssec_ok reply
 handed_over zone dnssec_ok reply h =
     let parts = h.answers.parts in
     let m = h.request.metadata in

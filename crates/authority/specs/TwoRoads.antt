@@ -16,7 +16,7 @@ use Rattle.authority_server.specs.zsv_catalog.zsv_update.Updates.{Given}
 
 -- A server whose records read back transferred a zone, whole: its reply to a question of type AXFR
 -- is neither truncated nor signed, and has answers (RFC 5936, section 2.2).
-pub record HandsOver (zone : Zone) (dnssec_ok : Bool) (reply : List ℕ) : Type 0 where
+pub record SendsZone (zone : Zone) (dnssec_ok : Bool) (reply : List ℕ) : Type 0 where
   pub world : World
   pub received : Received
   pub request : Message

@@ -6,7 +6,7 @@ ghost use Rattle.authority_transfer.specs.Transfers.{TransferGives};
 ghost use Rattle.authority_transfer.specs.TwoRoads.{TwoRoads};
 ghost use Rattle.authority_transfer.specs.authority_load.Loaded.{IsLoaded};
 ghost use Rattle.authority_transfer.specs.authority_load.zst_zone.zst_handler.Zones.{Zone, ZoneReadsBack, empty_zone};
-ghost use Rattle.authority.specs.TwoRoads.{HandsOver};
+ghost use Rattle.authority.specs.TwoRoads.{SendsZone};
 
 use authority_transfer::{InMemoryZoneHandler, Name, TransferError, ZoneSettings};
 use std::alloc::Global;
@@ -31,7 +31,7 @@ pub fn load_transfer<K>(
     ensures loaded { IfOk result IsLoaded }
     ensures any_server { TwoRoads (empty_zone origin settings) reply.now result }
     ensures two_roads { (zone : Zone) (dnssec_ok : Bool) → IsLoaded zone → zone ≡ record (empty_zone origin settings) { sets = zone.sets }
-        → HandsOver zone dnssec_ok reply.now
+        → SendsZone zone dnssec_ok reply.now
         → MatchResult result (λ made. IsSameZone zone made × AnswersAlike zone made) (λ e. e ≡ TransferError.OutOfMemory) }
 {
     authority_transfer::load_transfer(alloc, origin, settings, reply)
