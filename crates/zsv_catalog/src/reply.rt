@@ -22,7 +22,7 @@ use std::mem;
 use std::net::SocketAddr;
 use zsv_answer::{
     Edns, LookupOptions, MessageRequest, MessageType, OpCode, Protocol, Query, Request, Response,
-    ResponseCode, ResponseInfo, TsigVerdict, ZoneHandler, chain_response, error_response,
+    ResponseCode, ResponseInfo, ZoneHandler, chain_response, error_response,
 };
 use zsv_update::{
     Chains, NameKey, Received, ServiceFault, TsigSuite, has_other_version, reply_edns, update_by,
@@ -47,7 +47,7 @@ fn question_response<'z, H: ZoneHandler>(
     let Some(handlers) = chains.find_at(key.borrow()) else {
         return Ok(error_response(metadata, ResponseCode::Refused));
     };
-    let request = asked(alloc, message, question, src, TsigVerdict::UnknownKey);
+    let request = asked(alloc, message, question, src);
     chain_response(handlers, alloc, &key, metadata, options, &request)
 }
 

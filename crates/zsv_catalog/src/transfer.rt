@@ -63,15 +63,14 @@ pub(crate) fn served_transfer<'q>(message: &'q MessageRequest<'_>) -> Option<&'q
     transfer_question(message)
 }
 
-/// A question as the handlers of its name are asked it, with this verdict on its signature.
+/// A question as the handlers of its name are asked it. A signature isn't tested.
 pub(crate) fn asked<'q>(
     alloc: Global,
     message: &'q MessageRequest<'_>,
     question: &'q Query,
     src: SocketAddr,
-    verdict: TsigVerdict,
 ) -> ZoneRequest<'q>
-    ensures { asked_of result ≡ record (asked_of_query message.now src question.now) { verdict = verdict } }
+    ensures { asked_of result ≡ asked_of_query message.now src question.now }
 {
     let tsig = match message.signature() {
         Some(signature) => Some(tsig_of(signature)),
@@ -83,7 +82,7 @@ pub(crate) fn asked<'q>(
         id: message.metadata().id,
         source: src,
         tsig,
-        verdict,
+        verdict: TsigVerdict::UnknownKey,
         prerequisites: &[],
         updates: Vec::new(alloc),
     }
@@ -101,8 +100,9 @@ fn asked_for_transfer<'q, S: TsigSuite>(
     ensures { asked_of result ≡ asked_of_transfer (S.keys suite.now) message.now received.entry.source received.entry.octets.now
         received.entry.now question.now zone.now }
 {
-    let verdict = verdict_on(suite, zone, message.signature(), received);
-    asked(alloc, message, question, received.source, verdict)
+    let mut request = asked(alloc, message, question, received.source);
+    request.verdict = verdict_on(suite, zone, message.signature(), received);
+    request
 }
 
 /// The reply to a question for a transfer, by the chain registered under the nearest name from the question's up. The suite is
