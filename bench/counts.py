@@ -144,7 +144,7 @@ def one(program, words, folder):
     """What a run of a program counted, with these words and no input."""
     path = f"{folder}/one.callgrind"
     command = ["valgrind", "--tool=callgrind", f"--callgrind-out-file={path}", program, *words]
-    run = subprocess.run(command, capture_output=True, text=True)
+    run = subprocess.run(command, stdin=subprocess.DEVNULL, capture_output=True, text=True)
     if run.returncode != 0:
         raise Failed(f"status {run.returncode} of {' '.join(command)}\n{run.stderr}")
     return read_counts(path)

@@ -21,7 +21,8 @@ def answer_of(program, frame):
 
 
 def pass_frames(connection, answer):
-    with connection, contextlib.suppress(OSError, EOFError), connection.makefile("rb") as frames:
+    # (ValueError: the program's input is closed)
+    with connection, contextlib.suppress(OSError, EOFError, ValueError), connection.makefile("rb") as frames:
         while len(length := frames.read(2)) == 2:
             connection.sendall(answer(length + frames.read(*struct.unpack("!H", length))))
 
@@ -36,7 +37,7 @@ def pass_connections(listener, answer):
 
 
 def pass_datagrams(datagrams, answer):
-    with contextlib.suppress(OSError, EOFError):
+    with contextlib.suppress(OSError, EOFError, ValueError):
         while True:
             octets, client = datagrams.recvfrom(65535)
             datagrams.sendto(answer(struct.pack("!H", len(octets)) + octets)[2:], client)

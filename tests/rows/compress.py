@@ -225,7 +225,7 @@ def stored_replies():
         questions, answers = asked.read().split("\n"), told.read().split("\n")
     before = len(answers) - len(questions)
     for at, question in enumerate(questions):
-        if question.split("\t")[0] in ("serve", "answers", "server"):
+        if question.split("\t")[0] in ("serve", "answers", "server", "transferred", "roads"):
             for reply in answers[before + at].split("\t"):
                 if reply != "none":
                     yield before + at + 1, bytes.fromhex(reply)

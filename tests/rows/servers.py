@@ -95,8 +95,7 @@ def by_name():
     yield "a copy of a zone answers as the zone does", "chain example.com. secondary:host.zone", LOCAL, "tcp", [
         (asked(), hit()), (asked("z.example.com."), told(0x8403, "z.example.com.", authorities=[start()]))]
     yield "a transfer, of a zone that is here and of one that isn't; options among the answers of a request", HOST, LOCAL, "tcp", [
-        (asked("example.com.", AXFR), told(0x8002, "example.com.", AXFR)), (asked(OTHER, AXFR), told(0x8005, OTHER, AXFR)),
-        (request(answers=[opt()]), None)]
+        (asked("example.com.", AXFR), moved()), (asked(OTHER, AXFR), told(0x8005, OTHER, AXFR)), (request(answers=[opt()]), None)]
 
 
 def external():
@@ -205,6 +204,48 @@ def identifiers():
             (asked(WWW, A, 0, opt(512, data=nsid())), told(AA if fits else AA | TC, answers=[address()], additionals=records))]
 
 
-for part in (no_zones, by_name, external, lists, access, identifiers):
+def moved(text="example.com.", flags=AA, *additionals):
+    """host.zone as it is transferred."""
+    return told(flags, text, AXFR, [start(), SERVER, address(), start()], (), additionals)
+
+
+def transfers():
+    yield "a transfer (RFC 5936 2.2): the SOA first and last, whatever name of the zone is asked, and whatever its kind", HOST, LOCAL, "tcp", [
+        (asked(WWW, AXFR), moved(WWW)), (asked("z.EXAMPLE.com.", AXFR), moved("z.EXAMPLE.com.")),
+        (asked("example.com.", AXFR, RD), moved(flags=0x8500)), (asked("example.com.", AXFR, 0x0010), moved(flags=0x8410)),
+        (asked("example.com.", AXFR, 0, opt()), moved("example.com.", AA, opt())),
+        (asked("example.com.", AXFR, 0, opt(ttl=0x8000)), moved("example.com.", AA, opt(ttl=0x8000)))]
+    yield "not to a reply, another opcode, another version of EDNS, or two questions", HOST, LOCAL, "tcp", [
+        (asked("example.com.", AXFR, 0x8000), told(0x8001, "example.com.", AXFR)),
+        (asked("example.com.", AXFR, 0x2000), told(0xA004, "example.com.", AXFR)),
+        (asked("example.com.", AXFR, 0, opt(ttl=0x10000)), told(0x8000, "example.com.", AXFR, additionals=[opt(ttl=0x01000000)])),
+        (request(0, [question("example.com.", AXFR)] * 2), request(0x8001, [question("example.com.", AXFR)] * 2))]
+    for kind in ("secondary", "external"):
+        yield f"of a {kind} zone too", f"chain example.com. {kind}:host.zone", LOCAL, "tcp", [
+            (asked("example.com.", AXFR), moved()), (asked("example.com.", AXFR, RD), moved(flags=0x8500))]
+    servers = [entry("example.com.", NS, 3600, name("ns.example.com.")), entry("ns.example.com.", A, 3600, bytes([192, 0, 2, 53])),
+               entry("ns.example.com.", AAAA, 3600, bytes.fromhex("20010db8000000000000000000000053"))]
+    child, far, low, sub = (text + ".example.com." for text in ("child", "far", "low.sub", "sub"))
+    below = [entry(child, NS, 60, name("ns." + child)), soa(child, 60, "ns." + child, "admin." + child, 7),
+             entry("host." + child, A, 60, bytes([192, 0, 2, 57])),
+             entry(far, NS, 60, name("ns.example.org.")), entry(far, NS, 60, name("ns.example.com."))]
+    cuts = [entry(sub, NS, 60, name("ns." + sub)), entry(sub, DS, 60, bytes.fromhex("ec4505012bb183af5f22588179a53b0a98631fad1a292118")),
+            entry("host." + sub, A, 60, bytes([192, 0, 2, 55])), entry(low, NS, 60, name("ns." + low)),
+            entry(low, NS, 60, name("ns.example.com.")), entry("ns." + low, AAAA, 60, bytes.fromhex("20010db8000000000000000000000056")),
+            entry("ns." + sub, A, 60, bytes([192, 0, 2, 54]))]
+    yield "delegations and glue, and an SOA below the origin, by owner in canonical order, then by type", "chain example.com. cuts.zone", LOCAL, "tcp", [
+        (asked("example.com.", AXFR), told(AA, "example.com.", AXFR, [start(), servers[0], *below, *servers[1:], *cuts, start()]))]
+    yield "of the nearest zone", "chain example.com. cuts.zone; chain sub.example.com. sub.zone", LOCAL, "tcp", [
+        (asked("www.sub.example.com.", AXFR), told(AA, "www.sub.example.com.", AXFR, [SUB, entry("www.sub.example.com.", A, 3600, bytes([192, 0, 2, 8])), SUB]))]
+    yield "a blocklist has no zone: the next handler is asked, and the server failed without one", "chain example.com. enforce:2:www.example.com host.zone; chain . log:2:*.com; chain org.", LOCAL, "tcp", [
+        (asked(WWW, AXFR), moved(WWW)), (asked("com.", AXFR), told(0x8002, "com.", AXFR)), (asked(OTHER, AXFR), told(0x8002, OTHER, AXFR))]
+    yield "the first zone of a chain is transferred", "chain example.com. host.zone cuts.zone", LOCAL, "tcp", [(asked("example.com.", AXFR), moved())]
+    forty = [entry(WWW, A, 3600, bytes([192, 0, 2, n + 1])) for n in range(40)]
+    yield "a datagram holds what fits, and says that it isn't all (TC)", "chain example.com. forty.zone", LOCAL, "udp", [
+        (asked("example.com.", AXFR), reply(AA, [question("example.com.", AXFR)], [start(), *forty, start()], maximum=512)),
+        (asked("example.com.", AXFR, 0, opt(1232)), reply(AA, [question("example.com.", AXFR)], [start(), *forty, start()], additionals=[opt(1232)], maximum=1232))]
+
+
+for part in (no_zones, by_name, external, lists, access, identifiers, transfers):
     for comment, setup, source, transport, pairs in part():
         show(comment, ["server", setup, source, transport], pairs)

@@ -226,14 +226,14 @@ def rows():
         yield comment, f"transferred\t{ORIGIN}\t{octets.hex()}\ttcp\t{asked.hex()}", answer.hex()
 
 
-def compare():
+def compare(rows):
     def lines(file):
         with open(os.path.join(VECTORS, file), encoding="utf-8") as it:
             return it.read().split("\n")
     asked, answers = lines("stdin"), lines("stdout")
     there = dict(zip(asked, answers[len(answers) - len(asked) :]))
-    wrong = [row for _, row, answer in rows() if there.get(row) != answer]
-    print(f"transfers: {sum(1 for _ in rows())} rows, {len(wrong)} differ from those of vectors")
+    wrong = [row for _, row, answer in rows if there.get(row) != answer]
+    print(f"transfers: {len(rows)} rows, {len(wrong)} differ from those of vectors")
     for row in wrong:
         print(row)
     return 1 if wrong else 0
@@ -241,6 +241,6 @@ def compare():
 
 if __name__ == "__main__":
     if sys.argv[1:] == ["compare"]:
-        sys.exit(compare())
+        sys.exit(compare(list(rows())))
     for comment, asked, answer in rows():
         print(f"# {comment}\n{asked}\n{answer}")

@@ -1,2 +1,4 @@
 pub mod Programs
+pub mod TwoRoads
 pub mod authority_server
+pub mod authority_transfer

@@ -6,22 +6,22 @@ use Rattle.std.specs.Net.Socket.{socket_ip, socket_port}
 use Rattle.std.specs.declared.net.Ipv4Addr.{Ipv4Addr}
 use Rattle.std.specs.declared.net.IpAddr.TheVariants as addresses
 use Rattle.std.specs.declared.net.SocketAddr.{SocketAddr}
-use Rattle.authority_load.specs.declared.text.TextError.{TextError}
-use Rattle.authority_load.specs.declared.text.TextError.TheVariants as texts
+use Rattle.authority_transfer.specs.authority_load.declared.text.TextError.{TextError}
+use Rattle.authority_transfer.specs.authority_load.declared.text.TextError.TheVariants as texts
 use Rattle.authority.specs.declared.program.Fault.{Fault}
 use Rattle.authority.specs.declared.program.Fault.TheVariants as faults
 use Rattle.authority_server.specs.declared.stream.StreamError.{StreamError}
 use Rattle.authority_server.specs.declared.stream.StreamError.TheVariants as streams
-use Rattle.authority_load.specs.zst_zone.zst_codes.declared.settings.ZoneType.TheVariants as kinds
-use Rattle.authority_load.specs.zst_zone.zst_codes.declared.settings.AxfrPolicy.TheVariants as policies
+use Rattle.authority_transfer.specs.authority_load.zst_zone.zst_codes.declared.settings.ZoneType.TheVariants as kinds
+use Rattle.authority_transfer.specs.authority_load.zst_zone.zst_codes.declared.settings.AxfrPolicy.TheVariants as policies
 use Rattle.authority_server.specs.Servers.{no_zones, with_zones}
 use Rattle.authority_server.specs.Serving.{World}
 use Rattle.authority_server.specs.zsv_catalog.ReadingBack.{ViewReadsBack}
 use Rattle.authority_server.specs.zsv_catalog.zsv_answer.zst_request.Views.{Stored}
 use Rattle.authority_server.specs.zsv_catalog.zsv_answer.zst_request.dnw_name.DomainName.{DomainName}
 use Rattle.authority_server.specs.zsv_catalog.zsv_update.Keys.{no_keys}
-use Rattle.authority_load.specs.zst_zone.zst_handler.Zones.{Zone}
-use Rattle.authority_load.specs.ZoneText.{IsOwnerText, IsNumberText, IsZoneText, IsLoadFault}
+use Rattle.authority_transfer.specs.authority_load.zst_zone.zst_handler.Zones.{Zone}
+use Rattle.authority_transfer.specs.authority_load.ZoneText.{IsOwnerText, IsNumberText, IsZoneText, IsLoadFault}
 use Rattle.authority_server.specs.Frames.{ServesFrames, ServesUntil}
 
 -- Three words: an origin that ends at the root, a file, and a moment of 64 bits.

@@ -2,10 +2,10 @@
 
 ghost use Rattle.std.specs.Prelude.{◌↔◌, IsTrue};
 ghost use Rattle.authority_server.specs.zsv_catalog.zsv_answer.zsv_reply.zst_record.Records.{ReadsBackAlone};
-ghost use Rattle.authority_load.specs.zst_zone.zst_handler.Zones.{ZoneReadsBack};
+ghost use Rattle.authority_transfer.specs.authority_load.zst_zone.zst_handler.Zones.{ZoneReadsBack};
 
-use authority_load::InMemoryZoneHandler;
 use authority_server::Record;
+use authority_transfer::InMemoryZoneHandler;
 
 /// Whether a record reads back alone: its octets, names uncompressed, are read as itself, or its RDATA have more than 65,535.
 /// A record that is served is no OPT, SIG or TSIG besides. It takes no memory.

@@ -1,18 +1,20 @@
 //! An authoritative DNS server, from the octets of a request to the octets of its reply.
 #![tactic(auto)]
 
-pub use authority_load::{
-    AuthLookup, AxfrPolicy, InMemoryZoneHandler, LoadCause, LoadError, LookupControlFlow,
-    LookupError, LookupOptions, LowerName, NxProofKind, ProtoError, ResponseCode, RrKey, Salt,
-    ZoneError, ZoneSettings, ZoneType, load_zone,
-};
 pub use authority_server::{
     A, AccessControl, Arrival, Authority, DNSClass, Faults, IpNet, Label, NS, NSIDPayload, Name,
     NoSuite, Protocol, RData, Record, RecordSet, RecordType, SOA, ServeError, SignFault,
     StreamError, TSigResponseContext, Tsig, TsigRecord, TsigSuite, TsigVerdict, ZoneHandler,
 };
+pub use authority_transfer::{
+    AuthLookup, AxfrPolicy, InMemoryZoneHandler, LoadCause, LoadError, LookupControlFlow,
+    LookupError, LookupOptions, LowerName, NxProofKind, ProtoError, ResponseCode, RrKey, Salt,
+    TransferError, ZoneError, ZoneSettings, ZoneTransfer, ZoneType, load_zone,
+};
 
 mod back;
 pub mod program;
+mod transfer;
 
 pub use back::{record_reads_back, zone_reads_back};
+pub use transfer::load_transfer;

@@ -2,17 +2,17 @@
 
 ghost use Rattle.std.specs.Prelude.{◌≡◌, IfErr, IfOk, None, map, option_copied};
 ghost use Rattle.std.specs.String.{string_bytes};
-ghost use Rattle.authority_load.specs.zst_zone.zst_handler.Zones.{AreStored, ZoneReadsBack};
+ghost use Rattle.authority_transfer.specs.authority_load.zst_zone.zst_handler.Zones.{AreStored, ZoneReadsBack};
 ghost use Rattle.authority_server.specs.Servers.{world_of};
 ghost use Rattle.authority_server.specs.zsv_catalog.zsv_answer.zst_request.Views.{Stored};
 ghost use Rattle.authority_server.specs.zsv_catalog.zsv_update.Keys.{no_keys};
 ghost use Rattle.authority.specs.Programs.{Answers, IsLoopback, StatusIs, TextGives, WordsGive, one_zone, out_of_memory, read_or_usage, status_of};
 
-use authority_load::{
+use authority_server::{Authority, Name, NoSuite, StreamError};
+use authority_transfer::{
     AxfrPolicy, InMemoryZoneHandler, LoadError, TextError, ZoneSettings, ZoneType, load_zone,
     parse_owner, parse_u64,
 };
-use authority_server::{Authority, Name, NoSuite, StreamError};
 use std::alloc::{AllocError, AllocFailed, Global};
 use std::io::{Read, Write};
 use std::net::{Ipv4Addr, SocketAddr, SocketAddrV4};

@@ -6,8 +6,8 @@ ghost use Rattle.authority_server.specs.zsv_catalog.zsv_answer.zst_request.Updat
 ghost use Rattle.authority_handle.specs.Worlds.{view_of};
 
 use authority_load::{
-    AuthLookup, AxfrPolicy, InMemoryZoneHandler, LookupControlFlow, LookupOptions, NxProofKind,
-    ResponseCode, ZoneType,
+    AuthLookup, AxfrPolicy, InMemoryZoneHandler, LookupControlFlow, LookupError, LookupOptions,
+    NxProofKind, ResponseCode, ZoneTransfer, ZoneType,
 };
 use authority_server::{Name, RecordType, ZoneHandler};
 use std::alloc::{AllocError, Global};
@@ -122,6 +122,27 @@ impl ZoneHandler for Handler {
         match self {
             Handler::Zone(zone) => zone.consult(alloc, name, record_type, options, last),
             Handler::Blocklist(list) => list.consult(alloc, name, record_type, options, last),
+        }
+    }
+
+    fn zone_transfer<'z>(
+        &'z self,
+        alloc: Global,
+        request: &ZoneRequest<'_>,
+        options: LookupOptions,
+        now: u64,
+    ) -> Result<
+        Option<
+            (
+                Result<ZoneTransfer<'z>, LookupError>,
+                Option<TSigResponseContext>,
+            ),
+        >,
+        AllocError,
+    > {
+        match self {
+            Handler::Zone(zone) => zone.zone_transfer(alloc, request, options, now),
+            Handler::Blocklist(list) => list.zone_transfer(alloc, request, options, now),
         }
     }
 

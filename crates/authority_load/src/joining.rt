@@ -1,6 +1,6 @@
 //! A record that joins a zone, and what keeps it out.
 
-ghost use Rattle.std.specs.Prelude.{◌≡◌, ◌&&◌, ◌||◌, IfErr, OnOk, MatchOption, is_some, not, option_copied};
+ghost use Rattle.std.specs.Prelude.{◌≡◌, ◌&&◌, ◌||◌, IfErr, OnErr, OnOk, MatchOption, is_some, not, option_copied};
 ghost use Rattle.zst_zone.specs.dnw_codes.declared.record_type.RecordType.TheVariants as types;
 ghost use Rattle.zst_zone.specs.dnw_name.DomainName.{lowercase_name};
 ghost use Rattle.zst_zone.specs.zst_handler.Updates.{are_apart, is_kept_out, may_be_beside_alias};
@@ -82,7 +82,7 @@ pub fn is_second_start<K>(zone: &InMemoryZoneHandler<K>, key: &NameKey, next: &R
     next.record_type() == RecordType::SOA && has_start(zone, key)
 }
 
-/// Adds a record whose owner has this key. An ANAME replaces the owner's ANAME.
+/// Adds a record whose owner has this key. An ANAME replaces the owner's ANAME. Where memory runs out the zone stays as it was.
 pub fn join<K>(
     alloc: Global,
     zone: &mut InMemoryZoneHandler<K>,
@@ -92,6 +92,7 @@ pub fn join<K>(
     requires { key ≡ lowercase_name next.name }
     ensures ok { OnOk result (Joins zone.old next zone.new) }
     ensures err { IfErr result (λ e. e ≡ LoadCause.OutOfMemory) }
+    ensures stands { OnErr result (zone.new ≡ zone.old) }
 {
     if next.record_type() == RecordType::ANAME {
         let set = RecordSet::from_record(alloc, next);

@@ -7,7 +7,7 @@
 pub use zst_zone::{
     AuthLookup, AxfrPolicy, InMemoryZoneHandler, LookupControlFlow, LookupError, LookupOptions,
     LowerName, NameKey, NxProofKind, ProtoError, ResponseCode, RrKey, Salt, ZoneError,
-    ZoneSettings, ZoneType,
+    ZoneSettings, ZoneTransfer, ZoneType,
 };
 
 mod joining;

@@ -39,6 +39,7 @@ use Rattle.zsv_catalog.specs.Chains.{chain_for}
 use Rattle.zsv_catalog.specs.zsv_answer.Parts.{AtOrigin, AuthoritativeParts, ChainParts, PartsAs}
 use Rattle.zsv_catalog.specs.zsv_answer.Resolution.{Resolution, Resolves, outcome_shown}
 use Rattle.zsv_catalog.specs.zsv_answer.zsv_reply.Writing.{with_edns}
+use Rattle.zsv_catalog.specs.zsv_answer.zst_request.Updating.{Asked}
 use Rattle.zsv_catalog.specs.zsv_answer.zst_request.Views.{Stored, View, zone_type_of}
 
 abbrev example : DomainName
@@ -247,51 +248,53 @@ chain = Stored zone ∷ []
 abbrev chains : List (DomainName × List View)
 chains = (example, chain) ∷ []
 
--- What full replies hold.
-abbrev Gives : List Query → ReplyParts → Type 0
-Gives qs parts = PartsOf chains None (asks plain_metadata qs) parts
+-- Whatever the handlers of a zone are asked for a transfer of it.
+module _ (asks_for : Query → DomainName → Asked) where
+  -- What full replies hold.
+  abbrev Gives : List Query → ReplyParts → Type 0
+  Gives qs parts = PartsOf chains None asks_for (asks plain_metadata qs) parts
 
-gives : (qs : List Query) (parts : ReplyParts) → parts ≡ with_edns None parts → QueryParts chains plain_metadata false qs parts → Gives qs parts
-gives qs parts none is = record {
-  plain = with_edns None parts;
-  gives = record { other_version = λ e. absurd (false≢true e); answered = λ _. subst (QueryParts chains plain_metadata false qs) none is };
-  edns = subst (λ (p : ReplyParts). AnswersEdns None None p.metadata.response_code p.edns) (sym none) tt;
-  whole = none ∙ ap (λ (p : ReplyParts). with_edns p.edns (with_edns None parts)) (sym none);
-}
+  gives : (qs : List Query) (parts : ReplyParts) → parts ≡ with_edns None parts → QueryParts chains plain_metadata false asks_for qs parts → Gives qs parts
+  gives qs parts none is = record {
+    plain = with_edns None parts;
+    gives = record { other_version = λ e. absurd (false≢true e); answered = λ _. subst (QueryParts chains plain_metadata false asks_for qs) none is };
+    edns = subst (λ (p : ReplyParts). AnswersEdns None None p.metadata.response_code p.edns) (sym none) tt;
+    whole = none ∙ ap (λ (p : ReplyParts). with_edns p.edns (with_edns None parts)) (sym none);
+  }
 
-by_chain : (name : DomainName) (parts : ReplyParts) (outcome : Outcome) → IsLookup zone name types.A outcome → AuthoritativeParts (Stored zone) plain_metadata false types.A (outcome_shown false outcome) parts → ChainParts chain plain_metadata false name types.A parts
-by_chain name parts outcome is shown = record {
-  nobody = λ none. let h : ⊥ = cc in absurd h;
-  somebody = λ view at.
-      subst (λ (v : View). (resolution : Resolution) × Resolves chain v name types.A false resolution × PartsAs (zone_type_of v) v plain_metadata false types.A resolution parts)
-      (ap (λ (o : Option View). unwrap_or o (Stored zone)) at) (outcome_shown false outcome, (outcome, is, refl), shown);
-}
+  by_chain : (name : DomainName) (parts : ReplyParts) (outcome : Outcome) → IsLookup zone name types.A outcome → AuthoritativeParts (Stored zone) plain_metadata false types.A (outcome_shown false outcome) parts → ChainParts chain plain_metadata false name types.A parts
+  by_chain name parts outcome is shown = record {
+    nobody = λ none. let h : ⊥ = cc in absurd h;
+    somebody = λ view at.
+        subst (λ (v : View). (resolution : Resolution) × Resolves chain v name types.A false resolution × PartsAs (zone_type_of v) v plain_metadata false types.A resolution parts)
+        (ap (λ (o : Option View). unwrap_or o (Stored zone)) at) (outcome_shown false outcome, (outcome, is, refl), shown);
+  }
 
-looked_up : (name : DomainName) (parts : ReplyParts) (outcome : Outcome) → chain_for chains name ≡ Some chain → IsLookup zone name types.A outcome → AuthoritativeParts (Stored zone) plain_metadata false types.A (outcome_shown false outcome) parts → QuestionParts chains plain_metadata false (one name) parts
-looked_up name parts outcome inside is shown = record {
-  no_chain = λ none. absurd (none-some chain (sym none ∙ inside));
-  transfer = λ here e. absurd (false≢true e);
-  looked_up = λ other at e. subst (λ (c : List View). ChainParts c plain_metadata false name types.A parts) (ap (λ (o : Option (List View)). unwrap_or o chain) (sym inside ∙ at)) (by_chain name parts outcome is shown);
-}
+  looked_up : (name : DomainName) (parts : ReplyParts) (outcome : Outcome) → chain_for chains name ≡ Some chain → IsLookup zone name types.A outcome → AuthoritativeParts (Stored zone) plain_metadata false types.A (outcome_shown false outcome) parts → QuestionParts chains plain_metadata false (asks_for (one name)) (one name) parts
+  looked_up name parts outcome inside is shown = record {
+    no_chain = λ none. absurd (none-some chain (sym none ∙ inside));
+    transfer = λ e. absurd (false≢true e);
+    looked_up = λ other at e. subst (λ (c : List View). ChainParts c plain_metadata false name types.A parts) (ap (λ (o : Option (List View)). unwrap_or o chain) (sym inside ∙ at)) (by_chain name parts outcome is shown);
+  }
 
-address_parts : Gives (one (below (codes "www")) ∷ []) (record { metadata = answer_metadata true responses.NoError; answers = address ∷ []; authorities = []; additionals = []; edns = None; signature = None })
-address_parts = gives _ _ refl (looked_up (below (codes "www")) _ (one_set set_of_address []) refl (lookup_of_one (below (codes "www")) types.A set_of_address [] refl refl refl refl refl) ([], (λ e. absurd (false≢true e), λ _. refl), refl))
+  address_parts : Gives (one (below (codes "www")) ∷ []) (record { metadata = answer_metadata true responses.NoError; answers = address ∷ []; authorities = []; additionals = []; edns = None; signature = None })
+  address_parts = gives _ _ refl (looked_up (below (codes "www")) _ (one_set set_of_address []) refl (lookup_of_one (below (codes "www")) types.A set_of_address [] refl refl refl refl refl) ([], (λ e. absurd (false≢true e), λ _. refl), refl))
 
-at_start : AtOrigin (Stored zone) false types.SOA (start ∷ [])
-at_start = (one_set set_of_start [], lookup_of_one example types.SOA set_of_start [] refl refl refl refl refl, refl)
+  at_start : AtOrigin (Stored zone) false types.SOA (start ∷ [])
+  at_start = (one_set set_of_start [], lookup_of_one example types.SOA set_of_start [] refl refl refl refl refl, refl)
 
-missing_parts : Gives (one (below (codes "z")) ∷ []) (record { metadata = answer_metadata true responses.NXDomain; answers = []; authorities = start ∷ []; additionals = []; edns = None; signature = None })
-missing_parts = gives _ _ refl (looked_up (below (codes "z")) _ name_error refl a_missing_name (start ∷ [], at_start, refl))
+  missing_parts : Gives (one (below (codes "z")) ∷ []) (record { metadata = answer_metadata true responses.NXDomain; answers = []; authorities = start ∷ []; additionals = []; edns = None; signature = None })
+  missing_parts = gives _ _ refl (looked_up (below (codes "z")) _ name_error refl a_missing_name (start ∷ [], at_start, refl))
 
-outside_parts : Gives (one elsewhere ∷ []) (record { metadata = answer_metadata false responses.Refused; answers = []; authorities = []; additionals = []; edns = None; signature = None })
-outside_parts = gives _ _ refl (record { no_chain = λ _. refl; transfer = λ here e. absurd (false≢true here); looked_up = λ other at e. let h : ⊥ = cc in absurd h })
+  outside_parts : Gives (one elsewhere ∷ []) (record { metadata = answer_metadata false responses.Refused; answers = []; authorities = []; additionals = []; edns = None; signature = None })
+  outside_parts = gives _ _ refl (record { no_chain = λ _. refl; transfer = λ e. absurd (false≢true e); looked_up = λ other at e. let h : ⊥ = cc in absurd h })
 
-no_question_parts : Gives [] (record { metadata = answer_metadata false responses.FormErr; answers = []; authorities = []; additionals = []; edns = None; signature = None })
-no_question_parts = gives _ _ refl refl
+  no_question_parts : Gives [] (record { metadata = answer_metadata false responses.FormErr; answers = []; authorities = []; additionals = []; edns = None; signature = None })
+  no_question_parts = gives _ _ refl refl
 
--- A referral's name servers are authority, with their addresses as additional data.
-referral_parts : Gives (one (two_below (codes "www") (codes "sub")) ∷ []) (record { metadata = answer_metadata true responses.NoError; answers = []; authorities = server ∷ []; additionals = glue ∷ []; edns = None; signature = None })
-referral_parts = gives _ _ refl (looked_up (two_below (codes "www") (codes "sub")) _ (one_set set_of_servers (set_of_glue ∷ [])) refl below_a_cut ([], (λ e. absurd (false≢true e), λ _. refl), refl))
+  -- A referral's name servers are authority, with their addresses as additional data.
+  referral_parts : Gives (one (two_below (codes "www") (codes "sub")) ∷ []) (record { metadata = answer_metadata true responses.NoError; answers = []; authorities = server ∷ []; additionals = glue ∷ []; edns = None; signature = None })
+  referral_parts = gives _ _ refl (looked_up (two_below (codes "www") (codes "sub")) _ (one_set set_of_servers (set_of_glue ∷ [])) refl below_a_cut ([], (λ e. absurd (false≢true e), λ _. refl), refl))
 
 -- Names rise in the canonical order: the nine names of RFC 4034, section 6.1.
 abbrev named : List (List ℕ) → DomainName

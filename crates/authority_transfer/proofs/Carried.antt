@@ -19,8 +19,8 @@ use Rattle.authority_load.specs.Loaded.{IsLoaded, IsLoadedRecord, IsLoadedSet}
 use Rattle.authority_load.specs.zst_zone.zst_handler.Answers.{sets_shown}
 use Rattle.authority_load.specs.zst_zone.zst_handler.Zones.{IsStored, Zone, rrset_at}
 use Rattle.authority_transfer.specs.Alike.{AllSame, AnswersAlike, IsSameRecord, IsSameZone}
-use Rattle.authority_transfer.specs.Sending.{axfr_records as others_of}
-use Rattle.authority_transfer.specs.Sending.{between_soas, is_start, transfer_of}
+use Rattle.authority_load.specs.zst_zone.zst_request.Transfers.{axfr_records as others_of}
+use Rattle.authority_load.specs.zst_zone.zst_request.Transfers.{between_soas, is_start, transfer_of}
 use Rattle.authority_transfer.specs.Transfers.{AllNumbersFit, IsReplyFault, IsTransferOf, IsTransferred, IsUnframed, RefusesRecords, but_last, frame_fault, is_answer, is_framed, is_signed, reply_fault, whole_fault}
 use Rattle.authority_transfer.specs.TwoRoads.{HandsOverAll}
 use Rattle.authority_transfer.specs.declared.error.TransferError.{TransferError}

@@ -19,8 +19,8 @@ use Rattle.authority_load.specs.Joining.{is_of}
 use Rattle.authority_load.specs.zst_zone.zst_handler.Answers.{sets_shown}
 use Rattle.authority_load.specs.zst_zone.zst_handler.Zones.{Zone, rrset_at}
 use Rattle.authority_transfer.specs.Alike.{AllSame, IsSameRecord}
-use Rattle.authority_transfer.specs.Sending.{between_soas, is_start, transfer_of, without_start}
-use Rattle.authority_transfer.specs.Sending.{axfr_records as others_of}
+use Rattle.authority_load.specs.zst_zone.zst_request.Transfers.{between_soas, is_start, transfer_of, without_start}
+use Rattle.authority_load.specs.zst_zone.zst_request.Transfers.{axfr_records as others_of}
 use Rattle.authority_transfer.specs.Transfers.{begins_with, but_last, is_framed, last_of}
 
 -- ---- the last record

@@ -1,4 +1,4 @@
 pub mod Alike
-pub mod Sending
 pub mod Transfers
 pub mod TwoRoads
+pub mod authority_load

@@ -24,7 +24,7 @@ use Rattle.zsv_message.specs.zsv_parts.zst_codes.declared.response_code.Response
 use Rattle.authority_load.specs.Joining.{Joins, is_beside_alias, is_second_start}
 use Rattle.authority_load.specs.Loaded.{added_by_signing}
 use Rattle.authority_load.specs.zst_zone.zst_handler.Zones.{Zone}
-use Rattle.authority_transfer.specs.Sending.{is_start}
+use Rattle.authority_load.specs.zst_zone.zst_request.Transfers.{is_start}
 use Rattle.authority_transfer.specs.declared.error.TransferError.{TransferError}
 use Rattle.authority_transfer.specs.declared.error.TransferError.TheVariants as errors
 

@@ -4,7 +4,7 @@ use Rattle.zsv_message.specs.Messages.{IsMessage, Message}
 use Rattle.authority_load.specs.Loaded.{IsLoaded}
 use Rattle.authority_load.specs.zst_zone.zst_handler.Zones.{Zone}
 use Rattle.authority_transfer.specs.Alike.{AnswersAlike, IsSameZone}
-use Rattle.authority_transfer.specs.Sending.{transfer_of}
+use Rattle.authority_load.specs.zst_zone.zst_request.Transfers.{transfer_of}
 use Rattle.authority_transfer.specs.Transfers.{is_answer, is_signed}
 use Rattle.authority_transfer.specs.declared.error.TransferError.{TransferError}
 use Rattle.authority_transfer.specs.declared.error.TransferError.TheVariants as errors

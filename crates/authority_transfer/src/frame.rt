@@ -1,7 +1,7 @@
 //! The SOA that a transfer begins and ends with (RFC 5936 section 2.2).
 
 ghost use Rattle.std.specs.Prelude.{◌≡◌, ◌∷◌, ◌++◌, [], ℕ, List, option_copied};
-ghost use Rattle.authority_transfer.specs.Sending.{is_start};
+ghost use Rattle.authority_load.specs.zst_zone.zst_request.Transfers.{is_start};
 ghost use Rattle.authority_transfer.specs.Transfers.{begins_with};
 
 use zsv_message::{Name, Record, RecordType};

@@ -5,7 +5,11 @@
 //! as that zone does (`TwoRoads`).
 #![tactic(auto)]
 
-pub use authority_load::{InMemoryZoneHandler, ZoneSettings};
+pub use authority_load::{
+    AuthLookup, AxfrPolicy, InMemoryZoneHandler, LoadCause, LoadError, LookupControlFlow,
+    LookupError, LookupOptions, LowerName, NxProofKind, ProtoError, ResponseCode, RrKey, Salt,
+    TextError, ZoneError, ZoneSettings, ZoneTransfer, ZoneType, load_zone, parse_owner, parse_u64,
+};
 pub use zsv_message::Name;
 
 mod answers;

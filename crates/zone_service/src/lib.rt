@@ -15,7 +15,7 @@ pub use zsv_catalog::{
     RecordRef, RecordSet, RecordType, Request, RequestHandler, RequestInfo, RequestTsig,
     ResponseCode, ResponseHandler, ResponseInfo, SOA, SendFault, ServiceFault, SignFault,
     TSigResponseContext, Tsig, TsigRecord, TsigSuite, TsigVerdict, UpdateRequest, ZoneHandler,
-    ZoneRequest, ZoneType, error_response,
+    ZoneRequest, ZoneTransfer, ZoneType, error_response,
 };
 pub use zsv_handlers::{
     BlocklistConfig, BlocklistError, BlocklistZoneHandler, InMemoryZoneHandler, ReadFaults,

@@ -1,6 +1,6 @@
 pub use Rattle.zst_request.specs.Applied
-pub use Rattle.zst_request.specs.AxfrRecords
 pub use Rattle.zst_request.specs.Blocking
+pub use Rattle.zst_request.specs.Handed
 pub use Rattle.zst_request.specs.Handling
 pub use Rattle.zst_request.specs.Prerequisites
 pub use Rattle.zst_request.specs.Requested

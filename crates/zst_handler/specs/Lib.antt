@@ -3,6 +3,7 @@ pub mod Chains
 pub mod Found
 pub mod Lookups
 pub mod Options
+pub mod Stores
 pub mod Updates
 pub mod Zones
 pub use Rattle.zst_record.specs.dnw_codes

@@ -15,12 +15,14 @@ pub use zst_record::{
 
 mod answer_set;
 mod auth_lookup;
+mod lent_sets;
 mod lookup_options;
 mod lookup_records;
 mod settings;
 
 pub use answer_set::AnswerSet;
 pub use auth_lookup::AuthLookup;
+pub use lent_sets::{LentSets, ZoneSetsIter, sets_under};
 pub use lookup_options::LookupOptions;
 pub use lookup_records::{LookupRecords, LookupRecordsIter};
 pub use settings::ZoneSettings;

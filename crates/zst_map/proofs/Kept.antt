@@ -24,7 +24,8 @@ use Rattle.zst_map.specs.Changes.{made, owner_of, type_in, with_change}
 use Rattle.zst_map.specs.declared.change.Change.{Change}
 use Rattle.zst_key.specs.Ancestors.{nearest_in}
 use Rattle.zst_key.specs.NameKeys.{name_key}
-use Rattle.zst_map.specs.ZoneMaps.{IsKept, IsNode, held, held_sets, owned, sets_in}
+use Rattle.zst_handler.specs.Stores.{held, held_sets, sets_in}
+use Rattle.zst_map.specs.ZoneMaps.{IsKept, IsNode, owned}
 use Rattle.zst_map.proofs.Entries.{IsZone, sets_of}
 use Rattle.zst_map.proofs.Keys.{same_key}
 use Rattle.zst_map.proofs.NearestOf.{IsWithin, leads_to, nearest_here, none_nearest}

@@ -1,7 +1,7 @@
 -- How a zone's sets stand in its map: under each owner's key, the owner's sets by rising type.
 use Rattle.std.specs.Prelude.{◌≡◌, ℕ, ◌+◌, ◌<◌, ◌&&◌, Bool, List, [], ◌∷◌, length, if◌then◌else◌, nat_lt, ◌==◌, Option, Some, None, IsSome, Result, Ok, Err}
 use Rattle.std.specs.Bool.{beq}
-use Rattle.std.specs.List.{AllByRecursion, flat_map, list_any}
+use Rattle.std.specs.List.{AllByRecursion, list_any}
 use Rattle.std.specs.List.Sorted.{IsStrictlySortedBy}
 use Rattle.std.specs.BTreeMap.{BTreeMap, get}
 use Rattle.std.specs.HashMap.{HashMap}
@@ -10,10 +10,10 @@ use Rattle.std.specs.Map.{keys_of}
 use Rattle.zst_handler.specs.dnw_name.DomainName.{DomainName, is_at_or_below, name_cmp, name_eq}
 use Rattle.zst_handler.specs.dnw_codes.RecordType.{record_type_number}
 use Rattle.zst_key.specs.NameKeys.{name_key}
-use Rattle.zst_handler.specs.zst_record.OneOrMany.{items_of}
 use Rattle.zst_handler.specs.zst_record.RecordSets.{RRset}
 use Rattle.zst_handler.specs.zst_record.declared.one_or_many.OneOrMany.{OneOrMany}
 use Rattle.zst_handler.specs.Lookups.{sets_of_name}
+use Rattle.zst_handler.specs.Stores.{held}
 use Rattle.zst_map.specs.declared.map.Place.{Place}
 
 -- The set's owner has this key.
@@ -60,21 +60,7 @@ place_from i (set ∷ sets) code =
     if nat_lt (record_type_number set.record_type) code then place_from (i + 1) sets code
     else if record_type_number set.record_type == code then Ok i else Err i
 
--- The sets of a node, or of none.
-abbrev pub held_sets : Option (OneOrMany RRset) → List RRset
-held_sets None = []
-held_sets (Some node) = items_of node
-
 module _ {S : Type 0} where
-  -- The sets under a name's key.
-  abbrev pub held : HashMap DomainName (OneOrMany RRset) S → DomainName → List RRset
-  held nodes name = held_sets (hashed name_eq nodes name)
-
-  -- The sets of owners, one owner after the other.
-  abbrev pub sets_in : HashMap DomainName (OneOrMany RRset) S → List (DomainName × Unit {0})
-      → List RRset
-  sets_in nodes owners = flat_map (λ owner. held nodes owner.0) owners
-
   -- The owners, in order, are the names under whose keys something stands: for each its node.
   pub record IsKept (owners : BTreeMap DomainName (Unit {0}))
       (nodes : HashMap DomainName (OneOrMany RRset) S) : Type 0 where

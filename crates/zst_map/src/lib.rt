@@ -5,10 +5,10 @@
 #![tactic(auto)]
 
 pub use zst_handler::{
-    AnswerSet, AuthLookup, AxfrPolicy, DNSClass, Draft, LookupControlFlow, LookupError,
+    AnswerSet, AuthLookup, AxfrPolicy, DNSClass, Draft, LentSets, LookupControlFlow, LookupError,
     LookupOptions, LookupRecords, LookupRecordsIter, LowerName, Name, Nsec3HashAlgorithm,
     NxProofKind, ProtoError, RData, Record, RecordRef, RecordSet, RecordType, ResponseCode, RrKey,
-    RrsetRecords, Salt, SaltLenError, ZoneSettings, ZoneType, push,
+    RrsetRecords, Salt, SaltLenError, ZoneSetsIter, ZoneSettings, ZoneType, push,
 };
 pub use zst_key::NameKey;
 
@@ -16,11 +16,9 @@ mod apart;
 mod change;
 mod edit;
 mod index;
-mod iter;
 mod map;
 mod node;
 mod zone_sets;
 
 pub use edit::Edit;
-pub use iter::ZoneSetsIter;
 pub use zone_sets::{Match, Search, ZoneSets};

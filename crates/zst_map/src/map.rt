@@ -14,7 +14,7 @@ ghost use Rattle.zst_handler.specs.zst_record.RecordSets.{RRset};
 ghost use Rattle.zst_map.specs.Changes.{alters, made, owner_of, type_in};
 ghost use Rattle.zst_map.specs.Edits.{CanEdit, edited};
 ghost use Rattle.zst_key.specs.Ancestors.{nearest_in};
-ghost use Rattle.zst_map.specs.ZoneMaps.{IsPlace, exists_alike, held, owned};
+ghost use Rattle.zst_map.specs.ZoneMaps.{IsPlace, exists_alike, owned};
 
 use crate::change::Change;
 use crate::edit::Edit;
@@ -25,7 +25,7 @@ use std::collections::{BTreeMap, HashMap};
 use std::hash::Hash;
 use std::marker::Model;
 use std::mem;
-use zst_handler::{OneOrMany, RecordSet, RecordType};
+use zst_handler::{LentSets, OneOrMany, RecordSet, RecordType, sets_under};
 use zst_key::{NameKey, nearest};
 
 /// What stands at the name of a key.
@@ -62,7 +62,8 @@ impl Model for ZoneMap {
 
     ghost Value = { List RRset };
 
-    ghost use Rattle.zst_map.specs.ZoneMaps.{IsKept, sets_in};
+    ghost use Rattle.zst_handler.specs.Stores.{sets_in};
+    ghost use Rattle.zst_map.specs.ZoneMaps.{IsKept};
 
     ghost view = { λ zone. sets_in zone.nodes zone.owners.entries };
 
@@ -78,6 +79,13 @@ impl ZoneMap {
             owners: BTreeMap::new(alloc),
             nodes: HashMap::new(alloc),
         }
+    }
+
+    /// The sets, borrowed as they are kept.
+    pub(crate) fn lend(&self) -> LentSets<'_>
+        ensures { result ≡ self.now }
+    {
+        LentSets::new(&self.owners, &self.nodes)
     }
 
     /// All sets at the name of a key, by rising type.
@@ -188,19 +196,6 @@ impl ZoneMap {
     {
         self.owners.clear();
         self.nodes.clear();
-    }
-}
-
-/// The sets under a key.
-pub(crate) fn sets_under<'z>(
-    nodes: &'z HashMap<NameKey, OneOrMany<RecordSet>>,
-    key: &NameKey,
-) -> &'z [RecordSet]
-    ensures { result.now ≡ held nodes.now key.now }
-{
-    match nodes.get(key) {
-        Some(node) => node.as_slice(),
-        None => &[],
     }
 }
 

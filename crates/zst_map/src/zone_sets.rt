@@ -22,14 +22,13 @@ use crate::apart::is_kept_out;
 use crate::change::Change;
 use crate::edit::Edit;
 use crate::index::Index;
-use crate::iter::ZoneSetsIter;
 use crate::map::{Place, ZoneMap};
 use crate::node::{cut_of, find_set, here};
 use std::alloc::{AllocError, Global};
 use std::collections::BTreeMap;
 use std::marker::Model;
 use std::mem;
-use zst_handler::{AnswerSet, Name, Record, RecordSet, RecordType};
+use zst_handler::{AnswerSet, LentSets, Name, Record, RecordSet, RecordType, ZoneSetsIter};
 use zst_key::{NameKey, nearest, nearest_above};
 
 /// The set that answers a name and a type.
@@ -146,7 +145,14 @@ impl ZoneSets {
     pub fn iter(&self) -> ZoneSetsIter<'_>
         ensures { result ≡ self.now }
     {
-        ZoneSetsIter::new(&self.sets)
+        self.lend().iter()
+    }
+
+    /// The sets, borrowed as they are kept. It makes no list of them.
+    pub fn lend(&self) -> LentSets<'_>
+        ensures { result ≡ self.now }
+    {
+        self.sets.lend()
     }
 
     /// Whether the name of a key exists: whether an owner equals it or lies below it (RFC 4592 section 2.2.2), whether or

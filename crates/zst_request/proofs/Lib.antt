@@ -1,3 +1,5 @@
+pub mod TransferCodes
+pub mod TransferRows
 pub mod UpdateRows
 pub mod WorkedRows
 pub use Rattle.zst_handler.proofs.LookupOnce

@@ -1,6 +1,6 @@
 pub mod Applied
-pub mod AxfrRecords
 pub mod Blocking
+pub mod Handed
 pub mod Handling
 pub mod Prerequisites
 pub mod Requested

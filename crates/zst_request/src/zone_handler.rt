@@ -1,7 +1,8 @@
 //! What a server asks of the handler of a zone.
 
-ghost use Rattle.std.specs.Prelude.{◌≡◌, false, IfOk, IsNone, OnErr, option_copied, option_map};
+ghost use Rattle.std.specs.Prelude.{◌≡◌, false, IfOk, IsNone, IsOk, None, OnErr, option_copied, option_map};
 ghost use Rattle.zst_handler.specs.dnw_name.DomainName.{lowercase_name};
+ghost use Rattle.zst_request.specs.Handed.{TransfersView, view_context};
 ghost use Rattle.zst_request.specs.Handling.{AnswersQuestion, Consults, HandlerAnswers, LacksProof};
 ghost use Rattle.zst_request.specs.Requested.{asked_of, context_of};
 ghost use Rattle.zst_request.specs.Updating.{UpdatesView, update_context};
@@ -128,8 +129,10 @@ pub trait ZoneHandler: Drop {
         ensures flow { IfOk result (λ given. Consults (view self.now) name.now record_type last.entry given.0) }
         ensures context { IfOk result (λ given. IsNone given.1) };
 
-    /// The zone, handed over whole (RFC 5936), or why it isn't; `None` where the handler has none to hand over, as all have
-    /// none yet. The moment is given in seconds since 1970.
+    /// The zone as it is transferred (RFC 5936), or the code by which the request is refused; and what the reply is signed
+    /// with. A blocklist has no zone, and answers `None`. It takes no memory where the reply isn't signed. The moment is given in
+    /// seconds since 1970.
+    // No body fits every handler: a blocklist has no zone.
     fn zone_transfer<'z>(
         &'z self,
         alloc: Global,
@@ -145,10 +148,8 @@ pub trait ZoneHandler: Drop {
         >,
         AllocError,
     >
-        ensures { IfOk result (λ given. IsNone given) }
-    {
-        Ok(None)
-    }
+        ensures given { IfOk result (TransfersView (view self.now) (asked_of request.now) options.dnssec_ok now) }
+        ensures unsigned { view_context (view self.now) (asked_of request.now) now ≡ None → IsOk result };
 
     /// The records that prove that a name is absent, by the names beside it (RFC 4034 section 4). There are none: it
     /// continues with an error of input or output.

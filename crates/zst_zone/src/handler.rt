@@ -1,8 +1,8 @@
 //! A zone kept in memory, and what it answers.
 
-ghost use Rattle.std.specs.Prelude.{◌≡◌, ◌↔◌, [], true, false, Some, None, IsTrue, option_copied, IfOk, IfErr, OnOk, OnErr};
+ghost use Rattle.std.specs.Prelude.{◌≡◌, ◌↔◌, [], true, false, Some, None, Err, IsTrue, option_copied, IfOk, IfErr, IsOkAnd, MatchOption, OnOk, OnErr};
 ghost use Rattle.zst_map.specs.dnw_name.DomainName.{is_at_or_below, lowercase_name};
-ghost use Rattle.zst_map.specs.zst_handler.Answers.{LookupAnswers, denial_error};
+ghost use Rattle.zst_map.specs.zst_handler.Answers.{LookupAnswers, denial_error, records_in};
 ghost use Rattle.zst_map.specs.zst_handler.Lookups.{denial};
 ghost use Rattle.zst_map.specs.dnw_codes.declared.dns_class.DNSClass.TheVariants.{IN};
 ghost use Rattle.zst_map.specs.dnw_codes.RecordType.{same_record_type};
@@ -11,6 +11,8 @@ ghost use Rattle.zst_map.specs.Edits.{CanEdit, edited};
 ghost use Rattle.zst_map.specs.zst_record.RecordSets.{RRset, none_left};
 ghost use Rattle.zst_map.specs.zst_handler.Updates.{Upserts, ZoneReplaces, upsert_changes};
 ghost use Rattle.zst_map.specs.zst_handler.Zones.{exists_in, rrset_at, empty_zone, AddsTo, AreInOrder, AreStored, ZoneReadsBack};
+ghost use Rattle.zst_request.specs.Handed.{transfer_records};
+ghost use Rattle.zst_request.specs.Transfers.{own_refused, transfer_of};
 ghost use Rattle.zst_zone.specs.Makings.{PutsAll, RefusesAll, first_refusal, is_own_key, refusal};
 ghost use Rattle.zst_zone.specs.Starts.{RefusesSet, first_data, minimum_of, serial_of};
 
@@ -22,10 +24,11 @@ use std::marker::{Model, PhantomData};
 use std::mem;
 use thiserror::Error;
 use zst_map::{
-    AuthLookup, AxfrPolicy, DNSClass, Edit, LookupControlFlow, LookupError, LookupOptions, Name,
-    NameKey, NxProofKind, RData, Record, RecordSet, RecordType, ResponseCode, RrKey, Search,
-    ZoneSets, ZoneSettings, ZoneType,
+    AnswerSet, AuthLookup, AxfrPolicy, DNSClass, Edit, LookupControlFlow, LookupError,
+    LookupOptions, LookupRecords, Name, NameKey, NxProofKind, RData, Record, RecordSet, RecordType,
+    ResponseCode, RrKey, Search, ZoneSets, ZoneSettings, ZoneType,
 };
+use zst_request::{AxfrRecords, ZoneTransfer};
 
 /// Why a zone is not changed or made. The numbers are stable; 3 is free.
 #[derive(Clone, Copy, Debug, PartialEq, Eq, Error)]
@@ -176,6 +179,44 @@ impl<K> InMemoryZoneHandler<K> {
         ensures { option_copied result ≡ rrset_at self.now.sets self.now.origin record_type }
     {
         self.sets.get(&self.origin_key, record_type)
+    }
+
+    /// The zone as it is transferred (RFC 5936 section 2.2); or Refused, unless the zone's own policy lets everybody have it. It
+    /// takes no memory.
+    pub fn transfer(
+        &self,
+        alloc: Global,
+        options: LookupOptions,
+    ) -> Result<ZoneTransfer<'_>, LookupError>
+        ensures answer { MatchOption (own_refused self.now.axfr_policy) (IsOkAnd result (λ transfer. transfer_records transfer ≡ transfer_of self.now options.dnssec_ok))
+            (λ code. result ≡ Err (LookupError.ResponseCode code)) }
+        ensures guard { self.now.guard ≡ None }
+    {
+        match self.axfr_policy {
+            AxfrPolicy::AllowAll => Ok(self.whole(alloc, options)),
+            AxfrPolicy::Deny | AxfrPolicy::AllowSigned => {
+                Err(LookupError::ResponseCode(ResponseCode::Refused))
+            }
+        }
+    }
+
+    // The zone as it is transferred; without an SOA at its origin, nothing.
+    fn whole(&self, alloc: Global, options: LookupOptions) -> ZoneTransfer<'_>
+        ensures { transfer_records result ≡ transfer_of self.now options.dnssec_ok }
+    {
+        let Some(soa) = self.apex(RecordType::SOA) else {
+            return ZoneTransfer {
+                start_soa: LookupRecords::Empty,
+                records: AxfrRecords::new(&self.origin, options.dnssec_ok, Vec::new(alloc)),
+                end_soa: LookupRecords::Empty,
+            };
+        };
+        let sets = self.sets.lend();
+        ZoneTransfer {
+            start_soa: without_signatures(soa),
+            records: AxfrRecords::of_zone(alloc, &self.origin, options.dnssec_ok, sets),
+            end_soa: without_signatures(soa),
+        }
     }
 
     /// Whether the name of a key is at or below the origin, whether or not they end at the root.
@@ -486,6 +527,13 @@ impl<K> InMemoryZoneHandler<K> {
     {
         &[]
     }
+}
+
+// The records of a set, without its signatures.
+fn without_signatures(set: &RecordSet) -> LookupRecords<'_>
+    ensures { records_in result ≡ set.now.records }
+{
+    LookupRecords::new(LookupOptions { dnssec_ok: false }, AnswerSet::own(set))
 }
 
 // Why the first set is refused that is.

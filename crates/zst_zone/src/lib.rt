@@ -5,10 +5,11 @@
 #![tactic(auto)]
 
 pub use zst_map::{
-    AnswerSet, AuthLookup, AxfrPolicy, DNSClass, Draft, Edit, LookupControlFlow, LookupError,
-    LookupOptions, LookupRecords, LookupRecordsIter, LowerName, Name, NameKey, Nsec3HashAlgorithm,
-    NxProofKind, ProtoError, RData, Record, RecordRef, RecordSet, RecordType, ResponseCode, RrKey,
-    RrsetRecords, Salt, SaltLenError, ZoneSets, ZoneSetsIter, ZoneSettings, ZoneType,
+    AnswerSet, AuthLookup, AxfrPolicy, DNSClass, Draft, Edit, LentSets, LookupControlFlow,
+    LookupError, LookupOptions, LookupRecords, LookupRecordsIter, LowerName, Name, NameKey,
+    Nsec3HashAlgorithm, NxProofKind, ProtoError, RData, Record, RecordRef, RecordSet, RecordType,
+    ResponseCode, RrKey, RrsetRecords, Salt, SaltLenError, ZoneSets, ZoneSetsIter, ZoneSettings,
+    ZoneType,
 };
 pub use zst_request::{
     AxfrRecords, AxfrRecordsIter, BlocklistConsultAction, RequestTsig, TSigResponseContext,

@@ -1,6 +1,7 @@
 //! A zone in memory, as a server asks its handler.
 
-ghost use Rattle.std.specs.Prelude.{◌≡◌, None, Ok, Err, IfOk, OnErr, option_map};
+ghost use Rattle.std.specs.Prelude.{◌≡◌, None, Ok, Err, IfOk, IsOk, OnErr, option_map};
+ghost use Rattle.zst_request.specs.Handed.{TransfersView, view_context};
 ghost use Rattle.zst_request.specs.Requested.{asked_of, context_of};
 ghost use Rattle.zst_request.specs.Updating.{UpdatesView, update_context};
 ghost use Rattle.zst_request.specs.Views.{Stored};
@@ -10,7 +11,8 @@ use std::alloc::{AllocError, Global};
 use std::mem;
 use zst_request::{
     AuthLookup, AxfrPolicy, LookupControlFlow, LookupError, LookupOptions, Name, NameKey,
-    NxProofKind, RecordType, ResponseCode, TSigResponseContext, ZoneHandler, ZoneRequest, ZoneType,
+    NxProofKind, RecordType, ResponseCode, TSigResponseContext, ZoneHandler, ZoneRequest,
+    ZoneTransfer, ZoneType,
 };
 
 impl<K: Drop> ZoneHandler for InMemoryZoneHandler<K> {
@@ -109,6 +111,29 @@ impl<K: Drop> ZoneHandler for InMemoryZoneHandler<K> {
         AllocError,
     > {
         Ok((last, None))
+    }
+
+    /// Everybody or nobody gets the zone, by its policy. It makes no list of records, and takes no memory.
+    fn zone_transfer<'z>(
+        &'z self,
+        alloc: Global,
+        request: &ZoneRequest<'_>,
+        options: LookupOptions,
+        now: u64,
+    ) -> Result<
+        Option<
+            (
+                Result<ZoneTransfer<'z>, LookupError>,
+                Option<TSigResponseContext>,
+            ),
+        >,
+        AllocError,
+    >
+        ensures given { IfOk result (TransfersView (Stored self.now) (asked_of request.now) options.dnssec_ok now) }
+        ensures unsigned { view_context (Stored self.now) (asked_of request.now) now ≡ None → IsOk result }
+        ensures memory { IsOk result }
+    {
+        Ok(Some((self.transfer(alloc, options), None)))
     }
 
     /// Refuses each: messages change a guarded zone alone. It takes no memory.

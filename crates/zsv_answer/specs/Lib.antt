@@ -4,6 +4,7 @@ pub mod Parts
 pub mod Resolution
 pub mod Responses
 pub mod Shown
+pub mod Transferring
 pub mod zst_request
 pub mod zsv_reply
 pub mod zsv_request

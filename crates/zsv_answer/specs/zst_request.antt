@@ -1,6 +1,8 @@
 pub use Rattle.zst_request.specs.Blocking
+pub use Rattle.zst_request.specs.Handed
 pub use Rattle.zst_request.specs.Handling
 pub use Rattle.zst_request.specs.Requested
+pub use Rattle.zst_request.specs.Transfers
 pub use Rattle.zst_request.specs.Updating
 pub use Rattle.zst_request.specs.Views
 pub use Rattle.zst_request.specs.declared

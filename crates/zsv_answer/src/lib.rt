@@ -7,7 +7,7 @@
 pub use zst_request::{
     AuthLookup, BlocklistConsultAction, LookupControlFlow, LookupError, LookupOptions,
     LookupRecords, LowerName, RecordRef, RequestTsig, TSigResponseContext, TsigVerdict,
-    ZoneHandler, ZoneRequest, ZoneType,
+    ZoneHandler, ZoneRequest, ZoneTransfer, ZoneType,
 };
 pub use zsv_reply::{
     A, BareRequest, DNSClass, DecodeError, Edns, Label, MessageRequest, MessageResponse,
@@ -24,7 +24,9 @@ mod consult;
 mod forwarded;
 mod records;
 mod response;
+mod transfer;
 mod written;
 
 pub use chain::chain_response;
 pub use response::{Response, encode_error, encode_refusal, error_response};
+pub use transfer::{TransferResponse, encode_transfer, transfer_error, transfer_response};

@@ -1,7 +1,8 @@
 //! A list of blocked names, as a server asks its handler.
 
-ghost use Rattle.std.specs.Prelude.{◌≡◌, None, Ok, Err, IfOk, OnErr, option_map};
+ghost use Rattle.std.specs.Prelude.{◌≡◌, None, Ok, Err, IfOk, IsOk, OnErr, option_map};
 ghost use Rattle.zst_request.specs.Blocking.{blocked_answer};
+ghost use Rattle.zst_request.specs.Handed.{TransfersView, view_context};
 ghost use Rattle.zst_request.specs.Handling.{Blocks, enforced_answer, is_enforced};
 ghost use Rattle.zst_request.specs.dnw_name.DomainName.{lowercase_name};
 ghost use Rattle.zst_request.specs.Requested.{asked_of, context_of};
@@ -13,9 +14,9 @@ use crate::handler::BlocklistZoneHandler;
 use std::alloc::{AllocError, Global};
 use std::mem;
 use zst_request::{
-    AuthLookup, AxfrPolicy, BlocklistConsultAction, LookupControlFlow, LookupOptions,
+    AuthLookup, AxfrPolicy, BlocklistConsultAction, LookupControlFlow, LookupError, LookupOptions,
     LookupRecords, Name, NameKey, NxProofKind, RecordType, ResponseCode, TSigResponseContext,
-    ZoneHandler, ZoneRequest, ZoneType,
+    ZoneHandler, ZoneRequest, ZoneTransfer, ZoneType,
 };
 
 impl ZoneHandler for BlocklistZoneHandler {
@@ -112,6 +113,29 @@ impl ZoneHandler for BlocklistZoneHandler {
                 Err(refused)
             }
         }
+    }
+
+    /// None: a blocklist is no zone. It takes no memory.
+    fn zone_transfer<'z>(
+        &'z self,
+        alloc: Global,
+        request: &ZoneRequest<'_>,
+        options: LookupOptions,
+        now: u64,
+    ) -> Result<
+        Option<
+            (
+                Result<ZoneTransfer<'z>, LookupError>,
+                Option<TSigResponseContext>,
+            ),
+        >,
+        AllocError,
+    >
+        ensures given { IfOk result (TransfersView (Blocked self.now) (asked_of request.now) options.dnssec_ok now) }
+        ensures unsigned { view_context (Blocked self.now) (asked_of request.now) now ≡ None → IsOk result }
+        ensures none { result ≡ Ok None }
+    {
+        Ok(None)
     }
 
     /// Refuses each: a list is changed by its own calls. It takes no memory.

@@ -1,11 +1,12 @@
 -- The full reply is a function of the zones, the NSID, the keys, the request and how it arrived.
 use Rattle.std.proofs.Common.{◌≡◌, ◌∙◌, ℕ, Bool, true, false, List, [], ◌∷◌, ◌++◌, ap, length, refl, subst, sym}
-use Rattle.std.specs.Prelude.{Option, Some, None, IsSome, option_map}
+use Rattle.std.specs.Prelude.{Option, Some, None, option_map}
 use Rattle.std.specs.declared.net.SocketAddr.{SocketAddr}
 use Rattle.drd_types.specs.dnw_decoder.Octets.{octets_16, octets_32}
 use Rattle.drd_types.specs.drd_opt.Entries.{entries_octets}
 use Rattle.zsv_catalog.proofs.PartsOnce.{SameParts, equal-parts, one-chain-parts}
 use Rattle.zsv_answer.specs.zsv_reply.Writing.{with_edns}
+use Rattle.zsv_answer.specs.zst_request.Updating.{Asked}
 use Rattle.zsv_answer.specs.zst_request.Views.{View}
 use Rattle.zsv_answer.specs.zst_request.dnw_codes.declared.record_type.RecordType.TheVariants.{AXFR}
 use Rattle.zsv_answer.specs.zst_request.dnw_codes.declared.record_type.RecordType.TheVariants as kind
@@ -23,43 +24,41 @@ use Rattle.zsv_answer.specs.zsv_reply.zsv_message.zsv_parts.declared.header.Mess
 use Rattle.zsv_answer.specs.zsv_reply.zsv_message.zsv_parts.declared.header.OpCode.{OpCode}
 use Rattle.zsv_answer.specs.zsv_reply.zsv_message.zsv_parts.declared.header.OpCode.TheVariants as operations
 use Rattle.zsv_answer.specs.zsv_reply.zsv_message.zsv_parts.declared.question.Query.{Query}
-use Rattle.zsv_catalog.specs.Catalogs.{GivesOf, KindParts, OperationParts, PartsOf, PlainParts, QueryParts, QuestionParts, asks_for_dnssec, is_served_update}
+use Rattle.zsv_catalog.specs.Catalogs.{GivesOf, KindParts, OperationParts, PartsOf, PlainParts, QueryParts, QuestionParts, asked_of_transfer, asks_for_dnssec, is_served_update}
 use Rattle.zsv_update.proofs.Once.{one_update}
 use Rattle.zsv_update.specs.Keys.{Keys}
 use Rattle.zsv_update.specs.Options.{AnswersEdns, IsReplyEdns, has_other_version, nsid_for}
 use Rattle.zsv_update.specs.Updates.{Given}
 use Rattle.zsv_update.specs.zsv_chains.Chains.{chain_for}
 
-module _ (chains : List (DomainName × List View)) (m : Metadata) (dnssec_ok : Bool) where
-  one-question : (q : Query) (a b : ReplyParts) → QuestionParts chains m dnssec_ok q a → QuestionParts chains m dnssec_ok q b → SameParts a b
-  one-question q a b is also = by (chain_for chains q.name) refl (same_record_type q.query_type AXFR) refl
+module _ (chains : List (DomainName × List View)) (m : Metadata) (dnssec_ok : Bool) (asks : Query → DomainName → Asked) where
+  one-question : (q : Query) (a b : ReplyParts) → QuestionParts chains m dnssec_ok (asks q) q a → QuestionParts chains m dnssec_ok (asks q) q b → SameParts a b
+  one-question q a b is also = by (same_record_type q.query_type AXFR) refl (chain_for chains q.name) refl
     where
-      by : (chain : Option (List View)) → chain_for chains q.name ≡ chain → (transfer : Bool) → same_record_type q.query_type AXFR ≡ transfer → SameParts a b
-      by None none transfer t = equal-parts a b (is.no_chain none ∙ sym (also.no_chain none))
-      by (Some chain) some true t =
-          let there : IsSome (chain_for chains q.name) = subst (λ (x : Option (List View)). IsSome x) (sym some) refl in
-          equal-parts a b (is.transfer there t ∙ sym (also.transfer there t))
-      by (Some chain) some false t = one-chain-parts chain m dnssec_ok q.name q.query_type a b (is.looked_up chain some t) (also.looked_up chain some t)
+      by : (transfer : Bool) → same_record_type q.query_type AXFR ≡ transfer → (chain : Option (List View)) → chain_for chains q.name ≡ chain → SameParts a b
+      by true t chain there = equal-parts a b (is.transfer t ∙ sym (also.transfer t))
+      by false t None none = equal-parts a b (is.no_chain none ∙ sym (also.no_chain none))
+      by false t (Some chain) some = one-chain-parts chain m dnssec_ok q.name q.query_type a b (is.looked_up chain some t) (also.looked_up chain some t)
 
-  one-query : (qs : List Query) (a b : ReplyParts) → QueryParts chains m dnssec_ok qs a → QueryParts chains m dnssec_ok qs b → SameParts a b
+  one-query : (qs : List Query) (a b : ReplyParts) → QueryParts chains m dnssec_ok asks qs a → QueryParts chains m dnssec_ok asks qs b → SameParts a b
   one-query [] a b is also = equal-parts a b (is ∙ sym also)
   one-query (q ∷ []) a b is also = one-question q a b is also
   one-query (q ∷ r ∷ qs) a b is also = equal-parts a b (is ∙ sym also)
 
-  one-operation : (operation : OpCode) (qs : List Query) (a b : ReplyParts) → OperationParts chains m dnssec_ok operation qs a → OperationParts chains m dnssec_ok operation qs b → SameParts a b
+  one-operation : (operation : OpCode) (qs : List Query) (a b : ReplyParts) → OperationParts chains m dnssec_ok asks operation qs a → OperationParts chains m dnssec_ok asks operation qs b → SameParts a b
   one-operation operations.Query qs a b is also = one-query qs a b is also
   one-operation other qs a b is also = equal-parts a b (is ∙ sym also)
 
-  one-kind : (kind : MessageType) (qs : List Query) (a b : ReplyParts) → KindParts chains m dnssec_ok kind qs a → KindParts chains m dnssec_ok kind qs b → SameParts a b
+  one-kind : (kind : MessageType) (qs : List Query) (a b : ReplyParts) → KindParts chains m dnssec_ok asks kind qs a → KindParts chains m dnssec_ok asks kind qs b → SameParts a b
   one-kind messages.Response qs a b is also = equal-parts a b (is ∙ sym also)
   one-kind messages.Query qs a b is also = one-operation m.op_code qs a b is also
 
-one-plain : (chains : List (DomainName × List View)) (request : Message) (a b : ReplyParts) → PlainParts chains request a → PlainParts chains request b → SameParts a b
-one-plain chains request a b is also = by (has_other_version request.edns) refl
+one-plain : (chains : List (DomainName × List View)) (asks : Query → DomainName → Asked) (request : Message) (a b : ReplyParts) → PlainParts chains asks request a → PlainParts chains asks request b → SameParts a b
+one-plain chains asks request a b is also = by (has_other_version request.edns) refl
   where
     by : (other : Bool) → has_other_version request.edns ≡ other → SameParts a b
     by true e = equal-parts a b (is.other_version e ∙ sym (also.other_version e))
-    by false e = one-kind chains request.metadata (asks_for_dnssec request.edns) request.metadata.message_type request.asked.questions a b (is.answered e) (also.answered e)
+    by false e = one-kind chains request.metadata (asks_for_dnssec request.edns) asks request.metadata.message_type request.asked.questions a b (is.answered e) (also.answered e)
 
 -- ---- the options
 abbrev octets-of : ℕ → ℕ → List ℕ → List ℕ
@@ -105,9 +104,9 @@ same-whole request nsid a b p q same is also whole all =
     }))
 
 -- A request that is no update has one full reply.
-pub one-parts : (chains : List (DomainName × List View)) (nsid : Option (List ℕ)) (request : Message) (a b : ReplyParts) → PartsOf chains nsid request a → PartsOf chains nsid request b → SameParts a b
-one-parts chains nsid request a b is also =
-    same-whole request nsid a b is.plain also.plain (one-plain chains request is.plain also.plain is.gives also.gives) is.edns also.edns is.whole also.whole
+pub one-parts : (chains : List (DomainName × List View)) (nsid : Option (List ℕ)) (asks : Query → DomainName → Asked) (request : Message) (a b : ReplyParts) → PartsOf chains nsid asks request a → PartsOf chains nsid asks request b → SameParts a b
+one-parts chains nsid asks request a b is also =
+    same-whole request nsid a b is.plain also.plain (one-plain chains asks request is.plain also.plain is.gives also.gives) is.edns also.edns is.whole also.whole
 
 -- A message has one full reply, signed with one context.
 module _ (chains : List (DomainName × List View)) (nsid : Option (List ℕ)) (keys : Keys) (request : Message) (source : SocketAddr) (octets : List ℕ) (moment : ℕ) where
@@ -127,6 +126,6 @@ module _ (chains : List (DomainName × List View)) (nsid : Option (List ℕ)) (k
           let (first, gives, whole) = is.other e in
           let (second, more, all) = also.other e in (
             subst (λ (p : ReplyParts). SameParts p b.plain) (sym (ap (λ (g : Given). g.plain) whole))
-                (subst (λ (p : ReplyParts). SameParts first p) (sym (ap (λ (g : Given). g.plain) all)) (one-parts chains nsid request first second gives more)),
+                (subst (λ (p : ReplyParts). SameParts first p) (sym (ap (λ (g : Given). g.plain) all)) (one-parts chains nsid (asked_of_transfer keys request source octets moment) request first second gives more)),
             ap (λ (g : Given). g.context) whole ∙ sym (ap (λ (g : Given). g.context) all),
           )

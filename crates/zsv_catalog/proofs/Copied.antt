@@ -1,7 +1,7 @@
 -- Copies of records, one more at a time.
 use Rattle.std.proofs.Common.{◌≡◌, ℕ, ◌+◌, ◌<◌, Bool, true, false, not, List, [], ◌∷◌, ◌++◌, get_or, length, take, refl, subst, sym}
 use Rattle.std.proofs.lemmas.Bool.{true≢false}
-use Rattle.std.proofs.lemmas.List.{take_all, take_more}
+use Rattle.std.proofs.lemmas.List.{take_more}
 use Rattle.zsv_answer.specs.zsv_reply.zst_record.declared.records.Record.{Record}
 use Rattle.zsv_catalog.specs.Requests.{AreCopies, IsCopy}
 

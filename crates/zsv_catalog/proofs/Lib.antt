@@ -11,5 +11,6 @@ pub mod Replied
 mod RequestsBack
 mod ResolvedBack
 mod ShownBack
+pub mod Transferred
 pub mod Updated
 pub mod zsv_answer_lemmas

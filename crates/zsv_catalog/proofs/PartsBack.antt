@@ -1,13 +1,17 @@
 -- What a full reply holds can be written and read back, where what the handlers hold can.
-use Rattle.std.proofs.Common.{◌≡◌, ◌<◌, ◌≤◌, ◌^◌, ℕ, refl, subst, sym, inl, inr, arith}
-use Rattle.std.specs.Prelude.{Bool, true, false, cond, ◌⊎◌, List, [], ◌∷◌, length, Option, Some, None, IfSome, IsSome, option_to_list}
+use Rattle.std.proofs.Common.{◌≡◌, ℕ, refl, subst, sym}
+use Rattle.std.specs.Prelude.{Bool, true, false, cond, List, [], ◌∷◌, Option, Some, None, IfSome, option_to_list}
 use Rattle.std.specs.List.{AllByRecursion}
 use Rattle.zsv_answer.specs.Forwarding.{ForwardedParts, forwarded_error, forwarded_metadata, resolved_parts}
 use Rattle.zsv_answer.specs.Parts.{AtOrigin, AuthoritativeParts, BesideAnswer, ChainParts, DeniedParts, PartsAs, answer_records, is_referral}
 use Rattle.zsv_answer.specs.Resolution.{Resolution, answering, no_such_name, no_such_type, not_here, resolved}
 use Rattle.zsv_answer.specs.Responses.{parts_with}
 use Rattle.zsv_answer.specs.Shown.{hidden_but, is_shown, shown_if}
+use Rattle.zsv_answer.specs.Transferring.{transfer_parts, transferring, zone_parts}
+use Rattle.zsv_answer.specs.zst_request.Transfers.{transfer_of, transfer_refused}
+use Rattle.zsv_answer.specs.zst_request.Updating.{Asked}
 use Rattle.zsv_answer.specs.zst_request.Views.{Blocked, Stored, View, zone_type_of}
+use Rattle.zsv_answer.specs.zst_request.zst_handler.Zones.{Zone}
 use Rattle.zsv_answer.specs.zst_request.dnw_codes.declared.record_type.RecordType.{RecordType}
 use Rattle.zsv_answer.specs.zst_request.dnw_codes.declared.record_type.RecordType.TheVariants as types
 use Rattle.zsv_answer.specs.zst_request.dnw_codes.RecordType.{same_record_type}
@@ -24,7 +28,7 @@ use Rattle.zsv_answer.specs.zsv_reply.zst_record.declared.records.Record.{Record
 use Rattle.zsv_answer.specs.zsv_reply.zsv_message.Messages.{Message}
 use Rattle.zsv_answer.specs.zsv_reply.zsv_message.zst_edns.Writing.{EdnsReadsBack}
 use Rattle.zsv_answer.specs.zsv_reply.zsv_message.zst_edns.declared.edns.Edns.{Edns}
-use Rattle.zsv_answer.specs.zsv_reply.zsv_message.zsv_parts.Questions.{Asked, IsSection, QuestionAt}
+use Rattle.zsv_answer.specs.zsv_reply.zsv_message.zsv_parts.Questions.{Asked as Section, IsSection, QuestionAt}
 use Rattle.zsv_answer.specs.zsv_reply.zsv_message.zsv_parts.Wire.{Entries}
 use Rattle.zsv_answer.specs.zsv_reply.zsv_message.zsv_parts.declared.header.Metadata.{Metadata}
 use Rattle.zsv_answer.specs.zsv_reply.zsv_message.zsv_parts.declared.header.MessageType.{MessageType}
@@ -32,13 +36,13 @@ use Rattle.zsv_answer.specs.zsv_reply.zsv_message.zsv_parts.declared.header.Mess
 use Rattle.zsv_answer.specs.zsv_reply.zsv_message.zsv_parts.declared.header.OpCode.{OpCode}
 use Rattle.zsv_answer.specs.zsv_reply.zsv_message.zsv_parts.declared.header.OpCode.TheVariants as operations
 use Rattle.zsv_answer.specs.zsv_reply.zsv_message.zsv_parts.declared.question.Query.{Query}
-use Rattle.zsv_catalog.specs.Catalogs.{KindParts, OperationParts, PartsOf, PlainParts, QueryParts, QuestionParts, asks_for_dnssec}
-use Rattle.zsv_update.specs.Options.{AnswersEdns, asks_for_nsid, has_other_version, identifier, nsid_for}
-use Rattle.zsv_update.specs.zsv_chains.Chains.{chain_for}
+use Rattle.zsv_catalog.specs.Catalogs.{KindParts, OperationParts, PartsOf, PlainParts, QueryParts, QuestionParts, asks_for_dnssec, entry_parts}
+use Rattle.zsv_update.specs.Options.{AnswersEdns, has_other_version, nsid_for}
+use Rattle.zsv_update.specs.zsv_chains.Chains.{chain_for, entry_for}
 use Rattle.zsv_catalog.specs.ReadingBack.{ChainReadsBack, ChainsReadBack, ViewReadsBack}
 use Rattle.zsv_update.proofs.EdnsBack.{FitsOption, edns_back}
-use Rattle.zsv_catalog.proofs.ResolvedBack.{ResolutionReadsBack, answering_back, for_back, resolves_back}
-use Rattle.zsv_catalog.proofs.ShownBack.{OutcomeReadsBack, append_back, filter_back, lookup_back, sets_shown_back, zone_sound}
+use Rattle.zsv_catalog.proofs.ResolvedBack.{ResolutionReadsBack, answering_back, entry_for_back, for_back, resolves_back}
+use Rattle.zsv_catalog.proofs.ShownBack.{OutcomeReadsBack, append_back, filter_back, lookup_back, sets_shown_back, transferred_back, zone_sound}
 
 -- ---- parts of records that read back
 pub error_back : (m : Metadata) (code : ResponseCode) (parts : ReplyParts) → parts ≡ error_parts m code → AllReadBack parts
@@ -108,6 +112,11 @@ as_back zones.Primary view m dnssec t resolution parts back shown is = authorita
 as_back zones.Secondary view m dnssec t resolution parts back shown is = authoritative_back view m dnssec t resolution parts back shown is
 as_back zones.External view m dnssec t resolution parts back shown is = forwarded_back m dnssec t resolution parts shown is
 
+transferring_back : (chain : List View) → ChainReadsBack chain → IfSome (transferring chain) (λ z. ViewReadsBack (Stored z))
+transferring_back [] back = tt
+transferring_back (Stored zone ∷ views) back = back.0
+transferring_back (Blocked blocklist ∷ views) back = transferring_back views back.1
+
 -- ---- questions and requests
 chain_back : (chain : List View) (m : Metadata) (dnssec : Bool) (name : DomainName) (t : RecordType) (parts : ReplyParts) → name.fqdn ≡ true → ChainReadsBack chain → ChainParts chain m dnssec name t parts → AllReadBack parts
 chain_back chain m dnssec name t parts full all is = by (answering chain name) refl
@@ -122,37 +131,49 @@ chain_back chain m dnssec name t parts full all is = by (answering chain name) r
 abbrev pub IsFull : Query → Type 0
 IsFull q = q.name.fqdn ≡ true
 
-question_back : (chains : List (DomainName × List View)) (m : Metadata) (dnssec : Bool) (q : Query) (parts : ReplyParts) → IsFull q → ChainsReadBack chains → QuestionParts chains m dnssec q parts → AllReadBack parts
-question_back chains m dnssec q parts full all is = by (chain_for chains q.name) refl
+-- ---- transfers
+transfer_back : (m : Metadata) (refused : Option ResponseCode) (rs : List Record) → AllByRecursion IsServable rs → AllReadBack (transfer_parts m refused rs)
+transfer_back m None rs back = with_back (reply_metadata m true responses.NoError) false rs [] [] back tt tt
+transfer_back m (Some code) rs back = error_back m code (error_parts m code) refl
+
+zone_back : (m : Metadata) (dnssec : Bool) (asked : Asked) (zone : Option Zone) → IfSome zone (λ z. ViewReadsBack (Stored z)) → AllReadBack (zone_parts m dnssec asked zone)
+zone_back m dnssec asked None back = error_back m responses.ServFail (error_parts m responses.ServFail) refl
+zone_back m dnssec asked (Some zone) back =
+    transfer_back m (transfer_refused zone asked) (transfer_of zone dnssec) (transferred_back zone dnssec (zone_sound zone back.0 back.1))
+
+entry_back : (m : Metadata) (dnssec : Bool) (asks : DomainName → Asked) (entry : Option (DomainName × List View)) → IfSome entry (λ e. ChainReadsBack e.1) → AllReadBack (entry_parts m dnssec asks entry)
+entry_back m dnssec asks None back = error_back m responses.Refused (error_parts m responses.Refused) refl
+entry_back m dnssec asks (Some (zone, chain)) back = zone_back m dnssec (asks zone) (transferring chain) (transferring_back chain back)
+
+-- ---- questions
+question_back : (chains : List (DomainName × List View)) (m : Metadata) (dnssec : Bool) (asks : DomainName → Asked) (q : Query) (parts : ReplyParts) → IsFull q → ChainsReadBack chains → QuestionParts chains m dnssec asks q parts → AllReadBack parts
+question_back chains m dnssec asks q parts full all is = by (same_record_type q.query_type types.AXFR) refl (chain_for chains q.name) refl
   where
-    inside : (chain : List View) (b : Bool) → chain_for chains q.name ≡ Some chain → same_record_type q.query_type types.AXFR ≡ b → AllReadBack parts
-    inside chain true at e = error_back m responses.ServFail parts (is.transfer (subst (λ (o : Option (List View)). IsSome o) (sym at) refl) e)
-    inside chain false at e =
+    by : (b : Bool) → same_record_type q.query_type types.AXFR ≡ b → (o : Option (List View)) → chain_for chains q.name ≡ o → AllReadBack parts
+    by true e o at = subst AllReadBack (sym (is.transfer e)) (entry_back m dnssec asks (entry_for chains q.name) (entry_for_back chains q.name all))
+    by false e None at = error_back m responses.Refused parts (is.no_chain at)
+    by false e (Some chain) at =
         chain_back chain m dnssec q.name q.query_type parts full (subst (λ (o : Option (List View)). IfSome o ChainReadsBack) at (for_back chains q.name all)) (is.looked_up chain at e)
 
-    by : (o : Option (List View)) → chain_for chains q.name ≡ o → AllReadBack parts
-    by None e = error_back m responses.Refused parts (is.no_chain e)
-    by (Some chain) e = inside chain (same_record_type q.query_type types.AXFR) e refl
+pub query_back : (chains : List (DomainName × List View)) (m : Metadata) (dnssec : Bool) (asks : Query → DomainName → Asked) (qs : List Query) (parts : ReplyParts) → AllByRecursion IsFull qs → ChainsReadBack chains → QueryParts chains m dnssec asks qs parts → AllReadBack parts
+query_back chains m dnssec asks [] parts full all is = error_back m responses.FormErr parts is
+query_back chains m dnssec asks (q ∷ []) parts full all is = question_back chains m dnssec (asks q) q parts full.0 all is
+query_back chains m dnssec asks (q ∷ r ∷ qs) parts full all is = error_back m responses.FormErr parts is
 
-pub query_back : (chains : List (DomainName × List View)) (m : Metadata) (dnssec : Bool) (qs : List Query) (parts : ReplyParts) → AllByRecursion IsFull qs → ChainsReadBack chains → QueryParts chains m dnssec qs parts → AllReadBack parts
-query_back chains m dnssec [] parts full all is = error_back m responses.FormErr parts is
-query_back chains m dnssec (q ∷ []) parts full all is = question_back chains m dnssec q parts full.0 all is
-query_back chains m dnssec (q ∷ r ∷ qs) parts full all is = error_back m responses.FormErr parts is
+operation_back : (chains : List (DomainName × List View)) (m : Metadata) (dnssec : Bool) (asks : Query → DomainName → Asked) (operation : OpCode) (qs : List Query) (parts : ReplyParts) → AllByRecursion IsFull qs → ChainsReadBack chains → OperationParts chains m dnssec asks operation qs parts → AllReadBack parts
+operation_back chains m dnssec asks operations.Query qs parts full all is = query_back chains m dnssec asks qs parts full all is
+operation_back chains m dnssec asks other qs parts full all is = error_back m responses.NotImp parts is
 
-operation_back : (chains : List (DomainName × List View)) (m : Metadata) (dnssec : Bool) (operation : OpCode) (qs : List Query) (parts : ReplyParts) → AllByRecursion IsFull qs → ChainsReadBack chains → OperationParts chains m dnssec operation qs parts → AllReadBack parts
-operation_back chains m dnssec operations.Query qs parts full all is = query_back chains m dnssec qs parts full all is
-operation_back chains m dnssec other qs parts full all is = error_back m responses.NotImp parts is
+kind_back : (chains : List (DomainName × List View)) (m : Metadata) (dnssec : Bool) (asks : Query → DomainName → Asked) (kind : MessageType) (qs : List Query) (parts : ReplyParts) → AllByRecursion IsFull qs → ChainsReadBack chains → KindParts chains m dnssec asks kind qs parts → AllReadBack parts
+kind_back chains m dnssec asks messages.Response qs parts full all is = error_back m responses.FormErr parts is
+kind_back chains m dnssec asks messages.Query qs parts full all is = operation_back chains m dnssec asks m.op_code qs parts full all is
 
-kind_back : (chains : List (DomainName × List View)) (m : Metadata) (dnssec : Bool) (kind : MessageType) (qs : List Query) (parts : ReplyParts) → AllByRecursion IsFull qs → ChainsReadBack chains → KindParts chains m dnssec kind qs parts → AllReadBack parts
-kind_back chains m dnssec messages.Response qs parts full all is = error_back m responses.FormErr parts is
-kind_back chains m dnssec messages.Query qs parts full all is = operation_back chains m dnssec m.op_code qs parts full all is
-
-plain_back : (chains : List (DomainName × List View)) (request : Message) (parts : ReplyParts) → AllByRecursion IsFull request.asked.questions → ChainsReadBack chains → PlainParts chains request parts → AllReadBack parts
-plain_back chains request parts full all is = by (has_other_version request.edns) refl
+plain_back : (chains : List (DomainName × List View)) (asks : Query → DomainName → Asked) (request : Message) (parts : ReplyParts) → AllByRecursion IsFull request.asked.questions → ChainsReadBack chains → PlainParts chains asks request parts → AllReadBack parts
+plain_back chains asks request parts full all is = by (has_other_version request.edns) refl
   where
     by : (b : Bool) → has_other_version request.edns ≡ b → AllReadBack parts
     by true e = error_back request.metadata responses.BADVERS parts (is.other_version e)
-    by false e = kind_back chains request.metadata (asks_for_dnssec request.edns) request.metadata.message_type request.asked.questions parts full all (is.answered e)
+    by false e = kind_back chains request.metadata (asks_for_dnssec request.edns) asks request.metadata.message_type request.asked.questions parts full all (is.answered e)
 
 -- ---- the options
 fits_for : (edns : Option Edns) (nsid : Option (List ℕ)) → FitsOption nsid → FitsOption (nsid_for edns nsid)
@@ -174,13 +195,13 @@ asked_full octets place [] end there = tt
 asked_full octets place (q ∷ qs) end there = (there.1.name.full, asked_full octets there.0 qs end there.2)
 
 -- The names of questions that were read end at the root.
-pub section_full : (asked : Asked) → IsSection asked → AllByRecursion IsFull asked.questions
+pub section_full : (asked : Section) → IsSection asked → AllByRecursion IsFull asked.questions
 section_full asked section = asked_full section.message section.place asked.questions section.end section.there.questions.0
 
 -- All that a full reply to a message holds reads back.
-pub parts_back : (chains : List (DomainName × List View)) (nsid : Option (List ℕ)) (request : Message) (parts : ReplyParts) → IsSection request.asked → ChainsReadBack chains → FitsOption nsid → PartsOf chains nsid request parts → AllReadBack parts
-parts_back chains nsid request parts section all fits gives =
-    let plain = plain_back chains request gives.plain (section_full request.asked section) all gives.gives in
+pub parts_back : (chains : List (DomainName × List View)) (nsid : Option (List ℕ)) (asks : Query → DomainName → Asked) (request : Message) (parts : ReplyParts) → IsSection request.asked → ChainsReadBack chains → FitsOption nsid → PartsOf chains nsid asks request parts → AllReadBack parts
+parts_back chains nsid asks request parts section all fits gives =
+    let plain = plain_back chains asks request gives.plain (section_full request.asked section) all gives.gives in
     let options = options_back request.edns (nsid_for request.edns nsid) gives.plain.metadata.response_code parts.edns (fits_for request.edns nsid fits) gives.edns in
     subst AllReadBack (sym gives.whole) (record {
       answers = plain.answers;

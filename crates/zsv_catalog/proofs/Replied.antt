@@ -1,12 +1,17 @@
 -- A reply has the identifier and the opcode of its request.
-use Rattle.std.proofs.Common.{◌≡◌, ◌∙◌, refl, sym, ap, subst}
+use Rattle.std.proofs.Common.{◌≡◌, ◌∙◌, refl, sym, ap}
 use Rattle.std.proofs.lemmas.Bool.{true≢false}
-use Rattle.std.specs.Prelude.{ℕ, Bool, true, false, not, ◌&&◌, List, [], ◌∷◌, Option, Some, None, IsSome}
+use Rattle.std.specs.Prelude.{ℕ, Bool, true, false, not, ◌&&◌, List, [], ◌∷◌, Option, Some, None}
 use Rattle.std.specs.declared.net.SocketAddr.{SocketAddr}
 use Rattle.zsv_answer.specs.Forwarding.{ForwardedParts, resolved_parts}
 use Rattle.zsv_answer.specs.Parts.{AuthoritativeParts, ChainParts, PartsAs}
 use Rattle.zsv_answer.specs.Resolution.{Resolution, answering, no_such_name, no_such_type, not_here, resolved}
-use Rattle.zsv_answer.specs.zst_request.Updating.{SigningContext}
+use Rattle.zsv_answer.specs.Transferring.{transfer_parts, transferring, zone_parts}
+use Rattle.zsv_answer.specs.zst_request.Transfers.{transfer_of, transfer_refused}
+use Rattle.zsv_answer.specs.zst_request.Updating.{Asked, SigningContext}
+use Rattle.zsv_answer.specs.zst_request.zst_codes.declared.response_code.ResponseCode.{ResponseCode}
+use Rattle.zsv_answer.specs.zst_request.zst_handler.Zones.{Zone}
+use Rattle.zsv_answer.specs.zsv_reply.zst_record.declared.records.Record.{Record}
 use Rattle.zsv_answer.specs.zst_request.Views.{View, zone_type_of}
 use Rattle.zsv_answer.specs.zst_request.dnw_codes.declared.record_type.RecordType.{RecordType}
 use Rattle.zsv_answer.specs.zst_request.dnw_codes.declared.record_type.RecordType.TheVariants.{AXFR, SOA}
@@ -22,7 +27,7 @@ use Rattle.zsv_answer.specs.zsv_reply.zsv_message.zsv_parts.declared.header.Meta
 use Rattle.zsv_answer.specs.zsv_reply.zsv_message.zsv_parts.declared.header.OpCode.{OpCode}
 use Rattle.zsv_answer.specs.zsv_reply.zsv_message.zsv_parts.declared.header.OpCode.TheVariants as operations
 use Rattle.zsv_answer.specs.zsv_reply.zsv_message.zsv_parts.declared.question.Query.{Query}
-use Rattle.zsv_catalog.specs.Catalogs.{GivesOf, KindParts, OperationParts, PartsOf, PlainParts, QueryParts, QuestionParts, asks_for_dnssec, failure_of, is_query_type, is_served_update}
+use Rattle.zsv_catalog.specs.Catalogs.{GivesOf, KindParts, OperationParts, PartsOf, PlainParts, QueryParts, QuestionParts, asked_of_transfer, asks_for_dnssec, entry_parts, failure_of, is_query_type, is_served_update}
 use Rattle.zsv_update.specs.Keys.{Keys, Signature}
 use Rattle.zsv_update.specs.Options.{has_other_version}
 use Rattle.zsv_update.specs.Signing.{HasSignature, SignsParts}
@@ -72,39 +77,48 @@ chain_id chain m d name t parts is = by (answering chain name) refl
         let (resolution, resolves, shown) = is.somebody view e in
         as_id (zone_type_of view) view m d t resolution parts shown
 
-question_id : (chains : List (DomainName × List View)) (m : Metadata) (d : Bool) (q : Query) (parts : ReplyParts) → QuestionParts chains m d q parts → repeated_of parts ≡ own m
-question_id chains m d q parts is = by (chain_for chains q.name) refl
+transfer_id : (m : Metadata) (refused : Option ResponseCode) (rs : List Record) → repeated_of (transfer_parts m refused rs) ≡ own m
+transfer_id m None rs = refl
+transfer_id m (Some code) rs = refl
+
+zone_id : (m : Metadata) (d : Bool) (asked : Asked) (zone : Option Zone) → repeated_of (zone_parts m d asked zone) ≡ own m
+zone_id m d asked None = refl
+zone_id m d asked (Some zone) = transfer_id m (transfer_refused zone asked) (transfer_of zone d)
+
+entry_id : (m : Metadata) (d : Bool) (asks : DomainName → Asked) (entry : Option (DomainName × List View)) → repeated_of (entry_parts m d asks entry) ≡ own m
+entry_id m d asks None = refl
+entry_id m d asks (Some (zone, chain)) = zone_id m d (asks zone) (transferring chain)
+
+question_id : (chains : List (DomainName × List View)) (m : Metadata) (d : Bool) (asks : DomainName → Asked) (q : Query) (parts : ReplyParts) → QuestionParts chains m d asks q parts → repeated_of parts ≡ own m
+question_id chains m d asks q parts is = by (same_record_type q.query_type AXFR) refl (chain_for chains q.name) refl
   where
-    inside : (chain : List View) (b : Bool) → chain_for chains q.name ≡ Some chain → same_record_type q.query_type AXFR ≡ b → repeated_of parts ≡ own m
-    inside chain true at e = ap repeated_of (is.transfer (subst (λ (o : Option (List View)). IsSome o) (sym at) refl) e)
-    inside chain false at e = chain_id chain m d q.name q.query_type parts (is.looked_up chain at e)
+    by : (b : Bool) → same_record_type q.query_type AXFR ≡ b → (o : Option (List View)) → chain_for chains q.name ≡ o → repeated_of parts ≡ own m
+    by true e o at = ap repeated_of (is.transfer e) ∙ entry_id m d asks (entry_for chains q.name)
+    by false e None at = ap repeated_of (is.no_chain at)
+    by false e (Some chain) at = chain_id chain m d q.name q.query_type parts (is.looked_up chain at e)
 
-    by : (o : Option (List View)) → chain_for chains q.name ≡ o → repeated_of parts ≡ own m
-    by None e = ap repeated_of (is.no_chain e)
-    by (Some chain) e = inside chain (same_record_type q.query_type AXFR) e refl
+query_id : (chains : List (DomainName × List View)) (m : Metadata) (d : Bool) (asks : Query → DomainName → Asked) (qs : List Query) (parts : ReplyParts) → QueryParts chains m d asks qs parts → repeated_of parts ≡ own m
+query_id chains m d asks [] parts is = ap repeated_of is
+query_id chains m d asks (q ∷ []) parts is = question_id chains m d (asks q) q parts is
+query_id chains m d asks (q ∷ r ∷ qs) parts is = ap repeated_of is
 
-query_id : (chains : List (DomainName × List View)) (m : Metadata) (d : Bool) (qs : List Query) (parts : ReplyParts) → QueryParts chains m d qs parts → repeated_of parts ≡ own m
-query_id chains m d [] parts is = ap repeated_of is
-query_id chains m d (q ∷ []) parts is = question_id chains m d q parts is
-query_id chains m d (q ∷ r ∷ qs) parts is = ap repeated_of is
+operation_id : (chains : List (DomainName × List View)) (m : Metadata) (d : Bool) (asks : Query → DomainName → Asked) (operation : OpCode) (qs : List Query) (parts : ReplyParts) → OperationParts chains m d asks operation qs parts → repeated_of parts ≡ own m
+operation_id chains m d asks operations.Query qs parts is = query_id chains m d asks qs parts is
+operation_id chains m d asks other qs parts is = ap repeated_of is
 
-operation_id : (chains : List (DomainName × List View)) (m : Metadata) (d : Bool) (operation : OpCode) (qs : List Query) (parts : ReplyParts) → OperationParts chains m d operation qs parts → repeated_of parts ≡ own m
-operation_id chains m d operations.Query qs parts is = query_id chains m d qs parts is
-operation_id chains m d other qs parts is = ap repeated_of is
+kind_id : (chains : List (DomainName × List View)) (m : Metadata) (d : Bool) (asks : Query → DomainName → Asked) (kind : MessageType) (qs : List Query) (parts : ReplyParts) → KindParts chains m d asks kind qs parts → repeated_of parts ≡ own m
+kind_id chains m d asks messages.Response qs parts is = ap repeated_of is
+kind_id chains m d asks messages.Query qs parts is = operation_id chains m d asks m.op_code qs parts is
 
-kind_id : (chains : List (DomainName × List View)) (m : Metadata) (d : Bool) (kind : MessageType) (qs : List Query) (parts : ReplyParts) → KindParts chains m d kind qs parts → repeated_of parts ≡ own m
-kind_id chains m d messages.Response qs parts is = ap repeated_of is
-kind_id chains m d messages.Query qs parts is = operation_id chains m d m.op_code qs parts is
-
-pub plain_id : (chains : List (DomainName × List View)) (request : Message) (parts : ReplyParts) → PlainParts chains request parts → repeated_of parts ≡ own request.metadata
-plain_id chains request parts is = by (has_other_version request.edns) refl
+pub plain_id : (chains : List (DomainName × List View)) (asks : Query → DomainName → Asked) (request : Message) (parts : ReplyParts) → PlainParts chains asks request parts → repeated_of parts ≡ own request.metadata
+plain_id chains asks request parts is = by (has_other_version request.edns) refl
   where
     by : (b : Bool) → has_other_version request.edns ≡ b → repeated_of parts ≡ own request.metadata
     by true e = ap repeated_of (is.other_version e)
-    by false e = kind_id chains request.metadata (asks_for_dnssec request.edns) request.metadata.message_type request.asked.questions parts (is.answered e)
+    by false e = kind_id chains request.metadata (asks_for_dnssec request.edns) asks request.metadata.message_type request.asked.questions parts (is.answered e)
 
-parts_id : (chains : List (DomainName × List View)) (nsid : Option (List ℕ)) (request : Message) (parts : ReplyParts) → PartsOf chains nsid request parts → repeated_of parts ≡ own request.metadata
-parts_id chains nsid request parts is = ap repeated_of is.whole ∙ plain_id chains request is.plain is.gives
+parts_id : (chains : List (DomainName × List View)) (nsid : Option (List ℕ)) (asks : Query → DomainName → Asked) (request : Message) (parts : ReplyParts) → PartsOf chains nsid asks request parts → repeated_of parts ≡ own request.metadata
+parts_id chains nsid asks request parts is = ap repeated_of is.whole ∙ plain_id chains asks request is.plain is.gives
 
 -- ---- updates
 third : (a b c : Bool) → (not a && (b && c)) ≡ true → c ≡ true
@@ -146,7 +160,7 @@ given_id chains nsid keys request source octets moment given gives = by (is_serv
         ap (λ (g : Given). repeated_of g.plain) whole ∙ update_id keys request source octets moment chains bare e request.asked.questions updates
     by false e =
         let (parts, is, whole) = gives.other e in
-        ap (λ (g : Given). repeated_of g.plain) whole ∙ parts_id chains nsid request parts is
+        ap (λ (g : Given). repeated_of g.plain) whole ∙ parts_id chains nsid (asked_of_transfer keys request source octets moment) request parts is
 
 -- A signature changes nothing of what a reply repeats.
 signed_id : (found : Option Signature) (plain failure parts : ReplyParts) (m : Metadata) → repeated_of plain ≡ own m → repeated_of failure ≡ own m → HasSignature found plain failure parts → repeated_of parts ≡ own m

@@ -1,6 +1,6 @@
 -- Requests that are lent leave chains that can be served: copies of records that can be served can be served too.
-use Rattle.std.proofs.Common.{◌≡◌, ◌∙◌, ℕ, Bool, true, false, not, List, [], ◌∷◌, ap, arith, refl, subst, sym}
-use Rattle.std.proofs.lemmas.Bool.{and_parts, eqb-true, ltb-true, true≢false}
+use Rattle.std.proofs.Common.{◌≡◌, ◌∙◌, ℕ, Bool, true, false, not, List, [], ◌∷◌, ap, refl, subst, sym}
+use Rattle.std.proofs.lemmas.Bool.{and_parts, eqb-true, true≢false}
 use Rattle.std.specs.Prelude.{◌&&◌, ◌==◌, cond, nat_lt, Option, Result, Ok, Err, IfOk, IfErr}
 use Rattle.std.specs.Ordering.{is_eq, nat_cmp, ordering_then}
 use Rattle.std.specs.declared.cmp.Ordering.{Ordering}
@@ -8,7 +8,7 @@ use Rattle.std.specs.declared.cmp.Ordering.TheVariants.{Less, Equal, Greater}
 use Rattle.std.specs.declared.net.SocketAddr.{SocketAddr}
 use Rattle.zsv_answer.specs.zst_request.Views.{View}
 use Rattle.zsv_answer.specs.zst_request.dnw_name.DomainName.{DomainName}
-use Rattle.zsv_answer.specs.zsv_reply.drd_rdata.Order.{data_cmp, data_form, rdata_cmp, rdata_eq, type_number}
+use Rattle.zsv_answer.specs.zsv_reply.drd_rdata.Order.{data_cmp, data_form, rdata_eq, type_number}
 use Rattle.zsv_answer.specs.zsv_reply.drd_rdata.Types.{is_update0}
 use Rattle.zsv_answer.specs.zsv_reply.drd_rdata.declared.rdata.RData.{RData}
 use Rattle.zsv_answer.specs.zsv_reply.drd_rdata.declared.rdata.RData.TheVariants as rdata
@@ -25,7 +25,7 @@ use Rattle.zsv_update.specs.Updates.{with_updates}
 use Rattle.zsv_update.specs.declared.update.ServiceFault.{ServiceFault}
 use Rattle.zsv_update.specs.declared.update.ServiceFault.TheVariants.{OutOfMemory}
 use Rattle.zsv_catalog.specs.Catalogs.{RefusesBy, RepliesBy, is_served_update}
-use Rattle.zsv_catalog.specs.Requests.{AnswersUpdate, AreCopies, IsCopy, RefusesAsUpdate, RefusesRequest, RepliesToRequest}
+use Rattle.zsv_catalog.specs.Requests.{AnswersUpdate, AreCopies, RefusesAsUpdate, RefusesRequest, RepliesToRequest}
 use Rattle.zsv_catalog.proofs.GivenBack.{given_back}
 
 -- ---- copies

@@ -12,7 +12,7 @@ use Rattle.zsv_answer.specs.zst_request.dnw_codes.declared.record_type.RecordTyp
 use Rattle.zsv_answer.specs.zst_request.zst_handler.Lookups.{Outcome, answered, name_error, name_exists, out_of_zone}
 use Rattle.zsv_answer.specs.zst_request.zst_handler.Zones.{Zone}
 use Rattle.zsv_answer.specs.zsv_reply.zst_record.Records.{IsServable}
-use Rattle.zsv_update.specs.zsv_chains.Chains.{chain_at, chain_for}
+use Rattle.zsv_update.specs.zsv_chains.Chains.{chain_at, chain_for, entry_for}
 use Rattle.zsv_catalog.specs.ReadingBack.{ChainReadsBack, ChainsReadBack, ViewReadsBack}
 use Rattle.zsv_catalog.proofs.BlockedBack.{AnswerReadsBack, answer_back, records_back}
 use Rattle.zsv_catalog.proofs.ShownBack.{OutcomeReadsBack, lookup_back, mapped, nearest_back, sets_shown_back, zone_sound}
@@ -34,11 +34,13 @@ at_back (e ∷ chains) name all = by (is_eq (name_cmp name e.0)) (at_back chains
     by true later = all.0
     by false later = later
 
-pub for_back : (chains : List (DomainName × List View)) (name : DomainName) → ChainsReadBack chains → IfSome (chain_for chains name) ChainReadsBack
-for_back chains name all =
+pub entry_for_back : (chains : List (DomainName × List View)) (name : DomainName) → ChainsReadBack chains → IfSome (entry_for chains name) (λ entry. ChainReadsBack entry.1)
+entry_for_back chains name all =
     let lower = lowercase_name name in
-    mapped ChainReadsBack (λ (entry : DomainName × List View). entry.1) _
-    (nearest_back ChainReadsBack (chain_at chains) lower.fqdn (λ labels. at_back chains (domain_name lower.fqdn labels) all) lower.labels)
+    nearest_back ChainReadsBack (chain_at chains) lower.fqdn (λ labels. at_back chains (domain_name lower.fqdn labels) all) lower.labels
+
+pub for_back : (chains : List (DomainName × List View)) (name : DomainName) → ChainsReadBack chains → IfSome (chain_for chains name) ChainReadsBack
+for_back chains name all = mapped ChainReadsBack (λ (entry : DomainName × List View). entry.1) (entry_for chains name) (entry_for_back chains name all)
 
 pub answering_back : (chain : List View) (name : DomainName) → ChainReadsBack chain → IfSome (answering chain name) ViewReadsBack
 answering_back chain name all = found_one ViewReadsBack (answers_name name) chain all

@@ -1,6 +1,6 @@
 -- What a lookup answers in a zone whose records read back reads back: whatever is found stands at a fully qualified name.
 use Rattle.std.proofs.Common.{◌≡◌, inl, inr, refl, subst, sym}
-use Rattle.std.specs.Prelude.{ℕ, Bool, true, false, ◌&&◌, List, [], ◌∷◌, ◌++◌, map, min, Option, Some, None, IfSome, cond, is_some, option_map}
+use Rattle.std.specs.Prelude.{ℕ, Bool, true, false, not, ◌&&◌, List, [], ◌∷◌, ◌++◌, map, min, Option, Some, None, IfSome, cond, is_some, option_map}
 use Rattle.std.specs.Bool.{beq}
 use Rattle.std.specs.List.{AllByRecursion, filter, flat_map}
 use Rattle.std.proofs.lemmas.Bool.{true≢false}
@@ -8,6 +8,7 @@ use Rattle.zsv_answer.specs.zst_request.dnw_codes.declared.record_type.RecordTyp
 use Rattle.zsv_answer.specs.zst_request.dnw_codes.declared.record_type.RecordType.TheVariants as kind
 use Rattle.zsv_answer.specs.zst_request.dnw_codes.RecordType.{same_record_type}
 use Rattle.zsv_answer.specs.zst_request.dnw_name.DomainName.{DomainName, domain_name, is_at_or_below, lowercase_name, name_eq}
+use Rattle.zsv_answer.specs.zst_request.Transfers.{axfr_records, between_soas, is_start, transfer_of}
 use Rattle.zsv_update.specs.zsv_chains.zst_key.Ancestors.{nearest_from, or_else, star}
 use Rattle.zsv_answer.specs.zsv_reply.zst_record.declared.records.Record.{Record}
 use Rattle.zsv_answer.specs.zsv_reply.drd_rdata.Exceeding.{ExceedsRdlength}
@@ -333,3 +334,15 @@ shown_back false set back = servable_each set.name.fqdn set.records back.records
 pub sets_shown_back : (dnssec_ok : Bool) (sets : List RRset) → AllByRecursion SetIsSound sets → AllByRecursion IsServable (sets_shown dnssec_ok sets)
 sets_shown_back dnssec_ok [] all = tt
 sets_shown_back dnssec_ok (set ∷ sets) all = append_back (shown dnssec_ok set) (sets_shown dnssec_ok sets) (shown_back dnssec_ok set all.0) (sets_shown_back dnssec_ok sets all.1)
+
+-- ---- a zone as it is transferred
+between_back : (soa : Option RRset) (fqdn : Bool) (others : List Record) → IfSome soa (IsFound fqdn) → AllByRecursion IsServable others → AllByRecursion IsServable (between_soas soa others)
+between_back None fqdn others first all = tt
+between_back (Some soa) fqdn others first all =
+    let own = servable_each soa.name.fqdn soa.records first.back.records in
+    append_back soa.records (others ++ soa.records) own (append_back others soa.records all own)
+
+pub transferred_back : (zone : Zone) (dnssec_ok : Bool) → ZoneIsSound zone → AllByRecursion IsServable (transfer_of zone dnssec_ok)
+transferred_back zone dnssec_ok back =
+    between_back (rrset_at zone.sets zone.origin kind.SOA) zone.origin.fqdn (axfr_records zone.origin dnssec_ok zone.sets) (stored_back zone.sets zone.origin kind.SOA back)
+    (filter_back IsServable (λ r. not (is_start zone.origin r)) (sets_shown dnssec_ok zone.sets) (sets_shown_back dnssec_ok zone.sets back))

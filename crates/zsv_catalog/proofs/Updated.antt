@@ -1,7 +1,6 @@
 -- What is sent in reply to an update, or to another message, is what the chains reply.
-use Rattle.std.proofs.Common.{◌≡◌, ◌∙◌, ℕ, Bool, true, false, List, [], Option, ap, refl, subst, sym}
+use Rattle.std.proofs.Common.{◌≡◌, ◌∙◌, ℕ, true, false, List, [], Option, ap, refl, subst, sym}
 use Rattle.std.proofs.lemmas.Bool.{true≢false}
-use Rattle.std.specs.Prelude.{Result, Ok, Err, IfOk, IfErr, OnErr}
 use Rattle.std.specs.declared.net.SocketAddr.{SocketAddr}
 use Rattle.zsv_answer.specs.zst_request.Views.{View}
 use Rattle.zsv_answer.specs.zst_request.dnw_name.DomainName.{DomainName}
@@ -14,7 +13,7 @@ use Rattle.zsv_answer.specs.zsv_request.Requests.{Requested}
 use Rattle.zsv_answer.specs.zsv_request.declared.protocol.Protocol.{Protocol}
 use Rattle.zsv_update.specs.Keys.{Keys}
 use Rattle.zsv_update.specs.Replying.{RefusesUpdate, RepliesUpdate}
-use Rattle.zsv_update.specs.Updates.{Given, only, with_updates}
+use Rattle.zsv_update.specs.Updates.{Given, with_updates}
 use Rattle.zsv_update.specs.declared.update.ServiceFault.{ServiceFault}
 use Rattle.zsv_update.specs.declared.update.ServiceFault.TheVariants.{OutOfMemory}
 use Rattle.zsv_catalog.specs.Catalogs.{GivesOf, RefusesBy, RepliesBy, RepliesPlain, is_served_update}
@@ -32,14 +31,14 @@ module _ (chains : List (DomainName × List View)) (nsid : Option (List ℕ)) (k
       } in
       (given, all, parts, sends.signed, sent, λ _. back, is)
 
-  pub plain_replied : (transport : Protocol) (info : Header) (reply : List ℕ) → is_served_update request ≡ false → RepliesPlain chains nsid request transport info reply
+  pub plain_replied : (transport : Protocol) (info : Header) (reply : List ℕ) → is_served_update request ≡ false → RepliesPlain chains nsid keys request source octets moment transport info reply
       → RepliesBy chains nsid keys request source octets moment transport info reply chains
-  plain_replied transport info reply other (parts, gives, sent, back) =
-      let all : GivesOf chains nsid keys request source octets moment (only chains parts) = record {
+  plain_replied transport info reply other (given, gives, parts, signs, sent, back) =
+      let all : GivesOf chains nsid keys request source octets moment given = record {
         update = λ yes. absurd (true≢false (sym yes ∙ other));
-        other = λ _. (parts, gives, refl);
+        other = λ _. gives;
       } in
-      (only chains parts, all, parts, refl, sent, back, refl)
+      (given, all, parts, signs, sent, back, sym (ap (λ (g : Given). g.chains) gives.2))
 
   pub update_refused : (fault : ServiceFault) (new : List (DomainName × List View)) → is_served_update request ≡ true → RefusesUpdate keys request source octets moment chains fault new → RefusesBy chains keys request source octets moment fault new
   update_refused (OutOfMemory false) new served is = is
@@ -70,7 +69,8 @@ module _ (chains : List (DomainName × List View)) (nsid : Option (List ℕ)) (k
   request_replied updates parts info reply new served copies replied sent =
       (updates, λ _. copies, update_replied chains nsid keys (with_updates request.message updates) request.source request.octets moment parts request.transport info reply new served replied sent)
 
-  pub request_plain : (info : Header) (reply : List ℕ) → is_served_update request.message ≡ false → RepliesPlain chains nsid request.message request.transport info reply
+  pub request_plain : (info : Header) (reply : List ℕ) → is_served_update request.message ≡ false
+      → RepliesPlain chains nsid keys request.message request.source request.octets moment request.transport info reply
       → RepliesToRequest chains nsid keys request moment info reply chains
   request_plain info reply other replied =
       (request.message.authorities, λ yes. absurd (true≢false (sym yes ∙ other)), plain_replied chains nsid keys request.message request.source request.octets moment request.transport info reply other replied)
@@ -93,8 +93,12 @@ module _ (chains : List (DomainName × List View)) (nsid : Option (List ℕ)) (k
       request_replied updates parts info reply new (subst (λ (x : Message). is_served_update x ≡ true) same served)
       (subst (λ (rs : List Record). AreCopies rs updates) (all ∙ ap (λ (x : Message). x.authorities) same) copies) last written
 
-  pub read_plain : (m : Message) (transport : Protocol) (info : Header) (reply : List ℕ) → m ≡ request.message → transport ≡ request.transport → is_served_update m ≡ false → RepliesPlain chains nsid m transport info reply
-      → RepliesToRequest chains nsid keys request moment info reply chains
-  read_plain m transport info reply same by other replied =
+  pub read_plain : (m : Message) (source : SocketAddr) (octets : List ℕ) (transport : Protocol) (now : ℕ) → m ≡ request.message → source ≡ request.source → octets ≡ request.octets → transport ≡ request.transport → now ≡ moment
+      → (info : Header) (reply : List ℕ) → is_served_update m ≡ false → RepliesPlain chains nsid keys m source octets now transport info reply → RepliesToRequest chains nsid keys request moment info reply chains
+  read_plain m source octets transport now same from arrived by at info reply other replied =
+      let first = subst (λ (x : Message). RepliesPlain chains nsid keys x source octets now transport info reply) same replied in
+      let second = subst (λ (x : SocketAddr). RepliesPlain chains nsid keys request.message x octets now transport info reply) from first in
+      let third = subst (λ (x : List ℕ). RepliesPlain chains nsid keys request.message request.source x now transport info reply) arrived second in
+      let last = subst (λ (x : ℕ). RepliesPlain chains nsid keys request.message request.source request.octets x transport info reply) at third in
       request_plain info reply (subst (λ (x : Message). is_served_update x ≡ false) same other)
-      (subst (λ (x : Protocol). RepliesPlain chains nsid request.message x info reply) by (subst (λ (x : Message). RepliesPlain chains nsid x transport info reply) same replied))
+      (subst (λ (x : Protocol). RepliesPlain chains nsid keys request.message request.source request.octets moment x info reply) by last)

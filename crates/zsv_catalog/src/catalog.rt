@@ -191,28 +191,30 @@ impl<S: TsigSuite, H: ZoneHandler> Catalog<S, H> {
     }
 
     /// Answers a query with these options, whatever its opcode: its reply is sent to a sink, as `handle_request` does. The
-    /// moment is given in seconds since 1970; no reply needs it yet.
+    /// moment is given in seconds since 1970.
     pub fn lookup<R: ResponseHandler>(
         &self,
         request: &Request<'_>,
         edns: Option<&Edns>,
-        _now: u64,
+        now: u64,
         handle: &mut R,
     ) -> Result<ResponseInfo, ServiceFault>
         ensures replied { IfOk result (λ told. (reply : List ℕ) × (sent : Header)
-            × AnswersQuery (views_of H.view self.now.chains.chains) request.now.message (option_copied edns.entry) request.now.transport sent reply
+            × AnswersQuery (views_of H.view self.now.chains.chains) (S.keys self.now.suite) request.now.message request.now.source request.now.octets
+            now (option_copied edns.entry) request.now.transport sent reply
             × HandsOver (R.sink handle.old) reply sent request.now.message.metadata (R.sink handle.new) told) }
         ensures refused { IfErr result (λ fault. fault ≡ ServiceFault.OutOfMemory false) }
         ensures untouched { OnErr result (R.sink handle.new ≡ R.sink handle.old) }
     {
         let message = request.message();
+        let received = received_of(request, now);
         match lookup_by(
+            &self.suite,
             &self.chains,
             edns,
             self.alloc,
             message,
-            request.src(),
-            request.protocol(),
+            received,
         ) {
             Ok(sent) => Ok(hand_over(&message.metadata(), sent, handle)),
             Err(_) => Err(ServiceFault::OutOfMemory { applied: false }),

@@ -11,8 +11,8 @@ pub use zsv_answer::{
     LowerQuery, MessageRequest, MessageResponse, MessageResponseBuilder, MessageType, Metadata, NS,
     Name, OpCode, Protocol, Queries, Query, RData, Record, RecordRef, RecordSet, RecordType,
     Request, RequestInfo, RequestTsig, ResponseCode, ResponseInfo, SOA, TSigResponseContext, Tsig,
-    TsigRecord, TsigVerdict, UpdateRequest, ZoneHandler, ZoneRequest, ZoneType, encode_error,
-    encode_refusal, error_response,
+    TsigRecord, TsigVerdict, UpdateRequest, ZoneHandler, ZoneRequest, ZoneTransfer, ZoneType,
+    encode_error, encode_refusal, error_response,
 };
 pub use zsv_update::{Chains, NoSuite, Received, ServiceFault, SignFault, TsigSuite};
 
@@ -21,6 +21,7 @@ mod copies;
 mod handler;
 mod reply;
 mod sink;
+mod transfer;
 
 pub use catalog::Catalog;
 pub use handler::RequestHandler;

@@ -1,53 +1,34 @@
 //! What chains of handlers answer to a request (RFC 1034 section 4.3.2).
 
-ghost use Rattle.std.specs.Prelude.{◌≡◌, ◌≤◌, IfErr, IfOk, IfSome, length, option_copied};
+ghost use Rattle.std.specs.Prelude.{◌≡◌, IfErr, IfOk, None, false, option_copied};
 ghost use Rattle.zsv_answer.specs.Responses.{parts_of};
-ghost use Rattle.zsv_answer.specs.zst_request.Requested.{asked_of};
-ghost use Rattle.zsv_catalog.specs.Catalogs.{AnswersQuery, KindParts, PartsOf, PlainParts, QueryParts, QuestionParts, RefusesBy, RepliesBy, RepliesPlain, SendsWith, asked_of_query, is_served_update, left_of};
+ghost use Rattle.zsv_answer.specs.zst_request.Updating.{Asked};
+ghost use Rattle.zsv_answer.specs.zst_request.dnw_codes.RecordType.{same_record_type};
+ghost use Rattle.zsv_answer.specs.zst_request.dnw_codes.declared.record_type.RecordType.TheVariants.{AXFR};
+ghost use Rattle.zsv_answer.specs.zst_request.dnw_name.DomainName.{DomainName};
+ghost use Rattle.zsv_answer.specs.zsv_reply.zsv_message.zsv_parts.declared.question.Query.{Query as Question};
+ghost use Rattle.zsv_catalog.specs.Catalogs.{AnswersQuery, KindParts, PartsOf, PlainParts, QueryParts, QuestionParts, RefusesBy, RepliesBy, RepliesPlain, SendsWith, is_served_update, left_of, served_transfer, transfer_question};
 ghost use Rattle.zsv_catalog.specs.Requests.{RefusesRequest, RepliesToRequest};
 ghost use Rattle.zsv_update.specs.zsv_chains.Chains.{views_of};
 
 use crate::copies::copies;
+use crate::transfer::{
+    asked, encode_signed, nsid_octets, response_to_transfer, served_transfer, transfer_question,
+    transfer_reply,
+};
 use drd_types::NSIDPayload;
 use std::alloc::{AllocError, Global};
 use std::mem;
 use std::net::SocketAddr;
 use zsv_answer::{
-    Edns, LookupOptions, MessageRequest, MessageType, OpCode, Protocol, Query, RecordType, Request,
-    Response, ResponseCode, ResponseInfo, TsigVerdict, ZoneHandler, ZoneRequest, chain_response,
-    error_response,
+    Edns, LookupOptions, MessageRequest, MessageType, OpCode, Protocol, Query, Request, Response,
+    ResponseCode, ResponseInfo, ZoneHandler, chain_response, error_response,
 };
 use zsv_update::{
-    Chains, NameKey, Received, ServiceFault, TsigSuite, has_other_version, reply_edns, tsig_of,
-    update_by,
+    Chains, NameKey, Received, ServiceFault, TsigSuite, has_other_version, reply_edns, update_by,
 };
 
-// A question as the handlers of its name are asked it. No signature is tested of a query.
-fn asked<'q>(
-    alloc: Global,
-    message: &'q MessageRequest<'_>,
-    question: &'q Query,
-    src: SocketAddr,
-) -> ZoneRequest<'q>
-    ensures { asked_of result ≡ asked_of_query message.now src question.now }
-{
-    let tsig = match message.signature() {
-        Some(signature) => Some(tsig_of(signature)),
-        None => None,
-    };
-    ZoneRequest {
-        name: &question.name,
-        query_type: question.query_type,
-        id: message.metadata().id,
-        source: src,
-        tsig,
-        verdict: TsigVerdict::UnknownKey,
-        prerequisites: &[],
-        updates: Vec::new(alloc),
-    }
-}
-
-// One question: refused where there is no chain for the name; transfers are not served.
+// One question for no transfer: refused where there is no chain for the name.
 fn question_response<'z, H: ZoneHandler>(
     chains: &'z Chains<H>,
     alloc: Global,
@@ -56,8 +37,9 @@ fn question_response<'z, H: ZoneHandler>(
     options: LookupOptions,
     question: &Query,
 ) -> Result<Response<'z>, AllocError>
-    ensures parts { IfOk result (λ r. QuestionParts (views_of H.view chains.now.chains)
-        message.now.metadata options.dnssec_ok question.now (parts_of r)) }
+    requires { same_record_type question.now.query_type AXFR ≡ false }
+    ensures parts { IfOk result (λ r. (asks : DomainName → Asked) → QuestionParts (views_of H.view chains.now.chains)
+        message.now.metadata options.dnssec_ok asks question.now (parts_of r)) }
     ensures operation { IfOk result (λ r. r.metadata.op_code ≡ message.now.metadata.op_code) }
 {
     let metadata = message.metadata();
@@ -65,14 +47,11 @@ fn question_response<'z, H: ZoneHandler>(
     let Some(handlers) = chains.find_at(key.borrow()) else {
         return Ok(error_response(metadata, ResponseCode::Refused));
     };
-    if question.query_type == RecordType::AXFR {
-        return Ok(error_response(metadata, ResponseCode::ServFail));
-    }
     let request = asked(alloc, message, question, src);
     chain_response(handlers, alloc, &key, metadata, options, &request)
 }
 
-// A query asks one question.
+// A query, for no transfer: it asks one question.
 fn query_response<'z, H: ZoneHandler>(
     chains: &'z Chains<H>,
     alloc: Global,
@@ -80,8 +59,9 @@ fn query_response<'z, H: ZoneHandler>(
     src: SocketAddr,
     options: LookupOptions,
 ) -> Result<Response<'z>, AllocError>
-    ensures parts { IfOk result (λ r. QueryParts (views_of H.view chains.now.chains)
-        message.now.metadata options.dnssec_ok message.now.asked.questions (parts_of r)) }
+    requires { transfer_question message.now.asked.questions ≡ None }
+    ensures parts { IfOk result (λ r. (asks : Question → DomainName → Asked) → QueryParts (views_of H.view chains.now.chains)
+        message.now.metadata options.dnssec_ok asks message.now.asked.questions (parts_of r)) }
     ensures operation { IfOk result (λ r. r.metadata.op_code ≡ message.now.metadata.op_code) }
 {
     match message.queries().queries() {
@@ -98,8 +78,10 @@ fn kind_response<'z, H: ZoneHandler>(
     src: SocketAddr,
     options: LookupOptions,
 ) -> Result<Response<'z>, AllocError>
-    ensures parts { IfOk result (λ r. KindParts (views_of H.view chains.now.chains) message.now.metadata options.dnssec_ok
-        message.now.metadata.message_type message.now.asked.questions (parts_of r)) }
+    requires { message.now.metadata.message_type ≡ MessageType.Query → message.now.metadata.op_code ≡ OpCode.Query
+        → transfer_question message.now.asked.questions ≡ None }
+    ensures parts { IfOk result (λ r. (asks : Question → DomainName → Asked) → KindParts (views_of H.view chains.now.chains) message.now.metadata
+        options.dnssec_ok asks message.now.metadata.message_type message.now.asked.questions (parts_of r)) }
     ensures operation { IfOk result (λ r. r.metadata.op_code ≡ message.now.metadata.op_code) }
 {
     let metadata = message.metadata();
@@ -112,14 +94,15 @@ fn kind_response<'z, H: ZoneHandler>(
     }
 }
 
-// What a full reply to a request holds beside its options.
+// What a full reply to a request for no transfer holds beside its options.
 fn response_to<'z, H: ZoneHandler>(
     chains: &'z Chains<H>,
     alloc: Global,
     message: &MessageRequest<'_>,
     src: SocketAddr,
 ) -> Result<Response<'z>, AllocError>
-    ensures parts { IfOk result (λ r. PlainParts (views_of H.view chains.now.chains) message.now (parts_of r)) }
+    requires { served_transfer message.now ≡ None }
+    ensures parts { IfOk result (λ r. (asks : Question → DomainName → Asked) → PlainParts (views_of H.view chains.now.chains) asks message.now (parts_of r)) }
     ensures operation { IfOk result (λ r. r.metadata.op_code ≡ message.now.metadata.op_code) }
 {
     if has_other_version(message.edns()) {
@@ -144,16 +127,6 @@ fn sent_by(
     response.encode(alloc, edns.as_ref(), message.queries(), protocol)
 }
 
-// The octets of an NSID, for which an option has room.
-fn nsid_octets<'n>(nsid: Option<&'n NSIDPayload>) -> &'n [u8]
-    ensures { IfSome (option_copied nsid.entry) (λ octets. length octets ≤ 65531) }
-{
-    match nsid {
-        Some(payload) => payload.as_ref(),
-        None => &[],
-    }
-}
-
 // Whether a message is served as an update.
 fn is_served_update(message: &MessageRequest<'_>) -> bool
     ensures { result ≡ is_served_update message.now }
@@ -166,19 +139,23 @@ fn is_served_update(message: &MessageRequest<'_>) -> bool
 
 // The reply of these chains to a message that is no update, and its header as it was written, within the limit of its
 // transport.
-fn plain_reply<H: ZoneHandler>(
+fn plain_reply<S: TsigSuite, H: ZoneHandler>(
+    suite: &S,
     chains: &Chains<H>,
     nsid: Option<&NSIDPayload>,
     alloc: Global,
     message: &MessageRequest<'_>,
-    src: SocketAddr,
-    protocol: Protocol,
+    received: Received<'_>,
 ) -> Result<(ResponseInfo, Vec<u8>), AllocError>
-    ensures { IfOk result (λ sent. RepliesPlain (views_of H.view chains.now.chains) (option_copied nsid.entry) message.now protocol sent.0 sent.1.items) }
+    ensures { IfOk result (λ sent. RepliesPlain (views_of H.view chains.now.chains) (option_copied nsid.entry) (S.keys suite.now) message.now
+        received.entry.source received.entry.octets.now received.entry.now received.entry.protocol sent.0 sent.1.items) }
 {
+    if let Some(question) = served_transfer(message) {
+        return transfer_reply(suite, chains, nsid, alloc, message, question, received);
+    }
     let (_octets, _questions) = (nsid_octets(nsid), message.queries().queries());
-    let mut response = response_to(chains, alloc, message, src)?;
-    let sent = sent_by(&response, nsid, alloc, message, protocol);
+    let mut response = response_to(chains, alloc, message, received.source)?;
+    let sent = sent_by(&response, nsid, alloc, message, received.protocol);
     // (the drop of a response costs much even where it holds nothing of its own)
     if !response.is_lent() {
         response.clear();
@@ -207,14 +184,7 @@ pub(crate) fn reply_by<S: TsigSuite, H: ZoneHandler>(
         let updates = message.take_authorities(alloc);
         return update_by(suite, chains, nsid, alloc, message, updates, received);
     }
-    match plain_reply(
-        chains,
-        nsid,
-        alloc,
-        message,
-        received.source,
-        received.protocol,
-    ) {
+    match plain_reply(suite, chains, nsid, alloc, message, received) {
         Ok(sent) => Ok(sent),
         Err(_) => Err(ServiceFault::OutOfMemory { applied: false }),
     }
@@ -251,21 +221,14 @@ pub(crate) fn reply_to_request<S: TsigSuite, H: ZoneHandler>(
         (views_of H.view chains.new.chains)) }
 {
     let message = request.message();
+    let arrival = received_of(request, now);
     if is_served_update(message) {
         let Ok(updates) = copies(alloc, message.authorities()) else {
             return Err(ServiceFault::OutOfMemory { applied: false });
         };
-        let received = received_of(request, now);
-        return update_by(suite, chains, nsid, alloc, message, updates, received);
+        return update_by(suite, chains, nsid, alloc, message, updates, arrival);
     }
-    match plain_reply(
-        chains,
-        nsid,
-        alloc,
-        message,
-        request.src(),
-        request.protocol(),
-    ) {
+    match plain_reply(suite, chains, nsid, alloc, message, arrival) {
         Ok(sent) => Ok(sent),
         Err(_) => Err(ServiceFault::OutOfMemory { applied: false }),
     }
@@ -273,19 +236,23 @@ pub(crate) fn reply_to_request<S: TsigSuite, H: ZoneHandler>(
 
 /// The reply of these chains to a query with these options, and its header as it was written, within the limit of its
 /// transport.
-pub(crate) fn lookup_by<H: ZoneHandler>(
+pub(crate) fn lookup_by<S: TsigSuite, H: ZoneHandler>(
+    suite: &S,
     chains: &Chains<H>,
     edns: Option<&Edns>,
     alloc: Global,
     message: &MessageRequest<'_>,
-    src: SocketAddr,
-    protocol: Protocol,
+    received: Received<'_>,
 ) -> Result<(ResponseInfo, Vec<u8>), AllocError>
-    ensures { IfOk result (λ sent. AnswersQuery (views_of H.view chains.now.chains)
-        message.now (option_copied edns.entry) protocol sent.0 sent.1.items) }
+    ensures { IfOk result (λ sent. AnswersQuery (views_of H.view chains.now.chains) (S.keys suite.now) message.now
+        received.entry.source received.entry.octets.now received.entry.now (option_copied edns.entry) received.entry.protocol sent.0 sent.1.items) }
 {
     let _questions = message.queries().queries();
+    if let Some(question) = transfer_question(message) {
+        let response = response_to_transfer(suite, chains, alloc, message, question, received)?;
+        return encode_signed(suite, alloc, &response, edns, message, received.protocol);
+    }
     let options = LookupOptions::from_edns(message.edns());
-    let response = query_response(chains, alloc, message, src, options)?;
-    response.encode(alloc, edns, message.queries(), protocol)
+    let response = query_response(chains, alloc, message, received.source, options)?;
+    response.encode(alloc, edns, message.queries(), received.protocol)
 }

@@ -1,5 +1,5 @@
 -- What a name owns is what the name of its key owns.
-use Rattle.std.proofs.Common.{◌≡◌, ℕ, Bor, refl, ap, sym, ◌∙◌, arith, length}
+use Rattle.std.proofs.Common.{◌≡◌, Bor, refl, ap, sym, ◌∙◌, arith, length}
 use Rattle.std.specs.Prelude.{Bool, true, false, not, ◌||◌, ◌==◌, List, [], ◌∷◌, Option, Some, None, cond, filter, is_some, option_copied}
 use Rattle.std.specs.List.{list_any}
 use Rattle.std.proofs.lemmas.Bool.{ne_eqb, true≢false}

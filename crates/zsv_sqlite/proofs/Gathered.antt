@@ -3,10 +3,10 @@ use Rattle.std.proofs.Common.{◌≡◌, ℕ, Bor, refl, ap, sym, subst, ◌∙�
 use Rattle.std.specs.Prelude.{Bool, true, false, not, ◌&&◌, ◌||◌, ◌==◌, List, [], ◌∷◌, ◌++◌, Option, Some, None, cond, filter, find, map, nat_lt, option_map}
 use Rattle.std.specs.BTreeMap.{BTreeMap, IsOrdered, get, is_at}
 use Rattle.std.specs.Cmp.{IsEquivalence}
-use Rattle.std.specs.List.{AllByRecursion, list_all, list_any}
+use Rattle.std.specs.List.{AllByRecursion, list_all}
 use Rattle.std.specs.List.Sorted.{IsStrictlySortedBy}
 use Rattle.std.specs.Map.{keys_of, lookup}
-use Rattle.std.specs.Ordering.{eq_of_both, is_eq, nat_cmp, on, ordering_then}
+use Rattle.std.specs.Ordering.{is_eq, nat_cmp, ordering_then}
 use Rattle.std.specs.declared.cmp.Ordering.{Ordering}
 use Rattle.std.specs.declared.cmp.Ordering.TheVariants.{Less, Equal, Greater}
 use Rattle.std.proofs.lemmas.Bool.{and_from, and_parts, eqb-true, ltb-true, true≢false}
@@ -20,7 +20,7 @@ use Rattle.zst_map.specs.zst_record.RecordLaws.{name_eq_equiv}
 use Rattle.zst_map.specs.zst_record.RecordSets.{RRset, none_left}
 use Rattle.zst_map.specs.zst_record.declared.records.Record.{Record}
 use Rattle.zst_map.proofs.Indexed.{rrset_same}
-use Rattle.zst_request.specs.Prerequisites.{has_exactly, is_beside, is_met, is_valued}
+use Rattle.zst_request.specs.Prerequisites.{has_exactly, is_met, is_valued}
 use Rattle.zst_draft.proofs.Names.{eq_lower}
 use Rattle.zsv_sqlite.specs.Groups.{Gathers, Group, is_group_met, is_met_by, is_of_set, key_cmp, records_of, unless_none}
 use Rattle.zsv_sqlite.specs.declared.groups.SetKey.{SetKey}

@@ -1,6 +1,6 @@
 -- A guard changes no look-up, and it stays when the zone is changed.
 use Rattle.std.proofs.Common.{◌≡◌, refl, ap, sym, subst, ◌∙◌}
-use Rattle.std.specs.Prelude.{Bool, true, List, [], ◌∷◌, Option, Some, None, Result, Ok, Err}
+use Rattle.std.specs.Prelude.{ℕ, Bool, true, List, [], ◌∷◌, Option, Some, None, Result, Ok, Err, IsOkAnd, MatchOption, option_map}
 use Rattle.zst_map.specs.dnw_codes.declared.record_type.RecordType.{RecordType}
 use Rattle.zst_map.specs.dnw_name.DomainName.{DomainName}
 use Rattle.zst_map.specs.zst_key.Ancestors.{or_else}
@@ -12,8 +12,15 @@ use Rattle.zst_map.specs.zst_handler.declared.lookup_options.LookupOptions.{Look
 use Rattle.zst_map.specs.zst_record.RecordSets.{RRset}
 use Rattle.zst_map.specs.zst_record.declared.records.Record.{Record}
 use Rattle.zst_request.specs.Applied.{LeavesZone, Owned}
+use Rattle.zst_request.specs.Handed.{TransfersView, transfer_records}
 use Rattle.zst_request.specs.Handling.{AnswersQuestion, Flow}
 use Rattle.zst_request.specs.Prerequisites.{first_refused, prerequisites_refused, prescan_refused}
+use Rattle.zst_request.specs.Requested.{context_of}
+use Rattle.zst_request.specs.Transfers.{guard_refused, own_refused, transfer_context, transfer_of}
+use Rattle.zst_request.specs.declared.request.TSigResponseContext.{TSigResponseContext}
+use Rattle.zst_request.specs.declared.transfer.ZoneTransfer.{ZoneTransfer}
+use Rattle.zst_request.specs.zst_codes.declared.lookup_error.LookupError.{LookupError}
+use Rattle.zst_request.specs.zst_codes.declared.lookup_error.LookupError.TheVariants as errors
 use Rattle.zst_request.specs.Updating.{Asked, ChangesBy, UpdatesView, permission_refused, soa_refused, update_refused}
 use Rattle.zst_request.specs.Views.{Stored}
 use Rattle.zst_request.specs.zst_codes.declared.response_code.ResponseCode.{ResponseCode}
@@ -133,3 +140,21 @@ applied_view old new asked answer permitted e changes = (
 pub second_none : (first second : Option ResponseCode) → or_else first second ≡ None → second ≡ None
 second_none None second e = e
 second_none (Some code) second e = let h : ⊥ = cc in absurd h
+
+-- ---- transfers
+-- The records, or the code of a refusal.
+abbrev Answered : Option ResponseCode → List Record → Result ZoneTransfer LookupError → Type 0
+Answered refused rs answer = MatchOption refused (IsOkAnd answer (λ transfer. transfer_records transfer ≡ rs)) (λ code. answer ≡ Err (errors.ResponseCode code))
+
+module _ (zone : Zone) (asked : Asked) (dnssec_ok : Bool) (moment : ℕ) (context : Option TSigResponseContext) (signs : option_map context_of context ≡ transfer_context zone asked moment) where
+  -- The guard refuses; or the zone's own policy decides.
+  pub guard_refuses : (code : ResponseCode) → guard_refused zone.guard asked ≡ Some code → TransfersView (Stored zone) asked dnssec_ok moment (Some (Err (errors.ResponseCode code), context))
+  guard_refuses code e =
+      (subst (λ (o : Option ResponseCode). Answered (or_else o (own_refused zone.axfr_policy)) (transfer_of zone dnssec_ok) (Err (errors.ResponseCode code))) (sym e) refl, signs)
+
+  pub guard_passes : (answer : Result ZoneTransfer LookupError) → guard_refused zone.guard asked ≡ None → Answered (own_refused zone.axfr_policy) (transfer_of zone dnssec_ok) answer → TransfersView (Stored zone) asked dnssec_ok moment (Some (answer, context))
+  guard_passes answer e is = (subst (λ (o : Option ResponseCode). Answered (or_else o (own_refused zone.axfr_policy)) (transfer_of zone dnssec_ok) answer) (sym e) is, signs)
+
+pub handler_transfer : {K : Type 0} (handler : SqliteZoneHandler K) (zone : Zone) → zone ≡ handler.in_memory → (dnssec_ok : Bool) (answer : Result ZoneTransfer LookupError)
+    → Answered (own_refused zone.axfr_policy) (transfer_of zone dnssec_ok) answer → Answered (own_refused (guarded_zone handler).axfr_policy) (transfer_of (guarded_zone handler) dnssec_ok) answer
+handler_transfer handler zone same dnssec_ok answer is = subst (λ (z : Zone). Answered (own_refused z.axfr_policy) (transfer_of z dnssec_ok) answer) same is

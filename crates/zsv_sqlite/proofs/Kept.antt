@@ -1,6 +1,6 @@
 -- What updates keep: aliases stay alone, and the apex keeps its SOA and its name servers.
 use Rattle.std.proofs.Common.{◌≡◌, ℕ, refl, ap, sym, subst, ◌∙◌, length}
-use Rattle.std.specs.Prelude.{Bool, true, false, not, ◌&&◌, ◌||◌, ◌==◌, List, [], ◌∷◌, ◌++◌, Option, Some, None, Result, Ok, Err, IfOk, OnErr, IsSome, IsSomeAnd, cond, filter, find, is_some, map, nat_le, nat_lt, option_map}
+use Rattle.std.specs.Prelude.{Bool, true, false, not, ◌&&◌, ◌||◌, ◌==◌, List, [], ◌∷◌, ◌++◌, Option, Some, None, Result, Ok, Err, IfOk, OnErr, IsSomeAnd, cond, filter, find, is_some, map, nat_le, nat_lt, option_map}
 use Rattle.std.specs.List.{AllByRecursion, flat_map, list_any}
 use Rattle.std.proofs.lemmas.Bool.{and_parts, and_right, eq-eqb, eqb-true, not-false, not-true, or_parts, true≢false}
 use Rattle.zst_map.specs.dnw_codes.declared.dns_class.DNSClass.{DNSClass}

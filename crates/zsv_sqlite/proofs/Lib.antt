@@ -3,4 +3,5 @@ pub mod Gathered
 pub mod Guarding
 pub mod Kept
 pub mod Raised
+pub mod Unasked
 pub mod Unchanged

@@ -21,7 +21,7 @@ use Rattle.zst_map.proofs.NodeSets.{found_type}
 use Rattle.zst_draft.proofs.DraftedZones.{name_rises}
 use Rattle.zst_draft.proofs.Names.{eq_lower}
 use Rattle.zst_draft.proofs.OwnerSets.{owner_once}
-use Rattle.zst_request.specs.Applied.{LeavesZone, Owned, all_applied, any_changes, if_soa_raised, raised, updated}
+use Rattle.zst_request.specs.Applied.{LeavesZone, Owned, all_applied, any_changes, if_soa_raised, raised}
 use Rattle.zst_request.specs.Prerequisites.{refused_if}
 use Rattle.zst_request.specs.Updating.{ChangesBy, soa_refused}
 use Rattle.zst_request.specs.zst_codes.declared.response_code.ResponseCode.{ResponseCode}

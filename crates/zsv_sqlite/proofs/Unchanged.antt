@@ -1,6 +1,6 @@
 -- Records that change nothing leave what a zone stores.
 use Rattle.std.proofs.Common.{◌≡◌, refl, ap, sym, subst, ◌∙◌}
-use Rattle.std.specs.Prelude.{Bool, true, false, not, ◌&&◌, ◌||◌, List, [], ◌∷◌, ◌++◌, None, Option, Ok, cond, filter, is_some}
+use Rattle.std.specs.Prelude.{Bool, true, false, not, ◌&&◌, List, [], ◌∷◌, ◌++◌, None, Option, Ok, cond, filter, is_some}
 use Rattle.std.specs.List.{flat_map, list_any}
 use Rattle.std.proofs.lemmas.Bool.{or_parts}
 use Rattle.zst_map.specs.dnw_codes.declared.dns_class.DNSClass.{DNSClass}
@@ -14,7 +14,7 @@ use Rattle.zst_map.specs.zst_handler.Zones.{AreInOrder, AreStored, Zone, rrset_a
 use Rattle.zst_map.specs.zst_record.RecordSets.{RRset, removed}
 use Rattle.zst_map.specs.zst_record.declared.records.Record.{Record}
 use Rattle.zst_draft.proofs.Names.{sets_same}
-use Rattle.zst_request.specs.Applied.{LeavesZone, Owned, all_applied, any_changes, applied, changes, changes_by, if_filled, is_added, is_deleted, is_taken_from, left_by, raised, taken_from, updated}
+use Rattle.zst_request.specs.Applied.{Owned, all_applied, any_changes, applied, changes, changes_by, if_filled, is_deleted, is_taken_from, left_by, raised, taken_from}
 use Rattle.zst_request.specs.Prerequisites.{refused_if}
 use Rattle.zst_request.specs.Updating.{ChangesBy, soa_refused}
 use Rattle.zst_request.specs.zst_codes.declared.response_code.ResponseCode.{ResponseCode}

@@ -1,13 +1,17 @@
 -- A stored zone with its guard: RFC 2136, section 3.3.
-use Rattle.std.specs.Prelude.{Bool, List, Option, Some, None, Result, Ok, Err, if◌then◌else◌}
+use Rattle.std.specs.Prelude.{◌==◌, Bool, not, List, [], ◌∷◌, Option, Some, None, Result, Ok, Err, if◌then◌else◌}
 use Rattle.std.specs.Borrow.{Fml, Lends, MutBor, RattleType}
 use Rattle.zst_draft.specs.contracts.InMemoryZoneHandler as in_memory
+use Rattle.zst_map.specs.dnw_codes.declared.dns_class.DNSClass.{DNSClass}
+use Rattle.zst_map.specs.dnw_codes.declared.dns_class.DNSClass.TheVariants as classes
+use Rattle.zst_map.specs.dnw_name.DomainName.{DomainName, is_at_or_below}
 use Rattle.zst_map.specs.zst_handler.Zones.{Zone}
 use Rattle.zst_map.specs.zst_key.Ancestors.{or_else}
 use Rattle.zst_map.specs.zst_record.declared.records.Record.{Record}
-use Rattle.zst_request.specs.Prerequisites.{first_refused, prerequisites_refused, prescan_refused}
+use Rattle.zst_request.specs.Prerequisites.{first_refused, has_data, is_valued, prerequisites_refused, prescan_refused, refused_if}
 use Rattle.zst_request.specs.Updating.{Asked, ChangesBy, permission_refused, soa_refused}
 use Rattle.zst_request.specs.zst_codes.declared.response_code.ResponseCode.{ResponseCode}
+use Rattle.zst_request.specs.zst_codes.declared.response_code.ResponseCode.TheVariants as codes
 use Rattle.zsv_sqlite.specs.contracts.handler.SqliteZoneHandler.{the_row}
 use Rattle.zsv_sqlite.specs.declared.handler.SqliteZoneHandler.{SqliteZoneHandler}
 
@@ -32,6 +36,26 @@ abbrev pub refused_before : Zone → List Record → List Record → Option Resp
 refused_before zone prerequisites changes =
     or_else (prerequisites_refused zone prerequisites)
     (first_refused (prescan_refused zone.origin) changes)
+
+-- Why a prerequisite is refused by its form, whatever the zone has (RFC 2136, section 3.2).
+abbrev pub form_by_class : Record → DNSClass → Option ResponseCode
+form_by_class r classes.IN = None
+form_by_class r classes.ANY = refused_if (has_data r) codes.FormErr
+form_by_class r classes.NONE = refused_if (has_data r) codes.FormErr
+form_by_class r other = Some codes.FormErr
+
+abbrev pub form_refused : DomainName → Record → Option ResponseCode
+form_refused origin r =
+    or_else (refused_if (not (r.ttl == 0)) codes.FormErr)
+    (or_else (refused_if (not (is_at_or_below r.name origin)) codes.NotZone)
+    (form_by_class r r.dns_class))
+
+-- The code of the first prerequisite that is refused by its form, unless one before it asks what
+-- the zone has.
+abbrev pub refused_unasked : DomainName → List Record → Option ResponseCode
+refused_unasked origin [] = None
+refused_unasked origin (r ∷ rs) =
+    or_else (form_refused origin r) (if is_valued r then refused_unasked origin rs else None)
 
 -- Records are applied, all or none. Where the serial number is to be raised, those that change
 -- something need an SOA at the apex.

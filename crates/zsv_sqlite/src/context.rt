@@ -1,4 +1,4 @@
-//! What the reply to a signed update is signed with (RFC 8945 section 5.3).
+//! What the reply to a signed update or question for a transfer is signed with (RFC 8945 section 5.3).
 
 ghost use Rattle.std.specs.Prelude.{◌≡◌, IfOk};
 ghost use Rattle.zst_request.specs.Requested.{context_of, signed_by};

@@ -3,12 +3,13 @@
 ghost use Rattle.std.specs.Prelude.{◌≡◌, [], true, not, None, Some, Ok, Err, IfOk, IsOk, OnErr, option_map};
 ghost use Rattle.std.specs.Borrow.{sem};
 ghost use Rattle.zst_request.specs.Prerequisites.{first_refused, prerequisites_refused, prescan_refused, refused_if};
-ghost use Rattle.zst_request.specs.Requested.{asked_of, context_of};
-ghost use Rattle.zst_request.specs.Updating.{ChangesBy, is_good, soa_refused, update_context};
+ghost use Rattle.zst_request.specs.Requested.{asked_of, context_of, signed_by};
+ghost use Rattle.zst_request.specs.Transfers.{guard_refused, policy_refused, transfer_context};
+ghost use Rattle.zst_request.specs.Updating.{ChangesBy, context_for, is_good, soa_refused, update_context};
 ghost use Rattle.zst_request.specs.Views.{Stored};
 ghost use Rattle.zst_request.specs.zst_codes.declared.response_code.ResponseCode.TheVariants as codes;
 ghost use Rattle.zst_map.specs.zst_key.Ancestors.{or_else};
-ghost use Rattle.zsv_sqlite.specs.Guarded.{AppliesAll, LendsZone, forbidden, guarded_zone, refused_before, unless_refused};
+ghost use Rattle.zsv_sqlite.specs.Guarded.{AppliesAll, LendsZone, forbidden, guarded_zone, refused_before, refused_unasked, unless_refused};
 ghost use Rattle.zsv_sqlite.specs.Laws.{AliasesAlone, HasNs, HasOneSoa};
 
 use crate::changes::apply_changes;
@@ -81,7 +82,7 @@ impl<K> SqliteZoneHandler<K> {
     }
 
     /// Whether the zone is as the prerequisites of an update ask (RFC 2136 section 3.2), or by which code they are refused.
-    /// Without prerequisites it takes no memory.
+    /// It takes no memory without prerequisites, nor to refuse one by its form before one asks what the zone has.
     pub fn verify_prerequisites(
         &self,
         alloc: Global,
@@ -89,6 +90,7 @@ impl<K> SqliteZoneHandler<K> {
     ) -> Result<Result<(), ResponseCode>, AllocError>
         ensures verified { IfOk result (λ verified. verified ≡ unless_refused (prerequisites_refused (guarded_zone self.now) prerequisites.now)) }
         ensures none { prerequisites.now ≡ [] → IsOk result }
+        ensures form { (code : ResponseCode) → refused_unasked (guarded_zone self.now).origin prerequisites.now ≡ Some code → result ≡ Ok (Err code) }
     {
         let refused = prerequisites_refusal(alloc, &self.in_memory, prerequisites)?;
         Ok(unless_refused(refused))
@@ -119,6 +121,25 @@ impl<K> SqliteZoneHandler<K> {
         }
     }
 
+    // Whether the guard lets a request transfer the zone (RFC 5936 section 5), or by which code it is refused; and what the reply
+    // is signed with. It takes no memory where the reply isn't signed.
+    pub(crate) fn authorize_transfer(
+        &self,
+        alloc: Global,
+        request: &ZoneRequest<'_>,
+        now: u64,
+    ) -> Result<(Result<(), ResponseCode>, Option<TSigResponseContext>), AllocError>
+        ensures permitted { IfOk result (λ given. given.0 ≡ unless_refused (guard_refused (guarded_zone self.now).guard (asked_of request.now))) }
+        ensures context { IfOk result (λ given. option_map context_of given.1 ≡ transfer_context (guarded_zone self.now) (asked_of request.now) now) }
+        ensures unsigned { transfer_context (guarded_zone self.now) (asked_of request.now) now ≡ None → IsOk result }
+    {
+        match self.axfr_policy {
+            AxfrPolicy::AllowAll => Ok((Ok(()), None)),
+            AxfrPolicy::Deny => Ok((Err(ResponseCode::Refused), None)),
+            AxfrPolicy::AllowSigned => authorize_signed(alloc, request, now),
+        }
+    }
+
     /// Whether the records of an update have a form that can be applied (RFC 2136 section 3.4.1), or by which code they are
     /// refused. It takes no memory.
     pub fn pre_scan(&self, changes: &[Record]) -> Result<Result<(), ResponseCode>, AllocError>
@@ -136,6 +157,7 @@ impl<K> SqliteZoneHandler<K> {
     ) -> Result<Option<ResponseCode>, AllocError>
         ensures refused { IfOk result (λ refused. refused ≡ refused_before (guarded_zone self.now) prerequisites.now changes.now) }
         ensures none { prerequisites.now ≡ [] → result ≡ Ok (first_refused (prescan_refused (guarded_zone self.now).origin) changes.now) }
+        ensures form { (code : ResponseCode) → refused_unasked (guarded_zone self.now).origin prerequisites.now ≡ Some code → result ≡ Ok (Some code) }
     {
         let refused = prerequisites_refusal(alloc, &self.in_memory, prerequisites)?;
         if refused.is_some() {
@@ -157,6 +179,7 @@ impl<K> SqliteZoneHandler<K> {
         ensures err { OnErr result (self.new ≡ self.old) }
         ensures form { prerequisites.now ≡ [] → (code : ResponseCode) → first_refused (prescan_refused (guarded_zone self.old).origin) changes.items ≡ Some code
             → result ≡ Ok (Err code) }
+        ensures asked { (code : ResponseCode) → refused_unasked (guarded_zone self.old).origin prerequisites.now ≡ Some code → result ≡ Ok (Err code) }
     {
         let Ok(refused) = self.refusal(alloc, prerequisites, &changes) else {
             mem::drop(changes);
@@ -187,6 +210,25 @@ impl<K> SqliteZoneHandler<K> {
     {
         apply_changes(alloc, &mut self.in_memory, records, increment)
     }
+}
+
+// Whether a request is signed and its signature good (RFC 8945 section 5.2), or by which code it is refused; and what the reply
+// is signed with. It takes no memory where the request isn't signed.
+fn authorize_signed(
+    alloc: Global,
+    request: &ZoneRequest<'_>,
+    now: u64,
+) -> Result<(Result<(), ResponseCode>, Option<TSigResponseContext>), AllocError>
+    ensures permitted { IfOk result (λ given. given.0 ≡ unless_refused (policy_refused AxfrPolicy.AllowSigned (option_map signed_by request.now.tsig) request.now.verdict)) }
+    ensures context { IfOk result (λ given. option_map context_of given.1
+        ≡ option_map (context_for request.now.id request.now.verdict now) (option_map signed_by request.now.tsig)) }
+    ensures unsigned { request.now.tsig ≡ None → IsOk result }
+{
+    let Some(tsig) = &request.tsig else {
+        return Ok((Err(ResponseCode::Refused), None));
+    };
+    let made = context_for(alloc, request.id, request.verdict, now, tsig)?;
+    Ok((if_good(request.verdict), Some(made)))
 }
 
 // What a test returns that refuses by a code, or doesn't.

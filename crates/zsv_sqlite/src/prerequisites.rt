@@ -1,15 +1,17 @@
 //! What an update asks of a zone before it changes it (RFC 2136 section 3.2).
 
-ghost use Rattle.std.specs.Prelude.{◌≡◌, [], None, Ok, IfOk};
+ghost use Rattle.std.specs.Prelude.{◌≡◌, [], true, None, Some, Ok, IfOk, IsOk};
 ghost use Rattle.zst_map.specs.dnw_codes.declared.dns_class.DNSClass.TheVariants as classes;
-ghost use Rattle.zst_request.specs.Prerequisites.{absent_code, first_refused, is_in_use, prerequisite_refused, prerequisites_refused, present_code, refused_by_class};
+ghost use Rattle.zst_request.specs.Prerequisites.{absent_code, first_refused, is_in_use, is_valued, prerequisite_refused, prerequisites_refused, present_code, refused_by_class};
+ghost use Rattle.zsv_sqlite.specs.Guarded.{form_by_class, form_refused, refused_unasked};
 
 use crate::groups::{are_met, gathered};
 use crate::prescan::{asks_any, has_data};
 use std::alloc::{AllocError, Global};
 use zst_draft::{DNSClass, InMemoryZoneHandler, NameKey, Record, ResponseCode};
 
-/// Why prerequisites are refused: the first one that is, and after all the sets that are asked for by value.
+/// Why prerequisites are refused: the first one that is, and after all the sets that are asked for by value. It takes no memory
+/// to refuse one by its form before one asks what the zone has.
 pub(crate) fn prerequisites_refusal<K>(
     alloc: Global,
     zone: &InMemoryZoneHandler<K>,
@@ -17,6 +19,7 @@ pub(crate) fn prerequisites_refusal<K>(
 ) -> Result<Option<ResponseCode>, AllocError>
     ensures refused { IfOk result (λ refused. refused ≡ prerequisites_refused zone.now prerequisites.now) }
     ensures none { prerequisites.now ≡ [] → result ≡ Ok None }
+    ensures form { (code : ResponseCode) → refused_unasked zone.now.origin prerequisites.now ≡ Some code → result ≡ Ok (Some code) }
 {
     if prerequisites.is_empty() {
         return Ok(None);
@@ -38,7 +41,8 @@ fn first_refusal<K>(
     zone: &InMemoryZoneHandler<K>,
     prerequisites: &[Record],
 ) -> Result<Option<ResponseCode>, AllocError>
-    ensures { IfOk result (λ refused. refused ≡ first_refused (prerequisite_refused zone.now.origin zone.now.sets) prerequisites.now) }
+    ensures refused { IfOk result (λ refused. refused ≡ first_refused (prerequisite_refused zone.now.origin zone.now.sets) prerequisites.now) }
+    ensures form { (code : ResponseCode) → refused_unasked zone.now.origin prerequisites.now ≡ Some code → result ≡ Ok (Some code) }
 {
     for asked in prerequisites.iter() {
         let refused = refusal(alloc, zone, asked)?;
@@ -55,7 +59,9 @@ fn refusal<K>(
     zone: &InMemoryZoneHandler<K>,
     asked: &Record,
 ) -> Result<Option<ResponseCode>, AllocError>
-    ensures { IfOk result (λ refused. refused ≡ prerequisite_refused zone.now.origin zone.now.sets asked.now) }
+    ensures refused { IfOk result (λ refused. refused ≡ prerequisite_refused zone.now.origin zone.now.sets asked.now) }
+    ensures form { (code : ResponseCode) → form_refused zone.now.origin asked.now ≡ Some code → result ≡ Ok (Some code) }
+    ensures valued { is_valued asked.now ≡ true → IsOk result }
 {
     if asked.ttl != 0 {
         return Ok(Some(ResponseCode::FormErr));
@@ -77,7 +83,8 @@ fn refusal_if_absent<K>(
     zone: &InMemoryZoneHandler<K>,
     asked: &Record,
 ) -> Result<Option<ResponseCode>, AllocError>
-    ensures { IfOk result (λ refused. refused ≡ refused_by_class zone.now.sets asked.now classes.ANY) }
+    ensures refused { IfOk result (λ refused. refused ≡ refused_by_class zone.now.sets asked.now classes.ANY) }
+    ensures form { (code : ResponseCode) → form_by_class asked.now classes.ANY ≡ Some code → result ≡ Ok (Some code) }
 {
     if has_data(asked) {
         return Ok(Some(ResponseCode::FormErr));
@@ -94,7 +101,8 @@ fn refusal_if_present<K>(
     zone: &InMemoryZoneHandler<K>,
     asked: &Record,
 ) -> Result<Option<ResponseCode>, AllocError>
-    ensures { IfOk result (λ refused. refused ≡ refused_by_class zone.now.sets asked.now classes.NONE) }
+    ensures refused { IfOk result (λ refused. refused ≡ refused_by_class zone.now.sets asked.now classes.NONE) }
+    ensures form { (code : ResponseCode) → form_by_class asked.now classes.NONE ≡ Some code → result ≡ Ok (Some code) }
 {
     if has_data(asked) {
         return Ok(Some(ResponseCode::FormErr));

@@ -1,6 +1,7 @@
 //! A guarded zone, as a server asks its handler.
 
-ghost use Rattle.std.specs.Prelude.{◌≡◌, None, Ok, Err, IfOk, OnErr, option_map};
+ghost use Rattle.std.specs.Prelude.{◌≡◌, None, Ok, Err, IfOk, IsOk, OnErr, option_map};
+ghost use Rattle.zst_request.specs.Handed.{TransfersView, view_context};
 ghost use Rattle.zst_request.specs.Requested.{asked_of, context_of};
 ghost use Rattle.zst_request.specs.Updating.{UpdatesView, update_context};
 ghost use Rattle.zst_request.specs.Views.{Stored};
@@ -11,8 +12,8 @@ use crate::handler::SqliteZoneHandler;
 use std::alloc::{AllocError, Global};
 use std::mem;
 use zst_draft::{
-    AuthLookup, AxfrPolicy, LookupControlFlow, LookupOptions, Name, NameKey, NxProofKind,
-    RecordType, ResponseCode, ZoneHandler, ZoneType,
+    AuthLookup, AxfrPolicy, LookupControlFlow, LookupError, LookupOptions, Name, NameKey,
+    NxProofKind, RecordType, ResponseCode, ZoneHandler, ZoneTransfer, ZoneType,
 };
 use zst_request::{TSigResponseContext, ZoneRequest};
 
@@ -106,6 +107,32 @@ impl<K: Drop> ZoneHandler for SqliteZoneHandler<K> {
     > {
         self.in_memory()
             .consult(alloc, name, record_type, options, last)
+    }
+
+    /// The guard's policy is asked first, then the zone's own. It takes no memory where the reply isn't signed.
+    fn zone_transfer<'z>(
+        &'z self,
+        alloc: Global,
+        request: &ZoneRequest<'_>,
+        options: LookupOptions,
+        now: u64,
+    ) -> Result<
+        Option<
+            (
+                Result<ZoneTransfer<'z>, LookupError>,
+                Option<TSigResponseContext>,
+            ),
+        >,
+        AllocError,
+    >
+        ensures given { IfOk result (TransfersView (Stored (guarded_zone self.now)) (asked_of request.now) options.dnssec_ok now) }
+        ensures unsigned { view_context (Stored (guarded_zone self.now)) (asked_of request.now) now ≡ None → IsOk result }
+    {
+        let (permitted, context) = self.authorize_transfer(alloc, request, now)?;
+        match permitted {
+            Ok(()) => Ok(Some((self.in_memory().transfer(alloc, options), context))),
+            Err(code) => Ok(Some((Err(LookupError::ResponseCode(code)), context))),
+        }
     }
 
     fn update(

@@ -26,6 +26,11 @@ use Rattle.zsv_reply.specs.zsv_message.zsv_parts.declared.tsig.TsigRecord.{TsigR
 use Rattle.zsv_update.specs.Keys.{Keys, signature_of}
 
 -- ---- the question to the first handler
+-- The zone section names one zone, with type SOA (RFC 2136, section 2.3).
+abbrev pub names_zone : List Query → Bool
+names_zone (q ∷ []) = same_record_type q.query_type types.SOA
+names_zone other = false
+
 -- A message with these records in its update section (RFC 2136, section 2.5).
 abbrev pub with_updates : Message → List Record → Message
 with_updates request updates = record request { authorities = updates }

@@ -1,12 +1,12 @@
 //! The outcome of an update (RFC 2136 section 3.1).
 
-ghost use Rattle.std.specs.Prelude.{◌≡◌, List, None, false, IfOk, OnErr, Some, option_copied};
+ghost use Rattle.std.specs.Prelude.{◌≡◌, List, None, false, IfOk, IsOk, OnErr, Some, option_copied};
 ghost use Rattle.zsv_chains.specs.Chains.{chain_at, views_of};
 ghost use Rattle.zsv_chains.specs.zst_request.Requested.{asked_of, signed_by};
 ghost use Rattle.zsv_chains.specs.zst_request.Views.{View as Meaning};
 ghost use Rattle.zsv_reply.specs.Writing.{reply_metadata};
 ghost use Rattle.zsv_update.specs.Deciding.{DecidesFirst, IsApplied, first_zone_type, given_of};
-ghost use Rattle.zsv_update.specs.Updates.{GivesUpdate, asked_of_update, outcome_code, outcome_metadata, signer_of, verdict_on, with_updates};
+ghost use Rattle.zsv_update.specs.Updates.{GivesUpdate, asked_of_update, names_zone, outcome_code, outcome_metadata, signer_of, verdict_on, with_updates};
 
 use crate::received::Received;
 use crate::suite::TsigSuite;
@@ -40,8 +40,8 @@ pub fn tsig_of(signature: &TsigRecord) -> RequestTsig<'_>
     }
 }
 
-// The verdict on the signature of a message, for a zone. Of an unsigned message the suite is asked nothing.
-fn verdict_on<S: TsigSuite>(
+/// The verdict on the signature of a message, for a zone. Of an unsigned message the suite is asked nothing.
+pub fn verdict_on<S: TsigSuite>(
     suite: &S,
     zone: &LowerName,
     signature: Option<&TsigRecord>,
@@ -157,7 +157,7 @@ fn decide_by_first<H: ZoneHandler>(
 }
 
 /// Decides an update that applies these records. Of all handlers the first one of the chain for the zone's name alone may
-/// change its zone.
+/// change its zone. It takes no memory to refuse a message that doesn't name one zone.
 pub(crate) fn decide<S: TsigSuite, H: ZoneHandler>(
     suite: &S,
     chains: &mut Chains<H>,
@@ -171,6 +171,7 @@ pub(crate) fn decide<S: TsigSuite, H: ZoneHandler>(
         (given_of decided (views_of H.view chains.new.chains))) }
     ensures applied { IfOk result (λ decided. IsApplied (views_of H.view chains.old.chains) decided (views_of H.view chains.new.chains)) }
     ensures err { OnErr result (views_of H.view chains.new.chains ≡ views_of H.view chains.old.chains) }
+    ensures form { names_zone message.now.asked.questions ≡ false → IsOk result }
 {
     let request = message.metadata();
     let [question] = message.queries().queries() else {

@@ -13,8 +13,9 @@ mod reply;
 mod suite;
 mod update;
 
-pub use decide::tsig_of;
+pub use decide::{tsig_of, verdict_on};
 pub use options::{has_other_version, reply_edns};
 pub use received::Received;
+pub use reply::encode_empty;
 pub use suite::{NoSuite, SignFault, TsigSuite, sign_octets};
 pub use update::{ServiceFault, update_by, update_with};

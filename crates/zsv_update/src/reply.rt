@@ -14,8 +14,8 @@ use zsv_reply::{
     ResponseInfo, TsigRecord,
 };
 
-// The octets of a reply without records, with these options and this signature, and its header as it was written.
-fn encode_empty(
+/// The octets of a reply without records, with these options and this signature, and its header as it was written.
+pub fn encode_empty(
     alloc: Global,
     metadata: Metadata,
     edns: Option<&Edns>,

@@ -1,6 +1,6 @@
 //! Keys that a server shares with others (RFC 8945).
 
-ghost use Rattle.std.specs.Prelude.{◌≡◌, None, Some, Err, IfErr, IfOk, IfSome, option_map};
+ghost use Rattle.std.specs.Prelude.{◌≡◌, None, Ok, Some, Err, IfErr, IfOk, IfSome, option_map};
 ghost use Rattle.zsv_chains.specs.zst_request.Requested.{context_of};
 ghost use Rattle.zsv_reply.specs.zsv_message.zsv_parts.SignatureRecords.{TsigReadsBack};
 ghost use Rattle.zsv_update.specs.Keys.{Keys, signature_of};
@@ -30,7 +30,8 @@ pub trait TsigSuite {
     fn verify(&self, zone: &LowerName, tsig: &TsigRecord, octets: &[u8], now: u64) -> TsigVerdict
         ensures { result ≡ (keys self.now).verdict zone.now (signature_of tsig.now) octets.now now };
 
-    /// The signature of a reply with these octets, which reads back when it is written.
+    /// The signature of a reply with these octets, which reads back when it is written. Memory is asked for only where a key
+    /// signs it.
     fn sign(
         &self,
         alloc: Global,
@@ -39,7 +40,8 @@ pub trait TsigSuite {
     ) -> Result<TsigRecord, SignFault>
         ensures back { IfOk result TsigReadsBack }
         ensures signed { IfOk result (λ tsig. (keys self.now).signature (context_of context.now) octets.now ≡ Some (signature_of tsig)) }
-        ensures failed { IfErr result (λ fault. fault ≡ SignFault.Failed → (keys self.now).signature (context_of context.now) octets.now ≡ None) };
+        ensures failed { IfErr result (λ fault. fault ≡ SignFault.Failed → (keys self.now).signature (context_of context.now) octets.now ≡ None) }
+        ensures unsigned { (keys self.now).signature (context_of context.now) octets.now ≡ None → result ≡ Err SignFault.Failed };
 }
 
 /// No keys: every key is unknown, and nothing is signed.
@@ -71,6 +73,7 @@ impl TsigSuite for NoSuite {
         ensures back { IfOk result TsigReadsBack }
         ensures signed { IfOk result (λ tsig. no_keys.signature (context_of context.now) octets.now ≡ Some (signature_of tsig)) }
         ensures failed { IfErr result (λ fault. fault ≡ SignFault.Failed → no_keys.signature (context_of context.now) octets.now ≡ None) }
+        ensures unsigned { no_keys.signature (context_of context.now) octets.now ≡ None → result ≡ Err SignFault.Failed }
     {
         Err(SignFault::Failed)
     }
@@ -85,6 +88,7 @@ pub fn sign_octets<S: TsigSuite>(
 ) -> Result<Option<TsigRecord>, AllocError>
     ensures back { IfOk result (λ found. IfSome found TsigReadsBack) }
     ensures signed { IfOk result (λ found. (S.keys suite.now).signature (context_of context.now) octets.now ≡ option_map signature_of found) }
+    ensures unsigned { (S.keys suite.now).signature (context_of context.now) octets.now ≡ None → result ≡ Ok None }
 {
     match suite.sign(alloc, context, octets) {
         Ok(tsig) => Ok(Some(tsig)),

@@ -1,7 +1,7 @@
 use Rattle.std.proofs.Common.{◌≡◌, ap, refl, inr, option_copied, subst, sym}
 use Rattle.std.specs.Prelude.{ℕ, List, Option, None}
 use Rattle.std.specs.declared.net.SocketAddr.{SocketAddr}
-use Rattle.authority_load.specs.zst_zone.zst_handler.Zones.{Zone}
+use Rattle.authority_transfer.specs.authority_load.zst_zone.zst_handler.Zones.{Zone}
 use Rattle.authority_server.specs.Servers.{AreUnguarded}
 use Rattle.authority_server.specs.Serving.{World}
 use Rattle.authority_server.specs.declared.stream.StreamError.{StreamError}

@@ -1,5 +1,5 @@
 use Rattle.std.proofs.Common.{◌∙◌, ◌++◌, [], ◌∷◌, List, ap, map, subst, sym}
-use Rattle.authority_load.specs.zst_zone.zst_handler.Zones.{Zone}
+use Rattle.authority_transfer.specs.authority_load.zst_zone.zst_handler.Zones.{Zone}
 use Rattle.authority_server.specs.zsv_catalog.ReadingBack.{ChainReadsBack}
 use Rattle.authority_server.specs.zsv_catalog.zsv_answer.zst_request.Views.{Stored}
 use Rattle.authority.proofs.program.server_of.Goals as goal

@@ -2,7 +2,7 @@ use Rattle.std.proofs.Common.{◌≡◌, ◌∙◌, List, Option, Some, None, ap
 use Rattle.std.proofs.lemmas.Bool.{true≢false}
 use Rattle.std.proofs.lemmas.Option.{none-some}
 use Rattle.std.proofs.lemmas.Result.{IfOk-weaker}
-use Rattle.std.specs.Prelude.{IsSome, option_map, unwrap_or}
+use Rattle.std.specs.Prelude.{option_map, unwrap_or}
 use Rattle.zsv_answer.specs.Parts.{ChainParts}
 use Rattle.zsv_answer.specs.Responses.{parts_of}
 use Rattle.zsv_answer.specs.zsv_reply.Writing.{error_parts}
@@ -18,7 +18,7 @@ use Rattle.zsv_update.proofs.zsv_chains_lemmas.Chained.{found_views}
 use Rattle.zsv_catalog.proofs.reply.question_response.Goals as goal
 
 pub returns-in_default-clause-parts : goal.returns-in_default-clause-parts
-returns-in_default-clause-parts g c =
+returns-in_default-clause-parts g c asks =
     let view = g.H.ZoneHandler.view in
     let chains = c.args.chains.now.chains in
     let name = c.args.question.now.name in
@@ -26,21 +26,8 @@ returns-in_default-clause-parts g c =
     let none = found_views view chains name None found in
     record {
       no_chain = λ _. subst (λ (m : Metadata). parts_of c.error_response.result ≡ error_parts m responses.Refused) c.metadata-metadata.ensures.value c.error_response.ensures;
-      transfer = λ there _. absurd (true≢false (sym (subst (λ (o : Option (List View)). IsSome o) none there)));
+      transfer = λ transfer. absurd (true≢false (sym transfer ∙ c.requires));
       looked_up = λ chain is _. absurd (none-some chain (sym none ∙ is));
-    }
-
-pub returns-then-eq-clause-parts : goal.returns-then-eq-clause-parts
-returns-then-eq-clause-parts g c =
-    let view = g.H.ZoneHandler.view in
-    let chains = c.args.chains.now.chains in
-    let name = c.args.question.now.name in
-    let found = subst (λ (o : Option _). option_map (λ chain. chain.now) o ≡ option_map (λ chain. chain.items) (chain_for chains name)) c.in-Some.is (subst (λ (n : DomainName). option_map (λ chain. chain.now) c.find_at.result ≡ option_map (λ chain. chain.items) (option_map (λ entry. entry.1) (nearest_in (chain_at chains) n))) (c.borrow.ensures ∙ c.in_ok-key.ensures.key) c.find_at.ensures) in
-    let some = found_views view chains name (Some c.in-Some.handlers.now) found in
-    record {
-      no_chain = λ none. absurd (none-some _ (sym none ∙ some));
-      transfer = λ _ _. subst (λ (m : Metadata). parts_of c.error_response-then-eq.result ≡ error_parts m responses.ServFail) c.metadata-metadata.ensures.value c.error_response-then-eq.ensures;
-      looked_up = λ chain is other. absurd (true≢false (sym c.if-eq.true ∙ c.eq.ensures ∙ other));
     }
 
 pub returns-clause-parts : goal.returns-clause-parts
@@ -53,12 +40,12 @@ returns-clause-parts g c =
     let means = map view c.in-Some.handlers.now in
     let found = subst (λ (o : Option _). option_map (λ chain. chain.now) o ≡ option_map (λ chain. chain.items) (chain_for chains name)) c.in-Some.is (subst (λ (n : DomainName). option_map (λ chain. chain.now) c.find_at.result ≡ option_map (λ chain. chain.items) (option_map (λ entry. entry.1) (nearest_in (chain_at chains) n))) (c.borrow.ensures ∙ c.in_ok-key.ensures.key) c.find_at.ensures) in
     let some = found_views view chains name (Some c.in-Some.handlers.now) found in
-    IfOk-weaker c.chain_response.result _ _ (λ r told.
+    IfOk-weaker c.chain_response.result _ _ (λ r told asks.
     let by_name = subst (λ (n : DomainName). ChainParts means c.metadata-metadata.result d n c.asked-request.result.query_type (parts_of r)) (ap (λ (a : Asked). a.name) c.asked-request.ensures) told in
     let by_type = subst (λ (t : RecordType). ChainParts means c.metadata-metadata.result d name t (parts_of r)) (ap (λ (a : Asked). a.query_type) c.asked-request.ensures) by_name in
     let shown = subst (λ (m : Metadata). ChainParts means m d name question.query_type (parts_of r)) c.metadata-metadata.ensures.value by_type in
     record {
       no_chain = λ none. absurd (none-some _ (sym none ∙ some));
-      transfer = λ _ transfer. absurd (true≢false (sym transfer ∙ sym c.eq.ensures ∙ c.if-eq.false));
+      transfer = λ transfer. absurd (true≢false (sym transfer ∙ c.requires));
       looked_up = λ chain is other. subst (λ (views : List View). ChainParts views c.args.message.now.metadata d name question.query_type (parts_of r)) (ap (λ (o : Option (List View)). unwrap_or o means) (sym some ∙ is)) shown;
     }) c.chain_response.ensures.parts

@@ -12,7 +12,8 @@ use Rattle.zst_key.specs.NameKeys.{name_key}
 use Rattle.zst_key.proofs.KeyLemmas.{key-lower}
 use Rattle.zst_handler.specs.Updates.{set_of_type}
 use Rattle.zst_map.specs.Changes.{alters, owner_of, type_in, with_change}
-use Rattle.zst_map.specs.ZoneMaps.{IsNode, held_sets}
+use Rattle.zst_handler.specs.Stores.{held_sets}
+use Rattle.zst_map.specs.ZoneMaps.{IsNode}
 use Rattle.zst_map.proofs.Kept.{in_order, kept_after, node_under, owners_stay, replaced_after, same_after, same_sets, set_held}
 use Rattle.zst_map.proofs.NodeSets.{alters_none, node_alone, node_tried, same_owner}
 use Rattle.zst_map.proofs.map.ZoneMap.change.Goals as goal

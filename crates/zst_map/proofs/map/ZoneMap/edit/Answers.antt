@@ -6,7 +6,8 @@ use Rattle.zst_handler.specs.zst_record.declared.one_or_many.OneOrMany.{OneOrMan
 use Rattle.zst_key.specs.NameKeys.{name_key}
 use Rattle.zst_handler.specs.Updates.{set_of_type, with_set}
 use Rattle.zst_map.specs.Edits.{CanEdit, edited}
-use Rattle.zst_map.specs.ZoneMaps.{IsNode, IsOwnedAt, held_sets}
+use Rattle.zst_handler.specs.Stores.{held_sets}
+use Rattle.zst_map.specs.ZoneMaps.{IsNode, IsOwnedAt}
 use Rattle.zst_map.specs.declared.change.Change.TheVariants as changes
 use Rattle.zst_map.proofs.Edited.{edited_name, found_by, node_edited}
 use Rattle.zst_map.proofs.Kept.{in_order, kept_after, node_under, owners_stay, replaced_after, set_under}

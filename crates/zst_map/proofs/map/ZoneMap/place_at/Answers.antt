@@ -1,7 +1,7 @@
 use Rattle.std.proofs.Common.{◌∙◌, ap, sym}
 use Rattle.std.specs.Prelude.{option_map}
 use Rattle.zst_handler.specs.zst_record.OneOrMany.{items_of}
-use Rattle.zst_map.specs.ZoneMaps.{held_sets}
+use Rattle.zst_handler.specs.Stores.{held_sets}
 use Rattle.zst_map.proofs.Kept.{entries_of, looked_at, seen_as, sets_named, zone_of}
 use Rattle.zst_map.proofs.ZoneMapsBy.{exists_there}
 use Rattle.zst_map.proofs.map.ZoneMap.place_at.Goals as goal

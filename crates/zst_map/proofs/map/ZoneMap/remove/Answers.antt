@@ -12,7 +12,8 @@ use Rattle.zst_handler.specs.Updates.{Replaces, set_of_type}
 use Rattle.zst_handler.specs.Zones.{AreInOrder}
 use Rattle.zst_key.specs.NameKeys.{name_key}
 use Rattle.zst_map.specs.Changes.{is_only}
-use Rattle.zst_map.specs.ZoneMaps.{IsNode, held_sets, sets_in}
+use Rattle.zst_handler.specs.Stores.{held_sets, sets_in}
+use Rattle.zst_map.specs.ZoneMaps.{IsNode}
 use Rattle.zst_map.proofs.Kept.{entries_of, in_order, kept_after, looked_after, looked_at, node_under, owners_stay, seen_as, set_under, sets_as, sets_named, under_as, zone_of}
 use Rattle.zst_map.proofs.NodeSets.{node_without}
 use Rattle.zst_map.proofs.Removals.{removes_among, removes_none, removes_only}

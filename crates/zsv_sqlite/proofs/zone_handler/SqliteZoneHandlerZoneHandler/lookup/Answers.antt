@@ -1,5 +1,4 @@
 use Rattle.std.proofs.lemmas.Result.{IfOk-weaker}
-use Rattle.zst_request.specs.Handling.{HandlerAnswers}
 use Rattle.zsv_sqlite.proofs.Guarding.{handler_lookup}
 use Rattle.zsv_sqlite.proofs.zone_handler.SqliteZoneHandlerZoneHandler.lookup.Goals as goal
 

@@ -1,5 +1,4 @@
 use Rattle.std.proofs.lemmas.Result.{IfOk-weaker}
-use Rattle.zst_request.specs.Handling.{HandlerAnswers}
 use Rattle.zsv_sqlite.proofs.Guarding.{handler_origin}
 use Rattle.zsv_sqlite.proofs.zone_handler.SqliteZoneHandlerZoneHandler.lookup_origin.Goals as goal
 

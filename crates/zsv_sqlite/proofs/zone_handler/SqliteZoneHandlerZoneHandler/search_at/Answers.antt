@@ -1,5 +1,4 @@
 use Rattle.std.proofs.lemmas.Result.{IfOk-weaker}
-use Rattle.zst_request.specs.Handling.{AnswersQuestion}
 use Rattle.zsv_sqlite.proofs.Guarding.{handler_question}
 use Rattle.zsv_sqlite.proofs.zone_handler.SqliteZoneHandlerZoneHandler.search_at.Goals as goal
 

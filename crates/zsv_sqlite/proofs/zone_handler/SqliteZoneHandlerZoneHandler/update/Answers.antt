@@ -1,4 +1,4 @@
-use Rattle.std.proofs.Common.{◌≡◌, ◌∙◌, sym}
+use Rattle.std.proofs.Common.{◌∙◌, sym}
 use Rattle.std.specs.Prelude.{true}
 use Rattle.zst_request.specs.Requested.{asked_of}
 use Rattle.zsv_sqlite.specs.Guarded.{forbidden, guarded_zone}
