@@ -157,8 +157,8 @@ is_served_update request =
     not (has_other_version request.edns)
     && (is_query_type request.metadata.message_type && is_update request.metadata.op_code)
 
--- A message is served as a query if its version of EDNS is served, it is no reply, and its opcode is
--- Query (RFC 1035, section 4.1.1).
+-- A message is served as a query if its version of EDNS is served, it is no reply, and its opcode
+-- is Query (RFC 1035, section 4.1.1).
 abbrev pub is_query : OpCode → Bool
 is_query operations.Query = true
 is_query other = false
