@@ -1,0 +1,2 @@
+pub mod NsecLaws
+pub mod Fronts

@@ -1,0 +1,9 @@
+pub mod KeptCircles
+pub mod KeptHashes
+pub mod Secured
+pub mod ShownSets
+pub mod Signings
+pub use Rattle.zst_handler.proofs.LookupOnce
+pub use Rattle.zst_handler.proofs.zst_record_lemmas
+pub use Rattle.zst_hash.proofs.zst_key_lemmas
+pub mod drd_denial_lemmas
