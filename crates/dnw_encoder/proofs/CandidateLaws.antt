@@ -11,12 +11,12 @@ use Rattle.dnw_encoder.specs.declared.candidates.Entry.{Entry}
 use Rattle.dnw_encoder.proofs.MemberLaws.{in_push}
 
 -- Octets in the front of a list are there in the whole.
-slice_grown : (xs ys : List ℕ) (from to : ℕ) → from ≤ to → to ≤ length xs → slice_range (xs ++ ys) from to ≡ slice_range xs from to
+pub slice_grown : (xs ys : List ℕ) (from to : ℕ) → from ≤ to → to ≤ length xs → slice_range (xs ++ ys) from to ≡ slice_range xs from to
 slice_grown xs ys from to order within =
     ap (λ (t : List ℕ). take (to - from) t) (drop-append-le from xs ys (omega arith))
     ∙ take-append-le (to - from) (drop from xs) ys (omega (arith, length-drop from xs))
 
-slice_cut : (xs : List ℕ) (n from to : ℕ) → from ≤ to → to ≤ length xs → to ≤ n → slice_range (take n xs) from to ≡ slice_range xs from to
+pub slice_cut : (xs : List ℕ) (n from to : ℕ) → from ≤ to → to ≤ length xs → to ≤ n → slice_range (take n xs) from to ≡ slice_range xs from to
 slice_cut xs n from to order within cut =
     sym (slice_grown (take n xs) (drop n xs) from to order (omega (arith, length-take n xs)))
     ∙ ap (λ (t : List ℕ). slice_range t from to) (take-append-drop n xs)

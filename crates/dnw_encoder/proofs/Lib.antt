@@ -10,6 +10,7 @@ pub mod NameOctets
 pub mod PlaceLaws
 pub mod PointerLaws
 pub mod RollbackLaws
+pub mod StartLaws
 pub mod SuffixLaws
 pub mod Written
 pub mod dnw_decoder_lemmas

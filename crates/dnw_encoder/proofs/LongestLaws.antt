@@ -5,8 +5,9 @@ use Rattle.std.proofs.lemmas.Bool.{true≢false}
 use Rattle.std.proofs.lemmas.List.{get_or-drop, get_or-take, length-append, length-drop, length-take, drop-append-le}
 use Rattle.dnw_decoder.specs.dnw_name.DomainName.{domain_name, name_octets}
 use Rattle.dnw_decoder.specs.dnw_label.Labels.{label_octets}
-use Rattle.dnw_encoder.specs.Candidates.{AreWithin, ClashesAt, IsWithin, candidate_of, candidates_of, FindsLongest, IsLongest, IsNameBehind, NoneBefore}
+use Rattle.dnw_encoder.specs.Candidates.{AreWithin, CannotEnd, ClashesAt, IsWithin, candidate_of, candidates_of, FindsLongest, IsLongest, IsNameBehind, NoneBefore}
 use Rattle.dnw_encoder.specs.Members.{In}
+use Rattle.dnw_encoder.specs.Starts.{NoneEarlier}
 use Rattle.dnw_encoder.specs.State.{Candidate}
 use Rattle.dnw_encoder.specs.declared.candidates.Entry.{Entry}
 use Rattle.dnw_encoder.specs.declared.candidates.Suffix.{Suffix}
@@ -72,16 +73,19 @@ search_end octets es i labels front (Some found) le within s = record {
       omega (arith, s.among.5, s.none from.0 (in_all es i from.0 le from.1) before rest split (ap (λ (x : Candidate). x.octets) from.2 ∙ spelled));
 }
 
--- One that is the whole name is the longest.
-pub search_whole : (octets : List ℕ) (es : List Entry) (i : ℕ) (labels : List (List ℕ)) (front whole : ℕ) (found : Option Suffix) → i < length es → AreWithin octets es → Searched octets es i labels front found → whole < front → IsNameBehind labels whole (slice_range octets (get_or es i blank).from (get_or es i blank).to) → whole ≡ 0 → FindsLongest (candidates_of octets es) labels (Some (record { front = whole; place = (get_or es i blank).place }))
-search_whole octets es i labels front whole found lt within s less is zero = record {
+-- One that begins where the longest may is the longest.
+pub search_least : (octets : List ℕ) (es : List Entry) (i : ℕ) (labels : List (List ℕ)) (front least at : ℕ) (found : Option Suffix) → i < length es → AreWithin octets es → NoneEarlier octets es labels least → Searched octets es i labels front found → at < front → IsNameBehind labels at (slice_range octets (get_or es i blank).from (get_or es i blank).to) → at ≡ least → FindsLongest (candidates_of octets es) labels (Some (record { front = at; place = (get_or es i blank).place }))
+search_least octets es i labels front least at found lt within none s less is same = record {
   kept = candidate_of octets (get_or es i blank);
   among = in_map_back (candidate_of octets) (get_or es i blank) es (in_get es i blank lt);
   behind = is;
   labelled = omega (arith, s.within, less);
   place = refl;
   small = (within (get_or es i blank) (in_get es i blank lt)).small;
-  longest = λ c member before rest split spelled. omega (arith, zero);
+  longest = λ c member.
+      let from = in_map (candidate_of octets) c es member in
+      λ before rest split spelled.
+      omega (arith, same, none from.0 from.1 before rest split (ap (λ (x : Candidate). x.octets) from.2 ∙ spelled));
 }
 
 pub some_octets : (all octets : List ℕ) → false ≡ (length all == 0) → all ≡ octets → 0 < length octets
@@ -152,15 +156,22 @@ pub barred_none : (octets : List ℕ) (labels : List (List ℕ)) (e : Entry) (to
 barred_none octets labels e to clash front barred at le before rest split spelled =
     absurd (barred e.from le before rest split (ap (λ (n : ℕ). slice_range octets e.from n) (sym at) ∙ spelled))
 
--- Nor is one that is too long, or that is no longer than what was found.
-pub cannot_end : (octets : List ℕ) (labels : List (List ℕ)) (e : Entry) (whole front to clash : ℕ) → IsWithin octets e → whole ≡ length (label_octets labels) + 1 → Barred octets labels to clash → (whole < e.to - e.from) ⊎ (front + (e.to - e.from) ≤ whole) ⊎ ((e.to ≡ to) × (e.from ≤ clash)) → NoneBefore labels front (slice_range octets e.from e.to)
-cannot_end octets labels e whole front to clash w all barred why before rest split spelled =
+-- Nor is one that is too long, or as long as the rest and other octets, or no longer than what was found.
+pub cannot_end : (octets : List ℕ) (labels : List (List ℕ)) (e : Entry) (rest : List ℕ) (whole least front to clash : ℕ) → IsWithin octets e → whole ≡ length (label_octets labels) + 1 → least ≤ length (label_octets labels) → rest ≡ drop least (label_octets labels) → NoneBefore labels least (slice_range octets e.from e.to) → Barred octets labels to clash → CannotEnd octets rest whole front to clash e → NoneBefore labels front (slice_range octets e.from e.to)
+cannot_end octets labels e rest whole least front to clash w all within is none barred why before behind split spelled =
     let long = part_length octets e.from e.to w.order w.within in
-    let at = behind_length labels before rest (slice_range octets e.from e.to) split spelled in
+    let at = behind_length labels before behind (slice_range octets e.from e.to) split spelled in
+    let from = none before behind split spelled in
+    let size : length rest ≡ length (label_octets labels) - least = omega (arith, ap length is, length-drop least (label_octets labels)) in
     elim why [
-      | inl longer ↦ absurd (omega (arith, longer, long, at, all))
-      | inr other ↦ elim other [
-        | inl later ↦ omega (arith, later, long, at, all)
-        | inr held ↦ barred_none octets labels e to clash front barred held.0 held.1 before rest split spelled
+      | inl other ↦
+          let there : length (label_octets before) ≡ least = omega (arith, other.0, long, at, size, within) in
+          absurd (other.1 (spelled ∙ ap (λ (t : List ℕ). t ++ 0 ∷ []) (sym (is ∙ drop_front labels before behind least split (sym there)))))
+      | inr more ↦ elim more [
+        | inl longer ↦ absurd (omega (arith, longer, long, at, size, within, from))
+        | inr rest_of ↦ elim rest_of [
+          | inl later ↦ omega (arith, later, long, at, all)
+          | inr held ↦ barred_none octets labels e to clash front barred held.0 held.1 before behind split spelled
+        ]
       ]
     ]

@@ -65,6 +65,16 @@ pub record ClashesAt (labels : List (List ℕ)) (octets : List ℕ) (place : ℕ
       (length (label_octets labels) + 1 - length octets + place) 0
       → ⊥
 
+-- An entry's name doesn't end one of so many octets behind fewer than so many, where none does
+-- that is longer than the rest of its labels and the end: it is as long and other octets; longer; no
+-- longer than what begins there; or it holds an octet among those that go to an end.
+abbrev pub CannotEnd : List ℕ → List ℕ → ℕ → ℕ → ℕ → ℕ → Entry → Type 0
+CannotEnd octets rest whole before to octet e =
+    ((e.to - e.from ≡ length rest + 1)
+    × (slice_range octets e.from e.to ≡ rest ++ 0 ∷ [] → ⊥))
+    ⊎ (length rest + 1 < e.to - e.from) ⊎ (before + (e.to - e.from) ≤ whole)
+    ⊎ ((e.to ≡ to) × (e.from ≤ octet))
+
 -- What octets are to the end of a name of these labels.
 abbrev pub Meets : List (List ℕ) → ℕ → List ℕ → Meeting → Type 0
 Meets labels before octets (Ends front) = (front < before) × IsNameBehind labels front octets

@@ -3,6 +3,7 @@ pub mod Effects
 pub mod Encoders
 pub mod Members
 pub mod Names
+pub mod Starts
 pub mod State
 pub mod dnw_codes
 pub mod dnw_decoder

@@ -1,12 +1,14 @@
 //! The names to which later ones may point (RFC 1035 4.1.4).
 ghost use Rattle.std.specs.Prelude.{◌≡◌, ◌↔◌, ◌+◌, ◌<◌, ◌≤◌, ◌^◌, ◌-◌, ◌∷◌, [], ◌++◌, ◌⊎◌, true, false, length, filter, nat_le, slice_range, IfSome, OnOk, OnErr};
 ghost use Rattle.dnw_decoder.specs.dnw_label.Labels.{label_octets};
-ghost use Rattle.dnw_encoder.specs.Candidates.{AreWithin, FindsAmong, FindsLongest, IsLongest, IsWithin, KeepsOctets, KeepsSuffixes, Meets, PushesOthers, PushesSuffixes, SplitsAt, candidates_of};
+ghost use Rattle.dnw_encoder.specs.Candidates.{AreWithin, CannotEnd, FindsAmong, FindsLongest, IsLongest, IsWithin, KeepsOctets, KeepsSuffixes, Meets, PushesOthers, PushesSuffixes, SplitsAt, candidates_of};
 ghost use Rattle.dnw_encoder.specs.Members.{In};
+ghost use Rattle.dnw_encoder.specs.Starts.{AreMarked, NoneEarlier, NoneMarkedBefore};
 ghost use Rattle.dnw_encoder.specs.State.{Candidate};
 ghost use Rattle.dnw_encoder.specs.declared.candidates.Entry.{Entry};
 
 use crate::eights::{clash_of, is_name_of, starts_apart};
+use crate::starts::Starts;
 use dnw_decoder::Name;
 use smallvec::SmallVec;
 use std::alloc::{AllocError, Global};
@@ -28,19 +30,31 @@ pub(crate) struct Entry {
 }
 
 impl Entry {
-    // Whether its name may end one of so many octets, behind fewer than so many of them, and doesn't hold an octet among
+    // Whether its name may end one of so many octets behind fewer than so many, where no longer one does than the rest
+    // of these labels. It is no such one that is as long as the rest and begins otherwise, nor that holds an octet among
     // those that go to an end.
     #[inline(always)]
-    fn may_end(&self, whole: usize, before: usize, to: usize, octet: usize) -> bool
-        requires { self.now.from ≤ self.now.to }
-        ensures { result ≡ false → (whole < self.now.to - self.now.from) ⊎ (before + (self.now.to - self.now.from) ≤ whole)
-            ⊎ ((self.now.to ≡ to) × (self.now.from ≤ octet)) }
+    fn may_end(
+        &self,
+        octets: &[u8],
+        rest: &[u8],
+        whole: usize,
+        before: usize,
+        to: usize,
+        octet: usize,
+    ) -> bool
+        requires within { IsWithin octets.now self.now }
+        requires most { length rest.now + 1 ≤ whole }
+        ensures { result ≡ false → CannotEnd octets.now rest.now whole before to octet self.now }
     {
+        let (size, most) = (self.to - self.from, rest.len() + 1);
+        if size == most && starts_apart(self.octets(octets), rest) {
+            return false;
+        }
         if self.to == to && self.from <= octet {
             return false;
         }
-        let size = self.to - self.from;
-        size <= whole && whole - size < before
+        size <= most && whole - size < before
     }
 
     // The name's octets among those of all.
@@ -66,18 +80,22 @@ pub(crate) struct Candidates {
     entries: SmallVec<Entry, 16>,
     // The octets of one name behind those of another, each in full.
     octets: SmallVec<u8, 192>,
+    // Where those names are marked by their first octets.
+    starts: Starts,
 }
 
 impl Model for Candidates {
     ghost use Rattle.std.specs.Prelude.{List};
     ghost use Rattle.dnw_encoder.specs.Candidates.{AreWithin, candidates_of};
+    ghost use Rattle.dnw_encoder.specs.Starts.{AreMarked};
     ghost use Rattle.dnw_encoder.specs.State.{Candidate};
 
     ghost Value = { List Candidate };
 
     ghost view = { λ kept. candidates_of kept.octets.items kept.entries.items };
 
-    ghost invariant = { λ kept. AreWithin kept.octets.items kept.entries.items };
+    ghost invariant = { λ kept. AreWithin kept.octets.items kept.entries.items
+        × AreMarked kept.starts.marks kept.octets.items kept.entries.items };
 }
 
 // The place of the first entry of these octets.
@@ -150,18 +168,39 @@ fn meeting_of(octets: &[u8], name: &Name, before: usize) -> Meeting
     }
 }
 
-// The longest name among entries that ends a name. Octets that clash with its end are read once: a name that is kept with
-// others, and holds them too, is left out.
-fn longest_of(entries: &[Entry], octets: &[u8], name: &Name) -> Option<Suffix>
-    requires { AreWithin octets.now entries.now }
+// Behind which octet of a name those names begin at the earliest that end it and may be kept.
+fn least_of(starts: &Starts, name: &Name) -> usize
+    ensures within { result ≤ length (label_octets name.now.labels) }
+    ensures none { NoneMarkedBefore starts.now.marks name.now.labels result }
+{
+    let labels = name.as_octets();
+    let mut rest = labels;
+    'labels: while let Some((length, behind)) = rest.split_first() {
+        if starts.may_hold(rest) {
+            return labels.len() - rest.len();
+        }
+        let (_, later) = behind.split_at(usize::from(*length));
+        rest = later;
+    }
+    labels.len() - rest.len()
+}
+
+// The longest name among entries that ends a name, where none is longer that begins behind so many octets. Octets that clash
+// with its end are read once: a name that is kept with others, and holds them too, is left out.
+fn longest_of(entries: &[Entry], octets: &[u8], name: &Name, least: usize) -> Option<Suffix>
+    requires within { AreWithin octets.now entries.now }
+    requires least { least ≤ length (label_octets name.now.labels) }
+    requires none { NoneEarlier octets.now entries.now name.now.labels least }
     ensures { FindsLongest (candidates_of octets.now entries.now) name.now.labels result }
 {
-    let mut front = name.as_octets().len();
+    let labels = name.as_octets();
+    let rest = &labels[least..];
+    let mut front = labels.len();
     let whole = front + 1;
     let mut longest = None;
     let (mut to, mut clash) = (0, 0);
     'entries: for entry in entries {
-        if entry.may_end(whole, front, to, clash) {
+        if entry.may_end(octets, rest, whole, front, to, clash) {
             match meeting_of(entry.octets(octets), name, front) {
                 Meeting::Ends(found) => {
                     front = found;
@@ -169,7 +208,7 @@ fn longest_of(entries: &[Entry], octets: &[u8], name: &Name) -> Option<Suffix>
                         front,
                         place: entry.place,
                     });
-                    if front == 0 {
+                    if front == least {
                         return longest;
                     }
                 }
@@ -350,6 +389,7 @@ impl Candidates {
         Candidates {
             entries: SmallVec::new(alloc),
             octets: SmallVec::new(alloc),
+            starts: Starts::new(),
         }
     }
 
@@ -367,7 +407,7 @@ impl Candidates {
         let (entries, octets) = (self.entries.as_slice(), self.octets.as_slice());
         match last_whole(entries, octets, name) {
             Some(suffix) => Some(suffix),
-            None => longest_of(entries, octets, name),
+            None => longest_of(entries, octets, name, least_of(&self.starts, name)),
         }
     }
 
@@ -389,15 +429,19 @@ impl Candidates {
             place: start as u16,
             end: start + octets.len(),
         };
+        let before = self.entries.len();
         if self.entries.push(entry).is_err() {
             return Err(AllocError);
         }
+        self.starts
+            .mark_each(&self.entries.as_slice()[before..], self.octets.as_slice());
         Ok(())
     }
 
     // Keeps a name that stands at a place, and each that ends it and begins in its first so many octets, as long as there
     // is room: the longest first, or of a long name the shorter, where those are wanted. Where memory is refused all stays
     // as it was.
+    #[inline(always)]
     pub(crate) fn keep_name(
         &mut self,
         name: &Name,
@@ -414,12 +458,36 @@ impl Candidates {
         if front == 0 || !is_kept(self.entries.len(), start) {
             return Ok(());
         }
+        self.keep_ends(name, shorter, front, start, end)
+    }
+
+    // Does so where there is room for one.
+    #[inline(never)]
+    fn keep_ends(
+        &mut self,
+        name: &Name,
+        shorter: bool,
+        front: usize,
+        start: usize,
+        end: usize,
+    ) -> Result<(), AllocError>
+        requires some { 0 < front }
+        requires small { start < 16383 }
+        requires fits { start + length (label_octets name.now.labels) < 2 ^ 64 }
+        requires front { front ≤ length (label_octets name.now.labels) }
+        ensures ok { OnOk result (KeepsSuffixes name.now.labels front start end self.old self.new) }
+        ensures err { OnErr result (self.new ≡ self.old) }
+    {
         self.octets.extend_from_slice(name.as_octets())?;
         if self.octets.push(0).is_err() {
             return Err(AllocError);
         }
         let to = self.octets.len();
-        push_name(&mut self.entries, name, shorter, front, to, start, end)
+        let before = self.entries.len();
+        push_name(&mut self.entries, name, shorter, front, to, start, end)?;
+        self.starts
+            .mark_each(&self.entries.as_slice()[before..], self.octets.as_slice());
+        Ok(())
     }
 
     // Leaves out the names whose octets end behind an offset.

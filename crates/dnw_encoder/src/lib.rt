@@ -19,6 +19,7 @@ mod open_places;
 mod place;
 mod pointers;
 mod sequence;
+mod starts;
 
 pub use encodable::{BinEncodable, EncodedSize};
 pub use encoder::BinEncoder;

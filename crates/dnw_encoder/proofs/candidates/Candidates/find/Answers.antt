@@ -5,7 +5,7 @@ use Rattle.dnw_encoder.specs.declared.candidates.Entry.{Entry}
 use Rattle.dnw_encoder.proofs.candidates.Candidates.find.Goals as goal
 
 pub place_of-requires : goal.place_of-requires
-place_of-requires c = rw (c.as_slice.ensures, c.as_slice-2.ensures) c.self.invariant
+place_of-requires c = rw (c.as_slice.ensures, c.as_slice-2.ensures) c.self.invariant.0
 
 pub returns : goal.returns
 returns c =
