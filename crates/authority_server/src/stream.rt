@@ -106,6 +106,7 @@ fn read_message<R: Read>(
     ensures well { OnOk result (faults.new ≡ no_faults) }
     ensures cause { IfErr result (IsFaultOf faults.new) }
     ensures fault { IfErr result (IsMessageFault (R.remaining reader.old) (R.remaining reader.new) size) }
+    ensures memory { result ≡ Err (StreamError.OutOfMemory false) → vec_capacity frame.old < size }
 {
     frame.clear();
     if frame.resize(size as usize, 0).is_err() {
