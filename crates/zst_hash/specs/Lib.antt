@@ -1,0 +1,3 @@
+pub mod Base32
+pub mod Digests
+pub mod Owners
