@@ -1,6 +1,6 @@
 -- Octets in base 32, with the extended hex alphabet in small letters and without padding (RFC 4648,
 -- section 7).
-use Rattle.std.specs.Prelude.{ℕ, ◌+◌, ◌-◌, ◌*◌, ◌/◌, ◌%◌, ◌^◌, List, [], ◌∷◌, ◌++◌, length, take, get_or, nat_lt, if◌then◌else◌}
+use Rattle.std.specs.Prelude.{ℕ, ◌+◌, ◌*◌, ◌/◌, ◌%◌, ◌^◌, List, [], ◌∷◌, ◌++◌, length, take, get_or, nat_lt, if◌then◌else◌}
 
 -- Five bits: 0 to 9, then a to v.
 abbrev pub digit : ℕ → ℕ

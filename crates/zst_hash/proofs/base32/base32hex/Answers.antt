@@ -11,7 +11,7 @@ groups-preserved c =
     let front : c.extend_from_slice.new.self.items ≡ c.groups.text.items ++ digits =
         c.in_ok-extend_from_slice.ensures.items ∙ ap (λ (o : List ℕ). c.groups.text.items ++ o) c.eight_digits.ensures in
     let whole : digits ++ base32hex c.in-Some.later.now ≡ base32hex rest =
-        (λ i. eight_digits (group_number (cut.1 i)) ++ base32hex (cut.2.0 i)) ∙ sym (first_group rest cut.0) in
+        (λ i. eight_digits (group_number (cut.1 i)) ++ base32hex (cut.2 i)) ∙ sym (first_group rest cut.0) in
     ap (λ (o : List ℕ). o ++ base32hex c.in-Some.later.now) front
     ∙ append_assoc c.groups.text.items digits (base32hex c.in-Some.later.now)
     ∙ ap (λ (o : List ℕ). c.groups.text.items ++ o) whole
@@ -20,7 +20,9 @@ groups-preserved c =
 pub returns : goal.returns
 returns c =
     let rest = c.groups.rest.now in
-    let digits : c.index.result.now ≡ take ((8 * length rest + 4) / 5) (eight_digits (group_number rest)) = ? in
-    c.in_ok-extend_from_slice-2.ensures.items
-    ∙ ap (λ (o : List ℕ). c.groups.text.items ++ o) (digits ∙ sym (last_group rest c.in_default.ensures.cases))
+    let digits = take ((8 * length rest + 4) / 5) (eight_digits (group_number rest)) in
+    let last : c.extend_from_slice-2.new.self.items ≡ c.groups.text.items ++ digits =
+        c.in_ok-extend_from_slice-2.ensures.items ∙ ap (λ (o : List ℕ). c.groups.text.items ++ take ((8 * length rest + 4) / 5) o) c.eight_digits-digits.ensures in
+    last
+    ∙ ap (λ (o : List ℕ). c.groups.text.items ++ o) (sym (last_group rest c.in_default.ensures.cases))
     ∙ c.groups.invariant
