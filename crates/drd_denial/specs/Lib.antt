@@ -1,0 +1,4 @@
+pub mod Between
+pub mod Nsec
+pub mod Nsec3
+pub mod Rrsig
