@@ -15,14 +15,14 @@ returns-in-Err c =
     nothing_there c.nothing.result c.in-Err.refused ((next : DomainName) (types : List ℕ) → IsNsecData c.args.octets.now next types → ⊥) (λ nsec. IsNsecData c.args.octets.now nsec.next nsec.types) c.nothing.ensures.memory c.nothing.ensures.none
     (or_not (λ (none : (name : DomainName) (end : ℕ) → NameAt c.new-decoder.result.octets c.new-decoder.result.index name end → ⊥). no_name c.args.octets.now (λ name end at. none name end (subst (λ (o : List ℕ). NameAt o c.new-decoder.result.index name end) (sym start) (subst (λ (n : ℕ). NameAt c.args.octets.now n name end) (sym zero) at)))) c.in-Err.ensures.none)
 
-pub returns-then-behind-gt65535 : goal.returns-then-behind-gt65535
-returns-then-behind-gt65535 c =
+pub returns-then-len-gt65535 : goal.returns-then-len-gt65535
+returns-then-len-gt65535 c =
     let start : c.new-decoder.result.octets ≡ c.args.octets.now = ap (λ (r : Reading). r.octets) c.new-decoder.ensures in
     let zero : c.new-decoder.result.index ≡ 0 = ap (λ (r : Reading). r.index) c.new-decoder.ensures in
     let index = c.read.new.decoder.index in
     let at : NameAt c.args.octets.now 0 c.in-Ok.next index =
     subst (λ (n : ℕ). NameAt c.args.octets.now n c.in-Ok.next index) zero (subst (λ (o : List ℕ). NameAt o c.new-decoder.result.index c.in-Ok.next index) start c.in-Ok.ensures.ok) in
-    too_long c.args.octets.now c.in-Ok.next index at (omega (arith, c.if-behind-gt65535.true, c.index.ensures.value))
+    too_long c.args.octets.now c.in-Ok.next index at (omega (arith, c.if-len-gt65535.true, c.index.ensures.value))
 
 pub returns-in-Ok-read_data : goal.returns-in-Ok-read_data
 returns-in-Ok-read_data c =
