@@ -1,4 +1,4 @@
--- Octets that are NSEC data, as a decoder reads them: at the front of octets no pointer has a target.
+-- NSEC data as a decoder reads them: before offset 0 there is no target for a pointer.
 use Rattle.std.proofs.Common.{◌≡◌, ℕ, zero, suc, ◌+◌, ◌-◌, ◌*◌, ◌<◌, ◌≤◌, true, List, [], ◌∷◌, ◌++◌, length, drop, refl, sym, ap, subst, ◌∙◌, arith, append-nil, append_assoc, length-append, inl, inr, ◌⊎◌}
 use Rattle.std.specs.List.{All}
 use Rattle.std.proofs.lemmas.List.{length-drop, nil_from_length, drop_at}
@@ -24,7 +24,7 @@ use Rattle.dnw_encoder.proofs.dnw_decoder_lemmas.Standing.{stands_joined}
 use Rattle.dnw_encoder.proofs.NameLaws.{name_stands}
 use Rattle.drd_denial.specs.Nsec.{IsNsecData}
 
--- ---- a name at the front stands in full
+-- ---- a name at offset 0 is uncompressed
 record InFull (message : List ℕ) (place : ℕ) (labels : List (List ℕ)) (end : ℕ) : Type 0 where
   each : All IsLabel labels
   there : Stands message place (label_octets labels ++ 0 ∷ []) end
@@ -45,7 +45,7 @@ name_in_full octets next end at =
     let whole = in_full octets (length octets) 0 next.labels end at.spelled in
     (record { each = whole.each; short = at.size }, whole.there)
 
--- ---- what was read
+-- ---- NSEC data that were read
 pub nsec_read : (octets : List ℕ) (next : DomainName) (index len : ℕ) (types : List ℕ) (end : ℕ) → NameAt octets 0 next index → len ≡ length octets - index → TypesAt octets index len types end → IsNsecData octets next types
 nsec_read octets next index len types end at all there =
     let full = name_in_full octets next index at in
@@ -58,8 +58,8 @@ nsec_read octets next index len types end at all there =
       are = there.maps;
     }
 
--- ---- what stands there
--- The name and the bit maps behind it.
+-- ---- a name and bit maps that can be read
+-- The name and the bit maps after it.
 record Parts (octets : List ℕ) (next : DomainName) (types : List ℕ) : Type 0 where
   index : ℕ
   name : NameAt octets 0 next index
@@ -82,7 +82,7 @@ parts octets next types is =
 pub no_name : (octets : List ℕ) → ((name : DomainName) (end : ℕ) → NameAt octets 0 name end → ⊥) → (next : DomainName) (types : List ℕ) → IsNsecData octets next types → ⊥
 no_name octets none next types is = let p = parts octets next types is in none next p.index p.name
 
--- Behind a name that was read the same bit maps stand.
+-- After a name that was read there are the same bit maps.
 same_rest : (octets : List ℕ) (next other : DomainName) (index : ℕ) (types : List ℕ) → NameAt octets 0 next index → (p : Parts octets other types) → drop index octets ≡ p.maps
 same_rest octets next other index types at p =
     let same = name_once octets 0 next other index p.index at p.name in
@@ -113,7 +113,7 @@ too_long octets next index at more other types is =
     let long : length p.maps ≡ length octets - index = sym (ap length (same_rest octets next other index types at p)) ∙ length-drop index octets in
     omega (arith, maps_short 0 p.maps types p.are (omega arith), long, more)
 
--- ---- data are of one name and one set of types
+-- ---- NSEC data have one next name and one list of types
 pub nsec_once : (octets : List ℕ) (next other : DomainName) (types others : List ℕ) → IsNsecData octets next types → IsNsecData octets other others → (next ≡ other) × (types ≡ others)
 nsec_once octets next other types others a b =
     let p = parts octets next types a in
@@ -122,7 +122,7 @@ nsec_once octets next other types others a b =
     (names.0, read_once 0 0 p.maps q.maps types others p.are q.are (sym p.rest ∙ ap (λ (i : ℕ). drop i octets) names.1 ∙ q.rest))
 
 -- ---- answers
--- Nothing was read, and it was no want of memory.
+-- Nothing was read, though memory was there.
 pub nothing_there : {T E : Type 0} (r : Result (Option T) E) (e : DecodeError) (P : Type 0) (Q : T → Type 0) → OnOk r (IsWantOfMemory e → ⊥) → IfOk r (λ found. IsNone found) → IsWantOfMemory e ⊎ P → IfOk r (λ found. MatchOption found P Q)
 nothing_there (Err x) e P Q m n why = tt
 nothing_there (Ok None) e P Q m n (inl w) = absurd (m w)
@@ -141,7 +141,7 @@ none_dropped (suc n) (x ∷ xs) h = absurd (cc h)
 first_written : (more : List ℕ) → written_at [] 0 more ≡ more
 first_written more = ap (λ (o : List ℕ). more ++ o) (none_dropped (0 + length more) [] refl) ∙ append-nil more
 
--- Bit maps are written without an encoder's octets before them.
+-- An encoder that begins with no octets writes the bit maps alone.
 pub maps_alone : (types bytes : List ℕ) (new : State) → EmitsTypes types (new_state [] 0 Compressed) new → bytes ≡ new.octets → BitMaps IsMap 0 bytes types
 maps_alone types bytes new emits is =
     subst (λ (o : List ℕ). BitMaps IsMap 0 o types) (sym (is ∙ emits.puts.octets ∙ first_written emits.octets)) (tight_reads 0 emits.octets types emits.maps)

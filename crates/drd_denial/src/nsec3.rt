@@ -36,12 +36,7 @@ pub fn nsec3param_data(alloc: Global, iterations: u16, salt: &[u8]) -> Result<Ve
 }
 
 // How names are hashed: by SHA-1, with these flags, iterations and salt.
-fn parameters(
-    alloc: Global,
-    flags: u8,
-    iterations: u16,
-    salt: &[u8],
-) -> Result<Vec<u8>, AllocError>
+fn parameters(alloc: Global, flags: u8, iterations: u16, salt: &[u8]) -> Result<Vec<u8>, AllocError>
     requires { length salt.now ≤ 255 }
     ensures { IfOk result (λ octets. octets.items ≡ parameter_octets flags iterations salt.now) }
 {

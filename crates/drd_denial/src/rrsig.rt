@@ -1,7 +1,7 @@
 //! RDATA of RRSIG records (RFC 4034 section 3.1).
 ghost use Rattle.std.specs.Prelude.{◌≡◌, false, ◌&&◌, nat_le, length, IfOk, MatchOption};
 ghost use Rattle.dnw_wire.specs.dnw_codes.RecordType.{record_type_number};
-ghost use Rattle.drd_denial.specs.Rrsig.{front_octets, rrsig_octets, signing};
+ghost use Rattle.drd_denial.specs.Rrsig.{IsSigning, front_octets, rrsig_octets, signing};
 
 use dnw_wire::{Name, RecordType};
 use std::alloc::{AllocError, Global};
@@ -24,21 +24,21 @@ impl Model for ZoneSignature {
     ghost Value = { Signing };
 
     ghost view = { λ s. record {
-        algorithm = s.algorithm;
-        expiration = s.expiration;
-        inception = s.inception;
-        key_tag = s.key_tag;
-        signer = s.signer;
-        octets = s.octets.items;
+      algorithm = s.algorithm;
+      expiration = s.expiration;
+      inception = s.inception;
+      key_tag = s.key_tag;
+      signer = s.signer;
+      octets = s.octets.items;
     } };
 
     ghost invariant = { λ s. IsSigning record {
-        algorithm = s.algorithm;
-        expiration = s.expiration;
-        inception = s.inception;
-        key_tag = s.key_tag;
-        signer = s.signer;
-        octets = s.octets.items;
+      algorithm = s.algorithm;
+      expiration = s.expiration;
+      inception = s.inception;
+      key_tag = s.key_tag;
+      signer = s.signer;
+      octets = s.octets.items;
     } };
 }
 
@@ -74,7 +74,8 @@ impl ZoneSignature {
 
     // The octets of the type, the algorithm, the labels and the four numbers.
     fn front(&self, covered: RecordType, labels: u8, original_ttl: u32) -> [u8; 18]
-        ensures { result ≡ front_octets (record_type_number covered) labels original_ttl self.now }
+        ensures octets { result ≡ front_octets (record_type_number covered) labels original_ttl self.now }
+        ensures signing { IsSigning self.now }
     {
         let [type_high, type_low] = u16::from(covered).to_be_bytes();
         let [ttl_0, ttl_1, ttl_2, ttl_3] = original_ttl.to_be_bytes();
@@ -82,8 +83,24 @@ impl ZoneSignature {
         let [start_0, start_1, start_2, start_3] = self.inception.to_be_bytes();
         let [tag_high, tag_low] = self.key_tag.to_be_bytes();
         [
-            type_high, type_low, self.algorithm, labels, ttl_0, ttl_1, ttl_2, ttl_3, end_0, end_1,
-            end_2, end_3, start_0, start_1, start_2, start_3, tag_high, tag_low,
+            type_high,
+            type_low,
+            self.algorithm,
+            labels,
+            ttl_0,
+            ttl_1,
+            ttl_2,
+            ttl_3,
+            end_0,
+            end_1,
+            end_2,
+            end_3,
+            start_0,
+            start_1,
+            start_2,
+            start_3,
+            tag_high,
+            tag_low,
         ]
     }
 }
@@ -97,7 +114,8 @@ pub fn rrsig_data(
     original_ttl: u32,
     signature: &ZoneSignature,
 ) -> Result<Vec<u8>, AllocError>
-    ensures { IfOk result (λ octets. octets.items ≡ rrsig_octets (record_type_number covered) labels original_ttl signature.now) }
+    ensures octets { IfOk result (λ octets. octets.items ≡ rrsig_octets (record_type_number covered) labels original_ttl signature.now) }
+    ensures signing { IsSigning signature.now }
 {
     let front = signature.front(covered, labels, original_ttl);
     let mut octets = Vec::from_slice(alloc, &front)?;

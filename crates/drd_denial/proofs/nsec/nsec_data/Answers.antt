@@ -1,4 +1,4 @@
-use Rattle.std.proofs.Common.{◌≡◌, ◌++◌, ◌∷◌, [], ℕ, List, ap, ◌∙◌}
+use Rattle.std.proofs.Common.{◌++◌, ◌∷◌, [], ℕ, List, ap, ◌∙◌}
 use Rattle.dnw_wire.specs.BitMapLaws.{tight_reads}
 use Rattle.drd_denial.proofs.NsecLaws.{nsec_written}
 use Rattle.drd_denial.proofs.nsec.nsec_data.Goals as goal

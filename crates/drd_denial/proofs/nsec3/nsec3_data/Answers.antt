@@ -1,4 +1,4 @@
-use Rattle.std.proofs.Common.{rules, ◌≡◌, ◌++◌, ◌∷◌, [], ℕ, List, cond, ap, sym, ◌∙◌, append_assoc}
+use Rattle.std.proofs.Common.{rules, ◌≡◌, ◌++◌, ◌∷◌, [], ℕ, List, cond, ap, ◌∙◌, append_assoc}
 use Rattle.dnw_wire.specs.BitMapLaws.{tight_reads}
 use Rattle.drd_denial.specs.Nsec3.{parameter_octets}
 use Rattle.drd_denial.proofs.nsec3.nsec3_data.Goals as goal

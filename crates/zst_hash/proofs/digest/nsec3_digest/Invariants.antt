@@ -1,5 +1,4 @@
 use Rattle.std.proofs.Common.{◌≡◌}
-use Rattle.dnw_name.specs.DomainName.{lowercase_name, name_octets}
 use Rattle.zst_hash.specs.Digests.{nsec3_digest}
 use Rattle.zst_hash.proofs.digest.nsec3_digest.Given as goal
 

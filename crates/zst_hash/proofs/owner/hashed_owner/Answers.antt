@@ -1,4 +1,4 @@
-use Rattle.std.proofs.Common.{◌≡◌, ◌+◌, ◌≤◌, ap, arith, sym, ◌∙◌}
+use Rattle.std.proofs.Common.{◌≡◌, ap, arith, ◌∙◌}
 use Rattle.std.specs.Prelude.{length}
 use Rattle.dnw_name.specs.DomainName.{labels_len}
 use Rattle.dnw_name.proofs.dnw_label_lemmas.LabelsLemmas.{length-label_octets}

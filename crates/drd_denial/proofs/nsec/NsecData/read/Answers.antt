@@ -1,4 +1,4 @@
-use Rattle.std.proofs.Common.{◌≡◌, ◌-◌, ◌<◌, ◌≤◌, ℕ, List, sym, ap, subst, arith, ◌∙◌, ◌⊎◌}
+use Rattle.std.proofs.Common.{◌≡◌, ◌-◌, ℕ, List, sym, ap, subst, arith, ◌∙◌}
 use Rattle.std.specs.Prelude.{length}
 use Rattle.dnw_encoder.specs.dnw_decoder.Reading.{Reading}
 use Rattle.dnw_encoder.specs.dnw_decoder.Spelling.{NameAt}

@@ -5,8 +5,8 @@ use Rattle.drd_denial.specs.Rrsig.{Signing, front_octets, signing}
 use Rattle.drd_denial.proofs.Fronts.{front_is, front_of}
 use Rattle.drd_denial.proofs.rrsig.ZoneSignature.front.Goals as goal
 
-pub returns : goal.returns
-returns c =
+pub returns-clause-octets : goal.returns-clause-octets
+returns-clause-octets c =
     let of = c.self.inside in
     let s : Signing = signing of.algorithm of.key_tag of.signer of.inception of.expiration of.octets.items in
     let covered : c.to_be_bytes.result ≡ to_be_bytes w16 (record_type_number c.args.covered) = c.to_be_bytes.ensures ∙ ap (to_be_bytes w16) c.from.ensures in
