@@ -1,7 +1,7 @@
 -- The numbers of RRSIG data, octet by octet.
-use Rattle.std.proofs.Common.{◌≡◌, ℕ, List, [], ◌∷◌, ◌++◌, refl, slice_index_or, w16, w32}
+use Rattle.std.proofs.Common.{◌≡◌, ℕ, List, [], ◌∷◌, refl, slice_index_or, w16, w32}
 use Rattle.std.specs.Int.{to_be_bytes}
-use Rattle.dnw_encoder.specs.dnw_decoder.Octets.{octets_16, octets_32}
+use Rattle.dnw_encoder.specs.dnw_decoder.Octets.{octets_32}
 use Rattle.drd_denial.specs.Rrsig.{Signing, front_octets}
 
 abbrev pub front_of : List ℕ → ℕ → ℕ → List ℕ → List ℕ → List ℕ → List ℕ → List ℕ

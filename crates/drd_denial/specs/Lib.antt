@@ -2,3 +2,4 @@ pub mod Between
 pub mod Nsec
 pub mod Nsec3
 pub mod Rrsig
+pub mod dnw_wire

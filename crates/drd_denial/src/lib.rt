@@ -6,6 +6,8 @@
 //! owners closed to a circle.
 #![tactic(auto)]
 
+pub use dnw_wire::RecordTypeSet;
+
 mod between;
 mod nsec;
 mod nsec3;

@@ -1,5 +1,5 @@
 //! RDATA of NSEC records (RFC 4034 section 4.1).
-ghost use Rattle.std.specs.Prelude.{◌≡◌, true, ℕ, List, IfOk, IsNone, OnOk, MatchOption};
+ghost use Rattle.std.specs.Prelude.{◌≡◌, true, ℕ, List, IfOk, IsNone, OnErr, OnOk, MatchOption};
 ghost use Rattle.dnw_encoder.specs.dnw_decoder.Reading.{IsWantOfMemory};
 ghost use Rattle.dnw_encoder.specs.dnw_name.DomainName.{DomainName, domain_name};
 ghost use Rattle.dnw_wire.specs.BitMaps.{AreTightMaps};
@@ -44,6 +44,7 @@ impl NsecData {
 fn nothing<T>(refused: DecodeError) -> Result<Option<T>, AllocError>
     ensures memory { OnOk result (IsWantOfMemory refused → ⊥) }
     ensures none { IfOk result (λ found. IsNone found) }
+    ensures err { OnErr result (IsWantOfMemory refused) }
 {
     match refused {
         DecodeError::Memory => Err(AllocError),

@@ -11,4 +11,5 @@ iterated_hash salt x (suc k) = sha1 (iterated_hash salt x k ++ salt)
 
 -- The digest of a name: x is the name uncompressed and in lower case.
 abbrev pub nsec3_digest : List ℕ → ℕ → DomainName → List ℕ
-nsec3_digest salt iterations name = iterated_hash salt (name_octets (lowercase_name name)) iterations
+nsec3_digest salt iterations name =
+    iterated_hash salt (name_octets (lowercase_name name)) iterations

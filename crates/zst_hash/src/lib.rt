@@ -5,6 +5,8 @@
 //! they would be more than 255.
 #![tactic(auto)]
 
+pub use zst_key::{KeyRef, NameKey, NameList, WholeKey, nearest, nearest_above};
+
 mod base32;
 mod digest;
 mod owner;
