@@ -16,7 +16,7 @@ use Rattle.std.proofs.lemmas.Bool.{true≢false}
 use Rattle.dnw_encoder.specs.dnw_decoder.Octets.{Stands}
 use Rattle.dnw_encoder.specs.dnw_decoder.Spelling.{NameAt, Spelled}
 use Rattle.dnw_encoder.specs.dnw_decoder.Spelling.Spelled.{at_end, at_label, at_pointer}
-use Rattle.dnw_encoder.specs.dnw_name.DomainName.{DomainName, IsDomainName, domain_name, name_octets}
+use Rattle.dnw_encoder.specs.dnw_name.DomainName.{DomainName, IsDomainName, domain_name, labels_len, name_octets}
 use Rattle.dnw_encoder.specs.dnw_label.Label.{IsLabel}
 use Rattle.dnw_encoder.specs.dnw_label.Labels.{label_octets}
 use Rattle.dnw_encoder.proofs.dnw_decoder_lemmas.SpellingLaws.{name_once}
@@ -112,6 +112,16 @@ too_long octets next index at more other types is =
     let p = parts octets other types is in
     let long : length p.maps ≡ length octets - index = sym (ap length (same_rest octets next other index types at p)) ∙ length-drop index octets in
     omega (arith, maps_short 0 p.maps types p.are (omega arith), long, more)
+
+length-labels : (labels : List (List ℕ)) → length (label_octets labels) ≡ labels_len labels
+length-labels [] = refl
+length-labels (x ∷ xs) = omega (arith, length-append (length x ∷ x) (label_octets xs), length-labels xs)
+
+-- NSEC data are short: a name of at most 255 octets, and bit maps of 256 windows.
+pub nsec_short : (octets : List ℕ) (next : DomainName) (types : List ℕ) → IsNsecData octets next types → length octets ≤ 8959
+nsec_short octets next types is =
+    omega (arith, maps_short 0 is.maps types is.are (omega arith), is.name.short, ap length is.whole, length-append (name_octets next) is.maps,
+    length-append (label_octets next.labels) (0 ∷ []), length-labels next.labels)
 
 -- ---- NSEC data have one next name and one list of types
 pub nsec_once : (octets : List ℕ) (next other : DomainName) (types others : List ℕ) → IsNsecData octets next types → IsNsecData octets other others → (next ≡ other) × (types ≡ others)

@@ -1,0 +1,16 @@
+//! What denies names and types in a zone, and what signs its sets (RFC 4034, 4035 and 5155).
+//!
+//! `IsSecured` says that a zone is secured by NSEC: exactly its authoritative names own an NSEC set, each the one of the next
+//! name. `IsSecuredByHash` says the same of NSEC3. `IsNsecDenial` and `IsNsec3Denial` say which sets a zone shows for a name
+//! that it hasn't. Laws of a secured zone: what doesn't exist is covered, what is authoritative isn't; a type that a name
+//! hasn't is lacked by its NSEC record, one that it has isn't.
+#![tactic(auto)]
+
+mod laws;
+mod signer;
+
+pub use laws::{
+    absent_names_are_covered, owned_types_are_not_lacked, present_names_are_not_covered,
+    unowned_types_are_lacked,
+};
+pub use signer::{SignerFault, ZoneSigner};

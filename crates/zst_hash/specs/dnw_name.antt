@@ -1,0 +1,2 @@
+pub use Rattle.dnw_name.specs.DomainName
+pub use Rattle.dnw_name.specs.NameOrderLaws
