@@ -5,3 +5,5 @@ pub mod Hashed
 pub mod Octets
 pub mod Signing
 pub use Rattle.zst_handler.specs.Zones
+pub mod drd_denial
+pub mod zst_handler

@@ -6,6 +6,11 @@
 //! hasn't is lacked by its NSEC record, one that it has isn't.
 #![tactic(auto)]
 
+pub use drd_denial::{
+    NsecData, RecordTypeSet, ZoneSignature, is_between, nsec_data, nsec3_data, nsec3param_data,
+    rrsig_data,
+};
+
 mod laws;
 mod signer;
 
