@@ -3,6 +3,7 @@ use Rattle.std.proofs.Common.{◌≡◌, ℕ, zero, suc, ◌+◌, ◌-◌, ◌*�
 use Rattle.std.specs.List.{All}
 use Rattle.std.proofs.lemmas.List.{length-drop, nil_from_length, drop_at}
 use Rattle.std.proofs.lemmas.List.Elements.{All-cons, All-nil}
+use Rattle.std.proofs.lemmas.List.Sums.{sum_by-cons}
 use Rattle.dnw_wire.specs.BitMaps.{BitMaps, EmitsTypes, IsMap, TypesAt}
 use Rattle.dnw_wire.specs.BitMaps.BitMaps.{no_window, window}
 use Rattle.dnw_wire.specs.BitMapLaws.{read_once, tight_reads}
@@ -115,7 +116,7 @@ too_long octets next index at more other types is =
 
 length-labels : (labels : List (List ℕ)) → length (label_octets labels) ≡ labels_len labels
 length-labels [] = refl
-length-labels (x ∷ xs) = omega (arith, length-append (length x ∷ x) (label_octets xs), length-labels xs)
+length-labels (x ∷ xs) = omega (arith, length-append x (label_octets xs), length-labels xs, sum_by-cons (λ label. length label + 1) x xs)
 
 -- NSEC data are short: a name of at most 255 octets, and bit maps of 256 windows.
 pub nsec_short : (octets : List ℕ) (next : DomainName) (types : List ℕ) → IsNsecData octets next types → length octets ≤ 8959

@@ -27,9 +27,9 @@ use Rattle.zst_handler.specs.drd_rdata.declared.rdata.RData.TheVariants as data_
 use Rattle.drd_denial.specs.Between.{between_by, is_between}
 use Rattle.drd_denial.specs.Nsec.{IsNsecData}
 use Rattle.drd_denial.proofs.NsecLaws.{nsec_once, nsec_short}
-use Rattle.zst_denial.specs.Circles.{Follows, IsAuthoritativeName, IsNsecSet, IsSecured, is_delegation, is_listed, is_owned}
-use Rattle.zst_denial.specs.Denials.{Covers, HasNsec, IsPrecedingSet, Lacks}
-use Rattle.zst_denial.specs.Octets.{nsec_octets, octets_of}
+use Rattle.zst_denial.specs.Circles.{IsAuthoritativeName, IsNsecSet, IsSecured, is_delegation, is_listed, is_owned}
+use Rattle.zst_denial.specs.Denials.{Covers, IsPrecedingSet, Lacks}
+use Rattle.zst_denial.specs.Octets.{nsec_octets}
 
 -- ---- by the three orderings alone
 cover_cases : (a b c : Ordering) → is_eq b ≡ false → (is_gt b ≡ false → is_gt (ordering_reverse c) ≡ false → is_lt a ≡ false)

@@ -1,5 +1,5 @@
 -- Which NSEC3 sets deny a name or a type (RFC 5155, section 7.2).
-use Rattle.std.specs.Prelude.{◌≡◌, ℕ, ◌-◌, Bool, true, false, not, ◌&&◌, List, [], ◌∷◌, ◌++◌, length, Option, Some, None}
+use Rattle.std.specs.Prelude.{◌≡◌, ◌-◌, Bool, true, false, not, ◌&&◌, List, [], ◌∷◌, ◌++◌, length, Option, Some, None}
 use Rattle.zst_handler.specs.Lookups.{listed}
 use Rattle.zst_handler.specs.Zones.{Zone, rrset_at}
 use Rattle.zst_handler.specs.dnw_codes.declared.record_type.RecordType.{RecordType}
