@@ -69,7 +69,13 @@ def others(name, octets):
     names += [it for owner, following, _ in proofs(octets)[2] for it in (owner, following)]
     names += [dns.name.Name([name.labels[0] + b"\0", *name.labels[1:]])] if len(name.labels) > 1 else []
     names += [dns.name.Name([b"x", *name.labels])]
-    return list(dict.fromkeys(it.to_text() for it in [*names, *NAMES]))
+    return list({it.to_text(): it for it in [*names, *NAMES]}.values())
+
+
+def spelled(name):
+    """As rows have names: those with octets that no text has without escapes, by their labels in hex."""
+    text = name.to_text()
+    return ":" + ".".join(it.hex() for it in name.labels[:-1]) if "\\" in text else text
 
 
 def words(answers):
@@ -80,12 +86,12 @@ def row_of(name, kind, octets, why):
     """The rows of one reply: of names, or of types where there is no error."""
     if dns.rcode.NOERROR != octets[3] & 15:
         names = others(name, octets)
-        asked = words(denies(octets, dns.name.from_text(it)) for it in names)
-        yield f"# {why}", "\t".join(["denied", octets.hex(), *names]), asked
+        asked = words(denies(octets, it) for it in names)
+        yield f"# {why}", "\t".join(["denied", octets.hex(), *map(spelled, names)]), asked
     else:
         pairs = [(name, it) for it in dict.fromkeys([kind, *TYPES])] + [(it, kind) for it in NAMES[:4]]
         asked = words(lacks(octets, it, of) for it, of in pairs)
-        texts = [f"{it.to_text()}/{dns.rdatatype.to_text(of)}" for it, of in pairs]
+        texts = [f"{spelled(it)}/{dns.rdatatype.to_text(of)}" for it, of in pairs]
         yield f"# {why}", "\t".join(["lacking", octets.hex(), *texts]), asked
 
 
