@@ -121,8 +121,15 @@ length-labels (x ∷ xs) = omega (arith, length-append x (label_octets xs), leng
 -- NSEC data are short: a name of at most 255 octets, and bit maps of 256 windows.
 pub nsec_short : (octets : List ℕ) (next : DomainName) (types : List ℕ) → IsNsecData octets next types → length octets ≤ 8959
 nsec_short octets next types is =
-    omega (arith, maps_short 0 is.maps types is.are (omega arith), is.name.short, ap length is.whole, length-append (name_octets next) is.maps,
-    length-append (label_octets next.labels) (0 ∷ []), length-labels next.labels)
+    omega (
+      arith,
+      maps_short 0 is.maps types is.are (omega arith),
+      is.name.short,
+      ap length is.whole,
+      length-append (name_octets next) is.maps,
+      length-append (label_octets next.labels) (0 ∷ []),
+      length-labels next.labels,
+    )
 
 -- ---- NSEC data have one next name and one list of types
 pub nsec_once : (octets : List ℕ) (next other : DomainName) (types others : List ℕ) → IsNsecData octets next types → IsNsecData octets other others → (next ≡ other) × (types ≡ others)

@@ -1,0 +1,1 @@
+pub use Rattle.drd_denial.proofs.NsecLaws
