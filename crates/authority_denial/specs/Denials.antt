@@ -1,8 +1,8 @@
 -- Which names and types the NSEC records of a reply deny (RFC 4035, section 5.4).
 use Rattle.std.specs.Prelude.{◌≡◌, ℕ, ◌⊎◌, List, [], ◌∷◌}
 use Rattle.zst_denial.specs.Denials.{Covers, HasNsec, Lacks}
-use Rattle.zst_denial.specs.zst_handler.dnw_codes.declared.record_type.RecordType.{RecordType}
-use Rattle.zst_denial.specs.zst_handler.dnw_name.DomainName.{DomainName}
+use Rattle.zst_denial.specs.dnw_codes.declared.record_type.RecordType.{RecordType}
+use Rattle.zst_denial.specs.dnw_name.DomainName.{DomainName}
 use Rattle.zsv_reply.specs.zst_record.declared.records.Record.{Record}
 use Rattle.zsv_reply.specs.zsv_message.Messages.{IsMessage, Message}
 use Rattle.zsv_reply.specs.zsv_message.zsv_parts.zst_codes.declared.response_code.ResponseCode.TheVariants as codes

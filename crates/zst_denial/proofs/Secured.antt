@@ -11,7 +11,7 @@ use Rattle.std.proofs.lemmas.Bool.{and_parts}
 use Rattle.std.proofs.lemmas.Cmp.{alike_right, tied_back, tied_itself}
 use Rattle.zst_hash.specs.dnw_label.Label.{label_eq}
 use Rattle.zst_handler.specs.dnw_name.DomainName.{DomainName, is_at_or_below, name_cmp, name_eq}
-use Rattle.zst_hash.specs.dnw_name.NameOrderLaws.{name_eq-by_cmp}
+use Rattle.zst_handler.specs.dnw_name.NameOrderLaws.{name_eq-by_cmp}
 use Rattle.zst_hash.proofs.zst_key_lemmas.KeyLemmas.{eq-below}
 use Rattle.zst_hash.proofs.zst_key_lemmas.NamesAbove.{beq-itself, beq-same, name_total}
 use Rattle.zst_handler.specs.Zones.{AreStored, IsStored, SetReadsBack, Zone, ZoneReadsBack, exists_in, rrset_at}

@@ -1,19 +1,23 @@
 -- Which NSEC3 sets deny a name or a type (RFC 5155, section 7.2).
-use Rattle.std.specs.Prelude.{◌≡◌, ◌-◌, Bool, true, false, not, ◌&&◌, List, [], ◌∷◌, ◌++◌, length, Option, Some, None}
+use Rattle.std.specs.Prelude.{◌+◌, nat_le, nat_le, ◌≡◌, ◌-◌, Bool, true, false, not, ◌&&◌, List, [], ◌∷◌, ◌++◌, length, Option, Some, None}
 use Rattle.zst_handler.specs.Lookups.{listed}
 use Rattle.zst_handler.specs.Zones.{Zone, rrset_at}
 use Rattle.zst_handler.specs.dnw_codes.declared.record_type.RecordType.{RecordType}
 use Rattle.zst_handler.specs.dnw_codes.declared.record_type.RecordType.TheVariants as kind
-use Rattle.zst_handler.specs.dnw_name.DomainName.{DomainName}
+use Rattle.zst_handler.specs.dnw_name.DomainName.{DomainName, labels_len}
 use Rattle.zst_handler.specs.zst_record.RecordSets.{RRset}
 use Rattle.zst_hash.specs.zst_key.Ancestors.{star, up}
 use Rattle.zst_denial.specs.Circles.{is_owned}
 use Rattle.zst_denial.specs.Denials.{Precedes, each_owner_once, encloser}
 use Rattle.zst_denial.specs.Hashed.{Hashing, hashed_name}
 
+-- The owners of NSEC3 sets, one label of 32 octets below the origin, have at most 255 octets.
+abbrev pub has_hashed_owners : Zone → Bool
+has_hashed_owners zone = nat_le (labels_len zone.origin.labels + 34) 255
+
 -- Nothing is denied of a name that owns the type, unless a wildcard answers for it.
 abbrev pub is_denied : Zone → DomainName → RecordType → Bool → Bool
-is_denied zone name t wild = not (is_owned zone name t && not wild)
+is_denied zone name t wild = has_hashed_owners zone && not (is_owned zone name t && not wild)
 
 -- The set for a name's digest: its own, or the one before it in hash order.
 abbrev pub PrecedesByHash : Hashing → Zone → DomainName → Option RRset → Type 0

@@ -64,15 +64,19 @@ owns_others zone name =
     list_any
     (λ set. name_eq name set.name && not (same_record_type set.record_type kind.NSEC3)) zone.sets
 
--- The types that an NSEC3 record lists: those that its name has, but no NSEC3, and RRSIG where
--- these are signed; of a delegation NS, and DS with RRSIG (sections 3.2.1 and 7.1).
+-- The types that the NSEC3 record of a delegation lists: NS, DS, and RRSIG where there is DS.
+abbrev pub is_listed_of_delegation : Zone → DomainName → RecordType → Bool
+is_listed_of_delegation zone name t =
+    ((same_record_type t kind.NS || same_record_type t kind.DS) && is_owned zone name t)
+    || (same_record_type t kind.RRSIG && is_owned zone name kind.DS)
+
+-- The types that an NSEC3 record lists: those that its name owns, but no NSEC3, and RRSIG where it
+-- owns any (RFC 5155, sections 3.2.1 and 7.1).
 abbrev pub is_listed_by_hash : Zone → DomainName → RecordType → Bool
 is_listed_by_hash zone name t =
-    if is_delegation zone name
-    then (same_record_type t kind.NS || same_record_type t kind.DS) && is_owned zone name t
-    || (same_record_type t kind.RRSIG && is_owned zone name kind.DS)
-    else not (same_record_type t kind.NSEC3) && is_owned zone name t
-    || (same_record_type t kind.RRSIG && owns_others zone name)
+    if is_delegation zone name then is_listed_of_delegation zone name t
+    else ((is_owned zone name t && not (same_record_type t kind.NSEC3))
+    || (same_record_type t kind.RRSIG && owns_others zone name))
 
 -- The NSEC3 set of a name: one record, of the next digest and of these types. Its flag says
 -- opt-out (section 3.1.2.1).

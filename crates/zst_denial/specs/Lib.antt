@@ -4,6 +4,15 @@ pub mod HashDenials
 pub mod Hashed
 pub mod Octets
 pub mod Signing
-pub use Rattle.zst_handler.specs.Zones
+pub use Rattle.zst_handler.specs.dnw_codes
+pub use Rattle.zst_handler.specs.dnw_name
+pub use Rattle.zst_handler.specs.drd_names
+pub use Rattle.zst_handler.specs.drd_rdata
+pub use Rattle.zst_handler.specs.drd_words
+pub use Rattle.zst_handler.specs.zst_codes
+pub use Rattle.zst_handler.specs.zst_record
+pub use Rattle.zst_hash.specs.dnw_label
+pub use Rattle.zst_hash.specs.zst_key
 pub mod drd_denial
 pub mod zst_handler
+pub mod zst_hash

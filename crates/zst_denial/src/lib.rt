@@ -10,6 +10,16 @@ pub use drd_denial::{
     NsecData, RecordTypeSet, ZoneSignature, is_between, nsec_data, nsec3_data, nsec3param_data,
     rrsig_data,
 };
+pub use zst_handler::{
+    ANAME, AnswerSet, AuthLookup, AxfrPolicy, CNAME, DNSClass, Draft, Edns, LentSets,
+    LookupControlFlow, LookupError, LookupOptions, LookupRecords, LookupRecordsIter, LowerName, MX,
+    NS, Name, Nsec3HashAlgorithm, NxProofKind, OneOrMany, ProtoError, RData, Record, RecordRef,
+    RecordSet, RecordType, ResponseCode, RrKey, RrsetRecords, SOA, SRV, Salt, SaltLenError,
+    ZoneSetsIter, ZoneSettings, ZoneType, push, sets_under,
+};
+pub use zst_hash::{
+    KeyRef, NameKey, NameList, WholeKey, hashed_owner, nearest, nearest_above, nsec3_digest,
+};
 
 mod laws;
 mod signer;

@@ -2,14 +2,17 @@
 
 use drd_denial::ZoneSignature;
 use std::alloc::Global;
+use thiserror::Error;
 use zst_handler::RecordSet;
 
 /// Why a signer gives no signature.
-#[derive(Clone, Copy, Debug, PartialEq, Eq)]
+#[derive(Clone, Copy, Debug, PartialEq, Eq, Error)]
 pub enum SignerFault {
     /// It can't sign the set at this moment.
+    #[error("Failed")]
     Failed,
     /// Memory was refused.
+    #[error("OutOfMemory")]
     OutOfMemory,
 }
 

@@ -3,4 +3,3 @@ pub mod Digests
 pub mod Owners
 pub use Rattle.dnw_name.specs.dnw_label
 pub mod zst_key
-pub mod dnw_name

@@ -1,2 +1,0 @@
-pub use Rattle.dnw_name.specs.DomainName
-pub use Rattle.dnw_name.specs.NameOrderLaws
