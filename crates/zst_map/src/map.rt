@@ -84,8 +84,7 @@ impl ZoneMap {
 
     /// The sets, borrowed as they are kept.
     pub(crate) fn lend(&self) -> LentSets<'_>
-        ensures sets { result ≡ self.now }
-        ensures ordered { AreInOrder self.now }
+        ensures { result ≡ self.now }
     {
         LentSets::new(&self.owners, &self.nodes)
     }

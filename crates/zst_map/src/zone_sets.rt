@@ -163,16 +163,14 @@ impl ZoneSets {
 
     /// The sets, in order.
     pub fn iter(&self) -> ZoneSetsIter<'_>
-        ensures sets { result ≡ self.now }
-        ensures ordered { AreInOrder self.now }
+        ensures { result ≡ self.now }
     {
         self.lend().iter()
     }
 
     /// The sets, borrowed as they are kept. It makes no list of them.
     pub fn lend(&self) -> LentSets<'_>
-        ensures sets { result ≡ self.now }
-        ensures ordered { AreInOrder self.now }
+        ensures { result ≡ self.now }
     {
         self.sets.lend()
     }
