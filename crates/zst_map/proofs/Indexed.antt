@@ -192,3 +192,10 @@ with_edited index before after owner kind old set there replaces is =
       denials = λ name t denies some. is.denials name t denies (was name t some);
       absolute = λ none name t some. is.absolute none name t (was name t some);
     }
+
+pub with_replaced : (index : Index) (before after : List RRset) (owner : DomainName) (kind : RecordType) (set : RRset) → IsSome (rrset_at before owner kind) → Replaces before owner kind (Some set) after → IsIndexed index before → IsIndexed index after
+with_replaced index before after owner kind set there replaces is = by (rrset_at before owner kind) refl there
+  where
+    by : (o : Option RRset) → rrset_at before owner kind ≡ o → IsSome o → IsIndexed index after
+    by None e some = absurd (true≢false (sym some))
+    by (Some old) e some = with_edited index before after owner kind old set e replaces is

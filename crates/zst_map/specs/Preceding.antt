@@ -30,10 +30,10 @@ FindsPreceding sets of_type name (Some set) =
 pub record IsLastOwned (sets : List RRset) (of_type : RecordType)
     (names : List (DomainName × Unit {0})) (set : RRset) : Type 0 where
   pub before : List (DomainName × Unit {0})
-  pub owner : DomainName
+  pub owner : DomainName × Unit {0}
   pub after : List (DomainName × Unit {0})
-  pub are : names ≡ before ++ (owner, tt) ∷ after
-  pub there : rrset_at sets owner of_type ≡ Some set
+  pub are : names ≡ before ++ owner ∷ after
+  pub there : rrset_at sets owner.0 of_type ≡ Some set
   pub none : AllByRecursion (λ name. rrset_at sets name.0 of_type ≡ None) after
 
 abbrev pub FindsLast : List RRset → RecordType → List (DomainName × Unit {0}) → Option RRset
