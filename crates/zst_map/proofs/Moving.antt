@@ -14,14 +14,14 @@ use Rattle.zst_map.specs.Moves.{CanMove, is_placeholder_of, moved, placeholder_o
 use Rattle.zst_map.specs.declared.moves.Placeholder.{Placeholder}
 use Rattle.zst_map.proofs.Indexed.{rrset_same}
 
-one : {X : Type 0} (x y : X) → Some x ≡ Some y → x ≡ y
+pub one : {X : Type 0} (x y : X) → Some x ≡ Some y → x ≡ y
 one x y e = cc
 
 none_some : {X : Type 0} (o : Option X) (x : X) → o ≡ Some x → o ≡ None → ⊥
 none_some o x some none = let h = sym some ∙ none in cc
 
 -- ---- under equal names and types of one number is the same
-type_same : (sets : List RRset) (a : DomainName) (t u : RecordType) → same_record_type t u ≡ true → rrset_at sets a t ≡ rrset_at sets a u
+pub type_same : (sets : List RRset) (a : DomainName) (t u : RecordType) → same_record_type t u ≡ true → rrset_at sets a t ≡ rrset_at sets a u
 type_same sets a t u e =
     ap (λ (n : ℕ). find (λ (set : RRset). name_eq a set.name && record_type_number set.record_type == n) sets) (eqb-true (record_type_number t) (record_type_number u) e)
 

@@ -47,7 +47,7 @@ pub fn placeholders(
     ensures unsigned { OnOk result (AllByRecursion IsUnsigned list.new.items) }
     ensures ordered { OnOk result (AreInOrder new.new) }
 {
-    for set in old.iter() {
+    'sets: for set in old.iter() {
         put_placeholder(alloc, origin, set, new, list)?;
     }
     Ok(())
