@@ -203,15 +203,18 @@ module _ (sets : List RRset) (t : RecordType) where
         by true e = refl
         by false e = absurd (no_owner q run none some (ap (has q) is ∙ has_up_to q e some))
 
-    pub found_after : (run later : List Owner) (found : Option RRset) → run ≡ between Unbounded (Included key) → later ≡ between (Included key) Unbounded → FindsLast sets t run None → FindsLast sets t later found
-        → FindsPreceding sets t key found
-    found_after run later None is also none more q = by (rrset_at sets q t) refl
+    none_at_all : (run later : List Owner) → run ≡ between Unbounded (Included key) → later ≡ between (Included key) Unbounded → FindsLast sets t run None → FindsLast sets t later None → (q : DomainName) → rrset_at sets q t ≡ None
+    none_at_all run later is also none more q = by (rrset_at sets q t) refl
       where
         by : (o : Option RRset) → rrset_at sets q t ≡ o → o ≡ None
         by None e = refl
         by (Some set) e =
             let some = ap is_some e in
             absurd (no_owner q later more some (ap (has q) also ∙ has_from q (none_before run is none q some) some))
+
+    pub found_after : (run later : List Owner) (found : Option RRset) → run ≡ between Unbounded (Included key) → later ≡ between (Included key) Unbounded → FindsLast sets t run None → FindsLast sets t later found
+        → FindsPreceding sets t key found
+    found_after run later None is also none more = none_at_all run later is also none more
     found_after run later (Some set) is also none last =
         let owner = last.owner.0 in
         let owns : IsSome (rrset_at sets owner t) = ap is_some last.there in

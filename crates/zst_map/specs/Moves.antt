@@ -1,5 +1,5 @@
 -- Sets that move from one zone's sets to another's, each to where its placeholder is.
-use Rattle.std.specs.Prelude.{◌≡◌, ◌&&◌, ◌||◌, not, Bool, List, [], Option, Some, None, IsSome, find, option_map}
+use Rattle.std.specs.Prelude.{◌≡◌, ◌&&◌, ◌||◌, true, not, Bool, List, [], Option, Some, None, IsSome, find, option_map}
 use Rattle.std.specs.List.{AllByRecursion}
 use Rattle.zst_handler.specs.dnw_codes.declared.record_type.RecordType.{RecordType}
 use Rattle.zst_handler.specs.dnw_codes.declared.record_type.RecordType.TheVariants as kind

@@ -35,7 +35,7 @@ fn last_owned<'z>(
     sets: &'z ZoneMap,
     record_type: RecordType,
 ) -> Option<&'z RecordSet>
-    ensures { FindsLast sets.now record_type names (option_copied result) }
+    ensures { FindsLast sets.now record_type names.entry (option_copied result) }
 {
     let mut left = names;
     'names: while let Some((name, _)) = left.next_back() {

@@ -9,5 +9,5 @@ returns-in-Some c =
 
 pub returns-in-None : goal.returns-in-None
 returns-in-None c =
-    found_after c.args.sets.now c.args.record_type c.args.names.now c.range.ensures.ordered c.args.key.now c.requires c.range.result c.range-2.result (option_copied c.last_owned-2.result)
-    (c.range.ensures.between tt) (c.range-2.ensures.between tt) c.in-None.ensures c.last_owned-2.ensures
+    found_after c.args.sets.now c.args.record_type c.args.names.now c.range.ensures.ordered c.args.key.now c.requires c.range.result c.range-in-None.result (option_copied c.last_owned-in-None.result)
+    (c.range.ensures.between tt) (c.range-in-None.ensures.between tt) c.in-None.ensures c.last_owned-in-None.ensures

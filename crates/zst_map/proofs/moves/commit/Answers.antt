@@ -13,8 +13,8 @@ nothing_left : {X : Type 0} (xs : List X) → length xs ≡ 0 → xs ≡ []
 nothing_left [] e = refl
 nothing_left (x ∷ xs) e = absurd (omega (arith, e))
 
-pub placeholders-entered : goal.placeholders-entered
-placeholders-entered c =
+pub placeholders-init : goal.placeholders-init
+placeholders-init c =
     let items : into_iter_items _ ≡ c.args.list.items = c.into_iter-placeholder-iterator.ensures.into_iter_gives.0 in (
       subst (AllByRecursion (CanMove c.args.old.now c.args.new.now)) (sym items) c.requires.can,
       λ name t. subst (λ (l : List Placeholder). Moves (placeholder_of c.args.list.items name t) (placeholder_of l name t) (rrset_at c.args.old.now name t) (rrset_at c.args.new.now name t)
