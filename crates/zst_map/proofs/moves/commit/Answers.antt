@@ -15,12 +15,11 @@ nothing_left (x ∷ xs) e = absurd (omega (arith, e))
 
 pub placeholders-init : goal.placeholders-init
 placeholders-init c =
-    let items : into_iter_items _ ≡ c.args.list.items = c.into_iter-placeholder-iterator.ensures.into_iter_gives.0 in (
+    let items : into_iter_items c.into_iter-placeholder-iterator.result ≡ c.args.list.items = c.into_iter-placeholder-iterator.ensures.into_iter_gives.0 in (
       subst (AllByRecursion (CanMove c.args.old.now c.args.new.now)) (sym items) c.requires.can,
       λ name t. subst (λ (l : List Placeholder). Moves (placeholder_of c.args.list.items name t) (placeholder_of l name t) (rrset_at c.args.old.now name t) (rrset_at c.args.new.now name t)
           (rrset_at c.args.old.now name t) (rrset_at c.args.new.now name t)) (sym items) (starts (placeholder_of c.args.list.items name t) (rrset_at c.args.old.now name t) (rrset_at c.args.new.now name t)),
       c.requires.ordered,
-      c.into_iter-placeholder-iterator.ensures.into_iter_gives.1 ∙ ap length (sym items),
     )
 
 pub move_one-requires-clause-signed : goal.move_one-requires-clause-signed
@@ -56,16 +55,12 @@ placeholders-preserved c =
           (subst (λ (l : List Placeholder). Moves (placeholder_of c.args.list.items name t) (placeholder_of l name t) (rrset_at c.args.old.now name t) (rrset_at c.args.new.now name t)
           (rrset_at at.old name t) (rrset_at at.new name t)) step (at.invariant.1 name t)),
       c.move_one.ensures.ordered at.invariant.2,
-      let was = at.invariant.3 in
-          let gone = c.in-Some.ensures.steps.1 in
-          let short = ap length step in
-          omega (arith, was, gone, short),
     )
 
 pub returns-clause-moved : goal.returns-clause-moved
 returns-clause-moved c = λ name t.
     let at = c.placeholders in
-    let empty : into_iter_items at.placeholder-iterator ≡ [] = nothing_left (into_iter_items at.placeholder-iterator) (sym at.invariant.3 ∙ c.in-None.ensures.steps.0) in
+    let empty : into_iter_items at.placeholder-iterator ≡ [] = nothing_left (into_iter_items at.placeholder-iterator) (sym at.placeholder-iterator.rest.ok.0 ∙ c.in-None.ensures.steps.0) in
     (ends (placeholder_of c.args.list.items name t) (rrset_at c.args.old.now name t) (rrset_at c.args.new.now name t) (rrset_at at.old name t) (rrset_at at.new name t)
     (subst (λ (l : List Placeholder). Moves (placeholder_of c.args.list.items name t) (placeholder_of l name t) (rrset_at c.args.old.now name t) (rrset_at c.args.new.now name t)
     (rrset_at at.old name t) (rrset_at at.new name t)) empty (at.invariant.1 name t))).0
@@ -73,7 +68,7 @@ returns-clause-moved c = λ name t.
 pub returns-clause-taken : goal.returns-clause-taken
 returns-clause-taken c = λ name t.
     let at = c.placeholders in
-    let empty : into_iter_items at.placeholder-iterator ≡ [] = nothing_left (into_iter_items at.placeholder-iterator) (sym at.invariant.3 ∙ c.in-None.ensures.steps.0) in
+    let empty : into_iter_items at.placeholder-iterator ≡ [] = nothing_left (into_iter_items at.placeholder-iterator) (sym at.placeholder-iterator.rest.ok.0 ∙ c.in-None.ensures.steps.0) in
     (ends (placeholder_of c.args.list.items name t) (rrset_at c.args.old.now name t) (rrset_at c.args.new.now name t) (rrset_at at.old name t) (rrset_at at.new name t)
     (subst (λ (l : List Placeholder). Moves (placeholder_of c.args.list.items name t) (placeholder_of l name t) (rrset_at c.args.old.now name t) (rrset_at c.args.new.now name t)
     (rrset_at at.old name t) (rrset_at at.new name t)) empty (at.invariant.1 name t))).1

@@ -1,6 +1,5 @@
-use Rattle.std.proofs.Common.{◌≡◌, length}
 use Rattle.std.specs.List.{AllByRecursion}
-use Rattle.std.specs.Vec.Iter.{into_iter_items, into_iter_len}
+use Rattle.std.specs.Vec.Iter.{into_iter_items}
 use Rattle.zst_handler.specs.dnw_codes.declared.record_type.RecordType.{RecordType}
 use Rattle.zst_handler.specs.dnw_name.DomainName.{DomainName}
 use Rattle.zst_handler.specs.Zones.{AreInOrder, rrset_at}
@@ -14,4 +13,3 @@ invariant-placeholders l =
     × ((name : DomainName) (t : RecordType) → Moves (placeholder_of l.fn.list.items name t) (placeholder_of (into_iter_items l.placeholder-iterator) name t)
     (rrset_at l.initial.old name t) (rrset_at l.initial.new name t) (rrset_at l.old name t) (rrset_at l.new name t))
     × AreInOrder l.new
-    × (into_iter_len l.placeholder-iterator ≡ length (into_iter_items l.placeholder-iterator))

@@ -1,5 +1,5 @@
-use Rattle.std.proofs.Common.{◌≡◌, ◌∙◌, ap, sym, subst}
-use Rattle.std.specs.Prelude.{Bool, ◌&&◌, ◌||◌, ◌∷◌, List, is_some}
+use Rattle.std.proofs.Common.{◌≡◌, ◌∙◌, [], ap, refl, sym, true}
+use Rattle.std.specs.Prelude.{Bool, false, ◌&&◌, ◌||◌, ◌∷◌, List, is_some}
 use Rattle.zst_handler.specs.dnw_codes.RecordType.{same_record_type}
 use Rattle.zst_handler.specs.dnw_name.DomainName.{name_eq}
 use Rattle.zst_handler.specs.zst_record.RecordSets.{RRset}
@@ -26,3 +26,18 @@ sets-preserved c =
       c.in_ok-put_placeholder.ensures.unsigned at.invariant.2,
       c.in_ok-put_placeholder.ensures.ordered at.invariant.3,
     )
+
+or_nothing : (a b : Bool) → (a || (false && b)) ≡ a
+or_nothing true b = refl
+or_nothing false b = refl
+
+pub returns-clause-can : goal.returns-clause-can
+returns-clause-can c =
+    let at = c.sets in
+    let empty : at.set-iterator ≡ [] = c.in-None.ensures.steps.0 in
+    all_can c.args.old.now at.new c.args.origin.now at.list.items
+    (λ name t. sym (or_nothing (is_some (rrset_at at.new name t)) (moves c.args.origin.now name t))
+    ∙ ap (λ (zone : List RRset). is_some (rrset_at at.new name t) || (is_some (rrset_at zone name t) && moves c.args.origin.now name t)) (sym empty) ∙ at.invariant.0 name t)
+    (λ name t. sym (or_nothing (is_some (placeholder_of at.list.items name t)) (moves c.args.origin.now name t))
+    ∙ ap (λ (zone : List RRset). is_some (placeholder_of at.list.items name t) || (is_some (rrset_at zone name t) && moves c.args.origin.now name t)) (sym empty) ∙ at.invariant.1 name t)
+    at.invariant.2

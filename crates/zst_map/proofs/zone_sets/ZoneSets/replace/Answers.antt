@@ -12,7 +12,8 @@ replace-requires-clause-there c = subst (λ (sets : List RRset). IsSome (rrset_a
 pub invariant_of-self : goal.invariant_of-self
 invariant_of-self c =
     with_replaced c.self.inside.index c.self.inside.sets c.replace.new.self c.args.key.now c.args.set.record_type c.args.set
-    (replace-requires-clause-there c) c.replace.ensures.others c.self.invariant
+    (subst (λ (sets : List RRset). IsSome (rrset_at sets c.args.key.now c.args.set.record_type)) (sym c.self.view_is) c.requires.there)
+    c.replace.ensures.others c.self.invariant
 
 pub returns-clause-others : goal.returns-clause-others
 returns-clause-others c = subst (λ (sets : List RRset). Replaces sets c.args.key.now c.args.set.record_type (Some c.args.set) c.replace.new.self) c.self.view_is c.replace.ensures.others
