@@ -92,7 +92,7 @@ stays_on all false p later old0 new0 old new old' at there o (went x w q r) = we
 
 -- ---- a turn of the loop
 -- What is found is one of all, and passes the test.
-find_all : {X : Type 0} (P : X → Type 0) (test : X → Bool) (xs : List X) (x : X) → AllByRecursion P xs → find test xs ≡ Some x → P x × (test x ≡ true)
+pub find_all : {X : Type 0} (P : X → Type 0) (test : X → Bool) (xs : List X) (x : X) → AllByRecursion P xs → find test xs ≡ Some x → P x × (test x ≡ true)
 find_all P test [] x all e = absurd (none_some None x e refl)
 find_all P test (y ∷ ys) x all e = by (test y) refl e (find_all P test ys x all.1)
   where

@@ -1,19 +1,18 @@
 -- The keys of a zone's map are the owners of its sets.
-use Rattle.std.proofs.Common.{◌≡◌, ◌<◌, ◌∙◌, refl, sym, ap, subst, arith, length}
+use Rattle.std.proofs.Common.{◌≡◌, ◌<◌, ◌∙◌, refl, sym, ap, arith, length}
 use Rattle.std.specs.Prelude.{Bool, true, false, ◌||◌, List, [], ◌∷◌, Option, Some, None, IsSome, cond, filter, is_some, option_map}
 use Rattle.std.specs.BTreeMap.{BTreeMap, get, is_at}
 use Rattle.std.specs.HashMap.{HashMap}
 use Rattle.std.specs.HashMap.{get as hashed}
 use Rattle.std.specs.List.{list_any}
 use Rattle.std.specs.Map.{keys_of, lookup}
-use Rattle.std.proofs.lemmas.Bool.{true≢false}
 use Rattle.zst_handler.specs.dnw_name.DomainName.{DomainName, name_cmp, name_eq}
 use Rattle.zst_handler.specs.dnw_name.NameOrderLaws.{name_eq-by_cmp}
 use Rattle.zst_handler.specs.zst_record.OneOrMany.{items_of}
 use Rattle.zst_handler.specs.zst_record.RecordSets.{RRset}
 use Rattle.zst_handler.specs.zst_record.declared.one_or_many.OneOrMany.{OneOrMany}
 use Rattle.zst_handler.specs.Stores.{held_sets, sets_in}
-use Rattle.zst_map.specs.ZoneMaps.{AreOwners, IsKept, owned, some_sets}
+use Rattle.zst_map.specs.ZoneMaps.{AreOwners, IsKept, some_sets}
 use Rattle.zst_map.proofs.Kept.{Owner, owned_as}
 
 -- A name is among keys where something is under it.

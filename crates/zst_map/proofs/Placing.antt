@@ -5,7 +5,7 @@ use Rattle.std.specs.List.{AllByRecursion}
 use Rattle.std.proofs.lemmas.Bool.{and_parts, eqb-true, eq-eqb, true≢false}
 use Rattle.zst_handler.specs.dnw_codes.declared.record_type.RecordType.{RecordType}
 use Rattle.zst_handler.specs.dnw_codes.RecordType.{record_type_number, same_record_type}
-use Rattle.zst_handler.specs.dnw_name.DomainName.{DomainName, lowercase_name, name_eq}
+use Rattle.zst_handler.specs.dnw_name.DomainName.{DomainName, name_eq}
 use Rattle.zst_handler.specs.zst_record.RecordLaws.{name_eq_equiv}
 use Rattle.zst_handler.specs.zst_record.RecordSets.{RRset, is_signature_of}
 use Rattle.zst_handler.specs.Zones.{rrset_at}

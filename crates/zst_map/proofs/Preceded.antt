@@ -6,7 +6,7 @@ use Rattle.std.specs.BTreeMap.Range.{entries_between, range_contains}
 use Rattle.std.specs.List.{AllByRecursion, filter, list_any}
 use Rattle.std.specs.List.Sorted.{IsStrictlySortedBy}
 use Rattle.std.specs.Map.{keys_of, lookup}
-use Rattle.std.specs.Ordering.{is_eq, is_gt, is_le, is_lt, ordering_reverse}
+use Rattle.std.specs.Ordering.{is_gt, is_le, is_lt, ordering_reverse}
 use Rattle.std.specs.declared.cmp.Ordering.{Ordering}
 use Rattle.std.specs.declared.cmp.Ordering.TheVariants.{Less, Equal, Greater}
 use Rattle.std.specs.declared.ops.Bound.{Bound}
@@ -22,7 +22,7 @@ use Rattle.zst_handler.specs.dnw_name.NameOrderLaws.{name_eq-by_cmp}
 use Rattle.zst_handler.specs.zst_record.RecordSets.{RRset}
 use Rattle.zst_handler.specs.Zones.{rrset_at}
 use Rattle.zst_key.proofs.NamesAbove.{is-equal, name_total}
-use Rattle.zst_map.specs.Preceding.{FindsLast, FindsPreceding, IsLastOwned, IsPreceding}
+use Rattle.zst_map.specs.Preceding.{FindsLast, FindsPreceding, IsLastOwned}
 use Rattle.zst_map.proofs.Indexed.{rrset_same}
 
 abbrev pub Owner : Type 0
@@ -187,13 +187,15 @@ module _ (sets : List RRset) (t : RecordType) where
         let low : is_gt (name_cmp owner key) ≡ false
         = up_to owner (middle (λ e. range_contains name_cmp Unbounded (Included key) e.0 ≡ true) last.before last.after last.owner
         (subst (AllByRecursion (λ (e : Owner). range_contains name_cmp Unbounded (Included key) e.0 ≡ true)) (sym is ∙ last.are)
-        (filtered (λ (e : Owner). range_contains name_cmp Unbounded (Included key) e.0) names.entries))) in
-        (owner, record {
-          there = last.there;
-          last = λ up q some below. none_after run set (subst (λ (l : List Owner). IsStrictlySortedBy name_cmp (keys_of l)) (sym is) (sorted Unbounded (Included key))) last q some
-              (ap (has q) is ∙ has_up_to q below some);
-          around = λ high. absurd (true≢false (sym high ∙ low));
-        })
+        (filtered (λ (e : Owner). range_contains name_cmp Unbounded (Included key) e.0) names.entries))) in (
+          owner,
+          record {
+            there = last.there;
+            last = λ up q some below. none_after run set (subst (λ (l : List Owner). IsStrictlySortedBy name_cmp (keys_of l)) (sym is) (sorted Unbounded (Included key))) last q some
+                (ap (has q) is ∙ has_up_to q below some);
+            around = λ high. absurd (true≢false (sym high ∙ low));
+          },
+        )
 
     -- ---- none up to the name
     none_before : (run : List Owner) → run ≡ between Unbounded (Included key) → FindsLast sets t run None → (q : DomainName) → IsSome (rrset_at sets q t) → is_gt (name_cmp q key) ≡ true
@@ -217,13 +219,15 @@ module _ (sets : List RRset) (t : RecordType) where
     found_after run later None is also none more = none_at_all run later is also none more
     found_after run later (Some set) is also none last =
         let owner = last.owner.0 in
-        let owns : IsSome (rrset_at sets owner t) = ap is_some last.there in
-        (owner, record {
-          there = last.there;
-          last = λ low. absurd (true≢false (sym (none_before run is none owner owns) ∙ low));
-          around = λ high q some. (
-            none_before run is none q some,
-            none_after later set (subst (λ (l : List Owner). IsStrictlySortedBy name_cmp (keys_of l)) (sym also) (sorted (Included key) Unbounded)) last q some
-            (ap (has q) also ∙ has_from q (none_before run is none q some) some),
-          );
-        })
+        let owns : IsSome (rrset_at sets owner t) = ap is_some last.there in (
+          owner,
+          record {
+            there = last.there;
+            last = λ low. absurd (true≢false (sym (none_before run is none owner owns) ∙ low));
+            around = λ high q some. (
+              none_before run is none q some,
+              none_after later set (subst (λ (l : List Owner). IsStrictlySortedBy name_cmp (keys_of l)) (sym also) (sorted (Included key) Unbounded)) last q some
+                  (ap (has q) also ∙ has_from q (none_before run is none q some) some),
+            );
+          },
+        )

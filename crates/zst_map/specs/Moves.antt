@@ -7,7 +7,6 @@ use Rattle.zst_handler.specs.dnw_codes.RecordType.{same_record_type}
 use Rattle.zst_handler.specs.dnw_name.DomainName.{DomainName, name_eq}
 use Rattle.zst_handler.specs.Zones.{rrset_at}
 use Rattle.zst_handler.specs.zst_record.RecordSets.{RRset, is_signature_of}
-use Rattle.zst_handler.specs.zst_record.declared.records.Record.{Record}
 use Rattle.zst_map.specs.declared.moves.Placeholder.{Placeholder}
 
 -- Sets of these types are made anew where a zone is signed (RFC 4034, section 4; RFC 5155, sections

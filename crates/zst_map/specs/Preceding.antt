@@ -1,6 +1,6 @@
 -- Which set of a type precedes a name where the owners of such sets are on a circle: the first
 -- follows the last (RFC 4034, section 4.1.1).
-use Rattle.std.specs.Prelude.{◌≡◌, true, false, ◌++◌, List, [], ◌∷◌, Option, Some, None, IsSome}
+use Rattle.std.specs.Prelude.{◌≡◌, true, false, ◌++◌, List, ◌∷◌, Option, Some, None, IsSome}
 use Rattle.std.specs.List.{AllByRecursion}
 use Rattle.std.specs.Ordering.{is_gt, is_lt}
 use Rattle.zst_handler.specs.dnw_codes.declared.record_type.RecordType.{RecordType}

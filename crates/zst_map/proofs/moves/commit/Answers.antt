@@ -1,8 +1,6 @@
-use Rattle.std.proofs.Common.{◌≡◌, ◌+◌, ◌∙◌, refl, sym, ap, subst, arith, length, List, ◌∷◌, []}
-use Rattle.std.specs.Prelude.{Option, Some, None, is_some, cond}
+use Rattle.std.proofs.Common.{◌≡◌, ◌∙◌, refl, sym, subst, arith, length, List, ◌∷◌, []}
 use Rattle.std.specs.List.{AllByRecursion}
-use Rattle.std.specs.Vec.Iter.{into_iter_items, into_iter_len}
-use Rattle.zst_handler.specs.zst_record.RecordSets.{RRset}
+use Rattle.std.specs.Vec.Iter.{into_iter_items}
 use Rattle.zst_handler.specs.Zones.{rrset_at}
 use Rattle.zst_map.specs.Moves.{CanMove, placeholder_of}
 use Rattle.zst_map.specs.declared.moves.Placeholder.{Placeholder}

@@ -1,6 +1,5 @@
-use Rattle.std.proofs.Common.{◌≡◌, ◌∙◌, ap, subst, sym}
+use Rattle.std.proofs.Common.{◌≡◌, ◌∙◌, ap, sym}
 use Rattle.std.specs.Prelude.{Bool, true, false, ◌&&◌, ◌||◌, Ok, Err, OnOk, Result, is_some}
-use Rattle.std.specs.List.{AllByRecursion}
 use Rattle.std.proofs.lemmas.Result.{on_ok_weaker}
 use Rattle.zst_handler.specs.dnw_codes.RecordType.{same_record_type}
 use Rattle.zst_handler.specs.dnw_codes.declared.record_type.RecordType.{RecordType}
@@ -9,8 +8,8 @@ use Rattle.zst_handler.specs.zst_record.RecordLaws.{name_eq_equiv}
 use Rattle.zst_handler.specs.zst_record.RecordSets.{RRset}
 use Rattle.zst_handler.specs.Zones.{rrset_at}
 use Rattle.zst_key.proofs.KeyLemmas.{eq-lower, eq-lower-first}
-use Rattle.zst_map.specs.Moves.{IsUnsigned, is_placeholder_of, moves, placeholder_of}
-use Rattle.zst_map.proofs.Placing.{all_with, find_last, hit_moves, kept_out, put_in, some_of}
+use Rattle.zst_map.specs.Moves.{is_placeholder_of, moves, placeholder_of}
+use Rattle.zst_map.proofs.Placing.{find_last, hit_moves, kept_out, put_in, some_of}
 use Rattle.zst_map.proofs.moves.put_placeholder.Goals as goal
 
 any_ok : {T E P : Type 0} (r : Result T E) → P → OnOk r P

@@ -1,4 +1,4 @@
-use Rattle.std.proofs.Common.{◌≡◌, ◌∙◌, refl, sym, ap}
+use Rattle.std.proofs.Common.{◌∙◌, refl, sym, ap}
 use Rattle.std.specs.Prelude.{List, is_some}
 use Rattle.std.proofs.lemmas.Bool.{true≢false}
 use Rattle.zst_handler.specs.dnw_codes.RecordType.{record_type_number}

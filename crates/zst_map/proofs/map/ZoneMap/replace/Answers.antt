@@ -1,5 +1,5 @@
 use Rattle.std.proofs.Common.{◌≡◌, ◌∙◌, refl, sym, ap, subst}
-use Rattle.std.specs.Prelude.{List, Option, Some, None, IsSome, is_some}
+use Rattle.std.specs.Prelude.{Option, Some, None, IsSome, is_some}
 use Rattle.std.proofs.lemmas.Bool.{true≢false}
 use Rattle.zst_handler.specs.zst_record.OneOrMany.{items_of}
 use Rattle.zst_handler.specs.zst_record.RecordSets.{RRset}
