@@ -13,7 +13,7 @@ use Rattle.zst_handler.specs.zst_record.RecordLaws.{name_eq_equiv}
 use Rattle.zst_key.specs.Ancestors.{other_flag, parent, star}
 use Rattle.zst_handler.specs.Updates.{Replaces}
 use Rattle.zst_handler.specs.Zones.{rrset_at}
-use Rattle.zst_map.specs.Indexes.{Grows, HasName, HasOwnerOf, IsIndexed}
+use Rattle.zst_map.specs.Indexes.{Grows, HasName, HasOwnerOf, IsIndexed, is_denial_type}
 use Rattle.zst_map.specs.ZoneMaps.{exists_alike}
 use Rattle.zst_map.specs.declared.index.Index.{Index}
 use Rattle.zst_key.proofs.KeyLemmas.{eq-lower}
@@ -42,18 +42,20 @@ flags_same a b e f = by a.fqdn b.fqdn (and_parts (beq a.fqdn b.fqdn) _ e).0 f
     by false false e f = f
 
 -- An owner was put where it is wanted.
-pub marked : (owner : DomainName) (kind : RecordType) (key : DomainName) (owns_soa is_ns is_star is_full cuts relative : Bool) (servers wildcards : BTreeMap DomainName (Unit {0}))
-    → key ≡ lowercase_name owner → is_ns ≡ same_record_type kind types.NS → is_full ≡ key.fqdn → is_star ≡ is_wildcard owner
-    → (is_ns ≡ true → HasName servers key) → (is_star ≡ true → HasName wildcards (parent key))
+pub marked : (owner : DomainName) (kind : RecordType) (key : DomainName) (owns_soa is_ns is_star is_denial is_full cuts relative : Bool) (servers wildcards denials : BTreeMap DomainName (Unit {0}))
+    → key ≡ lowercase_name owner → is_ns ≡ same_record_type kind types.NS → is_full ≡ key.fqdn → is_star ≡ is_wildcard owner → is_denial ≡ is_denial_type kind
+    → (is_ns ≡ true → HasName servers key) → (is_star ≡ true → HasName wildcards (parent key)) → (is_denial ≡ true → HasName denials key)
     → HasOwnerOf owner kind owns_soa (record {
       name_servers = servers;
       wildcards = wildcards;
+      denials = denials;
       has_cuts = cuts || (is_ns && not owns_soa);
       has_relative = relative || not is_full;
     })
-marked owner kind key owns_soa is_ns is_star is_full cuts relative servers wildcards at ns full star at_servers at_star = record {
+marked owner kind key owns_soa is_ns is_star is_denial is_full cuts relative servers wildcards denials at ns full star denies at_servers at_star at_denials = record {
   cut = λ type name e. at_servers (ns ∙ type) name (ap (name_eq name) at ∙ eq-lower name owner ∙ e);
   uncut = λ none type. owned cuts is_ns owns_soa none (ns ∙ type);
+  denial = λ type name e. at_denials (denies ∙ type) name (ap (name_eq name) at ∙ eq-lower name owner ∙ e);
   star_above = λ name e. at_star (star ∙ (star_parts name owner e).is) name (star_key name owner key at e);
   absolute = λ none. sym (ap (λ (n : DomainName). n.fqdn) at) ∙ sym full ∙ complete relative is_full none;
 }
@@ -75,6 +77,7 @@ still_indexed old new sets grows is = record {
   cuts = λ name some. grows.cuts name (is.cuts name some);
   uncut = λ none name some. is.uncut (grows.uncut none) name some;
   stars = λ name t some. grows.stars name (is.stars name t some);
+  denials = λ name t type some. grows.denials name (is.denials name t type some);
   absolute = λ none name t some. is.absolute (grows.absolute none) name t some;
 }
 
@@ -104,6 +107,10 @@ rrset_same (set ∷ sets) a b t e =
     ap (λ (w : Bool). cond (w && same_record_type set.record_type t) (Some set) (rrset_at sets b t)) (sym (name_eq_equiv.congr a b set.name e))
     ∙ ap (cond (name_eq a set.name && same_record_type set.record_type t) (Some set)) (rrset_same sets a b t e)
 
+-- Types of one number prove what is absent, or don't.
+denial_same : (t u : RecordType) → same_record_type t u ≡ true → is_denial_type u ≡ true → is_denial_type t ≡ true
+denial_same t u same denies = ap (λ (n : ℕ). (n == 47) || (n == 50)) (eqb-true (record_type_number t) (record_type_number u) same) ∙ denies
+
 pub with_put : (old new : Index) (before after : List RRset) (owner : DomainName) (kind : RecordType) (set : RRset) (owns_soa : Bool) → Grows old new → HasOwnerOf owner kind owns_soa new
     → (same_record_type kind types.NS ≡ true → owns_soa ≡ is_some (rrset_at before owner types.SOA))
     → Replaces before owner kind (Some set) after → IsIndexed old before → IsIndexed new after
@@ -118,6 +125,8 @@ with_put old new before after owner kind set owns_soa grows has soa replaces is 
           (λ same type. has.cut type name same) (kept.cuts name);
       stars = λ name t some. split before after owner kind (Some set) (star name) t (IsSome (get name_cmp new.wildcards name)) replaces some
           (λ same type. has.star_above name same) (kept.stars name t);
+      denials = λ name t denies some. split before after owner kind (Some set) name t (IsSome (get name_cmp new.denials name)) replaces some
+          (λ same type. has.denial (denial_same kind t type denies) name same) (kept.denials name t denies);
       absolute = λ none name t some. split before after owner kind (Some set) name t (name.fqdn ≡ true) replaces some
           (λ same type. flags_same name owner same (has.absolute none)) (kept.absolute none name t);
     }
@@ -136,6 +145,7 @@ with_removed old new before after owner kind grows soa replaces is =
       uncut = λ none name some. apart_remains before after owner kind None name types.SOA replaces (other (same_record_type kind types.SOA) soa none) (kept.uncut none name (was name types.NS some));
       cuts = λ name some. kept.cuts name (was name types.NS some);
       stars = λ name t some. kept.stars name t (was (star name) t some);
+      denials = λ name t denies some. kept.denials name t denies (was name t some);
       absolute = λ none name t some. kept.absolute none name t (was name t some);
     }
   where
@@ -163,6 +173,7 @@ none_indexed index = record {
   cuts = λ name some. absurd (true≢false (sym some));
   uncut = λ none name some. absurd (true≢false (sym some));
   stars = λ name t some. absurd (true≢false (sym some));
+  denials = λ name t denies some. absurd (true≢false (sym some));
   absolute = λ none name t some. absurd (true≢false (sym some));
 }
 
@@ -178,5 +189,13 @@ with_edited index before after owner kind old set there replaces is =
       uncut = λ none name some. remains before after owner kind set name types.SOA replaces (is.uncut none name (was name types.NS some));
       cuts = λ name some. is.cuts name (was name types.NS some);
       stars = λ name t some. is.stars name t (was (star name) t some);
+      denials = λ name t denies some. is.denials name t denies (was name t some);
       absolute = λ none name t some. is.absolute none name t (was name t some);
     }
+
+pub with_replaced : (index : Index) (before after : List RRset) (owner : DomainName) (kind : RecordType) (set : RRset) → IsSome (rrset_at before owner kind) → Replaces before owner kind (Some set) after → IsIndexed index before → IsIndexed index after
+with_replaced index before after owner kind set there replaces is = by (rrset_at before owner kind) refl there
+  where
+    by : (o : Option RRset) → rrset_at before owner kind ≡ o → IsSome o → IsIndexed index after
+    by None e some = absurd (true≢false (sym some))
+    by (Some old) e some = with_edited index before after owner kind old set e replaces is

@@ -3,10 +3,14 @@ pub mod Entries
 pub mod Indexed
 pub mod Kept
 pub mod Keys
+pub mod Moving
 pub mod NamedSets
 pub mod Names
 pub mod NearestOf
 pub mod Owners
+pub mod Owning
+pub mod Placing
+pub mod Preceded
 pub mod Removals
 pub mod Searched
 pub mod Stars

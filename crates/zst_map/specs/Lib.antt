@@ -1,6 +1,8 @@
 pub mod Changes
 pub mod Edits
 pub mod Indexes
+pub mod Moves
+pub mod Preceding
 pub mod Searches
 pub mod ZoneMaps
 pub use Rattle.zst_handler.specs.dnw_codes

@@ -25,6 +25,12 @@ abbrev pub exists_alike : List RRset → DomainName → Bool
 exists_alike sets name =
     list_any (λ set. beq set.name.fqdn name.fqdn && is_at_or_below set.name name) sets
 
+-- The owners of sets, in canonical order (RFC 4034, section 6.1), each once.
+pub record AreOwners (sets : List RRset) (names : List DomainName) : Type 0 where
+  pub ordered : IsStrictlySortedBy name_cmp names
+  pub each : (name : DomainName) → list_any (name_eq name) names
+      ≡ list_any (λ set. name_eq name set.name) sets
+
 -- This stands at the name: all its sets, and whether it exists so.
 pub record IsPlace (sets : List RRset) (name : DomainName) (place : Place) : Type 0 where
   pub sets_are : place.sets.now ≡ sets_of_name sets name

@@ -1,4 +1,4 @@
-//! The names at which a search of a zone looks for cuts and wildcards.
+//! The names at which a search of a zone looks for cuts, wildcards and denials.
 
 ghost use Rattle.std.specs.Prelude.{◌≡◌, ◌&&◌, true, false, not, OnErr, OnOk, IsSome, Some};
 ghost use Rattle.std.specs.BTreeMap.{Updates, get};
@@ -8,20 +8,22 @@ ghost use Rattle.zst_handler.specs.dnw_codes.RecordType.{same_record_type};
 ghost use Rattle.zst_handler.specs.dnw_codes.declared.record_type.RecordType.TheVariants as kind;
 ghost use Rattle.zst_handler.specs.dnw_name.DomainName.{DomainName, lowercase_name, name_cmp};
 ghost use Rattle.zst_key.specs.Ancestors.{parent};
-ghost use Rattle.zst_map.specs.Indexes.{Grows, HasName, HasOwnerOf};
+ghost use Rattle.zst_map.specs.Indexes.{Grows, HasName, HasOwnerOf, is_denial_type};
 
 use std::alloc::{AllocError, Global};
 use std::collections::BTreeMap;
 use zst_handler::{Name, RecordType};
 use zst_key::NameKey;
 
-/// The names at which a search looks for cuts and wildcards. Each may hold more.
+/// The names at which a search looks for cuts, wildcards and denials. Each may hold more.
 #[derive(Drop)]
 pub(crate) struct Index {
     /// The names that own NS.
     pub(crate) name_servers: BTreeMap<NameKey, ()>,
     /// The names that have a wildcard below them.
     pub(crate) wildcards: BTreeMap<NameKey, ()>,
+    /// The names that own NSEC or NSEC3.
+    pub(crate) denials: BTreeMap<NameKey, ()>,
     /// Whether some owner of NS may have no SOA, and so be a cut.
     pub(crate) has_cuts: bool,
     /// Whether some owner may be relative.
@@ -36,6 +38,7 @@ impl Index {
         Index {
             name_servers: BTreeMap::new(alloc),
             wildcards: BTreeMap::new(alloc),
+            denials: BTreeMap::new(alloc),
             has_cuts: false,
             has_relative: false,
         }
@@ -57,6 +60,7 @@ impl Index {
         self.has_relative |= !key.is_fqdn();
         self.has_cuts |= is_cut(is_ns, owns_soa);
         put_if(&mut self.name_servers, key, is_ns)?;
+        put_if(&mut self.denials, key, is_denial_type(record_type))?;
         put_above_if(&mut self.wildcards, key, owner.is_wildcard())
     }
 
@@ -72,6 +76,7 @@ impl Index {
     pub(crate) fn clear(&mut self) {
         self.name_servers.clear();
         self.wildcards.clear();
+        self.denials.clear();
         self.has_cuts = false;
         self.has_relative = false;
     }
@@ -82,6 +87,13 @@ fn is_cut(is_ns: bool, owns_soa: bool) -> bool
     ensures { result ≡ (is_ns && not owns_soa) }
 {
     is_ns && !owns_soa
+}
+
+// Whether sets of a type prove what a zone doesn't have (RFC 4034 section 4, RFC 5155 section 3).
+fn is_denial_type(record_type: RecordType) -> bool
+    ensures { result ≡ is_denial_type record_type }
+{
+    record_type == RecordType::NSEC || record_type == RecordType::NSEC3
 }
 
 // Puts a name into an index, if it is wanted there.

@@ -14,11 +14,14 @@ pub use zst_key::NameKey;
 
 mod apart;
 mod change;
+mod denials;
 mod edit;
 mod index;
 mod map;
+mod moves;
 mod node;
 mod zone_sets;
 
 pub use edit::Edit;
+pub use moves::{Placeholder, commit, placeholders};
 pub use zone_sets::{Match, Search, ZoneSets};

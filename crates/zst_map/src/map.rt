@@ -1,6 +1,6 @@
 //! The sets of a zone, in the canonical order of their owners.
 
-ghost use Rattle.std.specs.Prelude.{◌≡◌, ◌<◌, [], None, Some, IfOk, OnOk, OnErr, if◌then◌else◌, option_map};
+ghost use Rattle.std.specs.Prelude.{◌≡◌, ◌<◌, [], true, None, Some, IfOk, IsSome, OnOk, OnErr, if◌then◌else◌, option_copied, option_map};
 ghost use Rattle.std.specs.BTreeMap.{get};
 ghost use Rattle.std.specs.HashMap.{spare};
 ghost use Rattle.std.specs.HashMap.{get as hashed};
@@ -14,13 +14,14 @@ ghost use Rattle.zst_handler.specs.zst_record.RecordSets.{RRset};
 ghost use Rattle.zst_map.specs.Changes.{alters, made, owner_of, type_in};
 ghost use Rattle.zst_map.specs.Edits.{CanEdit, edited};
 ghost use Rattle.zst_key.specs.Ancestors.{nearest_in};
-ghost use Rattle.zst_map.specs.ZoneMaps.{IsPlace, exists_alike, owned};
+ghost use Rattle.zst_map.specs.ZoneMaps.{AreOwners, IsPlace, exists_alike, owned};
 
 use crate::change::Change;
 use crate::edit::Edit;
 use crate::index::insert_key;
-use crate::node::{change_node, edit_node, is_only, only, take_out};
+use crate::node::{change_node, edit_node, find_set, is_only, only, replace_in, take_out};
 use std::alloc::{AllocError, Global};
+use std::collections::btree_map::Keys;
 use std::collections::{BTreeMap, HashMap};
 use std::hash::Hash;
 use std::marker::Model;
@@ -86,6 +87,20 @@ impl ZoneMap {
         ensures { result ≡ self.now }
     {
         LentSets::new(&self.owners, &self.nodes)
+    }
+
+    /// The owners' keys, in order, each once.
+    pub(crate) fn owners(&self) -> Keys<'_, NameKey, ()>
+        ensures { AreOwners self.now result }
+    {
+        self.owners.keys()
+    }
+
+    /// The set of a type at the name of a key.
+    pub(crate) fn get(&self, key: &NameKey, record_type: RecordType) -> Option<&RecordSet>
+        ensures { option_copied result ≡ rrset_at self.now key.now record_type }
+    {
+        find_set(self.sets_at(key), record_type)
     }
 
     /// All sets at the name of a key, by rising type.
@@ -169,6 +184,20 @@ impl ZoneMap {
             return;
         };
         edit_node(node, record_type, edit);
+    }
+
+    /// Puts a set in place of the one of its type at the name of a key, which is there.
+    pub(crate) fn replace(&mut self, key: &NameKey, set: RecordSet)
+        requires owner { name_eq key.now set.name ≡ true }
+        requires there { IsSome (rrset_at self.old key.now set.record_type) }
+        ensures others { Replaces self.old key.now set.record_type (Some set) self.new }
+        ensures ordered { AreInOrder self.new }
+    {
+        let Some(node) = self.nodes.get_mut(key) else {
+            mem::drop(set);
+            return;
+        };
+        replace_in(node, set);
     }
 
     /// Takes out the set of an owner, which has this key, and a type.

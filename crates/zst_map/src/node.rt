@@ -1,6 +1,6 @@
 //! The sets of one owner.
 
-ghost use Rattle.std.specs.Prelude.{◌≡◌, ◌∷◌, ◌<◌, [], false, true, List, Some, IfOk, OnErr, OnOk, find, length, option_copied, slice_get, slice_set};
+ghost use Rattle.std.specs.Prelude.{◌≡◌, ◌∷◌, ◌<◌, [], false, true, List, Some, IfOk, IsSome, OnErr, OnOk, find, length, option_copied, slice_get, slice_set};
 ghost use Rattle.std.specs.List.{AllByRecursion};
 ghost use Rattle.zst_handler.specs.dnw_codes.RecordType.{record_type_number, same_record_type};
 ghost use Rattle.zst_handler.specs.dnw_name.DomainName.{DomainName, name_eq};
@@ -111,6 +111,18 @@ fn change_at(
     match sets {
         OneOrMany::One(set) => change.apply(set),
         OneOrMany::Many(sets) => change.apply(&mut sets[place]),
+    }
+}
+
+/// Puts a set in place of the one of its type, which is there.
+pub(crate) fn replace_in(sets: &mut OneOrMany<RecordSet>, set: RecordSet)
+    requires there { IsSome (set_of_type set.record_type (items_of sets.old)) }
+    requires rise { TypesRise (items_of sets.old) }
+    ensures { items_of sets.new ≡ with_set (items_of sets.old) set }
+{
+    match place_of(sets.as_slice(), set.record_type()) {
+        Ok(place) => sets.set(place, set),
+        Err(_) => mem::drop(set),
     }
 }
 

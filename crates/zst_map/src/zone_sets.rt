@@ -6,7 +6,7 @@ ghost use Rattle.zst_key.specs.Ancestors.{nearest_in, parent};
 ghost use Rattle.zst_handler.specs.dnw_codes.RecordType.{same_record_type};
 ghost use Rattle.zst_handler.specs.dnw_codes.declared.record_type.RecordType.TheVariants as kind;
 ghost use Rattle.zst_handler.specs.drd_rdata.Types.{type_of};
-ghost use Rattle.zst_handler.specs.dnw_name.DomainName.{DomainName, lowercase_name, name_cmp};
+ghost use Rattle.zst_handler.specs.dnw_name.DomainName.{DomainName, lowercase_name, name_cmp, name_eq};
 ghost use Rattle.zst_handler.specs.Answers.{set_in};
 ghost use Rattle.zst_handler.specs.Found.{above, cut_at, cut_found, delegation, found, here};
 ghost use Rattle.zst_handler.specs.Lookups.{sets_of_name};
@@ -15,17 +15,21 @@ ghost use Rattle.zst_handler.specs.Zones.{Adds, AreInOrder, exists_in, rrset_at}
 ghost use Rattle.zst_handler.specs.zst_record.RecordSets.{RRset};
 ghost use Rattle.zst_map.specs.Changes.{alters, made, owner_of, type_in};
 ghost use Rattle.zst_map.specs.Edits.{CanEdit, edited};
+ghost use Rattle.zst_map.specs.Indexes.{is_denial_type};
+ghost use Rattle.zst_map.specs.Preceding.{FindsPreceding};
 ghost use Rattle.zst_map.specs.Searches.{IsSearch, lent, looked_for, match_set, sought_in};
-ghost use Rattle.zst_map.specs.ZoneMaps.{IsPlace, exists_alike, owned};
+ghost use Rattle.zst_map.specs.ZoneMaps.{AreOwners, IsPlace, exists_alike, owned};
 
 use crate::apart::is_kept_out;
 use crate::change::Change;
+use crate::denials::preceding;
 use crate::edit::Edit;
 use crate::index::Index;
 use crate::map::{Place, ZoneMap};
 use crate::node::{cut_of, find_set, here};
 use std::alloc::{AllocError, Global};
 use std::collections::BTreeMap;
+use std::collections::btree_map::Keys;
 use std::marker::Model;
 use std::mem;
 use zst_handler::{AnswerSet, LentSets, Name, Record, RecordSet, RecordType, ZoneSetsIter};
@@ -119,7 +123,7 @@ impl ZoneSets {
     pub fn get(&self, key: &NameKey, record_type: RecordType) -> Option<&RecordSet>
         ensures { option_copied result ≡ rrset_at self.now key.now record_type }
     {
-        find_set(self.sets.sets_at(key), record_type)
+        self.sets.get(key, record_type)
     }
 
     /// The IPv4 addresses and the IPv6 addresses at the name of a key.
@@ -139,6 +143,22 @@ impl ZoneSets {
         ensures { result.now ≡ sets_of_name self.now key.now }
     {
         self.sets.sets_at(key)
+    }
+
+    /// The keys of the owners, in order, each once.
+    pub fn owners(&self) -> Keys<'_, NameKey, ()>
+        ensures { AreOwners self.now result }
+    {
+        self.sets.owners()
+    }
+
+    /// The set of NSEC or NSEC3 at the name of a key, or else of the owner before it; where no owner is before it, of the
+    /// last one. It takes no memory.
+    pub fn preceding(&self, key: &NameKey, record_type: RecordType) -> Option<&RecordSet>
+        requires { is_denial_type record_type ≡ true }
+        ensures { FindsPreceding self.now record_type key.now (option_copied result) }
+    {
+        preceding(&self.index.denials, &self.sets, key, record_type)
     }
 
     /// The sets, in order.
@@ -220,6 +240,16 @@ impl ZoneSets {
     {
         self.change(alloc, key, Change::Put(set))?;
         Ok(())
+    }
+
+    /// Puts a set in place of the one of its type at the name of a key, which is there. It takes no memory.
+    pub fn replace(&mut self, key: &NameKey, set: RecordSet)
+        requires owner { name_eq key.now set.name ≡ true }
+        requires there { IsSome (rrset_at self.old key.now set.record_type) }
+        ensures others { Replaces self.old key.now set.record_type (Some set) self.new }
+        ensures ordered { AreInOrder self.new }
+    {
+        self.sets.replace(key, set);
     }
 
     // Changes the set of an owner, which has this key, and a type, and tells whether that changed it.

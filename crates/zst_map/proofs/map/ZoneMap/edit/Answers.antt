@@ -1,11 +1,11 @@
 use Rattle.std.proofs.Common.{◌≡◌, ◌∙◌, refl, sym, ap, subst}
-use Rattle.std.specs.Prelude.{List, Option, Some, None, is_some}
+use Rattle.std.specs.Prelude.{Option, Some, None, is_some}
 use Rattle.zst_handler.specs.zst_record.OneOrMany.{items_of}
 use Rattle.zst_handler.specs.zst_record.RecordSets.{RRset}
 use Rattle.zst_handler.specs.zst_record.declared.one_or_many.OneOrMany.{OneOrMany}
 use Rattle.zst_key.specs.NameKeys.{name_key}
-use Rattle.zst_handler.specs.Updates.{set_of_type, with_set}
-use Rattle.zst_map.specs.Edits.{CanEdit, edited}
+use Rattle.zst_handler.specs.Updates.{with_set}
+use Rattle.zst_map.specs.Edits.{edited}
 use Rattle.zst_handler.specs.Stores.{held_sets}
 use Rattle.zst_map.specs.ZoneMaps.{IsNode, IsOwnedAt}
 use Rattle.zst_map.specs.declared.change.Change.TheVariants as changes

@@ -1,10 +1,7 @@
 use Rattle.std.proofs.Common.{◌∙◌, ap, List}
 use Rattle.zst_handler.specs.zst_record.RecordSets.{RRset}
 use Rattle.zst_handler.specs.Zones.{rrset_at}
-use Rattle.zst_map.proofs.Searched.{own_found}
 use Rattle.zst_map.proofs.zone_sets.ZoneSets.get.Goals as goal
 
 pub returns : goal.returns
-returns c =
-    c.find_set.ensures ∙ own_found c.self.inside.sets c.sets_at.result.now c.args.key.now c.args.record_type c.sets_at.ensures
-    ∙ ap (λ (sets : List RRset). rrset_at sets c.args.key.now c.args.record_type) c.self.view_is
+returns c = c.get.ensures ∙ ap (λ (sets : List RRset). rrset_at sets c.args.key.now c.args.record_type) c.self.view_is

@@ -1,0 +1,141 @@
+-- Sets that move, one placeholder's after the other's: what two zones have under each owner and type.
+use Rattle.std.proofs.Common.{◌≡◌, ℕ, refl, ap, sym, subst, ◌∙◌}
+use Rattle.std.specs.Prelude.{Bool, true, false, ◌&&◌, ◌==◌, List, [], ◌∷◌, Option, Some, None, cond, find, is_some, IsSome, option_map}
+use Rattle.std.specs.List.{AllByRecursion}
+use Rattle.std.proofs.lemmas.Bool.{and_parts, eqb-true, true≢false}
+use Rattle.zst_handler.specs.dnw_codes.declared.record_type.RecordType.{RecordType}
+use Rattle.zst_handler.specs.dnw_codes.RecordType.{record_type_number, same_record_type}
+use Rattle.zst_handler.specs.dnw_name.DomainName.{DomainName, name_eq}
+use Rattle.zst_handler.specs.zst_record.RecordLaws.{name_eq_equiv}
+use Rattle.zst_handler.specs.zst_record.RecordSets.{RRset, is_signature_of}
+use Rattle.zst_handler.specs.Updates.{Replaces}
+use Rattle.zst_handler.specs.Zones.{rrset_at}
+use Rattle.zst_map.specs.Moves.{CanMove, is_placeholder_of, moved, placeholder_of, resigned}
+use Rattle.zst_map.specs.declared.moves.Placeholder.{Placeholder}
+use Rattle.zst_map.proofs.Indexed.{rrset_same}
+
+pub one : {X : Type 0} (x y : X) → Some x ≡ Some y → x ≡ y
+one x y e = cc
+
+none_some : {X : Type 0} (o : Option X) (x : X) → o ≡ Some x → o ≡ None → ⊥
+none_some o x some none = let h = sym some ∙ none in cc
+
+-- ---- under equal names and types of one number is the same
+pub type_same : (sets : List RRset) (a : DomainName) (t u : RecordType) → same_record_type t u ≡ true → rrset_at sets a t ≡ rrset_at sets a u
+type_same sets a t u e =
+    ap (λ (n : ℕ). find (λ (set : RRset). name_eq a set.name && record_type_number set.record_type == n) sets) (eqb-true (record_type_number t) (record_type_number u) e)
+
+pub both_same : (sets : List RRset) (a b : DomainName) (t u : RecordType) → name_eq a b ≡ true → same_record_type t u ≡ true → rrset_at sets b t ≡ rrset_at sets a u
+both_same sets a b t u e f = rrset_same sets a b t e ∙ type_same sets a t u f
+
+-- A set that was found is of the owner and the type that were asked for.
+pub found_parts : (sets : List RRset) (name : DomainName) (t : RecordType) (set : RRset) → rrset_at sets name t ≡ Some set → (name_eq name set.name ≡ true) × (same_record_type set.record_type t ≡ true)
+found_parts [] name t set h = absurd (none_some None set h refl)
+found_parts (s ∷ ss) name t set h = by (name_eq name s.name && same_record_type s.record_type t) refl h (found_parts ss name t set)
+  where
+    by : (b : Bool) → (name_eq name s.name && same_record_type s.record_type t) ≡ b → cond b (Some s) (rrset_at ss name t) ≡ Some set
+        → (rrset_at ss name t ≡ Some set → (name_eq name set.name ≡ true) × (same_record_type set.record_type t ≡ true)) → (name_eq name set.name ≡ true) × (same_record_type set.record_type t ≡ true)
+    by true e found later = subst (λ (u : RRset). (name_eq name u.name ≡ true) × (same_record_type u.record_type t ≡ true)) (one s set found) (and_parts (name_eq name s.name) (same_record_type s.record_type t) e)
+    by false e found later = later found
+
+-- ---- a set in place of another
+name_alike : (a b other : DomainName) → name_eq a b ≡ true → name_eq other b ≡ name_eq other a
+name_alike a b other e = name_eq_equiv.symm other b ∙ sym (name_eq_equiv.congr a b other e) ∙ name_eq_equiv.symm a other
+
+-- It takes the place under a name that equals its owner's.
+pub replaced_at : (sets after : List RRset) (key : DomainName) (set : RRset) → name_eq key set.name ≡ true → Replaces sets set.name set.record_type (Some set) after
+    → Replaces sets key set.record_type (Some set) after
+replaced_at sets after key set same replaces other u =
+    replaces other u ∙ ap (λ (b : Bool). cond (b && same_record_type set.record_type u) (Some set) (rrset_at sets other u)) (name_alike key set.name other same)
+
+-- And under a type of the same number.
+pub replaced_as : (sets after : List RRset) (key : DomainName) (t : RecordType) (set : RRset) (kind : RecordType) → same_record_type kind t ≡ true → Replaces sets key kind (Some set) after
+    → Replaces sets key t (Some set) after
+replaced_as sets after key t set kind same replaces other u =
+    replaces other u
+    ∙ ap (λ (n : ℕ). cond (name_eq other key && n == record_type_number u) (Some set) (rrset_at sets other u)) (eqb-true (record_type_number kind) (record_type_number t) same)
+
+-- ---- one owner and type
+-- By its placeholder among all, and among those to come: what the zones had, and what they have.
+pub data Moves (all left : Option Placeholder) (old0 new0 old new : Option RRset) : Type 0 where
+  waits : old ≡ old0 → new ≡ new0 → left ≡ all → Moves all left old0 new0 old new
+  went : (p : Placeholder) → all ≡ Some p → old ≡ None → new ≡ option_map (resigned p) old0 → Moves all left old0 new0 old new
+
+pub starts : (all : Option Placeholder) (old new : Option RRset) → Moves all all old new old new
+starts all old new = waits refl refl refl
+
+pub ends : (all : Option Placeholder) (old0 new0 old new : Option RRset) → Moves all None old0 new0 old new → (new ≡ moved all old0 new0) × (old ≡ cond (is_some all) None old0)
+ends all old0 new0 old new (waits o n w) = (
+  n ∙ ap (λ (a : Option Placeholder). moved a old0 new0) w,
+  o ∙ ap (λ (a : Option Placeholder). cond (is_some a) None old0) w,
+)
+ends all old0 new0 old new (went p w o n) = (
+  n ∙ ap (λ (a : Option Placeholder). moved a old0 new0) (sym w),
+  o ∙ ap (λ (a : Option Placeholder). cond (is_some a) None old0) (sym w),
+)
+
+-- A placeholder's set moves.
+moves_on : (all : Option Placeholder) (hit : Bool) (p : Placeholder) (later : Option Placeholder) (old0 new0 old new old' new' : Option RRset) (set : RRset) → (hit ≡ true → old ≡ Some set)
+    → old' ≡ cond hit None old → new' ≡ cond hit (Some (resigned p set)) new → Moves all (cond hit (Some p) later) old0 new0 old new → Moves all later old0 new0 old' new'
+moves_on all true p later old0 new0 old new old' new' set at o n (waits q r w) = went p (sym w) o (n ∙ ap (option_map (resigned p)) (sym (at refl) ∙ q))
+moves_on all true p later old0 new0 old new old' new' set at o n (went x w q r) = absurd (none_some old set (at refl) q)
+moves_on all false p later old0 new0 old new old' new' set at o n (waits q r w) = waits (o ∙ q) (n ∙ r) w
+moves_on all false p later old0 new0 old new old' new' set at o n (went x w q r) = went x w (o ∙ q) (n ∙ r)
+
+-- It has moved before.
+stays_on : (all : Option Placeholder) (hit : Bool) (p : Placeholder) (later : Option Placeholder) (old0 new0 old new old' : Option RRset) → (hit ≡ true → old ≡ None)
+    → ((q : Placeholder) → all ≡ Some q → IsSome old0) → old' ≡ cond hit None old → Moves all (cond hit (Some p) later) old0 new0 old new → Moves all later old0 new0 old' new
+stays_on all true p later old0 new0 old new old' at there o (waits q r w) = absurd (true≢false (sym (there p (sym w)) ∙ ap is_some (sym q ∙ at refl)))
+stays_on all true p later old0 new0 old new old' at there o (went x w q r) = went x w o r
+stays_on all false p later old0 new0 old new old' at there o (waits q r w) = waits (o ∙ q) r w
+stays_on all false p later old0 new0 old new old' at there o (went x w q r) = went x w (o ∙ q) r
+
+-- ---- a turn of the loop
+-- What is found is one of all, and passes the test.
+pub find_all : {X : Type 0} (P : X → Type 0) (test : X → Bool) (xs : List X) (x : X) → AllByRecursion P xs → find test xs ≡ Some x → P x × (test x ≡ true)
+find_all P test [] x all e = absurd (none_some None x e refl)
+find_all P test (y ∷ ys) x all e = by (test y) refl e (find_all P test ys x all.1)
+  where
+    by : (b : Bool) → test y ≡ b → cond b (Some y) (find test ys) ≡ Some x → (find test ys ≡ Some x → P x × (test x ≡ true)) → P x × (test x ≡ true)
+    by true is found later = subst (λ z. P z × (test z ≡ true)) (one y x found) (all.0, is)
+    by false is found later = later found
+
+-- There is a set for each placeholder that is found.
+pub stored_for : (old new : List RRset) (all : List Placeholder) (name : DomainName) (t : RecordType) (q : Placeholder) → AllByRecursion (CanMove old new) all → placeholder_of all name t ≡ Some q
+    → IsSome (rrset_at old name t)
+stored_for old new all name t q can found =
+    let it = find_all (CanMove old new) (is_placeholder_of name t) all q can found in
+    let parts = and_parts (name_eq name q.key) (same_record_type q.record_type t) it.1 in
+    ap is_some (sym (both_same old name q.key q.record_type t parts.0 parts.1) ∙ it.0.stored)
+
+pub one_turn : (all : Option Placeholder) (p : Placeholder) (later : List Placeholder) (old0 new0 : Option RRset) (old new old' new' : List RRset) (name : DomainName) (t : RecordType)
+    → ((q : Placeholder) → all ≡ Some q → IsSome old0)
+    → Replaces old p.key p.record_type None old' → ((set : RRset) → rrset_at old p.key p.record_type ≡ Some set → Replaces new p.key p.record_type (Some (resigned p set)) new')
+    → (rrset_at old p.key p.record_type ≡ None → new' ≡ new)
+    → Moves all (placeholder_of (p ∷ later) name t) old0 new0 (rrset_at old name t) (rrset_at new name t)
+    → Moves all (placeholder_of later name t) old0 new0 (rrset_at old' name t) (rrset_at new' name t)
+one_turn all p later old0 new0 old new old' new' name t there taken moves unmoved is = by (rrset_at old p.key p.record_type) refl
+  where
+    same : is_placeholder_of name t p ≡ true → rrset_at old name t ≡ rrset_at old p.key p.record_type
+    same h = let parts = and_parts (name_eq name p.key) (same_record_type p.record_type t) h in sym (both_same old name p.key p.record_type t parts.0 parts.1)
+
+    by : (o : Option RRset) → rrset_at old p.key p.record_type ≡ o → Moves all (placeholder_of later name t) old0 new0 (rrset_at old' name t) (rrset_at new' name t)
+    by (Some set) e =
+        moves_on all (is_placeholder_of name t p) p (placeholder_of later name t) old0 new0 (rrset_at old name t) (rrset_at new name t) (rrset_at old' name t) (rrset_at new' name t) set
+        (λ h. same h ∙ e) (taken name t) (moves set e name t) is
+    by None e =
+        subst (λ (zone : List RRset). Moves all (placeholder_of later name t) old0 new0 (rrset_at old' name t) (rrset_at zone name t)) (sym (unmoved e))
+        (stays_on all (is_placeholder_of name t p) p (placeholder_of later name t) old0 new0 (rrset_at old name t) (rrset_at new name t) (rrset_at old' name t)
+        (λ h. same h ∙ e) there (taken name t) is)
+
+-- A set that is there still is the one that was there, and its placeholder's signatures may be its own.
+pub still_signed : (all left : Option Placeholder) (old0 new0 old new : Option RRset) (p : Placeholder) (set : RRset) (can : RRset) → old0 ≡ Some can → AllByRecursion (λ r. is_signature_of can r ≡ true) p.signatures.items
+    → Moves all left old0 new0 old new → old ≡ Some set → AllByRecursion (λ r. is_signature_of set r ≡ true) p.signatures.items
+still_signed all left old0 new0 old new p set can stored signed (waits o n w) e =
+    subst (λ (s : RRset). AllByRecursion (λ r. is_signature_of s r ≡ true) p.signatures.items) (one can set (sym stored ∙ sym o ∙ e)) signed
+still_signed all left old0 new0 old new p set can stored signed (went x w o n) e = absurd (none_some old set e o)
+
+-- Its placeholder is there, too.
+pub still_placed : (all left : Option Placeholder) (old0 new0 old new : Option RRset) (set : RRset) → IsSome new0 → Moves all left old0 new0 old new → old ≡ Some set → IsSome new
+still_placed all left old0 new0 old new set placed (waits o n w) e = ap is_some n ∙ placed
+still_placed all left old0 new0 old new set placed (went x w o n) e = absurd (none_some old set e o)

@@ -1,0 +1,51 @@
+-- Sets that move from one zone's sets to another's, each to where its placeholder is.
+use Rattle.std.specs.Prelude.{◌≡◌, ◌&&◌, ◌||◌, true, not, Bool, List, [], Option, Some, None, IsSome, find, option_map}
+use Rattle.std.specs.List.{AllByRecursion}
+use Rattle.zst_handler.specs.dnw_codes.declared.record_type.RecordType.{RecordType}
+use Rattle.zst_handler.specs.dnw_codes.declared.record_type.RecordType.TheVariants as kind
+use Rattle.zst_handler.specs.dnw_codes.RecordType.{same_record_type}
+use Rattle.zst_handler.specs.dnw_name.DomainName.{DomainName, name_eq}
+use Rattle.zst_handler.specs.Zones.{rrset_at}
+use Rattle.zst_handler.specs.zst_record.RecordSets.{RRset, is_signature_of}
+use Rattle.zst_map.specs.declared.moves.Placeholder.{Placeholder}
+
+-- Sets of these types are made anew where a zone is signed (RFC 4034, section 4; RFC 5155, sections
+-- 3 and 4).
+abbrev pub is_circle_type : RecordType → Bool
+is_circle_type record_type =
+    same_record_type record_type kind.NSEC
+    || (same_record_type record_type kind.NSEC3 || same_record_type record_type kind.NSEC3PARAM)
+
+-- The other sets move, but for the SOA at the origin, whose serial number rises.
+abbrev pub moves : DomainName → DomainName → RecordType → Bool
+moves origin name record_type =
+    not (is_circle_type record_type)
+    && not (name_eq name origin && same_record_type record_type kind.SOA)
+
+abbrev pub is_placeholder_of : DomainName → RecordType → Placeholder → Bool
+is_placeholder_of name record_type placeholder =
+    name_eq name placeholder.key && same_record_type placeholder.record_type record_type
+
+-- The first placeholder for the set of an owner and a type.
+abbrev pub placeholder_of : List Placeholder → DomainName → RecordType → Option Placeholder
+placeholder_of placeholders name record_type =
+    find (is_placeholder_of name record_type) placeholders
+
+abbrev pub IsUnsigned : Placeholder → Type 0
+IsUnsigned placeholder = placeholder.signatures.items ≡ []
+
+-- There is a set to move, and one in whose place it comes. The signatures may be the set's.
+pub record CanMove (old new : List RRset) (placeholder : Placeholder) : Type 0 where
+  pub set : RRset
+  pub stored : rrset_at old placeholder.key placeholder.record_type ≡ Some set
+  pub placed : IsSome (rrset_at new placeholder.key placeholder.record_type)
+  pub signed : AllByRecursion (λ r. is_signature_of set r ≡ true) placeholder.signatures.items
+
+-- The set as it is then.
+abbrev pub resigned : Placeholder → RRset → RRset
+resigned placeholder set = record set { signatures = placeholder.signatures.items }
+
+-- What is under an owner and a type then, by the set that was to move and the one that was there.
+abbrev pub moved : Option Placeholder → Option RRset → Option RRset → Option RRset
+moved None stored there = there
+moved (Some placeholder) stored there = option_map (resigned placeholder) stored
