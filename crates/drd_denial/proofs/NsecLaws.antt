@@ -7,22 +7,22 @@ use Rattle.std.proofs.lemmas.List.Sums.{sum_by-cons}
 use Rattle.dnw_wire.specs.BitMaps.{BitMaps, EmitsTypes, IsMap, TypesAt}
 use Rattle.dnw_wire.specs.BitMaps.BitMaps.{no_window, window}
 use Rattle.dnw_wire.specs.BitMapLaws.{read_once, tight_reads}
-use Rattle.dnw_encoder.specs.dnw_codes.declared.error.DecodeError.{DecodeError}
-use Rattle.dnw_encoder.specs.dnw_decoder.Reading.{IsWantOfMemory}
-use Rattle.dnw_encoder.specs.Effects.{written_at}
-use Rattle.dnw_encoder.specs.State.{State, new_state}
-use Rattle.dnw_encoder.specs.declared.modes.NameEncoding.TheVariants.{Compressed}
+use Rattle.drd_plain.specs.dnw_codes.declared.error.DecodeError.{DecodeError}
+use Rattle.drd_plain.specs.dnw_decoder.Reading.{IsWantOfMemory}
+use Rattle.drd_plain.specs.dnw_encoder.Effects.{written_at}
+use Rattle.drd_plain.specs.dnw_encoder.State.{State, new_state}
+use Rattle.drd_plain.specs.dnw_encoder.declared.modes.NameEncoding.TheVariants.{Compressed}
 use Rattle.std.specs.Prelude.{IfOk, IsNone, MatchOption, OnOk, Option, Some, None, Result, Ok, Err}
 use Rattle.std.proofs.lemmas.Bool.{true≢false}
-use Rattle.dnw_encoder.specs.dnw_decoder.Octets.{Stands}
-use Rattle.dnw_encoder.specs.dnw_decoder.Spelling.{NameAt, Spelled}
-use Rattle.dnw_encoder.specs.dnw_decoder.Spelling.Spelled.{at_end, at_label, at_pointer}
-use Rattle.dnw_encoder.specs.dnw_name.DomainName.{DomainName, IsDomainName, domain_name, labels_len, name_octets}
-use Rattle.dnw_encoder.specs.dnw_label.Label.{IsLabel}
-use Rattle.dnw_encoder.specs.dnw_label.Labels.{label_octets}
-use Rattle.dnw_encoder.proofs.dnw_decoder_lemmas.SpellingLaws.{name_once}
-use Rattle.dnw_encoder.proofs.dnw_decoder_lemmas.Standing.{stands_joined}
-use Rattle.dnw_encoder.proofs.NameLaws.{name_stands}
+use Rattle.drd_plain.specs.dnw_decoder.Octets.{Stands}
+use Rattle.drd_plain.specs.dnw_decoder.Spelling.{NameAt, Spelled}
+use Rattle.drd_plain.specs.dnw_decoder.Spelling.Spelled.{at_end, at_label, at_pointer}
+use Rattle.drd_plain.specs.dnw_name.DomainName.{DomainName, IsDomainName, domain_name, labels_len, name_octets}
+use Rattle.drd_plain.specs.dnw_label.Label.{IsLabel}
+use Rattle.drd_plain.specs.dnw_label.Labels.{label_octets}
+use Rattle.drd_plain.proofs.dnw_decoder_lemmas.SpellingLaws.{name_once}
+use Rattle.drd_plain.proofs.dnw_decoder_lemmas.Standing.{stands_joined}
+use Rattle.drd_plain.proofs.dnw_encoder_lemmas.NameLaws.{name_stands}
 use Rattle.drd_denial.specs.Nsec.{IsNsecData}
 
 -- ---- a name at offset 0 is uncompressed

@@ -1,6 +1,6 @@
 -- RDATA of NSEC records (RFC 4034, section 4.1).
 use Rattle.std.specs.Prelude.{◌≡◌, ℕ, true, List, ◌++◌}
-use Rattle.dnw_encoder.specs.dnw_name.DomainName.{DomainName, IsDomainName, name_octets}
+use Rattle.drd_plain.specs.dnw_name.DomainName.{DomainName, IsDomainName, name_octets}
 use Rattle.dnw_wire.specs.BitMaps.{BitMaps, IsMap}
 
 -- The next owner's name, uncompressed and fully qualified, then the types of the owner's sets as

@@ -1,6 +1,6 @@
 -- RDATA of NSEC3 and NSEC3PARAM records (RFC 5155, sections 3.2 and 4.2).
 use Rattle.std.specs.Prelude.{◌≡◌, ℕ, List, ◌∷◌, ◌++◌, length}
-use Rattle.dnw_encoder.specs.dnw_decoder.Octets.{octets_16}
+use Rattle.drd_plain.specs.dnw_decoder.Octets.{octets_16}
 use Rattle.dnw_wire.specs.BitMaps.{BitMaps, IsMap}
 
 -- How names are hashed: algorithm 1, which is SHA-1, flags, iterations, and the salt after its

@@ -7,6 +7,7 @@
 #![tactic(auto)]
 
 pub use dnw_wire::RecordTypeSet;
+pub use drd_plain::NULL;
 
 mod between;
 mod nsec;

@@ -1,7 +1,7 @@
 //! RDATA of NSEC records (RFC 4034 section 4.1).
 ghost use Rattle.std.specs.Prelude.{◌≡◌, true, ℕ, List, IfOk, IsNone, OnErr, OnOk, MatchOption};
-ghost use Rattle.dnw_encoder.specs.dnw_decoder.Reading.{IsWantOfMemory};
-ghost use Rattle.dnw_encoder.specs.dnw_name.DomainName.{DomainName, domain_name};
+ghost use Rattle.drd_plain.specs.dnw_decoder.Reading.{IsWantOfMemory};
+ghost use Rattle.drd_plain.specs.dnw_name.DomainName.{DomainName, domain_name};
 ghost use Rattle.dnw_wire.specs.BitMaps.{AreTightMaps};
 ghost use Rattle.drd_denial.specs.Nsec.{IsNsecData};
 

@@ -1,9 +1,10 @@
 //! RDATA of RRSIG records (RFC 4034 section 3.1).
 ghost use Rattle.std.specs.Prelude.{◌≡◌, false, ◌&&◌, nat_le, length, IfOk, MatchOption};
 ghost use Rattle.dnw_wire.specs.dnw_codes.RecordType.{record_type_number};
+ghost use Rattle.drd_plain.specs.dnw_decoder.Octets.{octets_16};
 ghost use Rattle.drd_denial.specs.Rrsig.{IsSigning, front_octets, rrsig_octets, signing};
 
-use dnw_wire::{Name, RecordType};
+use dnw_wire::{BinEncodable, Name, RecordType};
 use std::alloc::{AllocError, Global};
 use std::marker::Model;
 
@@ -19,7 +20,8 @@ pub struct ZoneSignature {
 }
 
 impl Model for ZoneSignature {
-    ghost use Rattle.drd_denial.specs.Rrsig.{IsSigning, Signing};
+    ghost use Rattle.drd_plain.specs.dnw_decoder.Octets.{octets_16};
+ghost use Rattle.drd_denial.specs.Rrsig.{IsSigning, Signing};
 
     ghost Value = { Signing };
 
@@ -72,19 +74,16 @@ impl ZoneSignature {
         })
     }
 
-    // The octets of the type, the algorithm, the labels and the four numbers.
-    fn front(&self, covered: RecordType, labels: u8, original_ttl: u32) -> [u8; 18]
-        ensures octets { result ≡ front_octets (record_type_number covered) labels original_ttl self.now }
+    // The octets of the algorithm, the labels and the four numbers.
+    fn front(&self, labels: u8, original_ttl: u32) -> [u8; 16]
+        ensures octets { result ≡ front_octets labels original_ttl self.now }
         ensures signing { IsSigning self.now }
     {
-        let [type_high, type_low] = u16::from(covered).to_be_bytes();
         let [ttl_0, ttl_1, ttl_2, ttl_3] = original_ttl.to_be_bytes();
         let [end_0, end_1, end_2, end_3] = self.expiration.to_be_bytes();
         let [start_0, start_1, start_2, start_3] = self.inception.to_be_bytes();
         let [tag_high, tag_low] = self.key_tag.to_be_bytes();
         [
-            type_high,
-            type_low,
             self.algorithm,
             labels,
             ttl_0,
@@ -105,6 +104,16 @@ impl ZoneSignature {
     }
 }
 
+// The number of a type in two octets.
+fn type_octets(alloc: Global, record_type: RecordType) -> Result<Vec<u8>, AllocError>
+    ensures { IfOk result (λ octets. octets.items ≡ octets_16 (record_type_number record_type)) }
+{
+    match record_type.to_bytes(alloc) {
+        Ok(octets) => Ok(octets),
+        Err(_) => Err(AllocError),
+    }
+}
+
 /// RDATA of the RRSIG record of a set: the set's type, the labels of its owner, its TTL, and what the signer gave, the
 /// signer's name uncompressed (RFC 4034 section 3.1).
 pub fn rrsig_data(
@@ -117,8 +126,9 @@ pub fn rrsig_data(
     ensures octets { IfOk result (λ octets. octets.items ≡ rrsig_octets (record_type_number covered) labels original_ttl signature.now) }
     ensures signing { IsSigning signature.now }
 {
-    let front = signature.front(covered, labels, original_ttl);
-    let mut octets = Vec::from_slice(alloc, &front)?;
+    let front = signature.front(labels, original_ttl);
+    let mut octets = type_octets(alloc, covered)?;
+    octets.extend_from_slice(&front)?;
     octets.extend_from_slice(signature.signer.as_octets())?;
     octets.push(0)?;
     octets.extend_from_slice(&signature.octets)?;

@@ -1,8 +1,8 @@
 use Rattle.std.proofs.Common.{◌≡◌, ◌-◌, ℕ, List, sym, ap, subst, arith, ◌∙◌}
 use Rattle.std.specs.Prelude.{length}
-use Rattle.dnw_encoder.specs.dnw_decoder.Reading.{Reading}
-use Rattle.dnw_encoder.specs.dnw_decoder.Spelling.{NameAt}
-use Rattle.dnw_encoder.specs.dnw_name.DomainName.{DomainName}
+use Rattle.drd_plain.specs.dnw_decoder.Reading.{Reading}
+use Rattle.drd_plain.specs.dnw_decoder.Spelling.{NameAt}
+use Rattle.drd_plain.specs.dnw_name.DomainName.{DomainName}
 use Rattle.dnw_wire.specs.BitMaps.{TypesAt}
 use Rattle.drd_denial.specs.Nsec.{IsNsecData}
 use Rattle.drd_denial.proofs.NsecLaws.{no_name, no_types, nothing_there, nsec_read, or_not, too_long}
