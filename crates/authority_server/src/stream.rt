@@ -1,6 +1,6 @@
 //! Framed messages over a stream: two octets of length before each (RFC 1035 section 4.2.2).
 
-ghost use Rattle.std.specs.Prelude.{◌≡◌, ◌<◌, ◌≤◌, ◌^◌, ℕ, true, false, length, take, [], Ok, Err, IfOk, IfErr, IfSome, OnOk, None};
+ghost use Rattle.std.specs.Prelude.{vec_capacity, ◌≡◌, ◌<◌, ◌≤◌, ◌^◌, ℕ, true, false, length, take, [], Ok, Err, IfOk, IfErr, IfSome, OnOk, None};
 ghost use Rattle.std.specs.Int.{w16, to_be_bytes};
 ghost use Rattle.std.specs.Io.KnownBytes.{Consumes, Appends, IsAtEnd};
 ghost use Rattle.authority_server.specs.Faults.{IsFaultOf, NoneFailed, WriterFailed, no_faults, reader_failed};
