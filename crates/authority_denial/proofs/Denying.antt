@@ -1,14 +1,17 @@
 -- What one record denies is told by its data; records that are seen alike deny alike.
 use Rattle.zst_denial.specs.drd_denial.declared.nsec.NsecData.{NsecData}
-use Rattle.std.specs.Prelude.{IfOk, MatchBool, MatchOption, Result, Ok, Err, length}
-use Rattle.std.proofs.Common.{◌≡◌, ◌==◌, ◌<◌, ◌&&◌, ◌++◌, not, get_or, zero, suc, arith, ℕ, Bool, true, false, List, [], ◌∷◌, refl, sym, ap, subst, inl, inr, ◌∙◌, true≢false}
+use Rattle.std.specs.Prelude.{IfErr, IfOk, MatchBool, MatchOption, Result, Ok, Err, length}
+use Rattle.std.proofs.Common.{◌≡◌, ◌==◌, ◌<◌, ◌≤◌, ◌⊎◌, ◌&&◌, ◌++◌, not, get_or, zero, suc, arith, ℕ, Bool, true, false, List, [], ◌∷◌, refl, sym, ap, subst, inl, inr, ◌∙◌, true≢false}
 use Rattle.std.specs.Prelude.{Option, Some, None}
 use Rattle.std.specs.List.{list_any}
 use Rattle.zsv_sections.specs.zst_record.dnw_codes.declared.record_type.RecordType.{RecordType}
 use Rattle.zsv_sections.specs.zst_record.dnw_codes.RecordType.{record_type_number}
 use Rattle.zsv_sections.specs.zst_record.dnw_name.DomainName.{DomainName, name_cmp, name_eq}
 use Rattle.zsv_reply.specs.zst_record.declared.records.Record.{Record}
-use Rattle.zsv_reply.specs.zsv_message.Messages.{IsMessage, Message}
+use Rattle.zsv_reply.specs.zsv_message.Messages.{IsMessage, Message, ReadsMessage, RefusesMessage, no_additionals, no_answers, no_authorities, no_header, no_questions}
+use Rattle.zsv_sections.specs.zst_record.dnw_codes.declared.error.DecodeError.{DecodeError}
+use Rattle.zsv_sections.specs.zst_record.dnw_codes.declared.error.DecodeError.TheVariants as reads
+use Rattle.zsv_sections.specs.zst_record.dnw_decoder.Reading.{IsWantOfMemory}
 use Rattle.zsv_reply.specs.zsv_message.zsv_parts.zst_codes.declared.response_code.ResponseCode.TheVariants as codes
 use Rattle.authority_denial.specs.Denials.{TellsName, TellsType, DeniesName, DeniesType, HasNoNsec, SomeOf}
 use Rattle.zst_denial.specs.Denials.{Covers, HasNsec, Lacks}
@@ -185,3 +188,27 @@ is_found P Q (Some n) m e h = let same : n ≡ m = cc e in subst P same h
 pub is_none : (P : Message → Type 0) (Q : Type 0) (o : Option Message) → o ≡ None → MatchOption o Q P → Q
 is_none P Q None e h = h
 is_none P Q (Some n) e h = absurd (cc e)
+
+-- ---- want of memory
+memory_long : (octets : List ℕ) → (IsWantOfMemory reads.Memory × (12 ≤ length octets)) ⊎ RefusesMessage octets reads.Memory → 12 ≤ length octets
+memory_long octets (inl memory) = memory.1
+memory_long octets (inr refused) = long refused
+  where
+    long : RefusesMessage octets reads.Memory → 12 ≤ length octets
+    long (no_header cut) = absurd (cc cut.0)
+    long (no_questions whole cause) = whole
+    long (no_answers whole asked place there cause) = whole
+    long (no_authorities whole asked answers first place there more cause) = whole
+    long (no_additionals whole asked answers authorities first second place there more last cause) = whole
+
+wanted_long : (octets : List ℕ) (e : DecodeError) → ReadsMessage octets (Err e) → IsWantOfMemory e → 12 ≤ length octets
+wanted_long octets reads.Memory r wanted = memory_long octets r.0
+wanted_long octets other r wanted = absurd wanted
+
+pub unread_long : {T E : Type 0} (r : Result T E) (octets : List ℕ) (e : DecodeError) → ReadsMessage octets (Err e) → IfErr r (λ x. IsWantOfMemory e) → IfErr r (λ x. 12 ≤ length octets)
+unread_long (Ok x) octets e refuses told = told
+unread_long (Err x) octets e refuses told = wanted_long octets e refuses told
+
+pub told_long : {T E : Type 0} (r : Result T E) (octets : List ℕ) (m : Message) → IsMessage octets m → IfErr r (λ x. 12 ≤ length octets)
+told_long (Ok x) octets m is = tt
+told_long (Err x) octets m is = is.long

@@ -1,6 +1,6 @@
 //! Denials in the octets of a reply.
 
-ghost use Rattle.std.specs.Prelude.{◌≡◌, ◌==◌, ◌&&◌, not, IfOk, IsNone, MatchBool, MatchOption, OnOk, option_map};
+ghost use Rattle.std.specs.Prelude.{◌≡◌, ◌≤◌, ◌==◌, ◌&&◌, not, length, IfErr, IfOk, IsNone, MatchBool, MatchOption, OnOk, option_map};
 ghost use Rattle.std.specs.List.{list_any};
 ghost use Rattle.zst_denial.specs.Denials.{Covers, HasNsec, Lacks};
 ghost use Rattle.zst_denial.specs.Octets.{nsec_octets};
@@ -105,6 +105,7 @@ fn some_lacks(
 fn nothing<T>(refused: DecodeError) -> Result<Option<T>, AllocError>
     ensures memory { OnOk result (IsWantOfMemory refused → ⊥) }
     ensures none { IfOk result (λ found. IsNone found) }
+    ensures told { IfErr result (λ e. IsWantOfMemory refused) }
 {
     match refused {
         DecodeError::Memory => Err(AllocError),
@@ -114,7 +115,8 @@ fn nothing<T>(refused: DecodeError) -> Result<Option<T>, AllocError>
 
 // The message that octets are, if they are one.
 fn message_of(alloc: Global, octets: &[u8]) -> Result<Option<MessageRequest<'_>>, AllocError>
-    ensures { IfOk result (λ found. MatchOption found ((m : Message) → IsMessage octets.now m → ⊥) (IsMessage octets.now)) }
+    ensures found { IfOk result (λ found. MatchOption found ((m : Message) → IsMessage octets.now m → ⊥) (IsMessage octets.now)) }
+    ensures memory { IfErr result (λ e. 12 ≤ length octets.now) }
 {
     match MessageRequest::read(alloc, octets) {
         Ok(message) => Ok(Some(message)),
@@ -167,7 +169,8 @@ fn tells_type(
 /// Whether a reply denies a name: its code is NXDomain, and an NSEC record among its authorities has the name strictly
 /// between its owner and the next one on the circle (RFC 4035 section 5.4).
 pub fn check(alloc: Global, reply: &[u8], name: &Name) -> Result<bool, AllocError>
-    ensures { IfOk result (λ yes. MatchBool yes (DeniesName reply.now name.now) (DeniesName reply.now name.now → ⊥)) }
+    ensures exact { IfOk result (λ yes. MatchBool yes (DeniesName reply.now name.now) (DeniesName reply.now name.now → ⊥)) }
+    ensures memory { IfErr result (λ e. 12 ≤ length reply.now) }
 {
     match message_of(alloc, reply)? {
         Some(message) => tells_name(alloc, &message, name),
@@ -183,7 +186,8 @@ pub fn check_type(
     name: &Name,
     record_type: RecordType,
 ) -> Result<bool, AllocError>
-    ensures { IfOk result (λ yes. MatchBool yes (DeniesType reply.now name.now record_type) (DeniesType reply.now name.now record_type → ⊥)) }
+    ensures exact { IfOk result (λ yes. MatchBool yes (DeniesType reply.now name.now record_type) (DeniesType reply.now name.now record_type → ⊥)) }
+    ensures memory { IfErr result (λ e. 12 ≤ length reply.now) }
 {
     match message_of(alloc, reply)? {
         Some(message) => tells_type(alloc, &message, name, record_type),
