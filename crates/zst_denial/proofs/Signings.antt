@@ -16,7 +16,7 @@ use Rattle.zst_hash.proofs.zst_key_lemmas.NamesAbove.{name_total}
 use Rattle.drd_denial.specs.Rrsig.{Signing}
 use Rattle.zst_denial.specs.Signing.{AreSignatures, IsSignatureBy, unsigned}
 
-same_number : (n : ℕ) → (n == n) ≡ true
+pub same_number : (n : ℕ) → (n == n) ≡ true
 same_number n = grind (arith, nat_tests)
 
 -- A record of the set's owner and class may be its signature, if it is an RRSIG.

@@ -27,7 +27,7 @@ mod signer;
 
 pub use laws::{
     absent_names_are_covered, owned_types_are_not_lacked, present_names_are_not_covered,
-    unowned_types_are_lacked,
+    unchanged_circles_secure, unchanged_digests_secure, unowned_types_are_lacked,
 };
 pub use signatures::sign_set;
 pub use signer::{SignerFault, ZoneSigner};
