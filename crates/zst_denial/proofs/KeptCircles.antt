@@ -1,18 +1,15 @@
 -- A zone stays secured where its owners, their types and the records of its circle stay.
-use Rattle.std.proofs.Common.{◌≡◌, ℕ, Bool, true, false, not, ◌&&◌, ◌||◌, List, [], ◌∷◌, refl, sym, ap, ◌∙◌, true≢false, nat_lt, length, if◌then◌else◌}
-use Rattle.std.specs.Prelude.{find, cond, option_map, Option, Some, None, IsSome, IsSomeAnd, is_some}
-use Rattle.std.specs.List.{list_any}
-use Rattle.std.proofs.lemmas.Bool.{and_parts}
+use Rattle.std.proofs.Common.{◌≡◌, not, ◌&&◌, ◌||◌, refl, sym, ap, ◌∙◌, nat_lt, length}
+use Rattle.std.specs.Prelude.{option_map, Option, Some, None, IsSomeAnd}
 use Rattle.zst_handler.specs.Zones.{Zone, rrset_at}
 use Rattle.zst_handler.specs.dnw_codes.declared.record_type.RecordType.{RecordType}
 use Rattle.zst_handler.specs.dnw_codes.declared.record_type.RecordType.TheVariants as kind
-use Rattle.zst_handler.specs.dnw_codes.RecordType.{record_type_number, same_record_type}
-use Rattle.zst_handler.specs.dnw_name.DomainName.{DomainName, is_at_or_below, name_eq}
+use Rattle.zst_handler.specs.dnw_codes.RecordType.{same_record_type}
+use Rattle.zst_handler.specs.dnw_name.DomainName.{DomainName, is_at_or_below}
 use Rattle.zst_handler.specs.zst_record.RecordSets.{RRset}
-use Rattle.zst_handler.specs.zst_record.declared.records.Record.{Record}
 use Rattle.zst_hash.specs.zst_key.Ancestors.{up}
-use Rattle.zst_denial.specs.Circles.{Follows, IsAuthoritativeName, IsCutOff, IsNsecSet, IsSecured, is_delegation, is_listed, is_owned}
-use Rattle.zst_denial.specs.Kept.{HaveSameCircle, records_at}
+use Rattle.zst_denial.specs.Circles.{Follows, IsAuthoritativeName, IsCutOff, IsNsecSet, IsSecured, is_delegation, is_listed}
+use Rattle.zst_denial.specs.Kept.{HaveSameCircle}
 
 -- ---- two zones the other way round
 pub turned : (old new : Zone) → HaveSameCircle old new → HaveSameCircle new old

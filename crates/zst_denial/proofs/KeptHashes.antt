@@ -1,8 +1,7 @@
 -- A zone stays secured by NSEC3 where its owners, their types and the records of its circle stay.
 use Rattle.std.proofs.Common.{◌≡◌, ℕ, Bool, true, false, not, ◌&&◌, ◌||◌, ◌==◌, eqb-true, List, [], ◌∷◌, refl, sym, ap, subst, ◌∙◌, true≢false, cond, if◌then◌else◌}
-use Rattle.std.specs.Prelude.{find, option_map, Option, Some, None, IsSome, IsSomeAnd, is_some}
+use Rattle.std.specs.Prelude.{find, Some, IsSomeAnd, is_some}
 use Rattle.std.specs.List.{list_any}
-use Rattle.std.specs.Ordering.{is_eq}
 use Rattle.std.proofs.lemmas.Bool.{and_parts}
 use Rattle.zst_handler.specs.Zones.{Zone, rrset_at}
 use Rattle.zst_handler.specs.dnw_codes.declared.record_type.RecordType.{RecordType}
@@ -12,8 +11,7 @@ use Rattle.zst_handler.specs.dnw_name.DomainName.{DomainName, is_at_or_below, na
 use Rattle.zst_handler.specs.zst_record.RecordSets.{RRset}
 use Rattle.zst_hash.specs.Owners.{hashed_owner}
 use Rattle.drd_denial.specs.Between.{is_between}
-use Rattle.zst_denial.specs.Circles.{is_delegation, is_owned}
-use Rattle.zst_denial.specs.Hashed.{FollowsByHash, Hashing, IsNsec3Set, IsOnHashCircle, IsParameterSet, IsSecuredByHash, digest_of, hashed_name, is_listed_by_hash, is_listed_of_delegation, owns_others}
+use Rattle.zst_denial.specs.Hashed.{FollowsByHash, Hashing, IsNsec3Set, IsOnHashCircle, IsParameterSet, IsSecuredByHash, digest_of, hashed_name, is_listed_by_hash, owns_others}
 use Rattle.zst_denial.specs.Kept.{HaveSameCircle}
 use Rattle.zst_denial.proofs.KeptCircles.{moved, same_delegation, still_authoritative, turned}
 use Rattle.zst_denial.proofs.Signings.{same_number}
