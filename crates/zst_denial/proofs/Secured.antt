@@ -274,7 +274,7 @@ listed_where zone name t a b =
     (λ i. same_record_type t kind.RRSIG || (same_record_type t kind.NSEC || (b i && (not (a i) || (same_record_type t kind.NS || same_record_type t kind.DS)))))
     ∙ ap (λ (c : Bool). same_record_type t kind.RRSIG || c) (or_true (same_record_type t kind.NSEC)) ∙ or_true (same_record_type t kind.RRSIG)
 
-owns_nsec : (zone : Zone) (name : DomainName) → IsSecured zone → IsAuthoritativeName kind.NSEC zone name → IsSome (rrset_at zone.sets name kind.NSEC)
+pub owns_nsec : (zone : Zone) (name : DomainName) → IsSecured zone → IsAuthoritativeName kind.NSEC zone name → IsSome (rrset_at zone.sets name kind.NSEC)
 owns_nsec zone name secured on = at_some_is (IsNsecSet zone name) (rrset_at zone.sets name kind.NSEC) (secured.each name on)
 
 pub unowned_lacked : (zone : Zone) (name owner : DomainName) (set : RRset) (t : RecordType) → IsSecured zone → AreStored zone.sets → ZoneReadsBack zone → IsAuthoritativeName kind.NSEC zone name

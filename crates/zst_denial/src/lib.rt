@@ -22,6 +22,7 @@ pub use zst_hash::{
 };
 
 mod laws;
+mod shown;
 mod signatures;
 mod signer;
 
@@ -29,5 +30,6 @@ pub use laws::{
     absent_names_are_covered, owned_types_are_not_lacked, present_names_are_not_covered,
     unchanged_circles_secure, unchanged_digests_secure, unowned_types_are_lacked,
 };
+pub use shown::{absent_names_are_denied, denials_are_stored, unowned_types_are_denied};
 pub use signatures::sign_set;
 pub use signer::{SignerFault, ZoneSigner};
