@@ -13,8 +13,8 @@ use Rattle.zsv_sections.specs.zst_record.dnw_codes.declared.error.DecodeError.{D
 use Rattle.zsv_sections.specs.zst_record.dnw_codes.declared.error.DecodeError.TheVariants as reads
 use Rattle.zsv_sections.specs.zst_record.dnw_decoder.Reading.{IsWantOfMemory}
 use Rattle.zsv_reply.specs.zsv_message.zsv_parts.zst_codes.declared.response_code.ResponseCode.TheVariants as codes
-use Rattle.authority_denial.specs.Denials.{TellsName, TellsType, DeniesName, DeniesType, HasNoNsec, SomeOf}
-use Rattle.zst_denial.specs.Denials.{Covers, HasNsec, Lacks}
+use Rattle.authority_denial.specs.Denials.{TellsName, TellsType, DeniesName, DeniesType, HasNoNsec}
+use Rattle.zst_denial.specs.Denials.{Covers, HasNsec, Lacks, SomeOf}
 use Rattle.zst_denial.specs.Octets.{nsec_octets}
 use Rattle.zst_denial.specs.drd_denial.Between.{is_between}
 use Rattle.zst_denial.specs.drd_denial.Nsec.{IsNsecData}

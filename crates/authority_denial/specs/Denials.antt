@@ -1,15 +1,11 @@
 -- Which names and types the NSEC records of a reply deny (RFC 4035, section 5.4).
-use Rattle.std.specs.Prelude.{◌≡◌, ℕ, ◌⊎◌, List, [], ◌∷◌}
-use Rattle.zst_denial.specs.Denials.{Covers, HasNsec, Lacks}
+use Rattle.std.specs.Prelude.{◌≡◌, ℕ, List, []}
+use Rattle.zst_denial.specs.Denials.{Covers, HasNsec, Lacks, SomeOf}
 use Rattle.zst_denial.specs.dnw_codes.declared.record_type.RecordType.{RecordType}
 use Rattle.zst_denial.specs.dnw_name.DomainName.{DomainName}
 use Rattle.zsv_reply.specs.zst_record.declared.records.Record.{Record}
 use Rattle.zsv_reply.specs.zsv_message.Messages.{IsMessage, Message}
 use Rattle.zsv_reply.specs.zsv_message.zsv_parts.zst_codes.declared.response_code.ResponseCode.TheVariants as codes
-
-abbrev pub SomeOf : {X : Type 0} → (X → Type 0) → List X → Type 0
-SomeOf P [] = ⊥
-SomeOf P (x ∷ xs) = P x ⊎ SomeOf P xs
 
 -- A message denies a name: its code says so, and an NSEC record among its authorities covers it.
 abbrev pub TellsName : Message → DomainName → Type 0

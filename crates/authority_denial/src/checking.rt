@@ -2,13 +2,13 @@
 
 ghost use Rattle.std.specs.Prelude.{◌≡◌, ◌≤◌, ◌==◌, ◌&&◌, not, length, IfErr, IfOk, IsNone, MatchBool, MatchOption, OnOk, option_map};
 ghost use Rattle.std.specs.List.{list_any};
-ghost use Rattle.zst_denial.specs.Denials.{Covers, HasNsec, Lacks};
+ghost use Rattle.zst_denial.specs.Denials.{Covers, HasNsec, Lacks, SomeOf};
 ghost use Rattle.zst_denial.specs.Octets.{nsec_octets};
 ghost use Rattle.zst_denial.specs.dnw_codes.RecordType.{record_type_number};
 ghost use Rattle.zst_denial.specs.dnw_name.DomainName.{name_eq};
 ghost use Rattle.zsv_sections.specs.zst_record.dnw_decoder.Reading.{IsWantOfMemory};
 ghost use Rattle.zsv_reply.specs.zsv_message.Messages.{IsMessage, Message};
-ghost use Rattle.authority_denial.specs.Denials.{DeniesName, DeniesType, HasNoNsec, SomeOf, TellsName, TellsType};
+ghost use Rattle.authority_denial.specs.Denials.{DeniesName, DeniesType, HasNoNsec, TellsName, TellsType};
 
 use std::alloc::{AllocError, Global};
 use zst_denial::{NsecData, RecordTypeSet, is_between};

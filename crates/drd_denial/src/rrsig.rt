@@ -21,7 +21,7 @@ pub struct ZoneSignature {
 
 impl Model for ZoneSignature {
     ghost use Rattle.drd_plain.specs.dnw_decoder.Octets.{octets_16};
-ghost use Rattle.drd_denial.specs.Rrsig.{IsSigning, Signing};
+    ghost use Rattle.drd_denial.specs.Rrsig.{IsSigning, Signing};
 
     ghost Value = { Signing };
 

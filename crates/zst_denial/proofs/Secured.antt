@@ -1,4 +1,4 @@
--- What the circle of a secured zone covers, and what it doesn't.
+-- Which names and types the NSEC records of a secured zone deny.
 use Rattle.std.proofs.Common.{◌≡◌, ◌≤◌, arith, append-nil, eqb-true, ◌==◌, ◌<◌, ◌^◌, inl, inr, length, if◌then◌else◌, ℕ, Bool, true, false, not, ◌&&◌, ◌||◌, List, [], ◌∷◌, refl, sym, ap, subst, ◌∙◌, true≢false}
 use Rattle.std.specs.Prelude.{cond, find, Option, Some, None, IsSome, IsSomeAnd, is_some}
 use Rattle.std.specs.Bool.{beq}
@@ -31,7 +31,7 @@ use Rattle.zst_denial.specs.Circles.{IsAuthoritativeName, IsNsecSet, IsSecured, 
 use Rattle.zst_denial.specs.Denials.{Covers, IsPrecedingSet, Lacks}
 use Rattle.zst_denial.specs.Octets.{nsec_octets}
 
--- ---- by the three orderings alone
+-- ---- an owner, a name and the next owner, by their orderings alone
 cover_cases : (a b c : Ordering) → is_eq b ≡ false → (is_gt b ≡ false → is_gt (ordering_reverse c) ≡ false → is_lt a ≡ false)
     → (is_gt b ≡ true → (is_gt (ordering_reverse c) ≡ true) × (is_lt a ≡ false)) → between_by a (is_lt b) (is_lt c) (not (is_eq b)) ≡ true
 cover_cases a Equal c apart last around = absurd (true≢false apart)
@@ -55,14 +55,14 @@ is-equal Greater e = absurd (true≢false (sym e))
 level : (a b : DomainName) → name_eq a b ≡ true → name_cmp a b ≡ Equal
 level a b e = is-equal (name_cmp a b) (sym (name_eq-by_cmp a b) ∙ e)
 
--- Two names that equal a third one stand alike to all others.
+-- Two names that equal a third one compare alike with all others.
 left_alike : (a b s : DomainName) → name_eq a s ≡ true → name_eq b s ≡ true → (x : DomainName) → name_cmp a x ≡ name_cmp b x
 left_alike a b s p q x = name_total.congr a s x (level a s p) ∙ sym (name_total.congr b s x (level b s q))
 
 between_alike : (a b c d x : DomainName) → ((y : DomainName) → name_cmp a y ≡ name_cmp b y) → ((y : DomainName) → name_cmp y c ≡ name_cmp y d) → is_between name_cmp a x c ≡ is_between name_cmp b x d
 between_alike a b c d x f g = λ i. between_by ((f c ∙ g b) i) (is_lt (f x i)) (is_lt (g x i)) (not (is_eq (f x i)))
 
--- ---- what is found
+-- ---- the set that a search finds
 found_passes : {X : Type 0} (p : X → Bool) (xs : List X) (x : X) → find p xs ≡ Some x → p x ≡ true
 found_passes p [] x e = absurd (cc e)
 found_passes p (y ∷ ys) x e = by (p y) refl e (λ f. found_passes p ys x f) where
@@ -138,7 +138,7 @@ qualified zone name secured stored back on =
     ∙ sym (flags_same n.only.name s.0.name own.at_owner)
     ∙ full_owner n.only n.octets n.held (omega (arith, nsec_short n.octets n.next n.types n.are)) alone
 
--- ---- a set of the circle, as its record tells it
+-- ---- an NSEC set, with its record's own owner and next name
 pub record IsOnCircle (zone : Zone) (owner : DomainName) (set : RRset) : Type 0 where
   pub nsec : IsNsecSet zone owner set
   pub before : (x : DomainName) → name_cmp nsec.only.name x ≡ name_cmp owner x
@@ -162,7 +162,7 @@ on_circle zone owner set secured stored back at =
       behind = λ x. alike_right name_total n.next n.following x (level n.next n.following same);
     }
 
--- ---- what doesn't exist is covered
+-- ---- names that don't exist are covered
 exists_by : (zone : Zone) (name owner : DomainName) (set : RRset) → rrset_at zone.sets owner kind.NSEC ≡ Some set → name_cmp owner name ≡ Equal → exists_in zone.sets name ≡ true
 exists_by zone name owner set at same =
     let level_with : name_cmp name set.name ≡ Equal =
@@ -198,7 +198,7 @@ absent_covered zone name owner set secured stored back absent pre =
       },
     )
 
--- ---- what stands on the circle isn't
+-- ---- authoritative names aren't
 same_octets : (a b : List ℕ) (o : Option (List ℕ)) → o ≡ Some a → o ≡ Some b → a ≡ b
 same_octets a b o p q = cc
 
@@ -237,7 +237,7 @@ own_set zone name owner set owns pre = by (name_cmp owner name) refl where
   by Equal e = refl
   by Greater e = absurd (true≢false (sym (pre.around (ap is_gt e) name owns).0 ∙ self))
 
--- What an authoritative name's own NSEC set lists.
+-- An NSEC set of a name, whose record is owned by that name.
 record OwnList (zone : Zone) (name : DomainName) (set : RRset) : Type 0 where
   nsec : IsNsecSet zone name set
   at_name : name_eq nsec.only.name name ≡ true
@@ -274,7 +274,7 @@ listed_where zone name t a b =
     (λ i. same_record_type t kind.RRSIG || (same_record_type t kind.NSEC || (b i && (not (a i) || (same_record_type t kind.NS || same_record_type t kind.DS)))))
     ∙ ap (λ (c : Bool). same_record_type t kind.RRSIG || c) (or_true (same_record_type t kind.NSEC)) ∙ or_true (same_record_type t kind.RRSIG)
 
-owns_nsec : (zone : Zone) (name : DomainName) → IsSecured zone → IsAuthoritativeName kind.NSEC zone name → IsSome (rrset_at zone.sets name kind.NSEC)
+pub owns_nsec : (zone : Zone) (name : DomainName) → IsSecured zone → IsAuthoritativeName kind.NSEC zone name → IsSome (rrset_at zone.sets name kind.NSEC)
 owns_nsec zone name secured on = at_some_is (IsNsecSet zone name) (rrset_at zone.sets name kind.NSEC) (secured.each name on)
 
 pub unowned_lacked : (zone : Zone) (name owner : DomainName) (set : RRset) (t : RecordType) → IsSecured zone → AreStored zone.sets → ZoneReadsBack zone → IsAuthoritativeName kind.NSEC zone name

@@ -1,5 +1,5 @@
 -- Which NSEC records deny a name or a type (RFC 4035, section 3.1.3).
-use Rattle.std.specs.Prelude.{◌≡◌, ℕ, Bool, true, false, not, ◌&&◌, ◌==◌, List, [], ◌∷◌, ◌++◌, Option, Some, None, IsSome, option_map, if◌then◌else◌}
+use Rattle.std.specs.Prelude.{◌⊎◌, ◌≡◌, ℕ, Bool, true, false, not, ◌&&◌, ◌==◌, List, [], ◌∷◌, ◌++◌, Option, Some, None, IsSome, option_map, if◌then◌else◌}
 use Rattle.std.specs.List.{filter, list_any}
 use Rattle.std.specs.Ordering.{is_gt, is_lt}
 use Rattle.zst_handler.specs.Found.{above}
@@ -38,7 +38,23 @@ pub record Lacks (name : DomainName) (t : RecordType) (r : Record) : Type 0 wher
   pub owner : name_eq r.name name ≡ true
   pub lacks : list_any (λ code. code == record_type_number t) types ≡ false
 
+-- A set has one record, of which P holds.
+pub record HasOne (P : Record → Type 0) (set : RRset) : Type 0 where
+  pub only : Record
+  pub one : set.records ≡ only ∷ []
+  pub is : P only
+
+-- P holds of one of them.
+abbrev pub SomeOf : {X : Type 0} → (X → Type 0) → List X → Type 0
+SomeOf P [] = ⊥
+SomeOf P (x ∷ xs) = P x ⊎ SomeOf P xs
+
 -- ---- which sets a zone shows
+-- The zone has this set of a type.
+pub record IsSetOf (zone : Zone) (t : RecordType) (set : RRset) : Type 0 where
+  pub owner : DomainName
+  pub there : rrset_at zone.sets owner t ≡ Some set
+
 -- The set of a type for a name: its own, else that of the last owner before it in canonical order
 -- (RFC 4034, section 6.1), else that of the last owner of all.
 pub record IsPrecedingSet (zone : Zone) (of_type : RecordType) (name owner : DomainName)

@@ -2,6 +2,7 @@ pub mod Circles
 pub mod Denials
 pub mod HashDenials
 pub mod Hashed
+pub mod Kept
 pub mod Octets
 pub mod Signing
 pub use Rattle.zst_handler.specs.dnw_codes

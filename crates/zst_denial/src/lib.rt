@@ -7,8 +7,8 @@
 #![tactic(auto)]
 
 pub use drd_denial::{
-    NsecData, RecordTypeSet, ZoneSignature, is_between, nsec_data, nsec3_data, nsec3param_data,
-    rrsig_data,
+    NULL, NsecData, RecordTypeSet, ZoneSignature, is_between, nsec_data, nsec3_data,
+    nsec3param_data, rrsig_data,
 };
 pub use zst_handler::{
     ANAME, AnswerSet, AuthLookup, AxfrPolicy, CNAME, DNSClass, Draft, Edns, LentSets,
@@ -22,10 +22,14 @@ pub use zst_hash::{
 };
 
 mod laws;
+mod shown;
+mod signatures;
 mod signer;
 
 pub use laws::{
     absent_names_are_covered, owned_types_are_not_lacked, present_names_are_not_covered,
-    unowned_types_are_lacked,
+    unchanged_circles_secure, unchanged_digests_secure, unowned_types_are_lacked,
 };
+pub use shown::{absent_names_are_denied, denials_are_stored, unowned_types_are_denied};
+pub use signatures::sign_set;
 pub use signer::{SignerFault, ZoneSigner};

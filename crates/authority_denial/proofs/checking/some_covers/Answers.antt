@@ -1,8 +1,7 @@
 use Rattle.std.proofs.Common.{◌≡◌, ◌+◌, ◌++◌, ◌∷◌, [], List, take, sym, ap, subst, ◌∙◌}
 use Rattle.std.proofs.lemmas.List.{take_more}
 use Rattle.zsv_reply.specs.zst_record.declared.records.Record.{Record}
-use Rattle.authority_denial.specs.Denials.{SomeOf}
-use Rattle.zst_denial.specs.Denials.{Covers}
+use Rattle.zst_denial.specs.Denials.{Covers, SomeOf}
 use Rattle.authority_denial.proofs.Denying.{none_more, some_at, when_false, when_true}
 use Rattle.authority_denial.proofs.checking.some_covers.Goals as goal
 

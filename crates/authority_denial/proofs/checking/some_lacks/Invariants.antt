@@ -1,6 +1,5 @@
 use Rattle.std.proofs.Common.{take}
-use Rattle.authority_denial.specs.Denials.{SomeOf}
-use Rattle.zst_denial.specs.Denials.{Lacks}
+use Rattle.zst_denial.specs.Denials.{Lacks, SomeOf}
 use Rattle.authority_denial.proofs.checking.some_lacks.Given as goal
 
 abbrev pub invariant-loop-stored : goal.invariant-loop-stored
