@@ -233,7 +233,6 @@ pub tested_gives : {R : Type 0} (zone : Zone) (line : List ℕ) (h : Heading) (v
 tested_gives zone line h value next_of IsKeyed (Ok t) inside is fits ok err = subst (IsTaken zone line) (sym ok.0) (value_taken zone line h value inside is ok.2 fits)
 tested_gives zone line h value next_of IsKeyed (Err cause) inside is fits ok err = value_refused zone line h value cause inside is fits err
 
-
 -- A reader that is refused a text says so.
 pub text_err : {X : Type 0} (IsText : X → Type 0) (cause : ProtoError) (e : TextError) → TellsTextCause cause e → IsMemory cause ⊎ ((x : X) → IsText x → ⊥) → ReadsText {X = X} IsText (Err e)
 text_err IsText cause errors.Malformed tells (inl memory) = absurd (tells memory)
