@@ -228,11 +228,6 @@ value_taken zone line h value inside is joins fits =
       no_cause = none_9 zone line value (none_8 zone line h known inside.inside) is;
     }
 
--- So is what a test of the record gives.
-pub tested_gives : {R : Type 0} (zone : Zone) (line : List ℕ) (h : Heading) (value : RData) (next_of : R → Record) (IsKeyed : R → Type 0) (r : Result R LoadCause) → IsInside zone line h → AreData line value → NumbersFit value → IfOk r (λ t. (next_of t ≡ record_at h value) × IsKeyed t × MayJoin zone (record_at h value)) → IfErr r (RefusesValue zone (record_at h value)) → LineGives zone line next_of r
-tested_gives zone line h value next_of IsKeyed (Ok t) inside is fits ok err = subst (IsTaken zone line) (sym ok.0) (value_taken zone line h value inside is ok.2 fits)
-tested_gives zone line h value next_of IsKeyed (Err cause) inside is fits ok err = value_refused zone line h value cause inside is fits err
-
 -- A reader that is refused a text says so.
 pub text_err : {X : Type 0} (IsText : X → Type 0) (cause : ProtoError) (e : TextError) → TellsTextCause cause e → IsMemory cause ⊎ ((x : X) → IsText x → ⊥) → ReadsText {X = X} IsText (Err e)
 text_err IsText cause errors.Malformed tells (inl memory) = absurd (tells memory)
