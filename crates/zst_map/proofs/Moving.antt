@@ -139,3 +139,22 @@ still_signed all left old0 new0 old new p set can stored signed (went x w o n) e
 pub still_placed : (all left : Option Placeholder) (old0 new0 old new : Option RRset) (set : RRset) → IsSome new0 → Moves all left old0 new0 old new → old ≡ Some set → IsSome new
 still_placed all left old0 new0 old new set placed (waits o n w) e = ap is_some n ∙ placed
 still_placed all left old0 new0 old new set placed (went x w o n) e = absurd (none_some old set e o)
+
+-- ---- before the sets move
+-- A set that is put into the other zone keeps no set from moving.
+pub can_after : (old new after : List RRset) (owner : DomainName) (kind : RecordType) (set : RRset) (p : Placeholder) → Replaces new owner kind (Some set) after → CanMove old new p → CanMove old after p
+can_after old new after owner kind set p replaces can = record {
+  set = can.set;
+  stored = can.stored;
+  placed = ap is_some (replaces p.key p.record_type) ∙ by (name_eq p.key owner && same_record_type kind p.record_type);
+  signed = can.signed;
+}
+  where
+    by : (b : Bool) → IsSome (cond b (Some set) (rrset_at new p.key p.record_type))
+    by true = refl
+    by false = can.placed
+
+pub all_can_after : (old new after : List RRset) (owner : DomainName) (kind : RecordType) (set : RRset) (list : List Placeholder) → Replaces new owner kind (Some set) after → AllByRecursion (CanMove old new) list
+    → AllByRecursion (CanMove old after) list
+all_can_after old new after owner kind set [] replaces all = tt
+all_can_after old new after owner kind set (p ∷ list) replaces all = (can_after old new after owner kind set p replaces all.0, all_can_after old new after owner kind set list replaces all.1)
