@@ -4,22 +4,22 @@ use Rattle.std.specs.Prelude.{Option, Some, None, is_some, option_map}
 use Rattle.std.specs.List.{list_any}
 use Rattle.std.specs.Net.Socket.{socket_ip}
 use Rattle.authority_server.specs.zsv_access.Access.{is_allowed}
-use Rattle.zsv_reply.specs.Replies.{ReplyParts, header_of_reply}
-use Rattle.zsv_reply.specs.Writing.{reply_metadata, with_edns}
-use Rattle.zsv_reply.specs.zst_record.declared.records.Record.{Record}
-use Rattle.zsv_reply.specs.zsv_message.Messages.{Message, joined_metadata}
-use Rattle.zsv_reply.specs.zsv_message.zst_edns.declared.edns.Edns.{Edns}
-use Rattle.zsv_reply.specs.zsv_message.zsv_parts.Headers.{header_of, same_op_code}
-use Rattle.zsv_reply.specs.zsv_message.zsv_parts.declared.header.Header.{Header}
-use Rattle.zsv_reply.specs.zsv_message.zsv_parts.declared.header.Metadata.{Metadata}
-use Rattle.zsv_reply.specs.zsv_message.zsv_parts.declared.header.MessageType.{MessageType}
-use Rattle.zsv_reply.specs.zsv_message.zsv_parts.declared.header.MessageType.TheVariants as messages
-use Rattle.zsv_reply.specs.zsv_message.zsv_parts.declared.header.OpCode.{OpCode}
-use Rattle.zsv_reply.specs.zsv_message.zsv_parts.declared.header.OpCode.TheVariants as operations
-use Rattle.zsv_reply.specs.zsv_message.zsv_parts.declared.question.Query.{Query}
-use Rattle.zsv_reply.specs.zsv_message.zsv_parts.zst_codes.ResponseCode.{joined_code, low_bits, same_response_code}
-use Rattle.zsv_reply.specs.zsv_message.zsv_parts.zst_codes.declared.response_code.ResponseCode.{ResponseCode}
-use Rattle.zsv_reply.specs.zsv_message.zsv_parts.zst_codes.declared.response_code.ResponseCode.TheVariants as codes
+use Rattle.authority_denial.specs.zsv_reply.Replies.{ReplyParts, header_of_reply}
+use Rattle.authority_denial.specs.zsv_reply.Writing.{reply_metadata, with_edns}
+use Rattle.authority_denial.specs.zsv_reply.zst_record.declared.records.Record.{Record}
+use Rattle.authority_denial.specs.zsv_reply.zsv_message.Messages.{Message, joined_metadata}
+use Rattle.authority_denial.specs.zsv_reply.zsv_message.zst_edns.declared.edns.Edns.{Edns}
+use Rattle.authority_denial.specs.zsv_reply.zsv_message.zsv_parts.Headers.{header_of, same_op_code}
+use Rattle.authority_denial.specs.zsv_reply.zsv_message.zsv_parts.declared.header.Header.{Header}
+use Rattle.authority_denial.specs.zsv_reply.zsv_message.zsv_parts.declared.header.Metadata.{Metadata}
+use Rattle.authority_denial.specs.zsv_reply.zsv_message.zsv_parts.declared.header.MessageType.{MessageType}
+use Rattle.authority_denial.specs.zsv_reply.zsv_message.zsv_parts.declared.header.MessageType.TheVariants as messages
+use Rattle.authority_denial.specs.zsv_reply.zsv_message.zsv_parts.declared.header.OpCode.{OpCode}
+use Rattle.authority_denial.specs.zsv_reply.zsv_message.zsv_parts.declared.header.OpCode.TheVariants as operations
+use Rattle.authority_denial.specs.zsv_reply.zsv_message.zsv_parts.declared.question.Query.{Query}
+use Rattle.authority_denial.specs.zsv_reply.zsv_message.zsv_parts.zst_codes.ResponseCode.{joined_code, low_bits, same_response_code}
+use Rattle.authority_denial.specs.zsv_reply.zsv_message.zsv_parts.zst_codes.declared.response_code.ResponseCode.{ResponseCode}
+use Rattle.authority_denial.specs.zsv_reply.zsv_message.zsv_parts.zst_codes.declared.response_code.ResponseCode.TheVariants as codes
 use Rattle.authority_server.specs.Serving.{Gives, Received, SendsGiven, World}
 use Rattle.authority_server.specs.zsv_catalog.Catalogs.{GivesOf, KindParts, OperationParts, PartsOf, PlainParts, QueryParts, QuestionParts, asked_of_transfer, asks_for_dnssec, entry_parts, failure_of, is_served_update}
 use Rattle.authority_server.specs.zsv_catalog.Chains.{chain_for, entry_for}
@@ -39,7 +39,7 @@ use Rattle.authority_server.specs.zsv_catalog.zsv_update.Updates.{ChainUpdates, 
 use Rattle.authority_transfer.specs.Transfers.{is_answer, is_sig}
 use Rattle.authority_transfer.specs.TwoRoads.{HandsOverAll}
 use Rattle.authority.specs.TwoRoads.{SendsZone}
-use Rattle.authority.proofs.Decoded.{message_with, more_than_header, reply_holds_all}
+use Rattle.authority_denial.proofs.Decoded.{message_with, more_than_header, reply_holds_all}
 
 -- ---- parts without records are those of no transfer
 abbrev answers_in : ReplyParts → List Record

@@ -1,9 +1,9 @@
 -- Two roads to a zone: its text, and a server's transfer of it: RFC 5936.
 use Rattle.std.specs.Prelude.{◌≡◌, ℕ, ◌<◌, Bool, true, false, List, [], ◌∷◌, Option, Some, None}
-use Rattle.zsv_reply.specs.zsv_message.Messages.{IsMessage, Message}
-use Rattle.zsv_reply.specs.zsv_message.zsv_parts.Headers.{header_of}
-use Rattle.zsv_reply.specs.zsv_message.zsv_parts.Questions.{AvoidsHeader}
-use Rattle.zsv_reply.specs.zsv_message.zsv_parts.declared.question.Query.{Query}
+use Rattle.authority_denial.specs.zsv_reply.zsv_message.Messages.{IsMessage, Message}
+use Rattle.authority_denial.specs.zsv_reply.zsv_message.zsv_parts.Headers.{header_of}
+use Rattle.authority_denial.specs.zsv_reply.zsv_message.zsv_parts.Questions.{AvoidsHeader}
+use Rattle.authority_denial.specs.zsv_reply.zsv_message.zsv_parts.declared.question.Query.{Query}
 use Rattle.authority_server.specs.Serving.{Answers, Received, World, WorldReadsBack}
 use Rattle.authority_server.specs.zsv_catalog.Catalogs.{asks_for_dnssec}
 use Rattle.authority_server.specs.zsv_catalog.Chains.{chain_for}

@@ -13,6 +13,7 @@ pub use authority_transfer::{
 };
 
 mod back;
+pub mod denial;
 pub mod program;
 mod transfer;
 
