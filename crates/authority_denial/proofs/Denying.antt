@@ -1,4 +1,4 @@
--- What one record denies is told by its data; records that are seen alike deny alike.
+-- What a record denies depends on its owner and its NSEC octets alone.
 use Rattle.zst_denial.specs.drd_denial.declared.nsec.NsecData.{NsecData}
 use Rattle.std.specs.Prelude.{IfErr, IfOk, MatchBool, MatchOption, Result, Ok, Err, length}
 use Rattle.std.proofs.Common.{◌≡◌, ◌==◌, ◌<◌, ◌≤◌, ◌⊎◌, ◌&&◌, ◌++◌, not, get_or, zero, suc, arith, ℕ, Bool, true, false, List, [], ◌∷◌, refl, sym, ap, subst, inl, inr, ◌∙◌, true≢false}
@@ -41,7 +41,7 @@ pub lacks_not : (name : DomainName) (t : RecordType) (r : Record) (next : Domain
 lacks_not name t r next types has owned c =
     true≢false (sym owned ∙ ap (list_any (λ code. code == record_type_number t)) (has_once r next c.next types c.types has c.nsec).1 ∙ c.lacks)
 
--- ---- records that are seen alike
+-- ---- records of the same owner and the same NSEC octets
 has_alike : (a b : Record) (next : DomainName) (types : List ℕ) → AreSeenAlike a b → HasNsec a next types → HasNsec b next types
 has_alike a b next types same has = record { octets = has.octets; held = sym same.octets ∙ has.held; are = has.are }
 
@@ -75,7 +75,7 @@ none_alike [] [] all e = refl
 none_alike [] (b ∷ vs) all e = absurd all
 none_alike (a ∷ us) vs all e = absurd (cc e)
 
--- ---- a reply denies what the message that was read does
+-- ---- a reply denies what its message does
 pub denies_read : (reply : List ℕ) (name : DomainName) (m : Message) → IsMessage reply m → (d : DeniesName reply name) → (m.metadata.response_code ≡ d.message.metadata.response_code) × SomeOf (Covers name) m.authorities
 denies_read reply name m is d =
     let same = message_once reply d.message m d.is is in
@@ -90,7 +90,7 @@ denies_type_read reply name t m is d =
       some_alike (Lacks name t) (lacks_alike name t) d.message.authorities m.authorities same.authorities d.denies.2,
     )
 
--- ---- what was read of one record
+-- ---- one record as it was decoded
 pub seen : {E : Type 0} (r : Record) (octets : List ℕ) (res : Result (Option NsecData) E) → Some octets ≡ nsec_octets r.rdata
     → IfOk res (λ found. MatchOption found ((next : DomainName) (types : List ℕ) → IsNsecData octets next types → ⊥) (λ n. IsNsecData octets n.next n.types))
     → IfOk res (λ found. MatchOption found (HasNoNsec r) (λ n. HasNsec r n.next n.types))
@@ -189,7 +189,7 @@ pub is_none : (P : Message → Type 0) (Q : Type 0) (o : Option Message) → o �
 is_none P Q None e h = h
 is_none P Q (Some n) e h = absurd (cc e)
 
--- ---- want of memory
+-- ---- out of memory
 memory_long : (octets : List ℕ) → (IsWantOfMemory reads.Memory × (12 ≤ length octets)) ⊎ RefusesMessage octets reads.Memory → 12 ≤ length octets
 memory_long octets (inl memory) = memory.1
 memory_long octets (inr refused) = long refused

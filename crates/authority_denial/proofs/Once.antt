@@ -1,4 +1,4 @@
--- Octets are read as a message in one way, as far as denials see it.
+-- Two messages of the same octets agree in all that a denial depends on.
 use Rattle.std.proofs.Common.{◌≡◌, ℕ, ◌+◌, ◌/◌, ◌^◌, ◌<◌, Bool, true, false, ◌||◌, List, [], ◌∷◌, length, refl, sym, ap, subst, inl, inr, ◌∙◌, ◌⊎◌, arith, true≢false}
 use Rattle.std.proofs.lemmas.Nat.{from_be_bytes-to_be_bytes_4}
 use Rattle.std.specs.Int.{w32, from_be_bytes}
@@ -36,7 +36,7 @@ unfolding octets_32
 octets_32_once a b few less same =
     sym (from_be_bytes-to_be_bytes_4 a few) ∙ ap (from_be_bytes w32) same ∙ from_be_bytes-to_be_bytes_4 b less
 
--- What denials see of a record.
+-- Two records agree in what a denial depends on.
 pub record AreSeenAlike (a b : Record) : Type 0 where
   pub name : a.name ≡ b.name
   pub kind : type_of a.rdata ≡ type_of b.rdata
@@ -96,7 +96,7 @@ seen_alike message place a b e f p q =
       same.end,
     )
 
--- ---- records one behind the other
+-- ---- consecutive records
 unfoldable pub AllAlike : List Record → List Record → Type 0
 AllAlike [] [] = Unit {0}
 AllAlike (a ∷ us) (b ∷ vs) = AreSeenAlike a b × AllAlike us vs

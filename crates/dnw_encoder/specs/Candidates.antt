@@ -65,9 +65,9 @@ pub record ClashesAt (labels : List (List ℕ)) (octets : List ℕ) (place : ℕ
       (length (label_octets labels) + 1 - length octets + place) 0
       → ⊥
 
--- An entry's name doesn't end one of so many octets behind fewer than so many, where none does
--- that is longer than the rest of its labels and the end: it is as long and other octets; longer; no
--- longer than what begins there; or it holds an octet among those that go to an end.
+-- An entry's name is no longer suffix than the one that was found: it has the length of the
+-- longest suffix possible and other octets; or more octets; or it begins at the found one's offset
+-- or after it; or it includes an octet that differs.
 abbrev pub CannotEnd : List ℕ → List ℕ → ℕ → ℕ → ℕ → ℕ → Entry → Type 0
 CannotEnd octets rest whole before to octet e =
     ((e.to - e.from ≡ length rest + 1)
