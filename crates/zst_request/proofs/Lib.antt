@@ -2,4 +2,5 @@ pub mod TransferCodes
 pub mod TransferRows
 pub mod UpdateRows
 pub mod WorkedRows
-pub use Rattle.zst_handler.proofs.LookupOnce
+pub use Rattle.zst_denial.proofs.LookupOnce
+pub mod zst_denial_lemmas

@@ -4,7 +4,7 @@
 //! to a name and a type, or why nothing is.
 #![tactic(auto)]
 
-pub use zst_map::{
+pub use zst_absence::{
     AnswerSet, AuthLookup, AxfrPolicy, DNSClass, Draft, Edit, LentSets, LookupControlFlow,
     LookupError, LookupOptions, LookupRecords, LookupRecordsIter, LowerName, Name, NameKey,
     Nsec3HashAlgorithm, NxProofKind, ProtoError, RData, Record, RecordRef, RecordSet, RecordType,
@@ -12,13 +12,14 @@ pub use zst_map::{
     ZoneType,
 };
 pub use zst_request::{
-    AxfrRecords, AxfrRecordsIter, BlocklistConsultAction, RequestTsig, TSigResponseContext,
-    ZoneHandler, ZoneRequest, ZoneTransfer, ZoneTransferIter,
+    AxfrRecords, AxfrRecordsIter, BlocklistConsultAction, Nsec3QueryInfo, RequestTsig,
+    TSigResponseContext, ZoneHandler, ZoneRequest, ZoneTransfer, ZoneTransferIter,
 };
 
 mod additional;
 mod back;
 mod chain;
+mod denial;
 mod handler;
 mod lookup;
 mod seen;
