@@ -14,9 +14,9 @@ use zst_request::{
     LookupError, LookupOptions, TSigResponseContext, ZoneHandler, ZoneRequest, ZoneTransfer,
 };
 use zsv_reply::{
-    Edns, MessageResponseBuilder, Metadata, Queries, Record, ResponseCode, ResponseInfo, TsigRecord,
+    Edns, MessageResponseBuilder, Metadata, Protocol, Queries, Record, ResponseCode, ResponseInfo,
+    TsigRecord,
 };
-use zsv_request::Protocol;
 
 /// The reply to a question for a transfer.
 #[derive(Drop)]
