@@ -4,6 +4,7 @@ pub mod HashDenials
 pub mod Hashed
 pub mod Kept
 pub mod Octets
+pub mod Shown
 pub mod Signing
 pub use Rattle.zst_handler.specs.dnw_codes
 pub use Rattle.zst_handler.specs.dnw_name

@@ -3,13 +3,12 @@ pub mod Entries
 pub mod Indexed
 pub mod Kept
 pub mod Keys
-pub mod Moving
+pub mod Replacing
 pub mod NamedSets
 pub mod Names
 pub mod NearestOf
 pub mod Owners
 pub mod Owning
-pub mod Placing
 pub mod Preceded
 pub mod Removals
 pub mod Searched

@@ -84,7 +84,7 @@ in_keys : (P : DomainName → Type 0) (before after : List Owner) (e : Owner) �
 in_keys P [] after e all = all.0
 in_keys P (x ∷ before) after e all = in_keys P before after e all.1
 
--- Those in front of a name of a list in order are before it.
+-- In a list in order, those listed before a name are less than it.
 all_before : (before after : List Owner) (e : Owner) → IsStrictlySortedBy name_cmp (keys_of (before ++ e ∷ after)) → AllByRecursion (λ x. name_cmp x.0 e.0 ≡ Less) before
 all_before [] after e sorted = tt
 all_before (x ∷ before) after e sorted = (

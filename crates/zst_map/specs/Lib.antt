@@ -1,7 +1,6 @@
 pub mod Changes
 pub mod Edits
 pub mod Indexes
-pub mod Moves
 pub mod Preceding
 pub mod Searches
 pub mod ZoneMaps

@@ -18,10 +18,8 @@ mod denials;
 mod edit;
 mod index;
 mod map;
-mod moves;
 mod node;
 mod zone_sets;
 
 pub use edit::Edit;
-pub use moves::{Placeholder, commit, placeholders};
 pub use zone_sets::{Match, Search, ZoneSets};

@@ -9,3 +9,4 @@ pub mod ReadBack
 pub mod Sections
 pub mod Written
 pub mod WrittenReplies
+pub use Rattle.zsv_request.proofs.zsv_message_lemmas

@@ -7,3 +7,4 @@ pub use Rattle.zsv_request.specs.zsv_message.zst_record.drd_rdata
 pub mod zst_pointing
 pub mod zst_record
 pub mod zsv_message
+pub mod zsv_request

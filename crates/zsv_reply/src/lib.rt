@@ -6,9 +6,10 @@
 
 pub use zst_pointing::push_pointing;
 pub use zsv_request::{
-    A, BareRequest, DNSClass, DecodeError, Edns, Label, MessageRequest, MessageType, Metadata, NS,
-    Name, OpCode, Protocol, Queries, Query, RData, Record, RecordSet, RecordType, ResponseCode,
-    ResponseInfo, SOA, TsigRecord,
+    A, BareRequest, DNSClass, DecodeError, Edns, Header, HeaderCounts, Label, LowerQuery,
+    MessageRequest, MessageType, Metadata, NS, Name, OpCode, Protocol, Queries, Query, RData,
+    Record, RecordSet, RecordType, Request, RequestInfo, ResponseCode, ResponseInfo, SOA, Tsig,
+    TsigRecord, UpdateRequest,
 };
 
 mod bare_reply;

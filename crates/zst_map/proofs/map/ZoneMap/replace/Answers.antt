@@ -10,7 +10,7 @@ use Rattle.zst_handler.specs.Stores.{held_sets}
 use Rattle.zst_map.specs.ZoneMaps.{IsNode}
 use Rattle.zst_map.specs.declared.change.Change.TheVariants as changes
 use Rattle.zst_map.proofs.Kept.{alike_keys, in_order, kept_after, node_under, owners_stay, replaced_after, set_under}
-use Rattle.zst_map.proofs.Moving.{replaced_at}
+use Rattle.zst_map.proofs.Replacing.{replaced_at}
 use Rattle.zst_map.proofs.NodeSets.{IsNode-with}
 use Rattle.zst_map.proofs.map.ZoneMap.replace.Goals as goal
 

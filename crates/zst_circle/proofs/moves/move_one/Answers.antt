@@ -1,13 +1,13 @@
 use Rattle.std.proofs.Common.{◌≡◌, ◌∙◌, sym, subst}
 use Rattle.std.specs.Prelude.{Some, IsSome, true}
-use Rattle.zst_handler.specs.dnw_codes.RecordType.{same_record_type}
-use Rattle.zst_handler.specs.dnw_name.DomainName.{name_eq}
-use Rattle.zst_handler.specs.zst_record.RecordSets.{RRset}
-use Rattle.zst_handler.specs.Updates.{Replaces}
-use Rattle.zst_handler.specs.Zones.{rrset_at}
-use Rattle.zst_map.specs.Moves.{resigned}
-use Rattle.zst_map.proofs.Moving.{found_parts, one, replaced_as, type_same}
-use Rattle.zst_map.proofs.moves.move_one.Goals as goal
+use Rattle.zst_absence.specs.dnw_codes.RecordType.{same_record_type}
+use Rattle.zst_absence.specs.dnw_name.DomainName.{name_eq}
+use Rattle.zst_absence.specs.zst_record.RecordSets.{RRset}
+use Rattle.zst_absence.specs.zst_handler.Updates.{Replaces}
+use Rattle.zst_absence.specs.zst_handler.Zones.{rrset_at}
+use Rattle.zst_circle.specs.Moves.{resigned}
+use Rattle.zst_absence.proofs.zst_map_lemmas.Replacing.{found_parts, one, replaced_as, type_same}
+use Rattle.zst_circle.proofs.moves.move_one.Goals as goal
 
 pub sign_with-requires : goal.sign_with-requires
 sign_with-requires c = c.requires.signed c.in-Some.set (sym c.in-Some.ensures.value)

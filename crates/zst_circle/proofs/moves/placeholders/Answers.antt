@@ -1,12 +1,12 @@
 use Rattle.std.proofs.Common.{◌≡◌, ◌∙◌, [], ap, refl, sym, true}
 use Rattle.std.specs.Prelude.{Bool, false, ◌&&◌, ◌||◌, ◌∷◌, List, is_some}
-use Rattle.zst_handler.specs.dnw_codes.RecordType.{same_record_type}
-use Rattle.zst_handler.specs.dnw_name.DomainName.{name_eq}
-use Rattle.zst_handler.specs.zst_record.RecordSets.{RRset}
-use Rattle.zst_handler.specs.Zones.{rrset_at}
-use Rattle.zst_map.specs.Moves.{moves, placeholder_of}
-use Rattle.zst_map.proofs.Placing.{all_can, put_turn, some_of}
-use Rattle.zst_map.proofs.moves.placeholders.Goals as goal
+use Rattle.zst_absence.specs.dnw_codes.RecordType.{same_record_type}
+use Rattle.zst_absence.specs.dnw_name.DomainName.{name_eq}
+use Rattle.zst_absence.specs.zst_record.RecordSets.{RRset}
+use Rattle.zst_absence.specs.zst_handler.Zones.{rrset_at}
+use Rattle.zst_circle.specs.Moves.{moves, placeholder_of}
+use Rattle.zst_circle.proofs.Placing.{all_can, put_turn, some_of}
+use Rattle.zst_circle.proofs.moves.placeholders.Goals as goal
 
 pub sets-preserved : goal.sets-preserved
 sets-preserved c =

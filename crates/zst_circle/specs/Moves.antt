@@ -1,13 +1,13 @@
 -- Sets that move from one zone's sets to another's, each to where its placeholder is.
 use Rattle.std.specs.Prelude.{◌≡◌, ◌&&◌, ◌||◌, true, not, Bool, List, [], Option, Some, None, IsSome, find, option_map}
 use Rattle.std.specs.List.{AllByRecursion}
-use Rattle.zst_handler.specs.dnw_codes.declared.record_type.RecordType.{RecordType}
-use Rattle.zst_handler.specs.dnw_codes.declared.record_type.RecordType.TheVariants as kind
-use Rattle.zst_handler.specs.dnw_codes.RecordType.{same_record_type}
-use Rattle.zst_handler.specs.dnw_name.DomainName.{DomainName, name_eq}
-use Rattle.zst_handler.specs.Zones.{rrset_at}
-use Rattle.zst_handler.specs.zst_record.RecordSets.{RRset, is_signature_of}
-use Rattle.zst_map.specs.declared.moves.Placeholder.{Placeholder}
+use Rattle.zst_absence.specs.dnw_codes.declared.record_type.RecordType.{RecordType}
+use Rattle.zst_absence.specs.dnw_codes.declared.record_type.RecordType.TheVariants as kind
+use Rattle.zst_absence.specs.dnw_codes.RecordType.{same_record_type}
+use Rattle.zst_absence.specs.dnw_name.DomainName.{DomainName, name_eq}
+use Rattle.zst_absence.specs.zst_handler.Zones.{rrset_at}
+use Rattle.zst_absence.specs.zst_record.RecordSets.{RRset, is_signature_of}
+use Rattle.zst_circle.specs.declared.moves.Placeholder.{Placeholder}
 
 -- Sets of these types are made anew where a zone is signed (RFC 4034, section 4; RFC 5155, sections
 -- 3 and 4).

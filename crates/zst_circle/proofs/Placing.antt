@@ -3,14 +3,14 @@ use Rattle.std.proofs.Common.{◌≡◌, ℕ, refl, ap, sym, subst, ◌∙◌, a
 use Rattle.std.specs.Prelude.{Bool, true, false, not, ◌&&◌, ◌||◌, ◌==◌, List, [], ◌∷◌, ◌++◌, Option, Some, None, cond, find, is_some, IsSome}
 use Rattle.std.specs.List.{AllByRecursion}
 use Rattle.std.proofs.lemmas.Bool.{and_parts, eqb-true, eq-eqb, true≢false}
-use Rattle.zst_handler.specs.dnw_codes.declared.record_type.RecordType.{RecordType}
-use Rattle.zst_handler.specs.dnw_codes.RecordType.{record_type_number, same_record_type}
-use Rattle.zst_handler.specs.dnw_name.DomainName.{DomainName, name_eq}
-use Rattle.zst_handler.specs.zst_record.RecordLaws.{name_eq_equiv}
-use Rattle.zst_handler.specs.zst_record.RecordSets.{RRset, is_signature_of}
-use Rattle.zst_handler.specs.Zones.{rrset_at}
-use Rattle.zst_map.specs.Moves.{CanMove, IsUnsigned, is_placeholder_of, moves, placeholder_of}
-use Rattle.zst_map.specs.declared.moves.Placeholder.{Placeholder}
+use Rattle.zst_absence.specs.dnw_codes.declared.record_type.RecordType.{RecordType}
+use Rattle.zst_absence.specs.dnw_codes.RecordType.{record_type_number, same_record_type}
+use Rattle.zst_absence.specs.dnw_name.DomainName.{DomainName, name_eq}
+use Rattle.zst_absence.specs.zst_record.RecordLaws.{name_eq_equiv}
+use Rattle.zst_absence.specs.zst_record.RecordSets.{RRset, is_signature_of}
+use Rattle.zst_absence.specs.zst_handler.Zones.{rrset_at}
+use Rattle.zst_circle.specs.Moves.{CanMove, IsUnsigned, is_placeholder_of, moves, placeholder_of}
+use Rattle.zst_circle.specs.declared.moves.Placeholder.{Placeholder}
 
 -- ---- by tests alone
 pub kept_out : (hit moving x : Bool) → (hit ≡ true → moving ≡ false) → x ≡ ((hit && moving) || x)

@@ -1,10 +1,10 @@
 use Rattle.std.specs.Prelude.{◌≡◌, ◌&&◌, ◌||◌, is_some}
 use Rattle.std.specs.List.{AllByRecursion}
-use Rattle.zst_handler.specs.dnw_codes.declared.record_type.RecordType.{RecordType}
-use Rattle.zst_handler.specs.dnw_name.DomainName.{DomainName}
-use Rattle.zst_handler.specs.Zones.{AreInOrder, rrset_at}
-use Rattle.zst_map.specs.Moves.{IsUnsigned, moves, placeholder_of}
-use Rattle.zst_map.proofs.moves.placeholders.Given as goal
+use Rattle.zst_absence.specs.dnw_codes.declared.record_type.RecordType.{RecordType}
+use Rattle.zst_absence.specs.dnw_name.DomainName.{DomainName}
+use Rattle.zst_absence.specs.zst_handler.Zones.{AreInOrder, rrset_at}
+use Rattle.zst_circle.specs.Moves.{IsUnsigned, moves, placeholder_of}
+use Rattle.zst_circle.proofs.moves.placeholders.Given as goal
 
 abbrev pub invariant-sets : goal.invariant-sets
 invariant-sets l =

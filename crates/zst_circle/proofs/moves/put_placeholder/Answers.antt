@@ -1,16 +1,16 @@
 use Rattle.std.proofs.Common.{◌≡◌, ◌∙◌, ap, sym}
 use Rattle.std.specs.Prelude.{Bool, true, false, ◌&&◌, ◌||◌, Ok, Err, OnOk, Result, is_some}
 use Rattle.std.proofs.lemmas.Result.{on_ok_weaker}
-use Rattle.zst_handler.specs.dnw_codes.RecordType.{same_record_type}
-use Rattle.zst_handler.specs.dnw_codes.declared.record_type.RecordType.{RecordType}
-use Rattle.zst_handler.specs.dnw_name.DomainName.{DomainName, lowercase_name, name_eq}
-use Rattle.zst_handler.specs.zst_record.RecordLaws.{name_eq_equiv}
-use Rattle.zst_handler.specs.zst_record.RecordSets.{RRset}
-use Rattle.zst_handler.specs.Zones.{rrset_at}
-use Rattle.zst_key.proofs.KeyLemmas.{eq-lower, eq-lower-first}
-use Rattle.zst_map.specs.Moves.{is_placeholder_of, moves, placeholder_of}
-use Rattle.zst_map.proofs.Placing.{find_last, hit_moves, kept_out, put_in, some_of}
-use Rattle.zst_map.proofs.moves.put_placeholder.Goals as goal
+use Rattle.zst_absence.specs.dnw_codes.RecordType.{same_record_type}
+use Rattle.zst_absence.specs.dnw_codes.declared.record_type.RecordType.{RecordType}
+use Rattle.zst_absence.specs.dnw_name.DomainName.{DomainName, lowercase_name, name_eq}
+use Rattle.zst_absence.specs.zst_record.RecordLaws.{name_eq_equiv}
+use Rattle.zst_absence.specs.zst_record.RecordSets.{RRset}
+use Rattle.zst_absence.specs.zst_handler.Zones.{rrset_at}
+use Rattle.zst_absence.proofs.zst_denial_lemmas.zst_key_lemmas.KeyLemmas.{eq-lower, eq-lower-first}
+use Rattle.zst_circle.specs.Moves.{is_placeholder_of, moves, placeholder_of}
+use Rattle.zst_circle.proofs.Placing.{find_last, hit_moves, kept_out, put_in, some_of}
+use Rattle.zst_circle.proofs.moves.put_placeholder.Goals as goal
 
 any_ok : {T E P : Type 0} (r : Result T E) → P → OnOk r P
 any_ok (Ok x) p = p

@@ -1,11 +1,11 @@
 use Rattle.std.proofs.Common.{◌≡◌, ◌∙◌, refl, sym, subst, arith, length, List, ◌∷◌, []}
 use Rattle.std.specs.List.{AllByRecursion}
 use Rattle.std.specs.Vec.Iter.{into_iter_items}
-use Rattle.zst_handler.specs.Zones.{rrset_at}
-use Rattle.zst_map.specs.Moves.{CanMove, placeholder_of}
-use Rattle.zst_map.specs.declared.moves.Placeholder.{Placeholder}
-use Rattle.zst_map.proofs.Moving.{Moves, ends, one_turn, starts, still_placed, still_signed, stored_for}
-use Rattle.zst_map.proofs.moves.commit.Goals as goal
+use Rattle.zst_absence.specs.zst_handler.Zones.{rrset_at}
+use Rattle.zst_circle.specs.Moves.{CanMove, placeholder_of}
+use Rattle.zst_circle.specs.declared.moves.Placeholder.{Placeholder}
+use Rattle.zst_circle.proofs.Moving.{Moves, ends, one_turn, starts, still_placed, still_signed, stored_for}
+use Rattle.zst_circle.proofs.moves.commit.Goals as goal
 
 nothing_left : {X : Type 0} (xs : List X) → length xs ≡ 0 → xs ≡ []
 nothing_left [] e = refl

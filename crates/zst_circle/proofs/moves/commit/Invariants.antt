@@ -1,11 +1,11 @@
 use Rattle.std.specs.List.{AllByRecursion}
 use Rattle.std.specs.Vec.Iter.{into_iter_items}
-use Rattle.zst_handler.specs.dnw_codes.declared.record_type.RecordType.{RecordType}
-use Rattle.zst_handler.specs.dnw_name.DomainName.{DomainName}
-use Rattle.zst_handler.specs.Zones.{AreInOrder, rrset_at}
-use Rattle.zst_map.specs.Moves.{CanMove, placeholder_of}
-use Rattle.zst_map.proofs.Moving.{Moves}
-use Rattle.zst_map.proofs.moves.commit.Given as goal
+use Rattle.zst_absence.specs.dnw_codes.declared.record_type.RecordType.{RecordType}
+use Rattle.zst_absence.specs.dnw_name.DomainName.{DomainName}
+use Rattle.zst_absence.specs.zst_handler.Zones.{AreInOrder, rrset_at}
+use Rattle.zst_circle.specs.Moves.{CanMove, placeholder_of}
+use Rattle.zst_circle.proofs.Moving.{Moves}
+use Rattle.zst_circle.proofs.moves.commit.Given as goal
 
 abbrev pub invariant-placeholders : goal.invariant-placeholders
 invariant-placeholders l =

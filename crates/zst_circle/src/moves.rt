@@ -3,19 +3,17 @@
 
 ghost use Rattle.std.specs.Prelude.{◌≡◌, ◌&&◌, ◌||◌, [], true, not, None, Some, IsSome, OnErr, OnOk, is_some, if◌then◌else◌};
 ghost use Rattle.std.specs.List.{AllByRecursion};
-ghost use Rattle.zst_handler.specs.dnw_codes.RecordType.{same_record_type};
-ghost use Rattle.zst_handler.specs.dnw_codes.declared.record_type.RecordType.{RecordType};
-ghost use Rattle.zst_handler.specs.dnw_name.DomainName.{DomainName, name_eq};
-ghost use Rattle.zst_handler.specs.zst_record.RecordSets.{RRset, is_signature_of};
-ghost use Rattle.zst_handler.specs.Updates.{Replaces};
-ghost use Rattle.zst_handler.specs.Zones.{AreInOrder, rrset_at};
-ghost use Rattle.zst_map.specs.Moves.{CanMove, IsUnsigned, is_circle_type, moved, moves, placeholder_of, resigned};
+ghost use Rattle.zst_absence.specs.dnw_codes.RecordType.{same_record_type};
+ghost use Rattle.zst_absence.specs.dnw_codes.declared.record_type.RecordType.{RecordType};
+ghost use Rattle.zst_absence.specs.dnw_name.DomainName.{DomainName, name_eq};
+ghost use Rattle.zst_absence.specs.zst_record.RecordSets.{RRset, is_signature_of};
+ghost use Rattle.zst_absence.specs.zst_handler.Updates.{Replaces};
+ghost use Rattle.zst_absence.specs.zst_handler.Zones.{AreInOrder, rrset_at};
+ghost use Rattle.zst_circle.specs.Moves.{CanMove, IsUnsigned, is_circle_type, moved, moves, placeholder_of, resigned};
 
-use crate::zone_sets::ZoneSets;
 use std::alloc::{AllocError, Global};
 use std::mem;
-use zst_handler::{Record, RecordSet, RecordType, push};
-use zst_key::NameKey;
+use zst_absence::{NameKey, Record, RecordSet, RecordType, ZoneSets, push};
 
 /// A set that is to move to where an empty one of its owner and type is.
 #[derive(Drop)]

@@ -1,0 +1,2 @@
+pub mod zst_denial_lemmas
+pub mod zst_map_lemmas

@@ -1,0 +1,13 @@
+pub use Rattle.zst_denial.specs.drd_denial
+pub use Rattle.zst_denial.specs.zst_hash
+pub use Rattle.zst_map.specs.dnw_codes
+pub use Rattle.zst_map.specs.dnw_name
+pub use Rattle.zst_map.specs.drd_names
+pub use Rattle.zst_map.specs.drd_rdata
+pub use Rattle.zst_map.specs.drd_words
+pub use Rattle.zst_map.specs.zst_codes
+pub use Rattle.zst_map.specs.zst_handler
+pub use Rattle.zst_map.specs.zst_key
+pub use Rattle.zst_map.specs.zst_record
+pub mod zst_denial
+pub mod zst_map

@@ -1,0 +1,14 @@
+//! Which sets of a zone deny a name or a type (RFC 4035 section 3.1.3, RFC 5155 section 7.2).
+#![tactic(auto)]
+
+pub use zst_denial::{
+    NULL, NsecData, RecordTypeSet, SignerFault, ZoneSignature, ZoneSigner, hashed_owner,
+    nsec3_data, nsec3_digest, nsec3param_data, nsec_data, rrsig_data, sign_set,
+};
+pub use zst_map::{
+    AnswerSet, AuthLookup, AxfrPolicy, DNSClass, Draft, Edit, LentSets, LookupControlFlow,
+    LookupError, LookupOptions, LookupRecords, LookupRecordsIter, LowerName, Match, Name, NameKey,
+    Nsec3HashAlgorithm, NxProofKind, ProtoError, RData, Record, RecordRef, RecordSet, RecordType,
+    ResponseCode, RrKey, RrsetRecords, Salt, SaltLenError, Search, ZoneSets, ZoneSetsIter,
+    ZoneSettings, ZoneType, push,
+};

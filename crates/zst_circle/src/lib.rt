@@ -1,0 +1,9 @@
+//! Zones that are secured: the circles of their NSEC and NSEC3 sets, and their signatures (RFC 4035 section 2, RFC 5155
+//! section 7.1).
+#![tactic(auto)]
+
+pub use zst_absence::{Name, NameKey, Record, RecordSet, RecordType, ZoneSets};
+
+mod moves;
+
+pub use moves::{Placeholder, commit, placeholders};
