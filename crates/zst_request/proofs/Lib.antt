@@ -2,4 +2,4 @@ pub mod TransferCodes
 pub mod TransferRows
 pub mod UpdateRows
 pub mod WorkedRows
-pub use Rattle.zst_handler.proofs.LookupOnce
+pub use Rattle.zst_denial.proofs.LookupOnce

@@ -1,13 +1,13 @@
 -- By which codes a transfer is refused (RFC 5936, section 5; RFC 8945, section 5.2).
 use Rattle.std.proofs.Common.{◌≡◌, ◌⊎◌, inl, inr, Bool, true, false, not}
 use Rattle.std.specs.Prelude.{Option, Some, None, cond}
-use Rattle.zst_key.specs.Ancestors.{or_else}
+use Rattle.zst_denial.specs.zst_key.Ancestors.{or_else}
 use Rattle.zst_codes.specs.declared.response_code.ResponseCode.{ResponseCode}
 use Rattle.zst_codes.specs.declared.response_code.ResponseCode.TheVariants as codes
 use Rattle.zst_codes.specs.declared.settings.AxfrPolicy.{AxfrPolicy}
 use Rattle.zst_codes.specs.declared.settings.AxfrPolicy.TheVariants as policies
 use Rattle.zst_codes.specs.declared.settings.TsigVerdict.{TsigVerdict}
-use Rattle.zst_handler.specs.Zones.{Guard, Zone}
+use Rattle.zst_denial.specs.zst_handler.Zones.{Guard, Zone}
 use Rattle.zst_request.specs.Transfers.{guard_refused, own_refused, policy_refused, transfer_refused}
 use Rattle.zst_request.specs.Updating.{Asked, SignedBy, is_good}
 

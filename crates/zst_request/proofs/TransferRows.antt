@@ -8,14 +8,14 @@ use Rattle.zst_codes.specs.declared.settings.AxfrPolicy.TheVariants as policies
 use Rattle.zst_codes.specs.declared.settings.TsigVerdict.{TsigVerdict}
 use Rattle.zst_codes.specs.declared.settings.TsigVerdict.TheVariants as verdicts
 use Rattle.zst_codes.specs.declared.settings.ZoneType.TheVariants as kinds
-use Rattle.zst_handler.specs.dnw_codes.declared.dns_class.DNSClass.TheVariants as classes
-use Rattle.zst_handler.specs.dnw_codes.declared.record_type.RecordType.TheVariants as types
-use Rattle.zst_handler.specs.dnw_name.DomainName.{DomainName}
-use Rattle.zst_handler.specs.drd_rdata.declared.rdata.RData.{RData}
-use Rattle.zst_handler.specs.drd_rdata.declared.rdata.RData.TheVariants as rdata
-use Rattle.zst_handler.specs.zst_record.RecordSets.{RRset, set_of}
-use Rattle.zst_handler.specs.zst_record.declared.records.Record.{Record}
-use Rattle.zst_handler.specs.Zones.{Guard, Zone}
+use Rattle.zst_denial.specs.dnw_codes.declared.dns_class.DNSClass.TheVariants as classes
+use Rattle.zst_denial.specs.dnw_codes.declared.record_type.RecordType.TheVariants as types
+use Rattle.zst_denial.specs.dnw_name.DomainName.{DomainName}
+use Rattle.zst_denial.specs.drd_rdata.declared.rdata.RData.{RData}
+use Rattle.zst_denial.specs.drd_rdata.declared.rdata.RData.TheVariants as rdata
+use Rattle.zst_denial.specs.zst_record.RecordSets.{RRset, set_of}
+use Rattle.zst_denial.specs.zst_record.declared.records.Record.{Record}
+use Rattle.zst_denial.specs.zst_handler.Zones.{Guard, Zone}
 use Rattle.zst_request.specs.Transfers.{transfer_context, transfer_of, transfer_refused}
 use Rattle.zst_request.specs.Updating.{Asked, SignedBy, context_for}
 

@@ -1,11 +1,11 @@
 -- What lists of blocked names answer, computed on worked rows.
 use Rattle.std.proofs.Common.{◌≡◌, ℕ, true, false, List, [], ◌∷◌, refl}
 use Rattle.std.specs.Prelude.{codes, None, Some}
-use Rattle.zst_handler.specs.dnw_codes.declared.dns_class.DNSClass.TheVariants.{IN}
-use Rattle.zst_handler.specs.dnw_codes.declared.record_type.RecordType.TheVariants as types
-use Rattle.zst_handler.specs.dnw_name.DomainName.{DomainName, domain_name}
-use Rattle.zst_handler.specs.drd_rdata.declared.rdata.RData.TheVariants as rdata
-use Rattle.zst_handler.specs.zst_record.Records.{record_with}
+use Rattle.zst_denial.specs.dnw_codes.declared.dns_class.DNSClass.TheVariants.{IN}
+use Rattle.zst_denial.specs.dnw_codes.declared.record_type.RecordType.TheVariants as types
+use Rattle.zst_denial.specs.dnw_name.DomainName.{DomainName, domain_name}
+use Rattle.zst_denial.specs.drd_rdata.declared.rdata.RData.TheVariants as rdata
+use Rattle.zst_denial.specs.zst_record.Records.{record_with}
 use Rattle.zst_request.specs.Blocking.{BlockedAnswer, blocked_answer, is_blocked, unspecified_ipv4}
 use Rattle.zst_request.specs.Views.{Blocklist}
 use Rattle.zst_request.specs.declared.blocklist.BlocklistConsultAction.TheVariants.{Disabled}

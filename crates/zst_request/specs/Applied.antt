@@ -1,18 +1,18 @@
 -- What the records of an update leave of a zone: RFC 2136, section 3.4.2.
 use Rattle.std.specs.Prelude.{◌≡◌, Bool, false, not, ◌&&◌, ◌||◌, List, [], ◌∷◌, map, filter, if◌then◌else◌}
 use Rattle.std.specs.List.{flat_map, list_any}
-use Rattle.zst_handler.specs.dnw_codes.declared.dns_class.DNSClass.{DNSClass}
-use Rattle.zst_handler.specs.dnw_codes.declared.dns_class.DNSClass.TheVariants as classes
-use Rattle.zst_handler.specs.dnw_codes.declared.record_type.RecordType.{RecordType}
-use Rattle.zst_handler.specs.dnw_codes.declared.record_type.RecordType.TheVariants as kind
-use Rattle.zst_handler.specs.dnw_codes.RecordType.{same_record_type}
-use Rattle.zst_handler.specs.dnw_name.DomainName.{DomainName, name_eq}
-use Rattle.zst_handler.specs.drd_rdata.Types.{type_of}
-use Rattle.zst_handler.specs.zst_record.RecordSets.{RRset, loses, none_left, raised_set, removed}
-use Rattle.zst_handler.specs.zst_record.declared.records.Record.{Record}
-use Rattle.zst_handler.specs.Lookups.{sets_of_name}
-use Rattle.zst_handler.specs.Updates.{is_kept_out, joins, set_of_type, upserted, with_set}
-use Rattle.zst_handler.specs.Zones.{AreInOrder, AreStored, Zone}
+use Rattle.zst_denial.specs.dnw_codes.declared.dns_class.DNSClass.{DNSClass}
+use Rattle.zst_denial.specs.dnw_codes.declared.dns_class.DNSClass.TheVariants as classes
+use Rattle.zst_denial.specs.dnw_codes.declared.record_type.RecordType.{RecordType}
+use Rattle.zst_denial.specs.dnw_codes.declared.record_type.RecordType.TheVariants as kind
+use Rattle.zst_denial.specs.dnw_codes.RecordType.{same_record_type}
+use Rattle.zst_denial.specs.dnw_name.DomainName.{DomainName, name_eq}
+use Rattle.zst_denial.specs.drd_rdata.Types.{type_of}
+use Rattle.zst_denial.specs.zst_record.RecordSets.{RRset, loses, none_left, raised_set, removed}
+use Rattle.zst_denial.specs.zst_record.declared.records.Record.{Record}
+use Rattle.zst_denial.specs.zst_handler.Lookups.{sets_of_name}
+use Rattle.zst_denial.specs.zst_handler.Updates.{is_kept_out, joins, set_of_type, upserted, with_set}
+use Rattle.zst_denial.specs.zst_handler.Zones.{AreInOrder, AreStored, Zone}
 use Rattle.zst_request.specs.Prerequisites.{asks_any}
 
 -- ---- one record, and the sets of its owner, by rising type

@@ -3,15 +3,15 @@ use Rattle.std.specs.Prelude.{◌≡◌, ℕ, ◌+◌, ◌-◌, Bool, ◌&&◌, 
 use Rattle.std.specs.List.{list_any, range_with_len}
 use Rattle.std.specs.declared.net.ipv4_addr.Ipv4Addr.{Ipv4Addr}
 use Rattle.std.specs.declared.net.ipv6_addr.Ipv6Addr.{Ipv6Addr}
-use Rattle.zst_handler.specs.dnw_codes.declared.dns_class.DNSClass.TheVariants.{IN}
-use Rattle.zst_handler.specs.dnw_codes.declared.record_type.RecordType.{RecordType}
-use Rattle.zst_handler.specs.dnw_codes.declared.record_type.RecordType.TheVariants as kind
-use Rattle.zst_handler.specs.dnw_codes.RecordType.{same_record_type}
-use Rattle.zst_handler.specs.dnw_name.DomainName.{DomainName, domain_name, lowercase_name, name_eq, wildcard_of}
-use Rattle.zst_handler.specs.drd_rdata.declared.rdata.RData.{RData}
-use Rattle.zst_handler.specs.drd_rdata.declared.rdata.RData.TheVariants as data_of
-use Rattle.zst_handler.specs.zst_record.Records.{record_with}
-use Rattle.zst_handler.specs.zst_record.declared.records.Record.{Record}
+use Rattle.zst_denial.specs.dnw_codes.declared.dns_class.DNSClass.TheVariants.{IN}
+use Rattle.zst_denial.specs.dnw_codes.declared.record_type.RecordType.{RecordType}
+use Rattle.zst_denial.specs.dnw_codes.declared.record_type.RecordType.TheVariants as kind
+use Rattle.zst_denial.specs.dnw_codes.RecordType.{same_record_type}
+use Rattle.zst_denial.specs.dnw_name.DomainName.{DomainName, domain_name, lowercase_name, name_eq, wildcard_of}
+use Rattle.zst_denial.specs.drd_rdata.declared.rdata.RData.{RData}
+use Rattle.zst_denial.specs.drd_rdata.declared.rdata.RData.TheVariants as data_of
+use Rattle.zst_denial.specs.zst_record.Records.{record_with}
+use Rattle.zst_denial.specs.zst_record.declared.records.Record.{Record}
 use Rattle.zst_request.specs.Views.{Blocklist}
 
 -- ---- which names are blocked

@@ -2,9 +2,9 @@
 use Rattle.std.specs.Prelude.{◌≡◌, ℕ, Bool, List, ◌++◌, Option, None, Result, Err, IsOkAnd, IsSomeAnd, MatchOption, option_map}
 use Rattle.zst_codes.specs.declared.lookup_error.LookupError.{LookupError}
 use Rattle.zst_codes.specs.declared.lookup_error.LookupError.TheVariants as errors
-use Rattle.zst_handler.specs.Answers.{records_in}
-use Rattle.zst_handler.specs.Zones.{Zone}
-use Rattle.zst_handler.specs.zst_record.declared.records.Record.{Record}
+use Rattle.zst_denial.specs.zst_handler.Answers.{records_in}
+use Rattle.zst_denial.specs.zst_handler.Zones.{Zone}
+use Rattle.zst_denial.specs.zst_record.declared.records.Record.{Record}
 use Rattle.zst_request.specs.Requested.{context_of}
 use Rattle.zst_request.specs.Transfers.{transfer_context, transfer_of, transfer_refused}
 use Rattle.zst_request.specs.Updating.{Asked, SigningContext}

@@ -5,13 +5,13 @@ use Rattle.zst_codes.specs.declared.lookup_control_flow.LookupControlFlow.{Looku
 use Rattle.zst_codes.specs.declared.lookup_control_flow.LookupControlFlow.TheVariants as flows
 use Rattle.zst_codes.specs.declared.lookup_error.LookupError.{LookupError}
 use Rattle.zst_codes.specs.declared.lookup_error.LookupError.TheVariants as errors
-use Rattle.zst_handler.specs.Answers.{LookupAnswers, additionals_in, answers_in, authorities_in}
-use Rattle.zst_handler.specs.declared.auth_lookup.AuthLookup.{AuthLookup}
-use Rattle.zst_handler.specs.declared.lookup_options.LookupOptions.{LookupOptions}
-use Rattle.zst_handler.specs.dnw_codes.declared.record_type.RecordType.{RecordType}
-use Rattle.zst_handler.specs.dnw_codes.declared.record_type.RecordType.TheVariants.{AXFR}
-use Rattle.zst_handler.specs.dnw_codes.RecordType.{same_record_type}
-use Rattle.zst_handler.specs.dnw_name.DomainName.{DomainName}
+use Rattle.zst_denial.specs.zst_handler.Answers.{LookupAnswers, additionals_in, answers_in, authorities_in}
+use Rattle.zst_denial.specs.zst_handler.declared.auth_lookup.AuthLookup.{AuthLookup}
+use Rattle.zst_denial.specs.zst_handler.declared.lookup_options.LookupOptions.{LookupOptions}
+use Rattle.zst_denial.specs.dnw_codes.declared.record_type.RecordType.{RecordType}
+use Rattle.zst_denial.specs.dnw_codes.declared.record_type.RecordType.TheVariants.{AXFR}
+use Rattle.zst_denial.specs.dnw_codes.RecordType.{same_record_type}
+use Rattle.zst_denial.specs.dnw_name.DomainName.{DomainName}
 use Rattle.zst_request.specs.Blocking.{AreBlocked, BlockedAnswer, blocked_answer}
 use Rattle.zst_request.specs.Views.{Blocked, Blocklist, Stored, View}
 use Rattle.zst_request.specs.declared.blocklist.BlocklistConsultAction.{BlocklistConsultAction}

@@ -1,5 +1,6 @@
 pub mod Applied
 pub mod Blocking
+pub mod Denying
 pub mod Handed
 pub mod Handling
 pub mod Prerequisites
@@ -7,11 +8,12 @@ pub mod Requested
 pub mod Transfers
 pub mod Updating
 pub mod Views
-pub use Rattle.zst_handler.specs.dnw_codes
-pub use Rattle.zst_handler.specs.dnw_name
-pub use Rattle.zst_handler.specs.drd_names
-pub use Rattle.zst_handler.specs.drd_rdata
-pub use Rattle.zst_handler.specs.drd_words
-pub use Rattle.zst_handler.specs.zst_codes
+pub use Rattle.zst_denial.specs.dnw_codes
+pub use Rattle.zst_denial.specs.dnw_name
+pub use Rattle.zst_denial.specs.drd_names
+pub use Rattle.zst_denial.specs.drd_rdata
+pub use Rattle.zst_denial.specs.drd_words
+pub use Rattle.zst_denial.specs.zst_codes
+pub mod zst_denial
 pub mod zst_handler
-pub use Rattle.zst_handler.specs.zst_record
+pub use Rattle.zst_denial.specs.zst_record

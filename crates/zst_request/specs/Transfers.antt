@@ -2,20 +2,20 @@
 use Rattle.std.specs.Prelude.{ℕ, Bool, true, false, drop, not, ◌&&◌, List, [], ◌++◌, map, Option, Some, None, option_map, if◌then◌else◌}
 use Rattle.std.specs.Borrow.{Bor}
 use Rattle.std.specs.List.{filter}
-use Rattle.zst_key.specs.Ancestors.{or_else}
+use Rattle.zst_denial.specs.zst_key.Ancestors.{or_else}
 use Rattle.zst_codes.specs.declared.response_code.ResponseCode.{ResponseCode}
 use Rattle.zst_codes.specs.declared.response_code.ResponseCode.TheVariants as codes
 use Rattle.zst_codes.specs.declared.settings.AxfrPolicy.{AxfrPolicy}
 use Rattle.zst_codes.specs.declared.settings.AxfrPolicy.TheVariants as policies
 use Rattle.zst_codes.specs.declared.settings.TsigVerdict.{TsigVerdict}
-use Rattle.zst_handler.specs.Answers.{sets_shown}
-use Rattle.zst_handler.specs.Zones.{Guard, Zone, rrset_at}
-use Rattle.zst_handler.specs.dnw_codes.declared.record_type.RecordType.TheVariants.{SOA}
-use Rattle.zst_handler.specs.dnw_codes.RecordType.{same_record_type}
-use Rattle.zst_handler.specs.dnw_name.DomainName.{DomainName, name_eq}
-use Rattle.zst_handler.specs.drd_rdata.Types.{type_of}
-use Rattle.zst_handler.specs.zst_record.RecordSets.{RRset}
-use Rattle.zst_handler.specs.zst_record.declared.records.Record.{Record}
+use Rattle.zst_denial.specs.zst_handler.Answers.{sets_shown}
+use Rattle.zst_denial.specs.zst_handler.Zones.{Guard, Zone, rrset_at}
+use Rattle.zst_denial.specs.dnw_codes.declared.record_type.RecordType.TheVariants.{SOA}
+use Rattle.zst_denial.specs.dnw_codes.RecordType.{same_record_type}
+use Rattle.zst_denial.specs.dnw_name.DomainName.{DomainName, name_eq}
+use Rattle.zst_denial.specs.drd_rdata.Types.{type_of}
+use Rattle.zst_denial.specs.zst_record.RecordSets.{RRset}
+use Rattle.zst_denial.specs.zst_record.declared.records.Record.{Record}
 use Rattle.zst_request.specs.Prerequisites.{refused_if}
 use Rattle.zst_request.specs.Updating.{Asked, SignedBy, SigningContext, context_for, is_good}
 

@@ -1,17 +1,17 @@
 -- What an update is answered, and the zone after it: RFC 2136, section 3; RFC 8945, section 5.
 use Rattle.std.specs.Prelude.{◌≡◌, ℕ, Bool, true, false, not, ◌&&◌, List, [], Option, Some, None, Result, Ok, Err, is_some, option_map, if◌then◌else◌}
 use Rattle.std.specs.declared.net.SocketAddr.{SocketAddr}
-use Rattle.zst_key.specs.Ancestors.{or_else}
+use Rattle.zst_denial.specs.zst_key.Ancestors.{or_else}
 use Rattle.zst_codes.specs.declared.response_code.ResponseCode.{ResponseCode}
 use Rattle.zst_codes.specs.declared.response_code.ResponseCode.TheVariants as codes
 use Rattle.zst_codes.specs.declared.settings.TsigVerdict.{TsigVerdict}
 use Rattle.zst_codes.specs.declared.settings.TsigVerdict.TheVariants as verdicts
-use Rattle.zst_handler.specs.dnw_codes.declared.record_type.RecordType.{RecordType}
-use Rattle.zst_handler.specs.dnw_codes.declared.record_type.RecordType.TheVariants as kind
-use Rattle.zst_handler.specs.dnw_name.DomainName.{DomainName}
-use Rattle.zst_handler.specs.zst_record.declared.records.Record.{Record}
-use Rattle.zst_handler.specs.Lookups.{sets_of_name}
-use Rattle.zst_handler.specs.Zones.{Guard, Zone, rrset_at}
+use Rattle.zst_denial.specs.dnw_codes.declared.record_type.RecordType.{RecordType}
+use Rattle.zst_denial.specs.dnw_codes.declared.record_type.RecordType.TheVariants as kind
+use Rattle.zst_denial.specs.dnw_name.DomainName.{DomainName}
+use Rattle.zst_denial.specs.zst_record.declared.records.Record.{Record}
+use Rattle.zst_denial.specs.zst_handler.Lookups.{sets_of_name}
+use Rattle.zst_denial.specs.zst_handler.Zones.{Guard, Zone, rrset_at}
 use Rattle.zst_request.specs.Applied.{LeavesZone, any_changes, updated}
 use Rattle.zst_request.specs.Prerequisites.{first_refused, prerequisites_refused, prescan_refused, refused_if}
 use Rattle.zst_request.specs.Views.{Blocked, Stored, View}

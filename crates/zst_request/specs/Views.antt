@@ -7,8 +7,8 @@ use Rattle.zst_codes.specs.declared.settings.AxfrPolicy.{AxfrPolicy}
 use Rattle.zst_codes.specs.declared.settings.AxfrPolicy.TheVariants.{Deny}
 use Rattle.zst_codes.specs.declared.settings.ZoneType.{ZoneType}
 use Rattle.zst_codes.specs.declared.settings.ZoneType.TheVariants.{External}
-use Rattle.zst_handler.specs.dnw_name.DomainName.{DomainName}
-use Rattle.zst_handler.specs.Zones.{Guard, Zone}
+use Rattle.zst_denial.specs.dnw_name.DomainName.{DomainName}
+use Rattle.zst_denial.specs.zst_handler.Zones.{Guard, Zone}
 use Rattle.zst_request.specs.declared.blocklist.BlocklistConsultAction.{BlocklistConsultAction}
 
 -- A list of names that are blocked, and its settings: whether a wildcard among the names stands for

@@ -1,7 +1,7 @@
-pub use Rattle.zst_handler.specs.Answers
-pub use Rattle.zst_handler.specs.Chains
-pub use Rattle.zst_handler.specs.Found
-pub use Rattle.zst_handler.specs.Lookups
-pub use Rattle.zst_handler.specs.Updates
-pub use Rattle.zst_handler.specs.Zones
-pub use Rattle.zst_handler.specs.declared
+pub use Rattle.zst_denial.specs.zst_handler.Answers
+pub use Rattle.zst_denial.specs.zst_handler.Chains
+pub use Rattle.zst_denial.specs.zst_handler.Found
+pub use Rattle.zst_denial.specs.zst_handler.Lookups
+pub use Rattle.zst_denial.specs.zst_handler.Updates
+pub use Rattle.zst_denial.specs.zst_handler.Zones
+pub use Rattle.zst_denial.specs.zst_handler.declared

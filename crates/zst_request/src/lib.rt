@@ -5,13 +5,12 @@
 #![tactic(auto)]
 
 pub use zst_codes::{Nsec3QueryInfo, TsigVerdict};
-pub use zst_handler::{
+pub use zst_denial::{
     ANAME, AnswerSet, AuthLookup, AxfrPolicy, CNAME, DNSClass, LookupControlFlow, LookupError,
-    LookupOptions, LookupRecords, LookupRecordsIter, LowerName, MX, NS, Name, Nsec3HashAlgorithm,
-    NxProofKind, ProtoError, RData, Record, RecordRef, RecordSet, RecordType, ResponseCode, RrKey,
-    RrsetRecords, SOA, SRV, Salt, SaltLenError, ZoneSettings, ZoneType,
+    LookupOptions, LookupRecords, LookupRecordsIter, LowerName, MX, NS, Name, NameKey,
+    Nsec3HashAlgorithm, NxProofKind, ProtoError, RData, Record, RecordRef, RecordSet, RecordType,
+    ResponseCode, RrKey, RrsetRecords, SOA, SRV, Salt, SaltLenError, ZoneSettings, ZoneType,
 };
-pub use zst_key::NameKey;
 
 mod blocklist;
 mod request;
@@ -21,4 +20,4 @@ mod zone_handler;
 pub use blocklist::BlocklistConsultAction;
 pub use request::{RequestTsig, TSigResponseContext, ZoneRequest};
 pub use transfer::{AxfrRecords, AxfrRecordsIter, ZoneTransfer, ZoneTransferIter};
-pub use zone_handler::ZoneHandler;
+pub use zone_handler::{ZoneHandler, no_proof};

@@ -2,7 +2,7 @@
 
 use std::net::SocketAddr;
 use zst_codes::TsigVerdict;
-use zst_handler::{Name, Record, RecordType};
+use zst_denial::{Name, Record, RecordType};
 
 /// What a handler is asked. It owns the records of an update, so that a zone that takes them copies none.
 #[derive(Drop)]

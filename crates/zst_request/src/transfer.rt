@@ -2,13 +2,13 @@
 
 ghost use Rattle.std.specs.Prelude.{◌≡◌};
 ghost use Rattle.std.specs.Iterator.{YieldsFirstBy, YieldsFirstRef, item_count};
-ghost use Rattle.zst_handler.specs.zst_record.Lending.{seen};
+ghost use Rattle.zst_denial.specs.zst_record.Lending.{seen};
 ghost use Rattle.zst_request.specs.Handed.{transfer_records};
 ghost use Rattle.zst_request.specs.Transfers.{axfr_records, is_start, lent_if, lent_sets, without_start};
 
 use std::alloc::Global;
 use std::marker::Model;
-use zst_handler::{
+use zst_denial::{
     LentSets, LookupRecords, LookupRecordsIter, Name, Record, RecordRef, RecordSet, RecordType,
     RrsetRecords, ZoneSetsIter,
 };
@@ -25,7 +25,7 @@ pub struct AxfrRecords<'z> {
 
 impl<'z> Model for AxfrRecords<'z> {
     ghost use Rattle.std.specs.Prelude.{List, ◌++◌};
-    ghost use Rattle.zst_handler.specs.zst_record.declared.records.Record.{Record as Entry};
+    ghost use Rattle.zst_denial.specs.zst_record.declared.records.Record.{Record as Entry};
     ghost use Rattle.zst_request.specs.Transfers.{axfr_records, lent_if, lent_sets};
 
     ghost Value = { List Entry };
@@ -96,7 +96,7 @@ pub struct AxfrRecordsIter<'r> {
 
 impl<'r> Model for AxfrRecordsIter<'r> {
     ghost use Rattle.std.specs.Prelude.{List};
-    ghost use Rattle.zst_handler.specs.zst_record.declared.records.Record.{Record as Entry};
+    ghost use Rattle.zst_denial.specs.zst_record.declared.records.Record.{Record as Entry};
     ghost use Rattle.zst_request.specs.Transfers.{axfr_left};
 
     ghost Value = { List Entry };
@@ -192,7 +192,7 @@ pub struct ZoneTransferIter<'r> {
 
 impl<'r> Model for ZoneTransferIter<'r> {
     ghost use Rattle.std.specs.Prelude.{List, ◌++◌};
-    ghost use Rattle.zst_handler.specs.zst_record.declared.records.Record.{Record as Entry};
+    ghost use Rattle.zst_denial.specs.zst_record.declared.records.Record.{Record as Entry};
 
     ghost Value = { List Entry };
 

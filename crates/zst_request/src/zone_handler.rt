@@ -1,7 +1,8 @@
 //! What a server asks of the handler of a zone.
 
 ghost use Rattle.std.specs.Prelude.{◌≡◌, false, IfOk, IsNone, IsOk, None, OnErr, option_copied, option_map};
-ghost use Rattle.zst_handler.specs.dnw_name.DomainName.{lowercase_name};
+ghost use Rattle.zst_denial.specs.dnw_name.DomainName.{lowercase_name};
+ghost use Rattle.zst_request.specs.Denying.{Denies, ShowsNsec, ShowsNsec3};
 ghost use Rattle.zst_request.specs.Handed.{TransfersView, view_context};
 ghost use Rattle.zst_request.specs.Handling.{AnswersQuestion, Consults, HandlerAnswers, LacksProof};
 ghost use Rattle.zst_request.specs.Requested.{asked_of, context_of};
@@ -13,11 +14,10 @@ use crate::transfer::ZoneTransfer;
 use std::alloc::{AllocError, Global};
 use std::io;
 use zst_codes::Nsec3QueryInfo;
-use zst_handler::{
-    AuthLookup, AxfrPolicy, LookupControlFlow, LookupError, LookupOptions, Name, NxProofKind,
-    RecordType, ResponseCode, ZoneType,
+use zst_denial::{
+    AuthLookup, AxfrPolicy, LookupControlFlow, LookupError, LookupOptions, Name, NameKey,
+    NxProofKind, RecordType, ResponseCode, ZoneType,
 };
-use zst_key::NameKey;
 
 /// What a server asks of the handler of a zone. Beside an answer stands what the reply to a signed request is signed with, if
 /// it is to be signed. A call that may take memory is handed where from, and answers an `AllocError` where none is left.
@@ -151,31 +151,27 @@ pub trait ZoneHandler: Drop {
         ensures given { IfOk result (TransfersView (view self.now) (asked_of request.now) options.dnssec_ok now) }
         ensures unsigned { view_context (view self.now) (asked_of request.now) now ≡ None → IsOk result };
 
-    /// The records that prove that a name is absent, by the names beside it (RFC 4034 section 4). There are none: it
-    /// continues with an error of input or output.
+    /// The NSEC sets that deny a name, or a type of it: the one for the name, and the one for the wildcard at its closest
+    /// encloser (RFC 4035 section 3.1.3). A stored zone shows those that it has, whatever its kind of proof; a blocklist has none,
+    /// and continues with an error of input or output.
+    // No body fits every handler: a blocklist has no zone.
     fn nsec_records<'z>(
         &'z self,
         alloc: Global,
         name: &Name,
         options: LookupOptions,
     ) -> Result<LookupControlFlow<AuthLookup<'z>>, AllocError>
-        ensures { IfOk result LacksProof }
-    {
-        Ok(no_proof("this handler has no NSEC records"))
-    }
+        ensures { IfOk result (Denies (view self.now) (ShowsNsec name.now options.dnssec_ok)) };
 
-    /// The records that prove that a name is absent, by hashes beside its own (RFC 5155 section 7.2). There are none: it
-    /// continues with an error of input or output.
+    /// The NSEC3 sets that deny a name, or a type of it (RFC 5155 section 7.2), as `nsec_records` does by names.
+    // No body fits every handler: a blocklist has no zone.
     fn nsec3_records<'z>(
         &'z self,
         alloc: Global,
         info: Nsec3QueryInfo<'_>,
         options: LookupOptions,
     ) -> Result<LookupControlFlow<AuthLookup<'z>>, AllocError>
-        ensures { IfOk result LacksProof }
-    {
-        Ok(no_proof("this handler has no NSEC3 records"))
-    }
+        ensures { IfOk result (Denies (view self.now) (ShowsNsec3 info.entry options.dnssec_ok)) };
 
     /// Updates the zone (RFC 2136), and returns whether that changed it, or by which code it is refused; then the zone is as it
     /// was. A zone that takes no updates, and a list of blocked names, answer NotImp. The moment is given in seconds since
@@ -192,8 +188,8 @@ pub trait ZoneHandler: Drop {
         ensures err { OnErr result (view self.new ≡ view self.old) };
 }
 
-// There are no records that prove that a name is absent, for a reason in words.
-fn no_proof<'z>(reason: &str) -> LookupControlFlow<AuthLookup<'z>>
+/// What a handler answers that has no records that deny a name, for a reason in words.
+pub fn no_proof<'z>(reason: &str) -> LookupControlFlow<AuthLookup<'z>>
     ensures { LacksProof result }
 {
     LookupControlFlow::Continue(Err(LookupError::Io(io::Error::other(reason))))
