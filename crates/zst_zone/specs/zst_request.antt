@@ -1,4 +1,5 @@
 pub use Rattle.zst_request.specs.Blocking
+pub use Rattle.zst_request.specs.Denying
 pub use Rattle.zst_request.specs.Handed
 pub use Rattle.zst_request.specs.Handling
 pub use Rattle.zst_request.specs.Transfers

@@ -1,16 +1,16 @@
 //! A zone kept in memory, and what it answers.
 
 ghost use Rattle.std.specs.Prelude.{◌≡◌, ◌↔◌, [], true, false, Some, None, Err, IsTrue, option_copied, IfOk, IfErr, IsOkAnd, MatchOption, OnOk, OnErr};
-ghost use Rattle.zst_map.specs.dnw_name.DomainName.{is_at_or_below, lowercase_name};
-ghost use Rattle.zst_map.specs.zst_handler.Answers.{LookupAnswers, denial_error, records_in};
-ghost use Rattle.zst_map.specs.zst_handler.Lookups.{denial};
-ghost use Rattle.zst_map.specs.dnw_codes.declared.dns_class.DNSClass.TheVariants.{IN};
-ghost use Rattle.zst_map.specs.dnw_codes.RecordType.{same_record_type};
-ghost use Rattle.zst_map.specs.dnw_codes.declared.record_type.RecordType.TheVariants as types;
-ghost use Rattle.zst_map.specs.Edits.{CanEdit, edited};
-ghost use Rattle.zst_map.specs.zst_record.RecordSets.{RRset, none_left};
-ghost use Rattle.zst_map.specs.zst_handler.Updates.{Upserts, ZoneReplaces, upsert_changes};
-ghost use Rattle.zst_map.specs.zst_handler.Zones.{exists_in, rrset_at, empty_zone, AddsTo, AreInOrder, AreStored, ZoneReadsBack};
+ghost use Rattle.zst_absence.specs.dnw_name.DomainName.{is_at_or_below, lowercase_name};
+ghost use Rattle.zst_absence.specs.zst_handler.Answers.{LookupAnswers, denial_error, records_in};
+ghost use Rattle.zst_absence.specs.zst_handler.Lookups.{denial};
+ghost use Rattle.zst_absence.specs.dnw_codes.declared.dns_class.DNSClass.TheVariants.{IN};
+ghost use Rattle.zst_absence.specs.dnw_codes.RecordType.{same_record_type};
+ghost use Rattle.zst_absence.specs.dnw_codes.declared.record_type.RecordType.TheVariants as types;
+ghost use Rattle.zst_absence.specs.zst_map.Edits.{CanEdit, edited};
+ghost use Rattle.zst_absence.specs.zst_record.RecordSets.{RRset, none_left};
+ghost use Rattle.zst_absence.specs.zst_handler.Updates.{Upserts, ZoneReplaces, upsert_changes};
+ghost use Rattle.zst_absence.specs.zst_handler.Zones.{exists_in, rrset_at, empty_zone, AddsTo, AreInOrder, AreStored, ZoneReadsBack};
 ghost use Rattle.zst_request.specs.Handed.{transfer_records};
 ghost use Rattle.zst_request.specs.Transfers.{own_refused, transfer_of};
 ghost use Rattle.zst_zone.specs.Makings.{PutsAll, RefusesAll, first_refusal, is_own_key, refusal};
@@ -23,7 +23,7 @@ use std::collections::BTreeMap;
 use std::marker::{Model, PhantomData};
 use std::mem;
 use thiserror::Error;
-use zst_map::{
+use zst_absence::{
     AnswerSet, AuthLookup, AxfrPolicy, DNSClass, Edit, LookupControlFlow, LookupError,
     LookupOptions, LookupRecords, Name, NameKey, NxProofKind, RData, Record, RecordSet, RecordType,
     ResponseCode, RrKey, Search, ZoneSets, ZoneSettings, ZoneType,
@@ -59,7 +59,7 @@ pub struct InMemoryZoneHandler<K> {
 
 impl<K> Model for InMemoryZoneHandler<K> {
     ghost use Rattle.std.specs.Prelude.{None};
-    ghost use Rattle.zst_map.specs.zst_handler.Zones.{Zone};
+    ghost use Rattle.zst_absence.specs.zst_handler.Zones.{Zone};
     ghost use Rattle.zst_zone.specs.Answering.{IsKept};
 
     ghost Value = { Zone };

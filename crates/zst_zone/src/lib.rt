@@ -4,7 +4,7 @@
 //! to a name and a type, or why nothing is.
 #![tactic(auto)]
 
-pub use zst_map::{
+pub use zst_absence::{
     AnswerSet, AuthLookup, AxfrPolicy, DNSClass, Draft, Edit, LentSets, LookupControlFlow,
     LookupError, LookupOptions, LookupRecords, LookupRecordsIter, LowerName, Name, NameKey,
     Nsec3HashAlgorithm, NxProofKind, ProtoError, RData, Record, RecordRef, RecordSet, RecordType,
