@@ -1,3 +1,3 @@
 pub use Rattle.zsv_reply.proofs.Written
 pub use Rattle.zsv_reply.proofs.HeaderLaws
-pub use Rattle.zsv_request.proofs.zsv_message_lemmas.Fits
+pub use Rattle.zsv_reply.proofs.zsv_message_lemmas.Fits

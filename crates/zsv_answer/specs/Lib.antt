@@ -1,4 +1,5 @@
 pub mod Consulting
+pub mod DenialRecords
 pub mod Forwarding
 pub mod Parts
 pub mod Resolution

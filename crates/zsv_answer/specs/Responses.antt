@@ -27,7 +27,8 @@ parts_with m referral records additionals beside = record {
 abbrev pub parts_of : Response → ReplyParts
 parts_of r =
     parts_with r.metadata r.is_referral (shown_if r.asked (answers_in r.found))
-    (if r.is_forwarded then [] else additionals_in r.found) (records_in r.beside)
+    (if r.is_forwarded then [] else additionals_in r.found)
+    (records_in r.denial ++ records_in r.beside)
 
 -- What a response holds whose records stand in one list: those of them that are shown, as answers
 -- or as authority.
@@ -39,7 +40,7 @@ list_parts m list =
 
 -- The handlers lend all records of a response as they have them.
 abbrev pub lends_records : Response → Bool
-lends_records r = lends_all r.found && is_lent r.beside
+lends_records r = lends_all r.found && (is_lent r.denial && is_lent r.beside)
 
 -- Nothing was looked up.
 abbrev pub is_empty : LookupRecords → Bool
@@ -47,5 +48,5 @@ is_empty lookups.Empty = true
 is_empty other = false
 
 -- What was found is no referral, and nothing stands as authority beside it.
-abbrev pub has_no_authority : Bool → LookupRecords → Bool
-has_no_authority referral beside = not referral && is_empty beside
+abbrev pub has_no_authority : Bool → LookupRecords → LookupRecords → Bool
+has_no_authority referral denial beside = not referral && (is_empty denial && is_empty beside)

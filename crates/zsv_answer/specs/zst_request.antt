@@ -1,4 +1,5 @@
 pub use Rattle.zst_request.specs.Blocking
+pub use Rattle.zst_request.specs.Denying
 pub use Rattle.zst_request.specs.Handed
 pub use Rattle.zst_request.specs.Handling
 pub use Rattle.zst_request.specs.Requested
@@ -9,4 +10,5 @@ pub use Rattle.zst_request.specs.declared
 pub use Rattle.zst_request.specs.dnw_codes
 pub use Rattle.zst_request.specs.dnw_name
 pub use Rattle.zst_request.specs.zst_codes
+pub use Rattle.zst_request.specs.zst_denial
 pub use Rattle.zst_request.specs.zst_handler

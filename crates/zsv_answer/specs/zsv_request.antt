@@ -1,2 +1,2 @@
-pub use Rattle.zsv_request.specs.Requests
-pub use Rattle.zsv_request.specs.declared
+pub use Rattle.zsv_reply.specs.zsv_request.Requests
+pub use Rattle.zsv_reply.specs.zsv_request.declared

@@ -6,21 +6,20 @@
 
 pub use zst_request::{
     AuthLookup, BlocklistConsultAction, LookupControlFlow, LookupError, LookupOptions,
-    LookupRecords, LowerName, RecordRef, RequestTsig, TSigResponseContext, TsigVerdict,
+    LookupRecords, LowerName, Nsec3HashAlgorithm, Nsec3QueryInfo, NxProofKind, RecordRef, RequestTsig, TSigResponseContext, TsigVerdict,
     ZoneHandler, ZoneRequest, ZoneTransfer, ZoneType,
 };
 pub use zsv_reply::{
-    A, BareRequest, DNSClass, DecodeError, Edns, Label, MessageRequest, MessageResponse,
-    MessageResponseBuilder, MessageType, Metadata, NS, Name, OpCode, Queries, Query, RData, Record,
-    RecordSet, RecordType, ResponseCode, ResponseInfo, SOA, TsigRecord,
-};
-pub use zsv_request::{
-    Header, HeaderCounts, LowerQuery, Protocol, Request, RequestInfo, Tsig, UpdateRequest,
+    A, BareRequest, DNSClass, DecodeError, Edns, Header, HeaderCounts, Label, LowerQuery,
+    MessageRequest, MessageResponse, MessageResponseBuilder, MessageType, Metadata, NS, Name,
+    OpCode, Protocol, Queries, Query, RData, Record, RecordSet, RecordType, Request, RequestInfo,
+    ResponseCode, ResponseInfo, SOA, Tsig, TsigRecord, UpdateRequest,
 };
 
 mod authoritative;
 mod chain;
 mod consult;
+mod denial;
 mod forwarded;
 mod records;
 mod response;

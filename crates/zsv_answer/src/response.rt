@@ -10,7 +10,7 @@ ghost use Rattle.zsv_answer.specs.zsv_reply.zst_pointing.Pointing.{ArePointing};
 ghost use Rattle.zsv_answer.specs.zsv_reply.zsv_message.zsv_parts.Questions.{Asked};
 ghost use Rattle.zsv_answer.specs.zsv_reply.zst_record.declared.records.Record.{Record as Entry};
 ghost use Rattle.zsv_answer.specs.zsv_reply.zst_record.dnw_name.DomainName.{DomainName};
-ghost use Rattle.zsv_request.specs.Requests.{limit_of};
+ghost use Rattle.zsv_reply.specs.zsv_request.Requests.{limit_of};
 
 use crate::records::ShownRecords;
 use crate::written::write_records;
@@ -19,10 +19,9 @@ use std::alloc::{AllocError, Global};
 use std::iter;
 use zst_request::{AuthLookup, LookupRecords, LookupRecordsIter, RecordRef};
 use zsv_reply::{
-    BareRequest, Edns, MessageResponseBuilder, MessageType, Metadata, Queries, RecordType,
+    BareRequest, Edns, MessageResponseBuilder, MessageType, Metadata, Protocol, Queries, RecordType,
     ResponseCode, ResponseInfo, WrittenRecords, encode_bare, encode_written,
 };
-use zsv_request::Protocol;
 
 /// What a reply holds in full; the handlers lend its records.
 #[derive(Drop)]

@@ -16,7 +16,6 @@ use zst_request::{
 use zsv_reply::{
     Edns, MessageResponseBuilder, Metadata, Queries, Record, ResponseCode, ResponseInfo, TsigRecord,
 };
-use zsv_request::Protocol;
 
 /// The reply to a question for a transfer.
 #[derive(Drop)]

@@ -2,7 +2,7 @@ use Rattle.std.proofs.Common.{rules, sym, subst, None}
 use Rattle.std.specs.Prelude.{IfOk}
 use Rattle.zsv_reply.specs.Writing.{IsEncoded, bare_parts}
 use Rattle.zsv_reply.specs.zsv_message.zsv_parts.declared.header.Metadata.{Metadata}
-use Rattle.zsv_request.specs.Requests.{limit_of}
+use Rattle.zsv_reply.specs.zsv_request.Requests.{limit_of}
 use Rattle.zsv_answer.proofs.response.encode_error.Goals as goal
 
 pub returns : goal.returns

@@ -5,7 +5,7 @@ use Rattle.zsv_reply.proofs.Lending.{lent_yielded}
 use Rattle.zsv_reply.specs.Writing.{IsEncoded, with_edns}
 use Rattle.zsv_reply.specs.zst_record.declared.records.Record.{Record}
 use Rattle.zsv_reply.specs.zsv_message.zsv_parts.Questions.{Asked}
-use Rattle.zsv_request.specs.Requests.{limit_of}
+use Rattle.zsv_reply.specs.zsv_request.Requests.{limit_of}
 use Rattle.zsv_reply.specs.zsv_message.zst_edns.declared.edns.Edns.{Edns}
 use Rattle.zsv_answer.proofs.Pointing.{both_ok}
 use Rattle.zsv_answer.specs.Responses.{parts_of}
