@@ -1,10 +1,10 @@
 -- How the sets that deny a name are found among a zone's (RFC 4035, section 3.1.3; RFC 5155, section
 -- 7.2).
-use Rattle.std.specs.Prelude.{◌×◌, ◌≡◌, ℕ, ◌-◌, ◌<◌, ◌≤◌, Bool, true, false, not, ◌&&◌, List, [], length, cond, Option, Some, None}
+use Rattle.std.specs.Prelude.{◌≡◌, ℕ, ◌-◌, ◌<◌, ◌≤◌, Bool, true, false, not, ◌&&◌, List, [], length, cond, Option, Some, None, is_some}
 use Rattle.zst_map.specs.dnw_codes.declared.record_type.RecordType.{RecordType}
 use Rattle.zst_map.specs.dnw_codes.declared.record_type.RecordType.TheVariants as kind
 use Rattle.zst_map.specs.dnw_name.DomainName.{DomainName, is_at_or_below, name_eq}
-use Rattle.zst_map.specs.zst_handler.Zones.{Zone, exists_in}
+use Rattle.zst_map.specs.zst_handler.Zones.{Zone, exists_in, rrset_at}
 use Rattle.zst_map.specs.zst_key.Ancestors.{star, up}
 use Rattle.zst_map.specs.zst_record.RecordSets.{RRset}
 use Rattle.zst_denial.specs.Denials.{Precedes, encloser}
@@ -65,6 +65,10 @@ pub record IsForWildcard (zone : Zone) (name : DomainName) (set : Option RRset) 
   pub wildcard : (e : DomainName) → encloser zone name ≡ Some e
       → Precedes zone kind.NSEC (star e) set
   pub none : encloser zone name ≡ None → set ≡ None
+
+-- Something of a name is denied: it doesn't own the type, or a wildcard answers for it.
+abbrev pub is_wanted : List RRset → DomainName → RecordType → Bool → Bool
+is_wanted sets name t wild = not (is_some (rrset_at sets name t) && not wild)
 
 -- The hashing that a query asks for.
 abbrev pub hashing_of : HashedQuery → Hashing

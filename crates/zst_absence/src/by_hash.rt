@@ -1,7 +1,7 @@
 //! Denials by NSEC3 (RFC 5155 section 7.2).
-ghost use Rattle.std.specs.Prelude.{◌≡◌, ◌+◌, ◌≤◌, ◌&&◌, nat_le, not, true, IfOk, OnErr, option_copied};
+ghost use Rattle.std.specs.Prelude.{◌≡◌, ◌+◌, ◌≤◌, nat_le, IfOk, OnErr, option_copied};
 ghost use Rattle.zst_map.specs.Preceding.{FindsPreceding};
-ghost use Rattle.zst_map.specs.dnw_codes.declared.record_type.RecordType.TheVariants.{NSEC3 as kind_NSEC3};
+ghost use Rattle.zst_map.specs.dnw_codes.declared.record_type.RecordType.TheVariants as kind;
 ghost use Rattle.zst_map.specs.dnw_name.DomainName.{labels_len};
 ghost use Rattle.zst_map.specs.zst_handler.Zones.{Zone, rrset_at};
 ghost use Rattle.zst_denial.specs.HashDenials.{IsNsec3Denial};
@@ -87,7 +87,7 @@ fn own_set<'z>(
 ) -> Result<Option<&'z RecordSet>, AllocError>
     requires { labels_len origin.now.labels + 34 ≤ 255 }
     ensures { IfOk result (λ set. option_copied set ≡ rrset_at sets.now
-        (hashed_owner (nsec3_digest query.entry.salt.now query.entry.iterations query.entry.name.now) origin.now) kind_NSEC3) }
+        (hashed_owner (nsec3_digest query.entry.salt.now query.entry.iterations query.entry.name.now) origin.now) kind.NSEC3) }
 {
     let owner = owner_of(alloc, origin, query, query.name)?;
     let key = NameKey::of(alloc, &owner)?;
@@ -126,7 +126,7 @@ fn set_by_hash<'z>(
     name: &Name,
 ) -> Result<Option<&'z RecordSet>, AllocError>
     requires { labels_len origin.now.labels + 34 ≤ 255 }
-    ensures { IfOk result (λ set. FindsPreceding sets.now kind_NSEC3
+    ensures { IfOk result (λ set. FindsPreceding sets.now kind.NSEC3
         (hashed_owner (nsec3_digest query.entry.salt.now query.entry.iterations name.now) origin.now) (option_copied set)) }
 {
     let owner = owner_of(alloc, origin, query, name)?;
