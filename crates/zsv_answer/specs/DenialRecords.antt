@@ -24,7 +24,7 @@ fourth None = None
 fourth (Some octets) = slice_get octets 3
 
 abbrev pub signed_labels : RData → Option ℕ
-signed_labels data = fourth (octets_of RRSIG data)
+signed_labels rdata = fourth (octets_of RRSIG rdata)
 
 abbrev pub is_fewer : Option ℕ → ℕ → Bool
 is_fewer None all = false
