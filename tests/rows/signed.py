@@ -236,7 +236,7 @@ def request(question, payload, flags):
 
 ERRORS = "0 A0 b aa.a B.C c1.c c3.c d e.e.f g MAIL0 nr safe0 sub0 v z zzz a.a.a.a ZZZZ.zzz".split() + [r"z\001r", r"z\001q.a", r"\000.a"]
 STARS = "y.w/TXT YY.w/TXT a.b.w/TXT x.w/TXT *.w/TXT q.al/A q.al/TXT q.al/CNAME".split()
-BEHIND = "y.w/A w/A w/TXT x.w/AAAA *.w/A a.x.w/A".split()
+UNMATCHED = "y.w/A w/A w/TXT x.w/AAAA *.w/A a.x.w/A".split()
 LACKING = "a/AAAA @/AAAA @/A e.f/A f/TXT d.e.f/MX zz/TXT ns/MX c2.C/A n.O/A m.n.o/TXT".split() + [r"z\001q/A"]
 CUTS = "sub/A sub/NS sub/DS www.sub/A ns.sub/A safe/A safe/NS safe/DS www.safe/A a.b.safe/DS ns.safe/AAAA".split()
 ALIASED = "zz/A zz/AAAA zz/CNAME zw/TXT zw/A zn/A q.al/AAAA".split()
@@ -258,7 +258,7 @@ def subjects():
         yield "name errors", zone, ERRORS
         yield "missing types", zone, LACKING
         yield "wildcards", zone, STARS
-        yield "wildcards without the type, and names at and below them", zone, BEHIND
+        yield "wildcards without the type, and names at and below them", zone, UNMATCHED
         yield "delegations with and without DS", zone, CUTS
         yield "aliases", zone, ALIASED
         yield "answers", zone, PRESENT
@@ -293,10 +293,10 @@ def rows():
         for how, protocol, payload, flags in ways:
             some = asked if protocol == "tcp" else asked[:4]
             limit = 65535 if protocol == "tcp" else payload
-            told = "\t".join(reply(zone, it, payload, flags, limit).hex() for it in some)
+            replies = "\t".join(reply(zone, it, payload, flags, limit).hex() for it in some)
             octets = (request(it, payload, flags).hex() for it in some)
             row = "\t".join(["signed", f"{zone.text}.", f"signed.{zone.text}", zone.proof, protocol, *octets])
-            yield f"# {zone.text}, {zone.proof}: {why}, {how}.", row, told
+            yield f"# {zone.text}, {zone.proof}: {why}, {how}.", row, replies
 
 
 # ---- named
@@ -375,13 +375,11 @@ class ByRfc:
 
 def reason(zone, name, kind, why):
     """Why ours may differ where the RFCs' own case doesn't say it."""
-    if why in ("missing type", None) and zone.by_hash and name[0].decode("latin-1").isalnum() and any(lookup.same(it.owner, name[len(name) - 1 - len(zone.origin):]) for it in zone.records if it.type == NSEC3):
+    if any(it.type == NSEC3 and lookup.is_at_or_below(name, it.owner) for it in zone.records):
         return "hashed owner"
     if why == "missing type" and lookup.from_wildcard(zone.records, name, kind):
         return "wildcard beside an existing name"
-    if why is None and zone.by_hash:
-        return "answer by hash"
-    return why
+    return "answer by hash" if why is None and zone.by_hash else why
 
 
 def owners_in(octets):
@@ -417,7 +415,9 @@ def compare_with(port):
                 print(f"{name_of(name)} {dns.rdatatype.to_text(kind)} ({why}): ours {ours}, named's {theirs}, by the RFCs {expected}")
     for why, count in counts.most_common():
         print(f"{count:5} {why}: {WHY[why]}")
-    print(f"{same + sum(counts.values()) + wrong} questions with DO: {same} replies show the same sets as named's, {sum(counts.values())} others by these rules, {wrong} differ otherwise")
+    others = sum(counts.values())
+    print(f"{same + others + wrong} questions with DO: {same} replies show the same sets as named's, "
+          f"{others} others by these rules, {wrong} differ otherwise")
     return 1 if wrong else 0
 
 
