@@ -50,7 +50,7 @@ mail A 192.0.2.25
 c A 192.0.2.3
 C2.c AAAA 2001:db8::2
 M.N.o MX 10 mail
-z\001q TXT odd
+z\.q TXT odd
 """, []),
     "one.example": (START, []),
     "hash.example": (START + COMMON + ALIASES, ["-3", "aabbccdd", "-H", "5"]),
@@ -234,10 +234,10 @@ def request(question, payload, flags):
 
 # ---- questions
 
-ERRORS = "0 A0 b aa.a B.C c1.c c3.c d e.e.f g MAIL0 nr safe0 sub0 v z zzz a.a.a.a ZZZZ.zzz".split() + [r"z\001r", r"z\001q.a", r"\000.a"]
+ERRORS = "0 A0 b aa.a B.C c1.c c3.c d e.e.f g MAIL0 nr safe0 sub0 v z zzz a.a.a.a ZZZZ.zzz".split() + [r"z\001q", r"z\.r", r"z\.q.a", r"\000.a"]
 STARS = "y.w/TXT YY.w/TXT a.b.w/TXT x.w/TXT *.w/TXT q.al/A q.al/TXT q.al/CNAME".split()
 UNMATCHED = "y.w/A w/A w/TXT x.w/AAAA *.w/A a.x.w/A".split()
-LACKING = "a/AAAA @/AAAA @/A e.f/A f/TXT d.e.f/MX zz/TXT ns/MX c2.C/A n.O/A m.n.o/TXT".split() + [r"z\001q/A"]
+LACKING = "a/AAAA @/AAAA @/A e.f/A f/TXT d.e.f/MX zz/TXT ns/MX c2.C/A n.O/A m.n.o/TXT".split() + [r"z\.q/A"]
 CUTS = "sub/A sub/NS sub/DS www.sub/A ns.sub/A safe/A safe/NS safe/DS www.safe/A a.b.safe/DS ns.safe/AAAA".split()
 ALIASED = "zz/A zz/AAAA zz/CNAME zw/TXT zw/A zn/A q.al/AAAA".split()
 PRESENT = "a/A A/TXT @/SOA @/NS @/MX @/DNSKEY a/NSEC @/NSEC d.e.f/A".split()
