@@ -75,7 +75,7 @@ fn is_wanted(
 {
     let key = NameKey::of(alloc, query.name)?;
     let owned = sets.get(&key, query.record_type).is_some();
-    Ok(!owned || query.has_wildcard_match)
+    Ok(!(owned && !query.has_wildcard_match))
 }
 
 // The set of the query name's digest.
