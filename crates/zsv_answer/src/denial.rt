@@ -55,7 +55,8 @@ fn is_from_wildcard(record: &RecordRef<'_>) -> bool
 fn is_expanded(answers: &AuthLookup<'_>) -> bool
     ensures { result ≡ is_expanded (answers_in answers.now) }
 {
-    'records: for record in answers.iter() {
+    let mut left = answers.iter();
+    'records: while let Some(record) = left.next() {
         if is_from_wildcard(&record) {
             return true;
         }
