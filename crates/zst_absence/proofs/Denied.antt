@@ -164,6 +164,20 @@ rrset_lower (set ∷ sets) name t =
     ap (λ (b : Bool). cond (b && same_record_type set.record_type t) (Some set) (rrset_at sets (lowercase_name name) t)) (eq-lower-first name set.name)
     ∙ ap (cond (name_eq name set.name && same_record_type set.record_type t) (Some set)) (rrset_lower sets name t)
 
+-- What a search by the name's key finds, is its own.
+pub found_key : (sets : List RRset) (key name : DomainName) (t : RecordType) (found : Option RRset) → key ≡ lowercase_name name → found ≡ rrset_at sets key t → rrset_at sets name t ≡ found
+found_key sets key name t found is e = sym (e ∙ ap (λ (n : DomainName). rrset_at sets n t) is ∙ rrset_lower sets name t)
+
+pub wanted_owned : (sets : List RRset) (name : DomainName) (t : RecordType) (wild : Bool) (set : RRset) → rrset_at sets name t ≡ Some set → wild ≡ is_wanted sets name t wild
+wanted_owned sets name t wild set e = twice wild ∙ sym (ap (λ (found : Option RRset). not (is_some found && not wild)) e)
+  where
+    twice : (b : Bool) → b ≡ not (not b)
+    twice true = refl
+    twice false = refl
+
+pub wanted_unowned : (sets : List RRset) (name : DomainName) (t : RecordType) (wild : Bool) → rrset_at sets name t ≡ None → true ≡ is_wanted sets name t wild
+wanted_unowned sets name t wild e = sym (ap (λ (found : Option RRset). not (is_some found && not wild)) e)
+
 pub has_room : (labels : List (List ℕ)) (octets : ℕ) → octets ≡ cond (length labels == 0) 1 (labels_len labels) → nat_le (octets + 34) 255 ≡ nat_le (labels_len labels + 34) 255
 has_room [] octets e = ap (λ (n : ℕ). nat_le (n + 34) 255) e
 has_room (label ∷ labels) octets e = ap (λ (n : ℕ). nat_le (n + 34) 255) e
