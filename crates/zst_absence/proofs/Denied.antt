@@ -34,17 +34,16 @@ use Rattle.zst_absence.proofs.Enclosers.{closer_of, encloser_none, encloser_some
 -- The one before a name in lower case is the one before the name.
 pub before_lower : (sets : List RRset) (t : RecordType) (name : DomainName) (found : Option RRset) → FindsPreceding sets t (lowercase_name name) found → FindsPreceding sets t name found
 before_lower sets t name None p = p
-before_lower sets t name (Some set) p =
-    (
-      p.0,
-      record {
-        there = p.1.there;
-        last = λ up_to other some behind. p.1.last (ap is_gt (cmp-lower p.0 name) ∙ up_to) other some (ap is_gt (cmp-lower other name) ∙ behind);
-        around = λ after other some.
-            let all = p.1.around (ap is_gt (cmp-lower p.0 name) ∙ after) other some in
-            (ap is_gt (sym (cmp-lower other name)) ∙ all.0, all.1);
-      },
-    )
+before_lower sets t name (Some set) p = (
+  p.0,
+  record {
+    there = p.1.there;
+    last = λ up_to other some behind. p.1.last (ap is_gt (cmp-lower p.0 name) ∙ up_to) other some (ap is_gt (cmp-lower other name) ∙ behind);
+    around = λ after other some.
+        let all = p.1.around (ap is_gt (cmp-lower p.0 name) ∙ after) other some in
+        (ap is_gt (sym (cmp-lower other name)) ∙ all.0, all.1);
+  },
+)
 
 of_zone : (zone : Zone) (t : RecordType) (name : DomainName) (found : Option RRset) → FindsPreceding zone.sets t name found → Precedes zone t name found
 of_zone zone t name None p = p

@@ -66,11 +66,7 @@ fn has_hashed_owners(origin: &Name) -> bool
 }
 
 // Whether the name doesn't own the type, or a wildcard answers for it.
-fn is_wanted(
-    alloc: Global,
-    sets: &ZoneSets,
-    query: HashedQuery<'_>,
-) -> Result<bool, AllocError>
+fn is_wanted(alloc: Global, sets: &ZoneSets, query: HashedQuery<'_>) -> Result<bool, AllocError>
     ensures { IfOk result (λ wanted. wanted ≡ is_wanted sets.now query.entry.name.now query.entry.record_type query.entry.has_wildcard_match) }
 {
     let key = NameKey::of(alloc, query.name)?;
