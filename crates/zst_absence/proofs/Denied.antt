@@ -3,6 +3,7 @@ use Rattle.std.proofs.Common.{◌≡◌, ℕ, ◌+◌, ◌-◌, ◌<◌, ◌≤�
 use Rattle.std.specs.Prelude.{Option, Some, None, nat_le, is_some}
 use Rattle.std.specs.List.{filter, flat_map}
 use Rattle.std.specs.Ordering.{is_gt}
+use Rattle.std.proofs.lemmas.Bool.Decides.{nat_tests}
 use Rattle.std.proofs.lemmas.Bool.{true≢false}
 use Rattle.zst_map.specs.Preceding.{FindsPreceding}
 use Rattle.zst_map.specs.dnw_codes.declared.record_type.RecordType.{RecordType}
@@ -153,7 +154,7 @@ nsec_denied sets origin name own wild b found p w shows zone z =
       for_star = wild;
       wildcard = star.wildcard;
       no_wildcard = star.none;
-      are = are ∙ ap (λ (rest : List RRset). each_owner_once (listed own ++ rest)) (append-nil (listed wild));
+      are = are ∙ ap each_owner_once (append-nil (listed own ++ listed wild));
     }) shows
 
 -- ---- by hash
@@ -177,12 +178,8 @@ wanted_owned sets name t wild set e = twice wild ∙ sym (ap (λ (found : Option
 pub wanted_unowned : (sets : List RRset) (name : DomainName) (t : RecordType) (wild : Bool) → rrset_at sets name t ≡ None → true ≡ is_wanted sets name t wild
 wanted_unowned sets name t wild e = sym (ap (λ (found : Option RRset). not (is_some found && not wild)) e)
 
-pub has_room : (labels : List (List ℕ)) (octets : ℕ) → octets ≡ cond (length labels == 0) 1 (labels_len labels) → nat_le (octets + 34) 255 ≡ nat_le (labels_len labels + 34) 255
-has_room [] octets e = ap (λ (n : ℕ). nat_le (n + 34) 255) e
-has_room (label ∷ labels) octets e = ap (λ (n : ℕ). nat_le (n + 34) 255) e
-
 pub room_of : (n : ℕ) → nat_le n 255 ≡ true → n ≤ 255
-room_of n e = omega (arith, e)
+room_of n e = grind (arith, nat_tests)
 
 module _ (by : Hashing) (sets : List RRset) (origin name : DomainName) (t : RecordType) (wild : Bool) (b : Bool) where
   abbrev owner_in : DomainName → DomainName → DomainName
