@@ -9,8 +9,8 @@ returns-in-Some c =
     let there = found_key c.args.sets.now c.in_ok-key.key query.name.now query.record_type (option_copied c.get.result) c.in_ok-key.ensures.key c.get.ensures in
     wanted_owned c.args.sets.now query.name.now query.record_type query.has_wildcard_match c.in-Some.field-0.now (there ∙ ap option_copied c.in-Some.is)
 
-pub returns-in-None : goal.returns-in-None
-returns-in-None c =
+pub returns : goal.returns
+returns c =
     let query = c.args.query in
     let there = found_key c.args.sets.now c.in_ok-key.key query.name.now query.record_type (option_copied c.get.result) c.in_ok-key.ensures.key c.get.ensures in
     wanted_unowned c.args.sets.now query.name.now query.record_type query.has_wildcard_match (there ∙ ap option_copied c.in-None.is)
