@@ -311,6 +311,7 @@ WHY = {
     "alias": "named denies what its target lacks; ours shows the sets for the name that was asked",
     "answer by hash": "the set of a name that doesn't own the type: of an alias, or of all types",
     "hashed owner": "the owner of an NSEC3 set exists here",
+    "opt-out": "an empty name above delegations that are left out is the closest encloser here, though it has no set",
 }  # fmt: skip
 CONFIG = """options {{ directory "{folder}"; listen-on port {port} {{ 127.0.0.1; }}; listen-on-v6 {{ none; }}; recursion no;
 dnssec-validation no; pid-file none; session-keyfile none; minimal-responses yes; }};
@@ -327,13 +328,16 @@ class ByRfc:
     def exists(self, name):
         return lookup.exists(self.plain, name) and lookup.is_at_or_below(name, self.zone.origin)
 
+    def is_provable(self, name):
+        return bool(self.zone.set(hashed(self.zone, name), NSEC3)) if self.zone.by_hash else self.exists(name)
+
     def for_name(self, name):
         """What covers the name or is its own: with NSEC3 the closest encloser's set, and the one for the next closer name."""
         if not self.zone.by_hash:
             return preceding(self.zone, NSEC, name)
         if self.zone.set(hashed(self.zone, name), NSEC3):
             return [hashed(self.zone, name)]
-        above = next(it for it in lookup.ancestors(name) if self.zone.set(hashed(self.zone, it), NSEC3))
+        above = next(it for it in lookup.ancestors(name) if self.is_provable(it))
         return [hashed(self.zone, above), *self.closer(name, above)]
 
     def closer(self, name, above):
@@ -342,7 +346,7 @@ class ByRfc:
     def for_star(self, star):
         return preceding(self.zone, NSEC3, hashed(self.zone, star)) if self.zone.by_hash else preceding(self.zone, NSEC, star)
 
-    def shown(self, name, kind, seen=()):
+    def shown(self, name, kind):
         """Of each alias in turn."""
         is_proper = lambda it: len(it) > len(self.zone.origin) and lookup.is_at_or_below(it, self.zone.origin)
         cuts = [it for it in (lookup.ancestors(name) if kind == DS else lookup.suffixes(name)) if is_proper(it) and self.zone.set(it, NS)]
@@ -352,8 +356,8 @@ class ByRfc:
             alias = lookup.set_of(self.plain, name, lookup.CNAME)
             if kind == ANY and lookup.all_sets(self.plain, name) or lookup.set_of(self.plain, name, kind):
                 return 0, [], None
-            return self.followed(alias, kind, seen) if alias else (0, self.for_name(name), "missing type")
-        above = next(it for it in lookup.ancestors(name) if self.exists(it))
+            return self.followed(alias, kind) if alias else (0, self.for_name(name), "missing type")
+        above = next(it for it in lookup.ancestors(name) if self.is_provable(it))
         star = lookup.star_under(above)
         if not self.exists(star):
             return 3, self.for_name(name) + self.for_star(star), None
@@ -361,15 +365,15 @@ class ByRfc:
             return 0, self.expanded(name, above), "wildcard"
         alias = lookup.set_of(self.plain, star, lookup.CNAME)
         if alias:
-            code, owners, why = self.followed(alias, kind, seen)
+            code, owners, _ = self.followed(alias, kind)
             return code, self.expanded(name, above) + owners, "wildcard"
         return 0, self.for_name(name) + self.for_star(star), "wildcard without the type"
 
     def expanded(self, name, above):
         return self.closer(name, above) if self.zone.by_hash else preceding(self.zone, NSEC, name)
 
-    def followed(self, alias, kind, seen):
-        code, owners, why = self.shown(alias[0].data, kind, seen)
+    def followed(self, alias, kind):
+        code, owners, _ = self.shown(alias[0].data, kind)
         return code, owners, "alias"
 
 
@@ -377,8 +381,11 @@ def reason(zone, name, kind, why):
     """Why ours may differ where the RFCs' own case doesn't say it."""
     if any(it.type == NSEC3 and lookup.is_at_or_below(name, it.owner) for it in zone.records):
         return "hashed owner"
-    if why == "missing type" and lookup.from_wildcard(zone.records, name, kind):
+    if why in ("missing type", None) and lookup.from_wildcard(zone.records, name, kind):
         return "wildcard beside an existing name"
+    above = encloser(zone, name)
+    if zone.by_hash and above is not None and not zone.set(hashed(zone, above), NSEC3) and why != "referral":
+        return "opt-out"
     return "answer by hash" if why is None and zone.by_hash else why
 
 
