@@ -1,0 +1,1 @@
+pub use Rattle.zst_request.proofs.zst_denial_lemmas
