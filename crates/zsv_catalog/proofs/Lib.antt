@@ -4,6 +4,7 @@ mod BlockedBack
 pub use Rattle.zsv_update.proofs.zsv_chains_lemmas.Chained
 pub use Rattle.zsv_update.proofs.ReadAdditions
 mod Copied
+mod DenialsOnce
 pub mod GivenBack
 pub mod PartsBack
 pub mod PartsOnce
