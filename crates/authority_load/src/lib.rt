@@ -6,8 +6,8 @@
 
 pub use zst_zone::{
     AuthLookup, AxfrPolicy, InMemoryZoneHandler, LookupControlFlow, LookupError, LookupOptions,
-    LowerName, NameKey, NxProofKind, ProtoError, ResponseCode, RrKey, Salt, ZoneError,
-    ZoneSettings, ZoneTransfer, ZoneType,
+    LowerName, NameKey, Nsec3HashAlgorithm, NxProofKind, ProtoError, ResponseCode, RrKey, Salt,
+    ZoneError, ZoneSettings, ZoneTransfer, ZoneType,
 };
 
 mod joining;

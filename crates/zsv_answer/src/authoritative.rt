@@ -7,10 +7,11 @@ ghost use Rattle.zsv_answer.specs.Parts.{AtOrigin, AuthoritativeParts, BesideAns
 ghost use Rattle.zsv_answer.specs.Resolution.{reason_in, resolution_in, resolved};
 ghost use Rattle.zsv_answer.specs.Responses.{parts_of};
 
+use crate::denial::{answer_denial, denial_records};
 use crate::response::{Response, bare_response, reply_header};
 use std::alloc::{AllocError, Global};
 use zst_request::{
-    AuthLookup, LookupControlFlow, LookupError, LookupOptions, LookupRecords, ZoneHandler,
+    AuthLookup, LookupControlFlow, LookupError, LookupOptions, LookupRecords, Name, ZoneHandler,
 };
 use zsv_reply::{Metadata, RecordType, ResponseCode};
 
@@ -37,7 +38,7 @@ fn found_otherwise<'z>(flow: LookupControlFlow<AuthLookup<'z>>) -> LookupRecords
 }
 
 // What a handler found that continues: most often records of a zone alone.
-fn found_by<'z>(flow: LookupControlFlow<AuthLookup<'z>>) -> LookupRecords<'z>
+pub(crate) fn found_by<'z>(flow: LookupControlFlow<AuthLookup<'z>>) -> LookupRecords<'z>
     ensures { records_in result ≡ found_by flow.entry }
 {
     match flow {
@@ -66,19 +67,21 @@ fn at_origin<'z, H: ZoneHandler>(
     Ok(found_by(flow))
 }
 
-// With an answer for the zone's start come its name servers.
+// With an answer for the zone's start come its name servers, with another what denies.
 fn beside_answer<'z, H: ZoneHandler>(
     handler: &'z H,
     alloc: Global,
     options: LookupOptions,
+    name: &Name,
     record_type: RecordType,
+    answers: &AuthLookup<'_>,
 ) -> Result<LookupRecords<'z>, AllocError>
-    ensures { IfOk result (λ found. BesideAnswer (H.view handler.now) options.dnssec_ok record_type (records_in found)) }
+    ensures { IfOk result (λ found. BesideAnswer (H.view handler.now) options.dnssec_ok name.now record_type (answers_in answers.now) (records_in found)) }
 {
     if record_type == RecordType::SOA {
         at_origin(handler, alloc, options, RecordType::NS)
     } else {
-        Ok(LookupRecords::Empty)
+        answer_denial(handler, alloc, options, name, record_type, answers)
     }
 }
 
@@ -90,41 +93,46 @@ fn is_referral(record_type: RecordType, found: &AuthLookup<'_>) -> bool
         && !(record_type == RecordType::NS || record_type == RecordType::ANY)
 }
 
-// An answer: what was found, and the name servers beside the zone's start.
+// An answer: what was found, and the name servers beside the zone's start, or what denies.
 fn answered_response<'z, H: ZoneHandler>(
     handler: &'z H,
     alloc: Global,
     request: Metadata,
     options: LookupOptions,
+    name: &Name,
     record_type: RecordType,
     found: AuthLookup<'z>,
 ) -> Result<Response<'z>, AllocError>
-    ensures parts { IfOk result (λ r. AuthoritativeParts (H.view handler.now) request options.dnssec_ok record_type
+    ensures parts { IfOk result (λ r. AuthoritativeParts (H.view handler.now) request options.dnssec_ok name.now record_type
         (resolved (answers_in found.entry) (additionals_in found.entry)) (parts_of r)) }
     ensures operation { IfOk result (λ r. r.metadata.op_code ≡ request.op_code) }
 {
-    let beside = beside_answer(handler, alloc, options, record_type)?;
+    let beside = beside_answer(handler, alloc, options, name, record_type, &found)?;
     Ok(Response {
         metadata: reply_header(request, true, ResponseCode::NoError),
         is_referral: is_referral(record_type, &found),
         is_forwarded: false,
         asked: None,
         found,
+        denial: LookupRecords::Empty,
         beside,
     })
 }
 
-// A denial: the zone's start.
+// A denial: what denies, and the zone's start.
 fn denial_response<'z, H: ZoneHandler>(
     handler: &'z H,
     alloc: Global,
     request: Metadata,
     options: LookupOptions,
+    name: &Name,
+    record_type: RecordType,
     response_code: ResponseCode,
 ) -> Result<Response<'z>, AllocError>
-    ensures parts { IfOk result (λ r. DeniedParts (H.view handler.now) request options.dnssec_ok response_code (parts_of r)) }
+    ensures parts { IfOk result (λ r. DeniedParts (H.view handler.now) request options.dnssec_ok name.now record_type response_code (parts_of r)) }
     ensures operation { IfOk result (λ r. r.metadata.op_code ≡ request.op_code) }
 {
+    let denial = denial_records(handler, alloc, options, name, record_type, false)?;
     let beside = at_origin(handler, alloc, options, RecordType::SOA)?;
     Ok(Response {
         metadata: reply_header(request, true, response_code),
@@ -132,6 +140,7 @@ fn denial_response<'z, H: ZoneHandler>(
         is_referral: false,
         is_forwarded: false,
         asked: None,
+        denial,
         beside,
     })
 }
@@ -142,15 +151,17 @@ fn denied_response<'z, H: ZoneHandler>(
     alloc: Global,
     request: Metadata,
     options: LookupOptions,
+    name: &Name,
     record_type: RecordType,
     why: &LookupError,
 ) -> Result<Response<'z>, AllocError>
-    ensures parts { IfOk result (λ r. AuthoritativeParts (H.view handler.now) request options.dnssec_ok record_type (reason_in why.now) (parts_of r)) }
+    ensures parts { IfOk result (λ r. AuthoritativeParts (H.view handler.now) request options.dnssec_ok name.now record_type (reason_in why.now) (parts_of r)) }
     ensures operation { IfOk result (λ r. r.metadata.op_code ≡ request.op_code) }
 {
     match why {
         LookupError::ResponseCode(ResponseCode::NXDomain) => {
-            denial_response(handler, alloc, request, options, ResponseCode::NXDomain)
+            let code = ResponseCode::NXDomain;
+            denial_response(handler, alloc, request, options, name, record_type, code)
         }
         LookupError::ResponseCode(ResponseCode::Refused) => {
             Ok(bare_response(reply_header(request, true, ResponseCode::Refused)))
@@ -158,7 +169,10 @@ fn denied_response<'z, H: ZoneHandler>(
         LookupError::ResponseCode(ResponseCode::NotAuth) => {
             Ok(bare_response(reply_header(request, true, ResponseCode::NotAuth)))
         }
-        _ => denial_response(handler, alloc, request, options, ResponseCode::NoError),
+        _ => {
+            let code = ResponseCode::NoError;
+            denial_response(handler, alloc, request, options, name, record_type, code)
+        }
     }
 }
 
@@ -168,14 +182,15 @@ pub(crate) fn authoritative_response<'z, H: ZoneHandler>(
     alloc: Global,
     request: Metadata,
     options: LookupOptions,
+    name: &Name,
     record_type: RecordType,
     told: Result<AuthLookup<'z>, LookupError>,
 ) -> Result<Response<'z>, AllocError>
-    ensures parts { IfOk result (λ r. AuthoritativeParts (H.view handler.now) request options.dnssec_ok record_type (resolution_in told.entry) (parts_of r)) }
+    ensures parts { IfOk result (λ r. AuthoritativeParts (H.view handler.now) request options.dnssec_ok name.now record_type (resolution_in told.entry) (parts_of r)) }
     ensures operation { IfOk result (λ r. r.metadata.op_code ≡ request.op_code) }
 {
     match told {
-        Ok(found) => answered_response(handler, alloc, request, options, record_type, found),
-        Err(why) => denied_response(handler, alloc, request, options, record_type, &why),
+        Ok(found) => answered_response(handler, alloc, request, options, name, record_type, found),
+        Err(why) => denied_response(handler, alloc, request, options, name, record_type, &why),
     }
 }

@@ -15,7 +15,7 @@ use crate::forwarded::forwarded_response;
 use crate::response::{Response, error_response};
 use std::alloc::{AllocError, Global};
 use zst_request::{
-    AuthLookup, LookupError, LookupOptions, NameKey, RecordType, ResponseCode, ZoneHandler,
+    AuthLookup, LookupError, LookupOptions, Name, NameKey, RecordType, ResponseCode, ZoneHandler,
     ZoneRequest, ZoneType,
 };
 use zsv_reply::Metadata;
@@ -26,17 +26,18 @@ fn handler_response<'z, H: ZoneHandler>(
     alloc: Global,
     metadata: Metadata,
     options: LookupOptions,
+    name: &Name,
     record_type: RecordType,
     told: Result<AuthLookup<'z>, LookupError>,
 ) -> Result<Response<'z>, AllocError>
-    ensures parts { IfOk result (λ r. PartsAs (zone_type_of (H.view handler.now)) (H.view handler.now) metadata options.dnssec_ok record_type
+    ensures parts { IfOk result (λ r. PartsAs (zone_type_of (H.view handler.now)) (H.view handler.now) metadata options.dnssec_ok name.now record_type
         (resolution_in told.entry) (parts_of r)) }
     ensures operation { IfOk result (λ r. r.metadata.op_code ≡ metadata.op_code) }
 {
     match handler.zone_type() {
         ZoneType::External => Ok(forwarded_response(metadata, options, record_type, told)),
         ZoneType::Primary | ZoneType::Secondary => {
-            authoritative_response(handler, alloc, metadata, options, record_type, told)
+            authoritative_response(handler, alloc, metadata, options, name, record_type, told)
         }
     }
 }
@@ -63,6 +64,7 @@ pub fn chain_response<'z, H: ZoneHandler>(
             alloc,
             metadata,
             options,
+            request.name,
             request.query_type,
             told,
         ),

@@ -47,6 +47,7 @@ fn found_response<'z>(
         is_referral: false,
         is_forwarded: true,
         asked,
+        denial: LookupRecords::Empty,
         beside: LookupRecords::Empty,
     }
 }

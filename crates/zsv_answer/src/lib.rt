@@ -6,8 +6,9 @@
 
 pub use zst_request::{
     AuthLookup, BlocklistConsultAction, LookupControlFlow, LookupError, LookupOptions,
-    LookupRecords, LowerName, Nsec3HashAlgorithm, Nsec3QueryInfo, NxProofKind, RecordRef, RequestTsig, TSigResponseContext, TsigVerdict,
-    ZoneHandler, ZoneRequest, ZoneTransfer, ZoneType,
+    LookupRecords, LowerName, Nsec3HashAlgorithm, Nsec3QueryInfo, NxProofKind, RecordRef,
+    RequestTsig, TSigResponseContext, TsigVerdict, ZoneHandler, ZoneRequest, ZoneTransfer,
+    ZoneType,
 };
 pub use zsv_reply::{
     A, BareRequest, DNSClass, DecodeError, Edns, Header, HeaderCounts, Label, LowerQuery,

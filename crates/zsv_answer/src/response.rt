@@ -3,7 +3,7 @@
 ghost use Rattle.std.specs.Prelude.{◌≡◌, List, [], false, length, IfOk, None, Some, if◌then◌else◌, option_copied, IfSome};
 ghost use Rattle.zst_request.specs.zst_codes.declared.response_code.ResponseCode.TheVariants as responses;
 ghost use Rattle.zst_request.specs.zst_handler.Answers.{additionals_in, answers_in, records_in};
-ghost use Rattle.zsv_answer.specs.Responses.{has_no_authority, lends_records, list_parts, parts_of, parts_with};
+ghost use Rattle.zsv_answer.specs.Responses.{has_no_authority, is_empty, lends_records, list_parts, parts_of, parts_with};
 ghost use Rattle.zsv_answer.specs.Shown.{shown_if};
 ghost use Rattle.zsv_answer.specs.zsv_reply.Writing.{AreWritten, IsEncoded, Sends, error_parts, reply_metadata};
 ghost use Rattle.zsv_answer.specs.zsv_reply.zst_pointing.Pointing.{ArePointing};
@@ -19,8 +19,8 @@ use std::alloc::{AllocError, Global};
 use std::iter;
 use zst_request::{AuthLookup, LookupRecords, LookupRecordsIter, RecordRef};
 use zsv_reply::{
-    BareRequest, Edns, MessageResponseBuilder, MessageType, Metadata, Protocol, Queries, RecordType,
-    ResponseCode, ResponseInfo, WrittenRecords, encode_bare, encode_written,
+    BareRequest, Edns, MessageResponseBuilder, MessageType, Metadata, Protocol, Queries,
+    RecordType, ResponseCode, ResponseInfo, WrittenRecords, encode_bare, encode_written,
 };
 
 /// What a reply holds in full; the handlers lend its records.
@@ -35,6 +35,8 @@ pub struct Response<'z> {
     pub(crate) is_forwarded: bool,
     // The type that is asked for, where the records of signed zones are left out.
     pub(crate) asked: Option<RecordType>,
+    // What denies the name or the type that is asked for.
+    pub(crate) denial: LookupRecords<'z>,
     // What stands as authority beside it, or where nothing was found.
     pub(crate) beside: LookupRecords<'z>,
 }
@@ -76,7 +78,7 @@ impl Response<'_> {
     pub fn is_lent(&self) -> bool
         ensures { result ≡ lends_records self.now }
     {
-        self.found.is_lent() && self.beside.is_lent()
+        self.found.is_lent() && self.denial.is_lent() && self.beside.is_lent()
     }
 
     /// Gives the lists of its records back, so that it holds none.
@@ -85,6 +87,7 @@ impl Response<'_> {
         ensures { parts_of self.new ≡ parts_with self.old.metadata false [] [] [] }
     {
         self.found = AuthLookup::Empty;
+        self.denial = LookupRecords::Empty;
         self.beside = LookupRecords::Empty;
     }
 
@@ -120,9 +123,16 @@ impl Response<'_> {
 
     // Whether nothing stands as authority but what was found, and that is no referral.
     fn has_no_authority(&self) -> bool
-        ensures { result ≡ has_no_authority self.now.is_referral self.now.beside }
+        ensures { result ≡ has_no_authority self.now.is_referral self.now.denial self.now.beside }
     {
-        !self.is_referral && matches!(&self.beside, LookupRecords::Empty)
+        !self.is_referral && self.has_no_denial() && matches!(&self.beside, LookupRecords::Empty)
+    }
+
+    // Whether nothing is denied.
+    fn has_no_denial(&self) -> bool
+        ensures { result ≡ is_empty self.now.denial }
+    {
+        matches!(&self.denial, LookupRecords::Empty)
     }
 
     // The list that holds all its records: what was found, where nothing goes with that, or else what stands beside.
@@ -131,7 +141,7 @@ impl Response<'_> {
         ensures { IfSome result (λ list. list_parts self.now.metadata list ≡ parts_of self.now) }
     {
         match &self.found {
-            AuthLookup::Empty => Some(OneList {
+            AuthLookup::Empty if self.has_no_denial() => Some(OneList {
                 records: &self.beside,
                 asked: None,
                 are_answers: false,
@@ -190,7 +200,7 @@ impl Response<'_> {
                 self.metadata,
                 self.answers(),
                 self.authorities(),
-                self.beside.iter(),
+                self.denial.iter().chain(self.beside.iter()),
                 self.additionals(),
             )
             .encode(alloc, protocol)
@@ -248,6 +258,7 @@ pub(crate) fn bare_response(metadata: Metadata) -> Response<'static>
         is_referral: false,
         is_forwarded: false,
         asked: None,
+        denial: LookupRecords::Empty,
         beside: LookupRecords::Empty,
     }
 }

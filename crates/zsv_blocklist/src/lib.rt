@@ -4,7 +4,9 @@
 //! type, and each call of `ZoneHandler` says what it makes of that.
 #![tactic(auto)]
 
-pub use zst_request::{BlocklistConsultAction, NameKey, TSigResponseContext, ZoneRequest};
+pub use zst_request::{
+    BlocklistConsultAction, NameKey, Nsec3QueryInfo, TSigResponseContext, ZoneRequest,
+};
 pub use zsv_blocked::{BlocklistError, ReadFaults};
 
 mod config;

@@ -15,8 +15,8 @@ use std::alloc::{AllocError, Global};
 use std::mem;
 use zst_request::{
     AuthLookup, AxfrPolicy, BlocklistConsultAction, LookupControlFlow, LookupError, LookupOptions,
-    LookupRecords, Name, NameKey, NxProofKind, RecordType, ResponseCode, TSigResponseContext,
-    ZoneHandler, ZoneRequest, ZoneTransfer, ZoneType,
+    LookupRecords, Name, NameKey, Nsec3QueryInfo, NxProofKind, RecordType, ResponseCode,
+    TSigResponseContext, ZoneHandler, ZoneRequest, ZoneTransfer, ZoneType, no_proof,
 };
 
 impl ZoneHandler for BlocklistZoneHandler {
@@ -136,6 +136,26 @@ impl ZoneHandler for BlocklistZoneHandler {
         ensures none { result ≡ Ok None }
     {
         Ok(None)
+    }
+
+    /// There are none: a list of blocked names is no zone. It takes no memory.
+    fn nsec_records<'z>(
+        &'z self,
+        alloc: Global,
+        name: &Name,
+        options: LookupOptions,
+    ) -> Result<LookupControlFlow<AuthLookup<'z>>, AllocError> {
+        Ok(no_proof("a list of blocked names has no NSEC records"))
+    }
+
+    /// There are none: a list of blocked names is no zone. It takes no memory.
+    fn nsec3_records<'z>(
+        &'z self,
+        alloc: Global,
+        info: Nsec3QueryInfo<'_>,
+        options: LookupOptions,
+    ) -> Result<LookupControlFlow<AuthLookup<'z>>, AllocError> {
+        Ok(no_proof("a list of blocked names has no NSEC3 records"))
     }
 
     /// Refuses each: a list is changed by its own calls. It takes no memory.

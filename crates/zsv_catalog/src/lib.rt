@@ -9,10 +9,10 @@ pub use zsv_answer::{
     A, AuthLookup, BareRequest, BlocklistConsultAction, DNSClass, DecodeError, Edns, Header,
     HeaderCounts, Label, LookupControlFlow, LookupError, LookupOptions, LookupRecords, LowerName,
     LowerQuery, MessageRequest, MessageResponse, MessageResponseBuilder, MessageType, Metadata, NS,
-    Name, OpCode, Protocol, Queries, Query, RData, Record, RecordRef, RecordSet, RecordType,
-    Request, RequestInfo, RequestTsig, ResponseCode, ResponseInfo, SOA, TSigResponseContext, Tsig,
-    TsigRecord, TsigVerdict, UpdateRequest, ZoneHandler, ZoneRequest, ZoneTransfer, ZoneType,
-    encode_error, encode_refusal, error_response,
+    Name, Nsec3HashAlgorithm, Nsec3QueryInfo, NxProofKind, OpCode, Protocol, Queries, Query, RData,
+    Record, RecordRef, RecordSet, RecordType, Request, RequestInfo, RequestTsig, ResponseCode,
+    ResponseInfo, SOA, TSigResponseContext, Tsig, TsigRecord, TsigVerdict, UpdateRequest,
+    ZoneHandler, ZoneRequest, ZoneTransfer, ZoneType, encode_error, encode_refusal, error_response,
 };
 pub use zsv_update::{Chains, NoSuite, Received, ServiceFault, SignFault, TsigSuite};
 

@@ -1,5 +1,6 @@
 pub mod Alike
 pub mod Gathered
+pub mod GuardedDenials
 pub mod Guarding
 pub mod Kept
 pub mod Raised

@@ -15,7 +15,7 @@ use zst_draft::{
     AuthLookup, AxfrPolicy, LookupControlFlow, LookupError, LookupOptions, Name, NameKey,
     NxProofKind, RecordType, ResponseCode, ZoneHandler, ZoneTransfer, ZoneType,
 };
-use zst_request::{TSigResponseContext, ZoneRequest};
+use zst_request::{Nsec3QueryInfo, TSigResponseContext, ZoneRequest};
 
 /// Look-ups are those of the zone without its guard.
 impl<K: Drop> ZoneHandler for SqliteZoneHandler<K> {
@@ -133,6 +133,24 @@ impl<K: Drop> ZoneHandler for SqliteZoneHandler<K> {
             Ok(()) => Ok(Some((self.in_memory().transfer(alloc, options), context))),
             Err(code) => Ok(Some((Err(LookupError::ResponseCode(code)), context))),
         }
+    }
+
+    fn nsec_records<'z>(
+        &'z self,
+        alloc: Global,
+        name: &Name,
+        options: LookupOptions,
+    ) -> Result<LookupControlFlow<AuthLookup<'z>>, AllocError> {
+        self.in_memory().nsec_records(alloc, name, options)
+    }
+
+    fn nsec3_records<'z>(
+        &'z self,
+        alloc: Global,
+        info: Nsec3QueryInfo<'_>,
+        options: LookupOptions,
+    ) -> Result<LookupControlFlow<AuthLookup<'z>>, AllocError> {
+        self.in_memory().nsec3_records(alloc, info, options)
     }
 
     fn update(

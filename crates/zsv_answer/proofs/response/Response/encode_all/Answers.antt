@@ -17,7 +17,10 @@ returns c =
     let response = c.args.self.now in
     let parts = with_edns (option_copied c.args.edns) (parts_of response) in
     let above = if response.is_referral then shown_if response.asked (answers_in response.found) else [] in
-    let behind = records_in response.beside in
+    let denial = records_in response.denial in
+    let start = records_in response.beside in
+    let denials = YieldsFirstBy-yields (λ lent. seen lent) c.iter-0.result denial c.iter-0.ensures in
+    let behind = denial ++ start in
     let same : c.build.result.queries.now ≡ c.args.queries.now = ap (λ r. r.queries.now) c.build.ensures ∙ ap (λ (q : Bor Asked). q.now) c.new.ensures.queries in
     let options : option_copied c.build.result.edns ≡ option_copied c.args.edns = ap (λ r. option_copied r.edns) c.build.ensures ∙ ap option_copied c.new.ensures.edns in
     both_ok _ _ _ c.encode.result (λ sent told fits. record {
