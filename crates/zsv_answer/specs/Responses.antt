@@ -22,13 +22,17 @@ parts_with m referral records additionals beside = record {
   signature = None;
 }
 
+-- What denies; a referral denies nothing.
+abbrev pub denial_of : Response → List Record
+denial_of r = if r.is_referral then [] else records_in r.denial
+
 -- What a response holds: of an answer that is forwarded the records that are shown, and nothing
 -- that goes with them.
 abbrev pub parts_of : Response → ReplyParts
 parts_of r =
     parts_with r.metadata r.is_referral (shown_if r.asked (answers_in r.found))
     (if r.is_forwarded then [] else additionals_in r.found)
-    (records_in r.denial ++ records_in r.beside)
+    (denial_of r ++ records_in r.beside)
 
 -- What a response holds whose records stand in one list: those of them that are shown, as answers
 -- or as authority.

@@ -35,7 +35,7 @@ pub struct Response<'z> {
     pub(crate) is_forwarded: bool,
     // The type that is asked for, where the records of signed zones are left out.
     pub(crate) asked: Option<RecordType>,
-    // What denies the name or the type that is asked for.
+    // What denies the name or the type that is asked for, unless this is a referral.
     pub(crate) denial: LookupRecords<'z>,
     // What stands as authority beside it, or where nothing was found.
     pub(crate) beside: LookupRecords<'z>,
@@ -101,14 +101,14 @@ impl Response<'_> {
         ShownRecords::new(self.found.iter(), self.asked)
     }
 
-    // The records of authority: those of a referral.
+    // The first records of authority: those of a referral, or what denies.
     fn authorities(&self) -> ShownRecords<'_>
-        ensures { result ≡ (if self.now.is_referral then shown_if self.now.asked (answers_in self.now.found) else []) }
+        ensures { result ≡ (if self.now.is_referral then shown_if self.now.asked (answers_in self.now.found) else records_in self.now.denial) }
     {
-        if !self.is_referral {
-            return ShownRecords::new(LookupRecordsIter::of_records(&[]), None);
+        if self.is_referral {
+            return ShownRecords::new(self.found.iter(), self.asked);
         }
-        ShownRecords::new(self.found.iter(), self.asked)
+        ShownRecords::new(self.denial.iter(), None)
     }
 
     // The records that go with the answer.
@@ -200,7 +200,7 @@ impl Response<'_> {
                 self.metadata,
                 self.answers(),
                 self.authorities(),
-                self.denial.iter().chain(self.beside.iter()),
+                self.beside.iter(),
                 self.additionals(),
             )
             .encode(alloc, protocol)

@@ -14,7 +14,8 @@ use zst_request::{
     LookupError, LookupOptions, TSigResponseContext, ZoneHandler, ZoneRequest, ZoneTransfer,
 };
 use zsv_reply::{
-    Edns, MessageResponseBuilder, Metadata, Queries, Record, ResponseCode, ResponseInfo, TsigRecord,
+    Edns, MessageResponseBuilder, Metadata, Protocol, Queries, Record, ResponseCode, ResponseInfo,
+    TsigRecord,
 };
 
 /// The reply to a question for a transfer.

@@ -72,7 +72,7 @@ pub once_yielded : {A B : Type 0} (lent : A → B) (lender : Once A) (x : A) →
 once_yielded lent lender x is = inl (λ next step. absurd (cc (step.0, is)), λ y next step. (ap lent (cc (step.0, is)), λ z after more. absurd (cc (step.1, more.0))))
 
 -- The same where records are lent field by field.
-pub lent_given : {I : Type 0} (rest : I → List Record) (lender : I) (records : List Record) → rest lender ≡ records → AlwaysYields (YieldsFirstBy (λ lent. seen lent) rest) (λ lent. seen lent) lender records
+lent_given : {I : Type 0} (rest : I → List Record) (lender : I) (records : List Record) → rest lender ≡ records → AlwaysYields (YieldsFirstBy (λ lent. seen lent) rest) (λ lent. seen lent) lender records
 lent_given rest lender [] is = λ x next step. cc
 lent_given rest lender (r ∷ rs) is = (λ next step. absurd (cc step.0), λ x next step. (cc, lent_given rest next rs (cc)))
 

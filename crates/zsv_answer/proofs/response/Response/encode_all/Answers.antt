@@ -8,6 +8,7 @@ use Rattle.zsv_reply.specs.zsv_message.zsv_parts.Questions.{Asked}
 use Rattle.zsv_reply.specs.zsv_request.Requests.{limit_of}
 use Rattle.zsv_reply.specs.zsv_message.zst_edns.declared.edns.Edns.{Edns}
 use Rattle.zsv_answer.proofs.Pointing.{both_ok}
+use Rattle.zsv_answer.proofs.Shapes.{authority_parts}
 use Rattle.zsv_answer.specs.Responses.{parts_of}
 use Rattle.zsv_answer.specs.Shown.{shown_if}
 use Rattle.zsv_answer.proofs.response.Response.encode_all.Goals as goal
@@ -16,11 +17,8 @@ pub returns : goal.returns
 returns c =
     let response = c.args.self.now in
     let parts = with_edns (option_copied c.args.edns) (parts_of response) in
-    let above = if response.is_referral then shown_if response.asked (answers_in response.found) else [] in
-    let denial = records_in response.denial in
-    let start = records_in response.beside in
-    let denials = YieldsFirstBy-yields (λ lent. seen lent) c.iter-0.result denial c.iter-0.ensures in
-    let behind = denial ++ start in
+    let above = if response.is_referral then shown_if response.asked (answers_in response.found) else records_in response.denial in
+    let behind = records_in response.beside in
     let same : c.build.result.queries.now ≡ c.args.queries.now = ap (λ r. r.queries.now) c.build.ensures ∙ ap (λ (q : Bor Asked). q.now) c.new.ensures.queries in
     let options : option_copied c.build.result.edns ≡ option_copied c.args.edns = ap (λ r. option_copied r.edns) c.build.ensures ∙ ap option_copied c.new.ensures.edns in
     both_ok _ _ _ c.encode.result (λ sent told fits. record {
@@ -33,7 +31,7 @@ returns c =
             answers = lent_yielded (λ (rs : List Record). rs) c.answers.result parts.answers c.answers.ensures;
             authorities = lent_yielded (λ (rs : List Record). rs) c.authorities.result above c.authorities.ensures;
             soa = lent_yielded (λ (rs : List Record). rs) c.iter.result behind c.iter.ensures;
-            section = refl;
+            section = authority_parts response.is_referral (shown_if response.asked (answers_in response.found)) (records_in response.denial) behind;
             additionals = lent_yielded (λ (rs : List Record). rs) c.additionals.result parts.additionals c.additionals.ensures;
             edns = sym (ap option_copied c.new.ensures.edns);
             signature = refl;
