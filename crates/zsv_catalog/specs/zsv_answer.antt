@@ -1,3 +1,4 @@
+pub use Rattle.zsv_answer.specs.DenialRecords
 pub use Rattle.zsv_answer.specs.Forwarding
 pub use Rattle.zsv_answer.specs.Parts
 pub use Rattle.zsv_answer.specs.Resolution
