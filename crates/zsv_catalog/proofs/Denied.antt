@@ -1,7 +1,7 @@
 -- What a reply holds in which a zone of the server's own denies a name or a type.
 use Rattle.std.proofs.Common.{◌≡◌, ◌∙◌, ◌⊎◌, ap, inl, inr, refl, subst, sym}
 use Rattle.std.proofs.lemmas.Bool.{true≢false}
-use Rattle.std.specs.Prelude.{ℕ, Bool, true, false, ◌&&◌, cond, List, [], ◌∷◌, ◌++◌, Option, Some, None}
+use Rattle.std.specs.Prelude.{ℕ, Bool, true, false, ◌&&◌, cond, List, [], ◌∷◌, ◌++◌, Option, Some, None, if◌then◌else◌}
 use Rattle.std.specs.List.{filter}
 use Rattle.zsv_answer.proofs.LookupOnce.{one-lookup}
 use Rattle.zsv_answer.specs.DenialRecords.{IsDenial}
@@ -11,7 +11,7 @@ use Rattle.zsv_answer.specs.Responses.{parts_with}
 use Rattle.zsv_answer.specs.zst_request.Updating.{Asked}
 use Rattle.zsv_answer.specs.zst_request.Views.{Stored, View}
 use Rattle.zsv_answer.specs.zst_request.dnw_codes.declared.record_type.RecordType.{RecordType}
-use Rattle.zsv_answer.specs.zst_request.dnw_codes.declared.record_type.RecordType.TheVariants.{ANY, AXFR}
+use Rattle.zsv_answer.specs.zst_request.dnw_codes.declared.record_type.RecordType.TheVariants.{ANAME, ANY, AXFR, CNAME}
 use Rattle.zsv_answer.specs.zst_request.dnw_codes.RecordType.{same_record_type}
 use Rattle.zsv_answer.specs.zst_request.dnw_name.DomainName.{DomainName, is_at_or_below, name_eq}
 use Rattle.zsv_answer.specs.zst_request.zst_codes.declared.response_code.ResponseCode.{ResponseCode}
@@ -33,7 +33,7 @@ use Rattle.zsv_answer.specs.zsv_reply.zsv_message.zsv_parts.declared.header.Mess
 use Rattle.zsv_answer.specs.zsv_reply.zsv_message.zsv_parts.declared.header.OpCode.{OpCode}
 use Rattle.zsv_answer.specs.zsv_reply.zsv_message.zsv_parts.declared.header.OpCode.TheVariants as operations
 use Rattle.zsv_answer.specs.zsv_reply.zsv_message.zsv_parts.declared.question.Query.{Query}
-use Rattle.zsv_catalog.specs.Catalogs.{KindParts, OperationParts, PartsOf, PlainParts, QueryParts, asks_for_dnssec}
+use Rattle.zsv_catalog.specs.Catalogs.{KindParts, OperationParts, PartsOf, PlainParts, QueryParts, QuestionParts, asks_for_dnssec}
 use Rattle.zsv_update.specs.Options.{has_other_version}
 use Rattle.zsv_update.specs.zsv_chains.Chains.{chain_for}
 use Rattle.zsv_update.specs.zsv_chains.zst_key.Ancestors.{or_else}
@@ -57,7 +57,7 @@ pub record FromZone (request : Message) (q : Query) (zone : Zone) (parts : Reply
   pub gives : AuthoritativeParts (Stored zone) request.metadata (asks_for_dnssec request.edns) q.name q.query_type (outcome_shown (asks_for_dnssec request.edns) outcome) plain
   pub whole : parts ≡ with_edns parts.edns plain
 
-own_parts : (type : ZoneType) (view : View) (m : Metadata) (d : Bool) (name : DomainName) (t : RecordType) (r : Resolution) (parts : ReplyParts) → (type ≡ zones.External → ⊥) → PartsAs type view m d name t r parts → AuthoritativeParts view m d name t r parts
+own_parts : (zone_type : ZoneType) (view : View) (m : Metadata) (d : Bool) (name : DomainName) (t : RecordType) (r : Resolution) (parts : ReplyParts) → (zone_type ≡ zones.External → ⊥) → PartsAs zone_type view m d name t r parts → AuthoritativeParts view m d name t r parts
 own_parts zones.Primary view m d name t r parts own is = is
 own_parts zones.Secondary view m d name t r parts own is = is
 own_parts zones.External view m d name t r parts own is = absurd (own refl)
@@ -71,7 +71,7 @@ module _ (chains : List (DomainName × List View)) (asks : Query → DomainName 
       subst (λ (kind : MessageType). KindParts chains m d asks kind request.asked.questions plain) asked.kind (gives.answered asked.version) in
       let by_operation : QueryParts chains m d asks request.asked.questions plain =
       subst (λ (operation : OpCode). OperationParts chains m d asks operation request.asked.questions plain) asked.operation by_kind in
-      let by_question : QueryParts chains m d asks (q ∷ []) plain =
+      let by_question : QuestionParts chains m d (asks q) q plain =
       subst (λ (qs : List Query). QueryParts chains m d asks qs plain) asked.one by_operation in
       by_question.looked_up (Stored zone ∷ []) asked.alone asked.ordinary
 
@@ -79,7 +79,8 @@ module _ (chains : List (DomainName × List View)) (asks : Query → DomainName 
   from_zone nsid parts gives =
       let d = asks_for_dnssec request.edns in
       let (resolution, looks, shown) = (from_chain gives.plain gives.gives).somebody (Stored zone) refl in
-      let (outcome, is, same) = looks in
+      let looked : LooksUp zone q.name q.query_type d resolution = looks in
+      let (outcome, is, same) = looked in
       let own = own_parts zone.zone_type (Stored zone) request.metadata d q.name q.query_type resolution gives.plain asked.own shown in
       record {
         plain = gives.plain;
@@ -185,7 +186,8 @@ types_absent zone name t is = by (same_record_type t ANY) refl
     of_any [] none e = none_owned zone.sets name t none
     of_any (set ∷ sets) some e = absurd (true≢false (sym (ap is_found e)))
     of_one : (o : Option RRset) → found zone.sets name t ≡ o → LookupFrom zone name t o name_exists → rrset_at zone.sets name t ≡ None
-    of_one None none e = none_here (delegation zone.sets name t) (rrset_at zone.sets name t) _ (wildcard_answer zone.sets name t) none
+    of_one None none e = none_here (delegation zone.sets name t) (rrset_at zone.sets name t)
+        (or_else (rrset_at zone.sets name CNAME) (if is_address t then rrset_at zone.sets name ANAME else None)) (wildcard_answer zone.sets name t) none
     of_one (Some first) some (answer, e, from) = absurd (true≢false (sym (ap is_found e)))
     by : (b : Bool) → same_record_type t ANY ≡ b → rrset_at zone.sets name t ≡ None
     by true e = of_any (sets_of_name zone.sets name) refl (is.any e)
@@ -193,20 +195,20 @@ types_absent zone name t is = by (same_record_type t ANY) refl
 
 -- ---- what the reply holds then
 -- The records that deny, with their signatures, before others of authority; no answer.
-pub record Denied (zone : Zone) (name : DomainName) (t : RecordType) (code : ResponseCode) (parts : ReplyParts) : Type 0 where
+pub record Denied (zone : Zone) (name : DomainName) (t : RecordType) (response : ResponseCode) (parts : ReplyParts) : Type 0 where
   pub sets : List RRset
   pub denies : IsDenial zone.nx_proof_kind zone name t false sets
   pub start : List Record
   pub authorities : parts.authorities ≡ sets_shown true sets ++ start
   pub answers : parts.answers ≡ []
-  pub code : parts.metadata.response_code ≡ code
+  pub code : parts.metadata.response_code ≡ response
 
 denied_by : (zone : Zone) (m : Metadata) (d : Bool) (name : DomainName) (t : RecordType) (code : ResponseCode) (plain parts : ReplyParts) → d ≡ true → parts ≡ with_edns parts.edns plain → DeniedParts (Stored zone) m d name t code plain
     → Denied zone name t code parts
 denied_by zone m d name t code plain parts asks whole gives =
-    let (denial, start, denies, origin, is) = subst (λ (dnssec_ok : Bool). DeniedParts (Stored zone) m dnssec_ok name t code plain) asks gives in
+    let (records, start, denies, origin, is) = subst (λ (dnssec_ok : Bool). DeniedParts (Stored zone) m dnssec_ok name t code plain) asks gives in
     let (sets, are, shown) = denies in
-    let full : parts ≡ with_edns parts.edns (parts_with (reply_metadata m true code) false [] [] (denial ++ start)) = whole ∙ ap (with_edns parts.edns) is in
+    let full : parts ≡ with_edns parts.edns (parts_with (reply_metadata m true code) false [] [] (records ++ start)) = whole ∙ ap (with_edns parts.edns) is in
     record {
       sets = sets;
       denies = are;

@@ -15,6 +15,7 @@ use Rattle.zsv_answer.specs.zst_request.dnw_name.DomainName.{DomainName, lowerca
 use Rattle.zsv_answer.specs.zst_request.zst_codes.declared.nx_proof.NxProofKind.{NxProofKind}
 use Rattle.zsv_answer.specs.zst_request.zst_codes.declared.nx_proof.NxProofKind.TheVariants as kinds
 use Rattle.zsv_answer.specs.zst_request.zst_codes.declared.response_code.ResponseCode.{ResponseCode}
+use Rattle.zsv_answer.specs.zst_request.zst_codes.declared.response_code.ResponseCode.TheVariants as responses
 use Rattle.zsv_answer.specs.zst_request.zst_denial.Denials.{IsSetOf, SomeOf}
 use Rattle.zsv_answer.specs.zst_request.zst_denial.Hashed.{Hashing}
 use Rattle.zsv_answer.specs.zst_request.zst_denial.Octets.{nsec_octets}
@@ -82,47 +83,50 @@ denial_sets (Some (kinds.Nsec3 algorithm salt iterations opt_out)) zone name t w
     nsec3_sets zone sets stored (nsec3_shown hashing zone (lowercase_name name) t wild sets is)
 
 -- ---- the lists of authority
+abbrev pub AllFrom : Zone → List Record → Type 0
+AllFrom zone rs = AllByRecursion (IsFromZone zone) rs
+
+abbrev pub PartsFrom : Zone → ReplyParts → Type 0
+PartsFrom zone parts = AllFrom zone parts.authorities
+
 module _ (zone : Zone) (stored : AreStored zone.sets) where
-  abbrev AllFrom : List Record → Type 0
-  AllFrom rs = AllByRecursion (IsFromZone zone) rs
+  denial_from : (d : Bool) (name : DomainName) (t : RecordType) (wild : Bool) (rs : List Record) → DenialRecords (Stored zone) d name t wild rs → AllFrom zone rs
+  denial_from false name t wild rs none = subst (AllFrom zone) (sym none) tt
+  denial_from true name t wild rs (sets, are, shown) = subst (AllFrom zone) (sym shown) (denial_sets zone.nx_proof_kind zone name t wild sets stored are)
 
-  denial_from : (d : Bool) (name : DomainName) (t : RecordType) (wild : Bool) (rs : List Record) → DenialRecords (Stored zone) d name t wild rs → AllFrom rs
-  denial_from false name t wild rs none = subst AllFrom (sym none) tt
-  denial_from true name t wild rs (sets, are, shown) = subst AllFrom (sym shown) (denial_sets zone.nx_proof_kind zone name t wild sets stored are)
+  origin_from : (d : Bool) (t : RecordType) (rs : List Record) → same_record_type t types.ANY ≡ false → same_record_type t types.NSEC ≡ false → AtOrigin (Stored zone) d t rs → AllFrom zone rs
+  origin_from d t rs one other (outcome, is, shown) = subst (AllFrom zone) (sym shown) (without zone _ (lookup_none zone zone.origin t outcome d stored one other is))
 
-  origin_from : (d : Bool) (t : RecordType) (rs : List Record) → same_record_type t types.ANY ≡ false → same_record_type t types.NSEC ≡ false → AtOrigin (Stored zone) d t rs → AllFrom rs
-  origin_from d t rs one other (outcome, is, shown) = subst AllFrom (sym shown) (without zone _ (lookup_none zone zone.origin t outcome d stored one other is))
-
-  answer_denial_from : (d : Bool) (name : DomainName) (t : RecordType) (answers rs : List Record) → AnswerDenial (Stored zone) d name t answers rs → AllFrom rs
+  answer_denial_from : (d : Bool) (name : DomainName) (t : RecordType) (answers rs : List Record) → AnswerDenial (Stored zone) d name t answers rs → AllFrom zone rs
   answer_denial_from d name t answers rs is = by (is_expanded answers || is_by_hash (nx_proof_kind_of (Stored zone))) is
     where
-      by : (b : Bool) → (if b then DenialRecords (Stored zone) d name t (is_expanded answers) rs else (rs ≡ [])) → AllFrom rs
+      by : (b : Bool) → (if b then DenialRecords (Stored zone) d name t (is_expanded answers) rs else (rs ≡ [])) → AllFrom zone rs
       by true denies = denial_from d name t (is_expanded answers) rs denies
-      by false none = subst AllFrom (sym none) tt
+      by false none = subst (AllFrom zone) (sym none) tt
 
-  beside_from : (d : Bool) (name : DomainName) (t : RecordType) (answers rs : List Record) → BesideAnswer (Stored zone) d name t answers rs → AllFrom rs
+  beside_from : (d : Bool) (name : DomainName) (t : RecordType) (answers rs : List Record) → BesideAnswer (Stored zone) d name t answers rs → AllFrom zone rs
   beside_from d name t answers rs (start, other) = by (same_record_type t types.SOA) refl
     where
-      by : (b : Bool) → same_record_type t types.SOA ≡ b → AllFrom rs
+      by : (b : Bool) → same_record_type t types.SOA ≡ b → AllFrom zone rs
       by true e = origin_from d types.NS rs refl refl (start e)
       by false e = answer_denial_from d name t answers rs (other e)
 
-  denied_from : (m : Metadata) (d : Bool) (name : DomainName) (t : RecordType) (code : ResponseCode) (parts : ReplyParts) → DeniedParts (Stored zone) m d name t code parts → AllFrom parts.authorities
+  denied_from : (m : Metadata) (d : Bool) (name : DomainName) (t : RecordType) (code : ResponseCode) (parts : ReplyParts) → DeniedParts (Stored zone) m d name t code parts → AllFrom zone parts.authorities
   denied_from m d name t code parts (denial, start, denies, at, is) =
-      subst (λ (p : ReplyParts). AllFrom p.authorities) (sym is)
+      subst (PartsFrom zone) (sym is)
       (append_all (IsFromZone zone) denial start (denial_from d name t false denial denies) (origin_from d types.SOA start refl refl at))
 
-  outcome_from : (m : Metadata) (d : Bool) (name : DomainName) (t : RecordType) (outcome : Outcome) (parts : ReplyParts) → IsLookup zone name t outcome → AuthoritativeParts (Stored zone) m d name t (outcome_shown d outcome) parts → AllFrom parts.authorities
+  outcome_from : (m : Metadata) (d : Bool) (name : DomainName) (t : RecordType) (outcome : Outcome) (parts : ReplyParts) → IsLookup zone name t outcome → AuthoritativeParts (Stored zone) m d name t (outcome_shown d outcome) parts → AllFrom zone parts.authorities
   outcome_from m d name t (answered answer) parts looked (beside, at, is) =
-      subst (λ (p : ReplyParts). AllFrom p.authorities) (sym is)
+      subst (PartsFrom zone) (sym is)
       (append_all (IsFromZone zone) (cond (is_referral t (sets_shown d answer.answers)) (sets_shown d answer.answers) []) beside
       (without zone _ (referral_none zone name t d answer stored looked)) (beside_from d name t (sets_shown d answer.answers) beside at))
-  outcome_from m d name t name_exists parts looked is = denied_from m d name t _ parts is
-  outcome_from m d name t name_error parts looked is = denied_from m d name t _ parts is
-  outcome_from m d name t out_of_zone parts looked is = subst (λ (p : ReplyParts). AllFrom p.authorities) (sym is) tt
+  outcome_from m d name t name_exists parts looked is = denied_from m d name t responses.NoError parts is
+  outcome_from m d name t name_error parts looked is = denied_from m d name t responses.NXDomain parts is
+  outcome_from m d name t out_of_zone parts looked is = subst (PartsFrom zone) (sym is) tt
 
   -- Whatever a zone of the server's own was asked for.
-  pub authorities_from_zone : (request : Message) (q : Query) (parts : ReplyParts) → FromZone request q zone parts → AllFrom parts.authorities
+  pub authorities_from_zone : (request : Message) (q : Query) (parts : ReplyParts) → FromZone request q zone parts → AllFrom zone parts.authorities
   authorities_from_zone request q parts from =
-      subst AllFrom (sym (ap (λ (p : ReplyParts). p.authorities) from.whole))
+      subst (AllFrom zone) (sym (ap (λ (p : ReplyParts). p.authorities) from.whole))
       (outcome_from request.metadata (asks_for_dnssec request.edns) q.name q.query_type from.outcome from.plain from.is from.gives)
