@@ -12,12 +12,13 @@ use Rattle.zst_zone.specs.drd_rdata.Types.{type_of}
 use Rattle.zst_zone.specs.dnw_name.DomainName.{DomainName, is_at_or_below}
 use Rattle.zst_zone.specs.dnw_codes.ProtoError.{IsMemory}
 use Rattle.zst_zone.specs.dnw_codes.declared.error.ProtoError.{ProtoError}
-use Rattle.std.specs.Prelude.{◌⊎◌, IfOk}
+use Rattle.std.specs.Prelude.{◌⊎◌, IfErr, IfOk}
 use Rattle.std.proofs.Common.{inl, inr}
 use Rattle.authority_load.specs.ZoneText.{ReadsText, TellsTextCause, DataGives}
 use Rattle.zst_zone.specs.zst_handler.Zones.{Zone}
-use Rattle.authority_load.specs.ZoneText.{words_of, data_text, field, IsOwnerText, IsTtlField, is_internet, type_of_text, AreData, IsDataText, StandsAt, NoneBefore, Stands, StandsFrom, cause_order, turn_from, with_cause, IsHeading, IsInside, IsTaken, MayJoin, RefusesValue, Heading, record_at}
+use Rattle.authority_load.specs.ZoneText.{words_of, data_text, field, IsOwnerText, IsTtlField, is_internet, type_of_text, AreData, IsDataText, StandsAt, NoneBefore, Stands, StandsFrom, cause_order, turn_from, with_cause, IsHeading, IsInside, IsTaken, MayJoin, RefusesValue, Heading, LineGives, record_at}
 use Rattle.zst_zone.specs.zst_record.Records.{belongs_to_message}
+use Rattle.zst_zone.specs.zst_record.declared.records.Record.{Record}
 use Rattle.zst_zone.proofs.dnw_name_lemmas.TextLemmas.{name-same}
 
 cause_at : ℕ → LoadCause
@@ -227,6 +228,11 @@ value_taken zone line h value inside is joins fits =
       fits = fits;
       no_cause = none_9 zone line value (none_8 zone line h known inside.inside) is;
     }
+
+-- So is what a test of the record gives.
+pub tested_gives : {R : Type 0} (zone : Zone) (line : List ℕ) (h : Heading) (value : RData) (next_of : R → Record) (IsKeyed : R → Type 0) (r : Result R LoadCause) → IsInside zone line h → AreData line value → NumbersFit value → IfOk r (λ t. (next_of t ≡ record_at h value) × IsKeyed t × MayJoin zone (record_at h value)) → IfErr r (RefusesValue zone (record_at h value)) → LineGives zone line next_of r
+tested_gives zone line h value next_of IsKeyed (Ok t) inside is fits ok err = subst (IsTaken zone line) (sym ok.0) (value_taken zone line h value inside is ok.2 fits)
+tested_gives zone line h value next_of IsKeyed (Err cause) inside is fits ok err = value_refused zone line h value cause inside is fits err
 
 -- A reader that is refused a text says so.
 pub text_err : {X : Type 0} (IsText : X → Type 0) (cause : ProtoError) (e : TextError) → TellsTextCause cause e → IsMemory cause ⊎ ((x : X) → IsText x → ⊥) → ReadsText {X = X} IsText (Err e)

@@ -1,10 +1,10 @@
 //! The record of a line.
 
-ghost use Rattle.std.specs.Prelude.{◌≡◌, ◌<◌, ◌∷◌, ℕ, List, length, IfOk, MatchOption};
+ghost use Rattle.std.specs.Prelude.{◌≡◌, ◌<◌, ◌∷◌, ℕ, List, length, IfErr, IfOk, MatchOption};
 ghost use Rattle.zst_zone.specs.dnw_name.DomainName.{DomainName, lowercase_name};
 ghost use Rattle.zst_zone.specs.zst_record.Records.{belongs_to_message};
 ghost use Rattle.authority_load.specs.declared.loader.LoadCause.TheVariants as causes;
-ghost use Rattle.authority_load.specs.ZoneText.{cause_order, data_text, words_of, is_internet, with_cause, DataGives, HeaderGives, IsHeading, IsOwnerText, LineGives};
+ghost use Rattle.authority_load.specs.ZoneText.{cause_order, data_text, words_of, is_internet, with_cause, DataGives, HeaderGives, IsHeading, IsOwnerText, LineGives, MayJoin, RefusesValue};
 
 use crate::joining::fault_of;
 use crate::loader::LoadCause;
@@ -63,6 +63,19 @@ pub fn record_of<K>(
         ttl: header.ttl,
         rdata,
     };
+    tested(zone, key, next)
+}
+
+/// A record that may join the zone, with its owner's key; or the first cause that keeps it out.
+fn tested<K>(
+    zone: &InMemoryZoneHandler<K>,
+    key: NameKey,
+    next: Record,
+) -> Result<KeyedRecord, LoadCause>
+    requires { key ≡ lowercase_name next.name }
+    ensures ok { IfOk result (λ taken. (taken.next ≡ next) × (taken.key ≡ key) × MayJoin zone.now next) }
+    ensures refused { IfErr result (λ cause. RefusesValue zone.now next cause) }
+{
     match fault_of(zone, &key, &next) {
         Some(cause) => {
             mem::drop(next);

@@ -1,6 +1,6 @@
 -- What the steps of a loader give together.
 use Rattle.std.proofs.Common.{inl, inr, ◌≡◌, ◌∙◌, ◌⊎◌, refl, sym, ap, subst, ℕ, ◌<◌, ◌≤◌, length, arith, true≢false}
-use Rattle.std.specs.Prelude.{Bool, true, false, not, List, [], ◌∷◌, ◌++◌, Err, MatchOption, Option, Some, None, cond, slice_get}
+use Rattle.std.specs.Prelude.{Bool, true, false, not, List, [], ◌∷◌, ◌++◌, Err, IfErr, IfOk, MatchOption, Option, Result, Ok, Some, None, cond, slice_get}
 use Rattle.std.specs.List.{AllByRecursion}
 use Rattle.zsv_message.specs.Messages.{IsMessage, Message, ReadsMessage, RefusesMessage, no_additionals, no_answers, no_authorities, no_header, no_questions}
 use Rattle.zsv_message.specs.zst_record.declared.records.Record.{Record}
@@ -10,7 +10,7 @@ use Rattle.zsv_message.specs.zst_record.dnw_decoder.Reading.{IsWantOfMemory}
 use Rattle.zsv_message.specs.zst_record.dnw_name.DomainName.{DomainName}
 use Rattle.authority_load.specs.Loaded.{IsLoaded}
 use Rattle.authority_load.specs.zst_zone.zst_handler.Zones.{AreInOrder, AreStored, Zone}
-use Rattle.authority_transfer.specs.Transfers.{AllNumbersFit, IsReplyFault, IsTransferFault, IsTransferred, IsUnframed, RefusesRecords, TakesAll, answered_with, begins_with, but_last, frame_fault, is_answer, is_framed, is_signed, reply_fault, unread, whole_fault}
+use Rattle.authority_transfer.specs.Transfers.{AllNumbersFit, IsReplyFault, IsTransferFault, IsTransferred, IsUnframed, RefusesRecords, ReplyGives, TakesAll, answered_with, begins_with, but_last, fault_read, frame_fault, is_answer, is_framed, is_signed, reply_fault, unread, whole_fault}
 use Rattle.authority_transfer.specs.declared.error.TransferError.{TransferError}
 use Rattle.authority_transfer.specs.declared.error.TransferError.TheVariants as errors
 use Rattle.authority_transfer.proofs.Asked.{asks, faultless, said}
@@ -73,28 +73,26 @@ module _ (origin : DomainName) (octets : List ℕ) (m : Message) (none : reply_f
   at_frame : whole_fault origin (answered_with m all) ≡ cond (is_framed origin all) None (Some errors.NoFrame)
   at_frame = ap (frame_fault origin all) none
 
-  pub framed_gives : (front : List Record) (last : Record) → all ≡ front ++ last ∷ [] → begins_with origin (first_in front) last ≡ true → IsTransferred origin octets front
-  framed_gives front last parts framed =
-      let is_whole : is_framed origin all ≡ true = ap (is_framed origin) parts ∙ sym (framed_pushed origin front last) ∙ framed in
-      record {
-        message = answered_with m all;
-        there = is;
-        whole = at_frame ∙ ap (λ (b : Bool). cond b None (Some errors.NoFrame)) is_whole;
-        records = sym (ap but_last parts ∙ but_pushed front last);
-        fits = fits;
-      }
+  framed_gives : (front : List Record) → is_framed origin all ≡ true → front ≡ but_last all → IsTransferred origin octets front
+  framed_gives front framed is_front = record {
+    message = answered_with m all;
+    there = is;
+    whole = at_frame ∙ ap (λ (b : Bool). cond b None (Some errors.NoFrame)) framed;
+    records = is_front;
+    fits = fits;
+  }
 
-  pub unframed_gives : is_framed origin all ≡ false → IsReplyFault origin octets errors.NoFrame × IsUnframed origin octets
-  unframed_gives un = (
-    (answered_with m all, is, at_frame ∙ ap (λ (b : Bool). cond b None (Some errors.NoFrame)) un),
-    record { message = answered_with m all; there = is; fits = fits; unframed = un },
-  )
+  unframed_gives : is_framed origin all ≡ false → IsReplyFault origin octets errors.NoFrame
+  unframed_gives un = (answered_with m all, is, at_frame ∙ ap (λ (b : Bool). cond b None (Some errors.NoFrame)) un)
 
-  pub pushed_unframed : (front : List Record) (last : Record) → all ≡ front ++ last ∷ [] → begins_with origin (first_in front) last ≡ false → IsReplyFault origin octets errors.NoFrame × IsUnframed origin octets
-  pushed_unframed front last parts un = unframed_gives (ap (is_framed origin) parts ∙ sym (framed_pushed origin front last) ∙ un)
+  -- What is given of the answers.
+  pub between_gives : {X : Type 0} (records_in : X → List Record) (r : Result X TransferError) → IfOk r (λ x. (is_framed origin all ≡ true) × (records_in x ≡ but_last all)) → IfErr r (λ e. (e ≡ errors.NoFrame) × (is_framed origin all ≡ false)) → ReplyGives origin octets records_in r
+  between_gives records_in (Ok x) ok err = framed_gives (records_in x) ok.0 ok.1
+  between_gives records_in (Err e) ok err = subst (λ (f : TransferError). IsReplyFault origin octets f) (sym err.0) (unframed_gives err.1)
 
-  pub empty_unframed : all ≡ [] → IsReplyFault origin octets errors.NoFrame × IsUnframed origin octets
-  empty_unframed bare = unframed_gives (ap (is_framed origin) bare)
+  pub between_unframed : {X : Type 0} (r : Result X TransferError) → IfErr r (λ e. (e ≡ errors.NoFrame) × (is_framed origin all ≡ false)) → IfErr r (λ e. e ≡ errors.NoFrame → IsUnframed origin octets)
+  between_unframed (Ok x) err = tt
+  between_unframed (Err e) err = λ same. record { message = answered_with m all; there = is; fits = fits; unframed = err.1 }
 
 -- ---- the zone
 pub transfer_loaded : (empty : Zone) (octets : List ℕ) (rs : List Record) (end : Zone) → empty.sets ≡ [] → IsTransferred empty.origin octets rs → TakesAll empty rs end → AreInOrder end.sets → AreStored end.sets → IsLoaded end
@@ -109,12 +107,7 @@ refused_given empty octets rs e t (inl memory) = subst (IsTransferFault empty oc
 refused_given empty octets rs e t (inr one) = inr (record { records = rs; transferred = t; refuses = one })
 
 -- ---- the message
-pub fault_gives : (octets : List ℕ) (m : Message) → IsMessage octets m → (o : Option TransferError) → o ≡ reply_fault m
-    → MatchOption o ((m : Message) × IsMessage octets m × (reply_fault m ≡ None)) (λ e. (origin : DomainName) → IsReplyFault origin octets e)
-fault_gives octets m is None e = (m, is, sym e)
-fault_gives octets m is (Some x) e = reply_refused octets m x is (sym e)
-
-pub unread_gives : (octets : List ℕ) (e : DecodeError) → ReadsMessage octets (Err e) → (origin : DomainName) → IsReplyFault origin octets (unread e)
+unread_gives : (octets : List ℕ) (e : DecodeError) → ReadsMessage octets (Err e) → (origin : DomainName) → IsReplyFault origin octets (unread e)
 unread_gives octets reads.Memory r origin = memory_long octets r.0
 unread_gives octets other r origin = no_memory r.1
   where
@@ -122,9 +115,23 @@ unread_gives octets other r origin = no_memory r.1
     no_memory (inl memory) = absurd memory
     no_memory (inr none) = none
 
-pub unread_framed : (e : DecodeError) → Some (unread e) ≡ Some errors.NoFrame → ⊥
+unread_framed : (e : DecodeError) → Some (unread e) ≡ Some errors.NoFrame → ⊥
 unread_framed reads.Memory h = absurd (cc h)
 unread_framed other h = absurd (cc h)
+
+pub read_gives : (octets : List ℕ) (read : Result Message DecodeError) → ReadsMessage octets read → (o : Option TransferError) → o ≡ fault_read read
+    → MatchOption o ((m : Message) × IsMessage octets m × (reply_fault m ≡ None)) (λ e. (origin : DomainName) → IsReplyFault origin octets e)
+read_gives octets (Ok m) is None e = (m, is, sym e)
+read_gives octets (Ok m) is (Some x) e = reply_refused octets m x is (sym e)
+read_gives octets (Err cause) refuses None e = absurd (cc e)
+read_gives octets (Err cause) refuses (Some x) e = λ origin. subst (λ (f : TransferError). IsReplyFault origin octets f) (sym (some_same e)) (unread_gives octets cause refuses origin)
+  where
+    some_same : Some x ≡ Some (unread cause) → x ≡ unread cause
+    some_same h = cc h
+
+pub read_framed : (read : Result Message DecodeError) → fault_read read ≡ Some errors.NoFrame → ⊥
+read_framed (Ok m) h = never_unframed m h
+read_framed (Err e) h = unread_framed e h
 
 -- ---- the answers
 pub starts : (origin : DomainName) (items : List Record) (last : Record) (b c : Bool) (o : Option Record) (xs : List Record) → b ≡ begins_with origin o last → o ≡ slice_get xs 0 → xs ≡ items → b ≡ c → begins_with origin (first_in items) last ≡ c

@@ -58,6 +58,11 @@ reply_fault m =
     else if m.metadata.truncation then Some errors.Truncated
     else if is_signed m then Some errors.Signed else None
 
+-- The cause of what was read: why it is no message, or the first that refuses the message.
+abbrev pub fault_read : Result Message DecodeError → Option TransferError
+fault_read (Ok m) = reply_fault m
+fault_read (Err e) = Some (unread e)
+
 -- The last of some records and one before them.
 abbrev pub last_of : Record → List Record → Record
 last_of r [] = r

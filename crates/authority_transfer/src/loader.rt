@@ -1,6 +1,7 @@
 //! The records of a transfer, taken one after the other.
 
-ghost use Rattle.std.specs.Prelude.{◌≡◌, ◌⊎◌, IfErr, IfOk, None, OnOk, Some};
+ghost use Rattle.std.specs.Prelude.{◌≡◌, ◌<◌, ◌⊎◌, Err, IfErr, IfOk, IfSome, None, OnOk, Some};
+ghost use Rattle.zsv_message.specs.zst_record.dnw_name.DomainName.{name_len};
 ghost use Rattle.authority_load.specs.zst_zone.zst_handler.Zones.{ZoneReadsBack, empty_zone};
 ghost use Rattle.authority_load.specs.Joining.{Joins};
 ghost use Rattle.authority_load.specs.Loaded.{IsLoaded};
@@ -15,7 +16,7 @@ use std::alloc::Global;
 use std::mem;
 use zsv_message::{Name, Record};
 
-// Adds a record, whose index among the answers this is.
+// Adds a record, whose index among the answers this is. Of a short owner no cause is hidden by want of memory.
 fn take_record<K>(
     alloc: Global,
     zone: &mut InMemoryZoneHandler<K>,
@@ -24,6 +25,7 @@ fn take_record<K>(
 ) -> Result<(), TransferError>
     ensures ok { OnOk result ((record_fault zone.old index next ≡ None) × Joins zone.old next zone.new) }
     ensures refused { IfErr result (λ e. (e ≡ TransferError.OutOfMemory) ⊎ (record_fault zone.old index next ≡ Some e)) }
+    ensures short { name_len next.name < 40 → IfSome (record_fault zone.old index next) (λ e. result ≡ Err e) }
 {
     let Ok(key) = NameKey::of(alloc, &next.name) else {
         mem::drop(next);

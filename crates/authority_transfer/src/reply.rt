@@ -1,10 +1,10 @@
 //! The reply as a whole: what it says, and whether its answers are those of a transfer.
 
-ghost use Rattle.std.specs.Prelude.{◌≡◌, IfErr, MatchOption, None, Some};
+ghost use Rattle.std.specs.Prelude.{◌≡◌, true, false, IfErr, IfOk, MatchOption, None, Some};
 ghost use Rattle.std.specs.List.{list_any};
 ghost use Rattle.zsv_message.specs.Messages.{IsMessage, Message};
 ghost use Rattle.zsv_message.specs.zst_record.dnw_name.DomainName.{DomainName};
-ghost use Rattle.authority_transfer.specs.Transfers.{IsReplyFault, IsUnframed, ReplyGives, is_answer, is_response, is_sig, is_signed, reply_fault, unread};
+ghost use Rattle.authority_transfer.specs.Transfers.{IsReplyFault, IsUnframed, ReplyGives, but_last, fault_read, is_answer, is_framed, is_response, is_sig, is_signed, reply_fault, unread};
 
 use crate::answers::read_answers;
 use crate::error::TransferError;
@@ -75,19 +75,44 @@ fn unread(cause: DecodeError) -> TransferError
     }
 }
 
-// Why the octets are no message, or the first cause that refuses it whatever its answers are.
-fn message_fault(alloc: Global, reply: &[u8]) -> Option<TransferError>
-    ensures first { MatchOption result ((m : Message) × IsMessage reply.now m × (reply_fault m ≡ None))
-        (λ e. (origin : DomainName) → IsReplyFault origin reply.now e) }
-    ensures framed { result ≡ Some TransferError.NoFrame → ⊥ }
+// Why nothing was read, or the first cause that refuses the message that was, whatever its answers are.
+fn fault_of(read: Result<MessageRequest<'_>, DecodeError>) -> Option<TransferError>
+    ensures { result ≡ fault_read read.entry }
 {
-    match MessageRequest::read(alloc, reply) {
+    match read {
         Ok(message) => {
             let fault = reply_fault(&message);
             mem::drop(message);
             fault
         }
         Err(cause) => Some(unread(cause)),
+    }
+}
+
+// Why the octets are no message, or the first cause that refuses it whatever its answers are.
+fn message_fault(alloc: Global, reply: &[u8]) -> Option<TransferError>
+    ensures first { MatchOption result ((m : Message) × IsMessage reply.now m × (reply_fault m ≡ None))
+        (λ e. (origin : DomainName) → IsReplyFault origin reply.now e) }
+    ensures framed { result ≡ Some TransferError.NoFrame → ⊥ }
+{
+    fault_of(MessageRequest::read(alloc, reply))
+}
+
+// The answers but the last one, where they are those of a transfer.
+fn between(origin: &Name, mut answers: Vec<Record>) -> Result<Vec<Record>, TransferError>
+    ensures ok { IfOk result (λ records. (is_framed origin.now answers.items ≡ true) × (records.items ≡ but_last answers.items)) }
+    ensures unframed { IfErr result (λ e. (e ≡ TransferError.NoFrame) × (is_framed origin.now answers.items ≡ false)) }
+{
+    let Some(last) = answers.pop() else {
+        return Err(TransferError::NoFrame);
+    };
+    let framed = begins_with(origin, answers.first(), &last);
+    mem::drop(last);
+    if framed {
+        Ok(answers)
+    } else {
+        mem::drop(answers);
+        Err(TransferError::NoFrame)
     }
 }
 
@@ -99,20 +124,8 @@ pub fn transferred(alloc: Global, origin: &Name, reply: &[u8]) -> Result<Vec<Rec
     if let Some(fault) = message_fault(alloc, reply) {
         return Err(fault);
     }
-    let Ok(mut answers) = read_answers(alloc, reply) else {
+    let Ok(answers) = read_answers(alloc, reply) else {
         return Err(TransferError::OutOfMemory);
     };
-    match answers.pop() {
-        Some(last) => {
-            let framed = begins_with(origin, answers.first(), &last);
-            mem::drop(last);
-            if framed {
-                Ok(answers)
-            } else {
-                mem::drop(answers);
-                Err(TransferError::NoFrame)
-            }
-        }
-        None => Err(TransferError::NoFrame),
-    }
+    between(origin, answers)
 }

@@ -12,13 +12,14 @@ pub use zst_absence::{
     ZoneType,
 };
 pub use zst_request::{
-    AxfrRecords, AxfrRecordsIter, BlocklistConsultAction, RequestTsig, TSigResponseContext,
-    ZoneHandler, ZoneRequest, ZoneTransfer, ZoneTransferIter,
+    AxfrRecords, AxfrRecordsIter, BlocklistConsultAction, Nsec3QueryInfo, RequestTsig,
+    TSigResponseContext, ZoneHandler, ZoneRequest, ZoneTransfer, ZoneTransferIter,
 };
 
 mod additional;
 mod back;
 mod chain;
+mod denial;
 mod handler;
 mod lookup;
 mod seen;

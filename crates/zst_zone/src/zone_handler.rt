@@ -11,8 +11,8 @@ use std::alloc::{AllocError, Global};
 use std::mem;
 use zst_request::{
     AuthLookup, AxfrPolicy, LookupControlFlow, LookupError, LookupOptions, Name, NameKey,
-    NxProofKind, RecordType, ResponseCode, TSigResponseContext, ZoneHandler, ZoneRequest,
-    ZoneTransfer, ZoneType,
+    Nsec3QueryInfo, NxProofKind, RecordType, ResponseCode, TSigResponseContext, ZoneHandler,
+    ZoneRequest, ZoneTransfer, ZoneType,
 };
 
 impl<K: Drop> ZoneHandler for InMemoryZoneHandler<K> {
@@ -134,6 +134,26 @@ impl<K: Drop> ZoneHandler for InMemoryZoneHandler<K> {
         ensures memory { IsOk result }
     {
         Ok(Some((self.transfer(alloc, options), None)))
+    }
+
+    fn nsec_records<'z>(
+        &'z self,
+        alloc: Global,
+        name: &Name,
+        options: LookupOptions,
+    ) -> Result<LookupControlFlow<AuthLookup<'z>>, AllocError> {
+        let found = self.nsec_denial(alloc, name, options)?;
+        Ok(LookupControlFlow::Continue(Ok(found)))
+    }
+
+    fn nsec3_records<'z>(
+        &'z self,
+        alloc: Global,
+        info: Nsec3QueryInfo<'_>,
+        options: LookupOptions,
+    ) -> Result<LookupControlFlow<AuthLookup<'z>>, AllocError> {
+        let found = self.nsec3_denial(alloc, info, options)?;
+        Ok(LookupControlFlow::Continue(Ok(found)))
     }
 
     /// Refuses each: messages change a guarded zone alone. It takes no memory.

@@ -1,5 +1,5 @@
 -- The records that deny a name or a type in a reply (RFC 4035, section 3.1.3; RFC 5155, section 7.2).
-use Rattle.std.specs.Prelude.{◌≡◌, ℕ, Bool, true, false, ◌||◌, nat_lt, List, [], Option, Some, None, if◌then◌else◌, slice_get}
+use Rattle.std.specs.Prelude.{◌≡◌, ℕ, Bool, true, false, ◌||◌, nat_lt, List, [], MatchBool, Option, Some, None, slice_get}
 use Rattle.std.specs.List.{list_any}
 use Rattle.zst_request.specs.Views.{Blocked, Stored, View, nx_proof_kind_of}
 use Rattle.zst_request.specs.dnw_codes.declared.record_type.RecordType.{RecordType}
@@ -24,7 +24,7 @@ fourth None = None
 fourth (Some octets) = slice_get octets 3
 
 abbrev pub signed_labels : RData → Option ℕ
-signed_labels data = fourth (octets_of RRSIG data)
+signed_labels rdata = fourth (octets_of RRSIG rdata)
 
 abbrev pub is_fewer : Option ℕ → ℕ → Bool
 is_fewer None all = false
@@ -60,6 +60,5 @@ is_by_hash other = false
 -- An answer has them where it is a wildcard's, or where the zone's proofs are by hash.
 abbrev pub AnswerDenial : View → Bool → DomainName → RecordType → List Record → List Record → Type 0
 AnswerDenial view dnssec_ok name t answers records =
-    if is_expanded answers || is_by_hash (nx_proof_kind_of view) then
-    DenialRecords view dnssec_ok name t (is_expanded answers) records
-    else (records ≡ [])
+    MatchBool (is_expanded answers || is_by_hash (nx_proof_kind_of view))
+    (DenialRecords view dnssec_ok name t (is_expanded answers) records) (records ≡ [])

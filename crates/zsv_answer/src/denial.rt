@@ -113,7 +113,7 @@ pub(crate) fn answer_denial<'z, H: ZoneHandler>(
 
 // Whether the zone's proofs are by hash.
 fn is_by_hash(kind: Option<&NxProofKind>) -> bool
-    ensures { result ≡ is_by_hash (option_copied kind) }
+    ensures { result ≡ is_by_hash (option_copied kind.entry) }
 {
     matches!(kind, Some(NxProofKind::Nsec3 { .. }))
 }

@@ -1,6 +1,6 @@
 use Rattle.std.proofs.Common.{arith}
 use Rattle.std.proofs.lemmas.Result.{err_from_is_err_and}
-use Rattle.authority_load.proofs.Causes.{stands_since, value_refused, value_taken}
+use Rattle.authority_load.proofs.Causes.{stands_since, tested_gives}
 use Rattle.authority_load.proofs.line.record_of.Goals as goal
 
 pub returns-in_err-header-clause-gives : goal.returns-in_err-header-clause-gives
@@ -13,12 +13,7 @@ returns-in_err-rdata-clause-gives g c =
     let p = err_from_is_err_and c.from_residual-in_err-rdata.result c.from_residual-in_err-rdata.ensures.1 in
     rw (p.1, p.2) (stands_since c.args.zone.now c.args.line.now 2 8 _ (omega arith) (c.in_err-rdata.ensures c.args.line.now c.in_ok-header.ensures))
 
-pub returns-in-Some-clause-gives : goal.returns-in-Some-clause-gives
-returns-in-Some-clause-gives g c =
+pub returns-clause-gives : goal.returns-clause-gives
+returns-clause-gives g c =
     let known = c.in_ok-rdata.ensures c.args.line.now c.in_ok-header.ensures in
-    value_refused c.args.zone.now c.args.line.now _ c.in_ok-rdata.rdata c.in-Some.cause known.0 known.1 c.numbers_fit.ensures c.in-Some.ensures
-
-pub returns-in-None-clause-gives : goal.returns-in-None-clause-gives
-returns-in-None-clause-gives g c =
-    let known = c.in_ok-rdata.ensures c.args.line.now c.in_ok-header.ensures in
-    value_taken c.args.zone.now c.args.line.now _ c.in_ok-rdata.rdata known.0 known.1 c.in-None.ensures c.numbers_fit.ensures
+    tested_gives c.args.zone.now c.args.line.now _ c.in_ok-rdata.rdata _ _ c.tested.result known.0 known.1 c.numbers_fit.ensures c.tested.ensures.ok c.tested.ensures.refused
