@@ -1,5 +1,5 @@
 -- What is shown are the sets of a denial.
-use Rattle.std.proofs.Common.{◌≡◌, ℕ, ◌+◌, ◌-◌, ◌<◌, ◌≤◌, Bool, true, false, ◌&&◌, not, List, [], ◌∷◌, ◌++◌, map, refl, ap, sym, subst, ◌∙◌, arith, cond, append-nil}
+use Rattle.std.proofs.Common.{◌≡◌, ℕ, ◌+◌, ◌-◌, ◌<◌, ◌≤◌, Bool, true, false, ◌&&◌, not, List, [], ◌∷◌, ◌++◌, ◌==◌, length, map, refl, ap, sym, subst, ◌∙◌, arith, cond, append-nil}
 use Rattle.std.specs.Prelude.{Option, Some, None, nat_le, is_some}
 use Rattle.std.specs.List.{filter, flat_map}
 use Rattle.std.specs.Ordering.{is_gt}
@@ -157,6 +157,13 @@ nsec_denied sets origin name own wild b found p w shows zone z =
     }) shows
 
 -- ---- by hash
+pub has_room : (labels : List (List ℕ)) (octets : ℕ) → octets ≡ cond (length labels == 0) 1 (labels_len labels) → nat_le (octets + 34) 255 ≡ nat_le (labels_len labels + 34) 255
+has_room [] octets e = ap (λ (n : ℕ). nat_le (n + 34) 255) e
+has_room (label ∷ labels) octets e = ap (λ (n : ℕ). nat_le (n + 34) 255) e
+
+pub room_of : (n : ℕ) → nat_le n 255 ≡ true → n ≤ 255
+room_of n e = omega (arith, e)
+
 module _ (by : Hashing) (sets : List RRset) (origin name : DomainName) (t : RecordType) (wild : Bool) (b : Bool) where
   abbrev owner_in : DomainName → DomainName → DomainName
   owner_in o n = hashed_owner (nsec3_digest by.salt by.iterations n) o

@@ -4,7 +4,7 @@ use Rattle.std.specs.Prelude.{Option, Some, None, option_map}
 use Rattle.std.specs.Cmp.Lexicographic.{pointwise}
 use Rattle.std.proofs.lemmas.Bool.{cases_lt, true≢false, and_parts}
 use Rattle.std.proofs.lemmas.List.{length-drop, nil_from_length}
-use Rattle.zst_map.specs.dnw_name.DomainName.{DomainName, domain_name, is_at_or_below, wildcard_of}
+use Rattle.zst_map.specs.dnw_name.DomainName.{DomainName, domain_name, is_at_or_below, lowercase_name, wildcard_of}
 use Rattle.zst_map.specs.dnw_name.NameOrderLaws.{and-false}
 use Rattle.zst_map.specs.zst_handler.Found.{nearest_above}
 use Rattle.zst_map.specs.zst_handler.Zones.{Zone, exists_in}
@@ -14,6 +14,7 @@ use Rattle.zst_denial.specs.dnw_label.Label.{label_eq, wildcard_label}
 use Rattle.zst_denial.specs.Denials.{encloser, is_existing}
 use Rattle.zst_denial.specs.HashDenials.{next_closer}
 use Rattle.zst_denial.proofs.zst_key_lemmas.Climbing.{up-up}
+use Rattle.zst_denial.proofs.zst_key_lemmas.KeyLemmas.{above-lower}
 use Rattle.zst_denial.proofs.zst_key_lemmas.NamesAbove.{above-shorter, nearest-at, nearest-none}
 use Rattle.zst_absence.specs.Absences.{FindsCloser, FindsClosest, IsClosest, IsLowest, IsZoneOf, depth, exists_below}
 
@@ -94,6 +95,22 @@ depth_within origin name = by (is_at_or_below name origin)
     by : (b : Bool) → cond b (length name.labels - length origin.labels) 0 ≤ length name.labels
     by true = omega arith
     by false = omega arith
+
+-- ---- between a level that doesn't exist and one that does
+pub lowest_found : (sets : List RRset) (name : DomainName) (low absent present high : ℕ) → low ≤ absent → absent < present → present ≤ high → high ≤ length name.labels
+    → exists_in sets (up name absent) ≡ false → exists_in sets (up name present) ≡ true → present ≤ absent + 1 → IsLowest sets name low present high
+lowest_found sets name low absent present high from order to within none there close =
+    record {
+      above = omega (arith, from, order);
+      within = to;
+      there = there;
+      none = λ n less. absent_below sets name n absent (omega (arith, less, close)) (omega (arith, order, to, within)) none;
+    }
+
+pub exists_lower : (sets : List RRset) (name : DomainName) → exists_in sets (lowercase_name name) ≡ exists_in sets name
+exists_lower [] name = refl
+exists_lower (set ∷ sets) name =
+    ap (λ (b : Bool). b || exists_in sets (lowercase_name name)) (above-lower set.name name) ∙ ap (λ (b : Bool). is_at_or_below set.name name || b) (exists_lower sets name)
 
 -- ---- where it is
 past_none : (sets : List RRset) (origin name : DomainName) (n : ℕ) → depth origin name < n → n ≤ length name.labels → exists_below sets origin (up name n) ≡ false

@@ -62,7 +62,7 @@ pub fn nsec3_denial<'z>(
 fn has_hashed_owners(origin: &Name) -> bool
     ensures { result ≡ nat_le (labels_len origin.now.labels + 34) 255 }
 {
-    origin.as_octets().len() + 34 <= Name::MAX_LENGTH
+    origin.len() + 34 <= Name::MAX_LENGTH
 }
 
 // Whether the name doesn't own the type, or a wildcard answers for it.
@@ -75,7 +75,7 @@ fn is_wanted(
 {
     let key = NameKey::of(alloc, query.name)?;
     let owned = sets.get(&key, query.record_type).is_some();
-    Ok(!owned || query.has_wildcard_match)
+    Ok(!(owned && !query.has_wildcard_match))
 }
 
 // The set of the query name's digest.
