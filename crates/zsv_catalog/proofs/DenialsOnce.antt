@@ -1,7 +1,7 @@
 -- The sets by which a zone denies a name or a type are one.
 use Rattle.std.proofs.Common.{◌≡◌, ◌∙◌, ℕ, Bool, true, false, List, [], ◌++◌, ap, append-nil, refl, sym}
 use Rattle.std.proofs.lemmas.Bool.{true≢false}
-use Rattle.std.specs.Prelude.{◌&&◌, ◌||◌, Option, Some, None, IsSome, cond, find, if◌then◌else◌, is_some, slice_get}
+use Rattle.std.specs.Prelude.{◌&&◌, ◌||◌, Option, Some, None, IsSome, MatchBool, cond, find, if◌then◌else◌, is_some, slice_get}
 use Rattle.std.specs.Ordering.{is_eq, is_gt, is_lt, ordering_reverse}
 use Rattle.std.specs.declared.cmp.Ordering.{Ordering}
 use Rattle.std.specs.declared.cmp.Ordering.TheVariants.{Less, Equal, Greater}
@@ -115,12 +115,12 @@ one_denial_records (Blocked blocklist) true name t wild rs others is also = is �
 -- With an answer, a wildcard's or another.
 abbrev pub DeniesBeside : View → Bool → DomainName → RecordType → Bool → List Record → Type 0
 DeniesBeside view dnssec_ok name t wild records =
-    if wild || is_by_hash (nx_proof_kind_of view) then DenialRecords view dnssec_ok name t wild records else (records ≡ [])
+    MatchBool (wild || is_by_hash (nx_proof_kind_of view)) (DenialRecords view dnssec_ok name t wild records) (records ≡ [])
 
 pub one_answer_denial : (view : View) (dnssec_ok : Bool) (name : DomainName) (t : RecordType) (wild : Bool) (rs others : List Record) → DeniesBeside view dnssec_ok name t wild rs → DeniesBeside view dnssec_ok name t wild others → rs ≡ others
 one_answer_denial view dnssec_ok name t wild rs others is also = by (wild || is_by_hash (nx_proof_kind_of view)) is also
   where
-    by : (b : Bool) → (if b then DenialRecords view dnssec_ok name t wild rs else (rs ≡ [])) → (if b then DenialRecords view dnssec_ok name t wild others else (others ≡ [])) → rs ≡ others
+    by : (b : Bool) → MatchBool b (DenialRecords view dnssec_ok name t wild rs) (rs ≡ []) → MatchBool b (DenialRecords view dnssec_ok name t wild others) (others ≡ []) → rs ≡ others
     by true denies too = one_denial_records view dnssec_ok name t wild rs others denies too
     by false none too = none ∙ sym too
 

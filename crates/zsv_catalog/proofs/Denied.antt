@@ -166,12 +166,12 @@ names_absent zone name t is = by (same_record_type t ANY) refl
 
 none_owned : (sets : List RRset) (name : DomainName) (t : RecordType) → filter (λ set. name_eq name set.name) sets ≡ [] → rrset_at sets name t ≡ None
 none_owned [] name t none = refl
-none_owned (set ∷ sets) name t none = by (name_eq name set.name) none
+none_owned (set ∷ sets) name t none = by (name_eq name set.name) none (none_owned sets name t)
   where
     by : (b : Bool) → cond b (set ∷ filter (λ other. name_eq name other.name) sets) (filter (λ other. name_eq name other.name) sets) ≡ []
-        → cond (b && same_record_type set.record_type t) (Some set) (rrset_at sets name t) ≡ None
-    by true some = absurd (cc some)
-    by false later = none_owned sets name t later
+        → (filter (λ other. name_eq name other.name) sets ≡ [] → rrset_at sets name t ≡ None) → cond (b && same_record_type set.record_type t) (Some set) (rrset_at sets name t) ≡ None
+    by true some rest = absurd (cc some)
+    by false later rest = rest later
 
 none_here : (d own a w : Option RRset) → or_else d (or_else (or_else own a) w) ≡ None → own ≡ None
 none_here None None a w e = refl

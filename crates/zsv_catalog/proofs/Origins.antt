@@ -1,7 +1,7 @@
 -- Where the NSEC records of a reply come from: each is of an NSEC set that the zone has.
 use Rattle.std.proofs.Common.{◌≡◌, ◌∙◌, ap, inl, inr, refl, subst, sym}
 use Rattle.std.proofs.lemmas.Bool.{true≢false}
-use Rattle.std.specs.Prelude.{ℕ, Bool, true, false, ◌||◌, cond, List, [], ◌∷◌, ◌++◌, Option, Some, None, IfSome, IsSome, if◌then◌else◌, is_some}
+use Rattle.std.specs.Prelude.{ℕ, Bool, true, false, ◌||◌, cond, List, [], ◌∷◌, ◌++◌, Option, Some, None, IfSome, IsSome, MatchBool, is_some}
 use Rattle.std.specs.List.{AllByRecursion}
 use Rattle.zsv_answer.proofs.zst_request_lemmas.zst_denial_lemmas.ShownSets.{nsec3_shown, nsec_shown}
 use Rattle.zsv_answer.specs.DenialRecords.{AnswerDenial, DenialRecords, IsDenial, is_by_hash, is_expanded}
@@ -100,7 +100,7 @@ module _ (zone : Zone) (stored : AreStored zone.sets) where
   answer_denial_from : (d : Bool) (name : DomainName) (t : RecordType) (answers rs : List Record) → AnswerDenial (Stored zone) d name t answers rs → AllFrom zone rs
   answer_denial_from d name t answers rs is = by (is_expanded answers || is_by_hash (nx_proof_kind_of (Stored zone))) is
     where
-      by : (b : Bool) → (if b then DenialRecords (Stored zone) d name t (is_expanded answers) rs else (rs ≡ [])) → AllFrom zone rs
+      by : (b : Bool) → MatchBool b (DenialRecords (Stored zone) d name t (is_expanded answers) rs) (rs ≡ []) → AllFrom zone rs
       by true denies = denial_from d name t (is_expanded answers) rs denies
       by false none = subst (AllFrom zone) (sym none) tt
 

@@ -1,6 +1,6 @@
 -- What a full reply holds can be written and read back, where what the handlers hold can.
 use Rattle.std.proofs.Common.{◌≡◌, ℕ, refl, subst, sym}
-use Rattle.std.specs.Prelude.{Bool, true, false, ◌&&◌, ◌||◌, cond, List, [], ◌∷◌, ◌++◌, Option, Some, None, IfSome, if◌then◌else◌, option_to_list}
+use Rattle.std.specs.Prelude.{Bool, true, false, ◌&&◌, ◌||◌, cond, List, [], ◌∷◌, ◌++◌, Option, Some, None, IfSome, MatchBool, option_to_list}
 use Rattle.std.specs.List.{AllByRecursion}
 use Rattle.zsv_answer.proofs.zst_request_lemmas.zst_denial_lemmas.ShownSets.{nsec3_shown, nsec_shown}
 use Rattle.zsv_answer.specs.DenialRecords.{AnswerDenial, DenialRecords, IsDenial, is_by_hash, is_expanded}
@@ -101,7 +101,7 @@ denial_back (Blocked blocklist) true name t wild records back none = none_back r
 answer_denial_back : (view : View) (dnssec : Bool) (name : DomainName) (t : RecordType) (answers records : List Record) → ViewReadsBack view → AnswerDenial view dnssec name t answers records → AllByRecursion IsServable records
 answer_denial_back view dnssec name t answers records back is = by (is_expanded answers || is_by_hash (nx_proof_kind_of view)) is
   where
-    by : (b : Bool) → (if b then DenialRecords view dnssec name t (is_expanded answers) records else (records ≡ [])) → AllByRecursion IsServable records
+    by : (b : Bool) → MatchBool b (DenialRecords view dnssec name t (is_expanded answers) records) (records ≡ []) → AllByRecursion IsServable records
     by true denies = denial_back view dnssec name t (is_expanded answers) records back denies
     by false none = none_back records none
 
