@@ -1,6 +1,6 @@
 -- What the authorities of a reply by a secured zone deny: the name of a name error, the type that a name hasn't; no authoritative name, and no type that it has.
-use Rattle.std.proofs.Common.{◌≡◌, ◌∙◌, ◌<◌, ◌^◌, ap, inl, inr, refl, subst, sym}
-use Rattle.std.specs.Prelude.{Bool, true, false, List, [], ◌∷◌, ◌++◌, Option, Some, None, IsSome, IsSomeAnd, is_some}
+use Rattle.std.proofs.Common.{◌≡◌, ◌∙◌, ◌<◌, ◌^◌, ap, inl, inr, subst, sym}
+use Rattle.std.specs.Prelude.{true, false, List, [], ◌∷◌, ◌++◌, Option, Some, None, IsSome, IsSomeAnd, is_some}
 use Rattle.std.specs.List.{AllByRecursion}
 use Rattle.zsv_answer.proofs.zst_request_lemmas.zst_denial_lemmas.Secured.{owned_not_lacked, present_not}
 use Rattle.zsv_answer.proofs.zst_request_lemmas.zst_denial_lemmas.ShownSets.{absent_denied, unowned_denied}

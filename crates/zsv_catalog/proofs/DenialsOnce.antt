@@ -51,8 +51,10 @@ one_owner zone t name owner other set more is also = by (is_gt (name_cmp owner n
   where
     here : IsSome (rrset_at zone.sets owner t)
     here = ap is_some is.there
+
     there : IsSome (rrset_at zone.sets other t)
     there = ap is_some also.there
+
     by : (a b : Bool) → is_gt (name_cmp owner name) ≡ a → is_gt (name_cmp other name) ≡ b → name_cmp owner other ≡ Equal
     by false false e f = tied owner other (is.last e other there f) (also.last f owner here e)
     by true true e f = tied owner other (is.around e other there).1 (also.around f owner here).1
@@ -90,9 +92,11 @@ one_nsec3 by zone name t wild sets others is also = needed (is_denied zone name 
     above : is_denied zone name t wild ≡ true → rrset_at zone.sets (hashed_name by zone name) types.NSEC3 ≡ None → (e : Option DomainName) → encloser zone name ≡ e → sets ≡ others
     above denied none None e = is.no_ancestor denied none e ∙ sym (also.no_ancestor denied none e)
     above denied none (Some ancestor) e = one_closest by zone name ancestor sets others (is.closest ancestor denied none e) (also.closest ancestor denied none e)
+
     own : is_denied zone name t wild ≡ true → (o : Option RRset) → rrset_at zone.sets (hashed_name by zone name) types.NSEC3 ≡ o → sets ≡ others
     own denied None e = above denied e (encloser zone name) refl
     own denied (Some set) e = is.own set denied e ∙ sym (also.own set denied e)
+
     needed : (b : Bool) → is_denied zone name t wild ≡ b → sets ≡ others
     needed false e = is.needless e ∙ sym (also.needless e)
     needed true e = own e (rrset_at zone.sets (hashed_name by zone name) types.NSEC3) refl

@@ -157,9 +157,11 @@ names_absent zone name t is = by (same_record_type t ANY) refl
     of_any : (sets : List RRset) → name_error ≡ all_outcome zone name sets → exists_in zone.sets name ≡ false
     of_any [] e = absent_by zone name e
     of_any (set ∷ sets) e = absurd (true≢false (ap is_error e))
+
     of_one : (o : Option RRset) → LookupFrom zone name t o name_error → exists_in zone.sets name ≡ false
     of_one None e = absent_by zone name e
     of_one (Some first) (answer, e, from) = absurd (true≢false (ap is_error e))
+
     by : (b : Bool) → same_record_type t ANY ≡ b → exists_in zone.sets name ≡ false
     by true e = of_any (sets_of_name zone.sets name) (is.any e)
     by false e = of_one (found zone.sets name t) (is.one e)
@@ -185,10 +187,12 @@ types_absent zone name t is = by (same_record_type t ANY) refl
     of_any : (sets : List RRset) → sets_of_name zone.sets name ≡ sets → name_exists ≡ all_outcome zone name sets → rrset_at zone.sets name t ≡ None
     of_any [] none e = none_owned zone.sets name t none
     of_any (set ∷ sets) some e = absurd (true≢false (sym (ap is_found e)))
+
     of_one : (o : Option RRset) → found zone.sets name t ≡ o → LookupFrom zone name t o name_exists → rrset_at zone.sets name t ≡ None
     of_one None none e = none_here (delegation zone.sets name t) (rrset_at zone.sets name t)
         (or_else (rrset_at zone.sets name CNAME) (if is_address t then rrset_at zone.sets name ANAME else None)) (wildcard_answer zone.sets name t) none
     of_one (Some first) some (answer, e, from) = absurd (true≢false (sym (ap is_found e)))
+
     by : (b : Bool) → same_record_type t ANY ≡ b → rrset_at zone.sets name t ≡ None
     by true e = of_any (sets_of_name zone.sets name) refl (is.any e)
     by false e = of_one (found zone.sets name t) refl (is.one e)

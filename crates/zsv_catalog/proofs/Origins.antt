@@ -1,7 +1,7 @@
 -- Where the NSEC records of a reply come from: each is of an NSEC set that the zone has.
 use Rattle.std.proofs.Common.{◌≡◌, ◌∙◌, ap, inl, inr, refl, subst, sym}
 use Rattle.std.proofs.lemmas.Bool.{true≢false}
-use Rattle.std.specs.Prelude.{ℕ, Bool, true, false, ◌||◌, cond, List, [], ◌∷◌, ◌++◌, Option, Some, None, IfSome, IsSome, MatchBool, is_some}
+use Rattle.std.specs.Prelude.{Bool, true, false, ◌||◌, cond, List, [], ◌∷◌, Option, Some, None, IfSome, IsSome, MatchBool, is_some}
 use Rattle.std.specs.List.{AllByRecursion}
 use Rattle.zsv_answer.proofs.zst_request_lemmas.zst_denial_lemmas.ShownSets.{nsec3_shown, nsec_shown}
 use Rattle.zsv_answer.specs.DenialRecords.{AnswerDenial, DenialRecords, IsDenial, is_by_hash, is_expanded}

@@ -169,6 +169,7 @@ first_ns dnssec_ok set more is begins = by dnssec_ok set.records is.filled is.re
   where
     of : (r : Record) → same_record_type (type_of r.rdata) set.record_type ≡ true → same_record_type (type_of r.rdata) kind.NS ≡ true → same_record_type set.record_type kind.NS ≡ true
     of r own ns = subst (λ (n : ℕ). (n == record_type_number kind.NS) ≡ true) (number (type_of r.rdata) set.record_type own) ns
+
     by : (b : Bool) (rs : List Record) → none_left rs ≡ false → AllByRecursion (λ (r : Record). same_record_type (type_of r.rdata) set.record_type ≡ true) rs → begins_with_ns (cond b (rs ++ set.signatures) rs ++ more) ≡ true
         → same_record_type set.record_type kind.NS ≡ true
     by b [] filled all at = absurd (true≢false filled)
@@ -200,6 +201,7 @@ unflattened t first nsec = by (same_record_type first.record_type kind.ANAME)
   where
     none : is_address t ≡ false
     none = subst (λ (n : ℕ). cond (n == record_type_number kind.A) true (n == record_type_number kind.AAAA) ≡ false) (sym (number t kind.NSEC nsec)) refl
+
     by : (b : Bool) → (b && is_address t) ≡ false
     by true = none
     by false = refl
@@ -226,6 +228,7 @@ referral_none zone name t dnssec_ok answer stored is = by (begins_with_ns record
   where
     records : List Record
     records = sets_shown dnssec_ok answer.answers
+
     by : (b ns any nsec : Bool) → begins_with_ns records ≡ b → same_record_type t kind.ANY ≡ any → same_record_type t kind.NSEC ≡ nsec → AllByRecursion IsNoNsec (cond (b && not (ns || any)) records [])
     by false ns any nsec e f g = tt
     by true true any nsec e f g = tt
