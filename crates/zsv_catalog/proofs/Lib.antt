@@ -14,6 +14,7 @@ pub mod PartsOnce
 pub mod Replied
 mod RequestsBack
 mod ResolvedBack
+pub mod SentByZone
 mod ShownBack
 pub mod Transferred
 mod Typed
