@@ -1,7 +1,9 @@
 //! The records that deny a name or a type in a reply (RFC 4035 section 3.1.3, RFC 5155 section 7.2).
 
-ghost use Rattle.std.specs.Prelude.{◌≡◌, IfOk, option_copied};
+ghost use Rattle.std.specs.Prelude.{◌≡◌, IfOk, option_copied, option_map};
+ghost use Rattle.zst_request.specs.dnw_codes.declared.record_type.RecordType.TheVariants as kind;
 ghost use Rattle.zst_request.specs.dnw_name.DomainName.{num_labels};
+ghost use Rattle.zst_request.specs.zst_denial.Octets.{octets_of};
 ghost use Rattle.zst_request.specs.zst_handler.Answers.{answers_in, records_in};
 ghost use Rattle.zsv_answer.specs.DenialRecords.{AnswerDenial, DenialRecords, is_by_hash, is_expanded, is_fewer, signed_labels};
 ghost use Rattle.zsv_answer.specs.zsv_reply.zst_record.Lending.{seen};
@@ -13,15 +15,29 @@ use zst_request::{
     RecordRef, RecordType, ZoneHandler,
 };
 
-// How many labels the name had that an RRSIG was made for (RFC 4034 section 3.1.3).
-fn signed_labels(data: &RData) -> Option<u8>
-    ensures { result ≡ signed_labels data.now }
+// The octets of an RRSIG's RDATA.
+fn rrsig_octets(rdata: &RData) -> Option<&[u8]>
+    ensures { option_map (λ octets. octets.now) result ≡ octets_of kind.RRSIG rdata.now }
 {
-    match data {
-        RData::Unknown { code, rdata } if *code == RecordType::RRSIG => {
-            rdata.anything.get(3).copied()
+    match rdata {
+        RData::Unknown { code, rdata } => {
+            if *code == RecordType::RRSIG {
+                Some(&rdata.anything)
+            } else {
+                None
+            }
         }
         _ => None,
+    }
+}
+
+// How many labels the name had that an RRSIG was made for (RFC 4034 section 3.1.3).
+fn signed_labels(rdata: &RData) -> Option<u8>
+    ensures { result ≡ signed_labels rdata.now }
+{
+    match rrsig_octets(rdata) {
+        Some(octets) => octets.get(3).copied(),
+        None => None,
     }
 }
 
@@ -39,7 +55,8 @@ fn is_from_wildcard(record: &RecordRef<'_>) -> bool
 fn is_expanded(answers: &AuthLookup<'_>) -> bool
     ensures { result ≡ is_expanded (answers_in answers.now) }
 {
-    'records: for record in answers.iter() {
+    let mut left = answers.iter();
+    'records: while let Some(record) = left.next() {
         if is_from_wildcard(&record) {
             return true;
         }
