@@ -3,10 +3,12 @@ use Rattle.std.proofs.Common.{◌≡◌, ℕ, ◌+◌, ◌-◌, ◌<◌, ◌≤�
 use Rattle.std.specs.Prelude.{Option, Some, None, nat_le, is_some}
 use Rattle.std.specs.List.{filter, flat_map}
 use Rattle.std.specs.Ordering.{is_gt}
+use Rattle.std.proofs.lemmas.Bool.Decides.{nat_tests}
 use Rattle.std.proofs.lemmas.Bool.{true≢false}
 use Rattle.zst_map.specs.Preceding.{FindsPreceding}
 use Rattle.zst_map.specs.dnw_codes.declared.record_type.RecordType.{RecordType}
 use Rattle.zst_map.specs.dnw_codes.declared.record_type.RecordType.TheVariants as kind
+use Rattle.zst_map.specs.dnw_codes.RecordType.{same_record_type}
 use Rattle.zst_map.specs.dnw_name.DomainName.{DomainName, labels_len, lowercase_name, name_eq, wildcard_of}
 use Rattle.zst_map.specs.zst_handler.Answers.{additionals_in, all_shown, answers_in, authorities_in, set_in, sets_shown, shown}
 use Rattle.zst_map.specs.zst_handler.Lookups.{listed}
@@ -25,7 +27,7 @@ use Rattle.zst_denial.specs.Hashed.{Hashing, hashed_name}
 use Rattle.zst_denial.specs.Shown.{ShowsDenial}
 use Rattle.zst_denial.specs.zst_hash.Digests.{nsec3_digest}
 use Rattle.zst_denial.specs.zst_hash.Owners.{hashed_owner}
-use Rattle.zst_denial.proofs.zst_key_lemmas.KeyLemmas.{cmp-lower}
+use Rattle.zst_denial.proofs.zst_key_lemmas.KeyLemmas.{cmp-lower, eq-lower-first}
 use Rattle.zst_absence.specs.Absences.{FindsCloser, IsClosest, IsForWildcard, IsProofAbove, IsZoneOf, is_wanted, unless_same}
 use Rattle.zst_absence.proofs.Enclosers.{closer_of, encloser_none, encloser_some, moved, parent_of, star_of}
 
@@ -33,17 +35,16 @@ use Rattle.zst_absence.proofs.Enclosers.{closer_of, encloser_none, encloser_some
 -- The one before a name in lower case is the one before the name.
 pub before_lower : (sets : List RRset) (t : RecordType) (name : DomainName) (found : Option RRset) → FindsPreceding sets t (lowercase_name name) found → FindsPreceding sets t name found
 before_lower sets t name None p = p
-before_lower sets t name (Some set) p =
-    (
-      p.0,
-      record {
-        there = p.1.there;
-        last = λ up_to other some behind. p.1.last (ap is_gt (cmp-lower p.0 name) ∙ up_to) other some (ap is_gt (cmp-lower other name) ∙ behind);
-        around = λ after other some.
-            let all = p.1.around (ap is_gt (cmp-lower p.0 name) ∙ after) other some in
-            (ap is_gt (sym (cmp-lower other name)) ∙ all.0, all.1);
-      },
-    )
+before_lower sets t name (Some set) p = (
+  p.0,
+  record {
+    there = p.1.there;
+    last = λ up_to other some behind. p.1.last (ap is_gt (cmp-lower p.0 name) ∙ up_to) other some (ap is_gt (cmp-lower other name) ∙ behind);
+    around = λ after other some.
+        let all = p.1.around (ap is_gt (cmp-lower p.0 name) ∙ after) other some in
+        (ap is_gt (sym (cmp-lower other name)) ∙ all.0, all.1);
+  },
+)
 
 of_zone : (zone : Zone) (t : RecordType) (name : DomainName) (found : Option RRset) → FindsPreceding zone.sets t name found → Precedes zone t name found
 of_zone zone t name None p = p
@@ -153,16 +154,32 @@ nsec_denied sets origin name own wild b found p w shows zone z =
       for_star = wild;
       wildcard = star.wildcard;
       no_wildcard = star.none;
-      are = are ∙ ap (λ (rest : List RRset). each_owner_once (listed own ++ rest)) (append-nil (listed wild));
+      are = are ∙ ap each_owner_once (append-nil (listed own ++ listed wild));
     }) shows
 
 -- ---- by hash
-pub has_room : (labels : List (List ℕ)) (octets : ℕ) → octets ≡ cond (length labels == 0) 1 (labels_len labels) → nat_le (octets + 34) 255 ≡ nat_le (labels_len labels + 34) 255
-has_room [] octets e = ap (λ (n : ℕ). nat_le (n + 34) 255) e
-has_room (label ∷ labels) octets e = ap (λ (n : ℕ). nat_le (n + 34) 255) e
+pub rrset_lower : (sets : List RRset) (name : DomainName) (t : RecordType) → rrset_at sets (lowercase_name name) t ≡ rrset_at sets name t
+rrset_lower [] name t = refl
+rrset_lower (set ∷ sets) name t =
+    ap (λ (b : Bool). cond (b && same_record_type set.record_type t) (Some set) (rrset_at sets (lowercase_name name) t)) (eq-lower-first name set.name)
+    ∙ ap (cond (name_eq name set.name && same_record_type set.record_type t) (Some set)) (rrset_lower sets name t)
+
+-- What a search by the name's key finds, is its own.
+pub found_key : (sets : List RRset) (key name : DomainName) (t : RecordType) (found : Option RRset) → key ≡ lowercase_name name → found ≡ rrset_at sets key t → rrset_at sets name t ≡ found
+found_key sets key name t found is e = sym (e ∙ ap (λ (n : DomainName). rrset_at sets n t) is ∙ rrset_lower sets name t)
+
+pub wanted_owned : (sets : List RRset) (name : DomainName) (t : RecordType) (wild : Bool) (set : RRset) → rrset_at sets name t ≡ Some set → wild ≡ is_wanted sets name t wild
+wanted_owned sets name t wild set e = twice wild ∙ sym (ap (λ (found : Option RRset). not (is_some found && not wild)) e)
+  where
+    twice : (b : Bool) → b ≡ not (not b)
+    twice true = refl
+    twice false = refl
+
+pub wanted_unowned : (sets : List RRset) (name : DomainName) (t : RecordType) (wild : Bool) → rrset_at sets name t ≡ None → true ≡ is_wanted sets name t wild
+wanted_unowned sets name t wild e = sym (ap (λ (found : Option RRset). not (is_some found && not wild)) e)
 
 pub room_of : (n : ℕ) → nat_le n 255 ≡ true → n ≤ 255
-room_of n e = omega (arith, e)
+room_of n e = grind (arith, nat_tests)
 
 module _ (by : Hashing) (sets : List RRset) (origin name : DomainName) (t : RecordType) (wild : Bool) (b : Bool) where
   abbrev owner_in : DomainName → DomainName → DomainName

@@ -2,6 +2,7 @@
 use Rattle.std.proofs.Common.{◌≡◌, ℕ, ◌+◌, ◌-◌, ◌<◌, ◌≤◌, Bool, true, false, ◌&&◌, ◌||◌, ◌==◌, List, [], ◌∷◌, drop, length, zero, suc, refl, ap, sym, subst, ◌∙◌, arith, inl, inr, cond}
 use Rattle.std.specs.Prelude.{Option, Some, None, option_map}
 use Rattle.std.specs.Cmp.Lexicographic.{pointwise}
+use Rattle.std.proofs.lemmas.Bool.Decides.{nat_tests}
 use Rattle.std.proofs.lemmas.Bool.{cases_lt, true≢false, and_parts}
 use Rattle.std.proofs.lemmas.List.{length-drop, nil_from_length}
 use Rattle.zst_map.specs.dnw_name.DomainName.{DomainName, domain_name, is_at_or_below, lowercase_name, wildcard_of}
@@ -204,8 +205,7 @@ encloser_none sets origin name zone z c =
 
 -- ---- the names beside it
 not_zero : (n : ℕ) → 0 < n → (n == 0) ≡ false
-not_zero zero e = absurd (omega (arith, e))
-not_zero (suc n) e = refl
+not_zero n e = grind (arith, nat_tests)
 
 -- The wildcard in place of the next closer name's first label is the encloser's.
 pub star_of : (name : DomainName) (levels : ℕ) → 0 < levels → levels ≤ length name.labels → wildcard_of (up name (levels - 1)) ≡ star (up name levels)

@@ -66,16 +66,14 @@ fn has_hashed_owners(origin: &Name) -> bool
 }
 
 // Whether the name doesn't own the type, or a wildcard answers for it.
-fn is_wanted(
-    alloc: Global,
-    sets: &ZoneSets,
-    query: HashedQuery<'_>,
-) -> Result<bool, AllocError>
+fn is_wanted(alloc: Global, sets: &ZoneSets, query: HashedQuery<'_>) -> Result<bool, AllocError>
     ensures { IfOk result (λ wanted. wanted ≡ is_wanted sets.now query.entry.name.now query.entry.record_type query.entry.has_wildcard_match) }
 {
     let key = NameKey::of(alloc, query.name)?;
-    let owned = sets.get(&key, query.record_type).is_some();
-    Ok(!(owned && !query.has_wildcard_match))
+    match sets.get(&key, query.record_type) {
+        Some(_) => Ok(query.has_wildcard_match),
+        None => Ok(true),
+    }
 }
 
 // The set of the query name's digest.

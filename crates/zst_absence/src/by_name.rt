@@ -19,7 +19,7 @@ pub fn nsec_denial<'z>(
     name: &Name,
     options: LookupOptions,
 ) -> Result<AuthLookup<'z>, AllocError>
-    ensures shows { IfOk result (λ found. (zone : Zone) → IsZoneOf sets.now origin.now zone
+    ensures { IfOk result (λ found. (zone : Zone) → IsZoneOf sets.now origin.now zone
         → ShowsDenial (IsNsecDenial zone name.now) options.dnssec_ok found) }
 {
     let own = set_before(alloc, sets, name, RecordType::NSEC)?;

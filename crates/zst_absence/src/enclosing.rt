@@ -93,7 +93,8 @@ fn exists_above(
     requires { levels ≤ length name.now.labels }
     ensures { IfOk result (λ there. there ≡ exists_in sets.now (up name.now levels)) }
 {
-    let key = NameKey::of(alloc, &ancestor(name, levels)?)?;
+    let above = ancestor(name, levels)?;
+    let key = NameKey::of(alloc, &above)?;
     sets.exists(&key)
 }
 

@@ -6,8 +6,8 @@
 #![tactic(auto)]
 
 pub use zst_denial::{
-    NULL, NsecData, RecordTypeSet, SignerFault, ZoneSignature, ZoneSigner, hashed_owner,
-    nsec3_data, nsec3_digest, nsec3param_data, nsec_data, rrsig_data, sign_set,
+    NULL, NsecData, RecordTypeSet, SignerFault, ZoneSignature, ZoneSigner, hashed_owner, nsec_data,
+    nsec3_data, nsec3_digest, nsec3param_data, rrsig_data, sign_set,
 };
 pub use zst_map::{
     AnswerSet, AuthLookup, AxfrPolicy, DNSClass, Draft, Edit, LentSets, LookupControlFlow,

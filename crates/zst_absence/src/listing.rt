@@ -70,10 +70,7 @@ fn unless_same<'z>(
 }
 
 // Appends a set, if there is one.
-fn list<'z>(
-    shown: &mut Vec<AnswerSet<'z>>,
-    set: Option<&'z RecordSet>,
-) -> Result<(), AllocError>
+fn list<'z>(shown: &mut Vec<AnswerSet<'z>>, set: Option<&'z RecordSet>) -> Result<(), AllocError>
     ensures { OnOk result (map set_in shown.new.items ≡ map set_in shown.old.items ++ listed (option_copied set.entry)) }
 {
     match set {
