@@ -1,7 +1,9 @@
 -- What a full reply holds can be written and read back, where what the handlers hold can.
 use Rattle.std.proofs.Common.{◌≡◌, ℕ, refl, subst, sym}
-use Rattle.std.specs.Prelude.{Bool, true, false, cond, List, [], ◌∷◌, Option, Some, None, IfSome, option_to_list}
+use Rattle.std.specs.Prelude.{Bool, true, false, ◌&&◌, ◌||◌, cond, List, [], ◌∷◌, ◌++◌, Option, Some, None, IfSome, MatchBool, option_to_list}
 use Rattle.std.specs.List.{AllByRecursion}
+use Rattle.zsv_answer.proofs.zst_request_lemmas.zst_denial_lemmas.ShownSets.{nsec3_shown, nsec_shown}
+use Rattle.zsv_answer.specs.DenialRecords.{AnswerDenial, DenialRecords, IsDenial, is_by_hash, is_expanded}
 use Rattle.zsv_answer.specs.Forwarding.{ForwardedParts, forwarded_error, forwarded_metadata, resolved_parts}
 use Rattle.zsv_answer.specs.Parts.{AtOrigin, AuthoritativeParts, BesideAnswer, ChainParts, DeniedParts, PartsAs, answer_records, is_referral}
 use Rattle.zsv_answer.specs.Resolution.{Resolution, answering, no_such_name, no_such_type, not_here, resolved}
@@ -10,12 +12,16 @@ use Rattle.zsv_answer.specs.Shown.{hidden_but, is_shown, shown_if}
 use Rattle.zsv_answer.specs.Transferring.{transfer_parts, transferring, zone_parts}
 use Rattle.zsv_answer.specs.zst_request.Transfers.{transfer_of, transfer_refused}
 use Rattle.zsv_answer.specs.zst_request.Updating.{Asked}
-use Rattle.zsv_answer.specs.zst_request.Views.{Blocked, Stored, View, zone_type_of}
+use Rattle.zsv_answer.specs.zst_request.Views.{Blocked, Stored, View, nx_proof_kind_of, zone_type_of}
 use Rattle.zsv_answer.specs.zst_request.zst_handler.Zones.{Zone}
 use Rattle.zsv_answer.specs.zst_request.dnw_codes.declared.record_type.RecordType.{RecordType}
 use Rattle.zsv_answer.specs.zst_request.dnw_codes.declared.record_type.RecordType.TheVariants as types
 use Rattle.zsv_answer.specs.zst_request.dnw_codes.RecordType.{same_record_type}
-use Rattle.zsv_answer.specs.zst_request.dnw_name.DomainName.{DomainName}
+use Rattle.zsv_answer.specs.zst_request.dnw_name.DomainName.{DomainName, lowercase_name, name_eq}
+use Rattle.zsv_answer.specs.zst_request.zst_codes.declared.nx_proof.NxProofKind.{NxProofKind}
+use Rattle.zsv_answer.specs.zst_request.zst_codes.declared.nx_proof.NxProofKind.TheVariants as kinds
+use Rattle.zsv_answer.specs.zst_request.zst_denial.Denials.{IsSetOf}
+use Rattle.zsv_answer.specs.zst_request.zst_denial.Hashed.{Hashing}
 use Rattle.zsv_answer.specs.zst_request.zst_codes.declared.response_code.ResponseCode.{ResponseCode}
 use Rattle.zsv_answer.specs.zst_request.zst_codes.declared.response_code.ResponseCode.TheVariants as responses
 use Rattle.zsv_answer.specs.zst_request.zst_codes.declared.settings.ZoneType.{ZoneType}
@@ -23,6 +29,7 @@ use Rattle.zsv_answer.specs.zst_request.zst_codes.declared.settings.ZoneType.The
 use Rattle.zsv_answer.specs.zst_request.zst_handler.Lookups.{Outcome, answered, name_error, name_exists, out_of_zone}
 use Rattle.zsv_answer.specs.zsv_reply.Replies.{ReplyParts}
 use Rattle.zsv_answer.specs.zsv_reply.Writing.{AllReadBack, error_parts, reply_metadata}
+use Rattle.zsv_answer.specs.zsv_reply.zst_record.RecordSets.{RRset}
 use Rattle.zsv_answer.specs.zsv_reply.zst_record.Records.{IsServable}
 use Rattle.zsv_answer.specs.zsv_reply.zst_record.declared.records.Record.{Record}
 use Rattle.zsv_answer.specs.zsv_reply.zsv_message.Messages.{Message}
@@ -41,8 +48,8 @@ use Rattle.zsv_update.specs.Options.{AnswersEdns, has_other_version, nsid_for}
 use Rattle.zsv_update.specs.zsv_chains.Chains.{chain_for, entry_for}
 use Rattle.zsv_catalog.specs.ReadingBack.{ChainReadsBack, ChainsReadBack, ViewReadsBack}
 use Rattle.zsv_update.proofs.EdnsBack.{FitsOption, edns_back}
-use Rattle.zsv_catalog.proofs.ResolvedBack.{ResolutionReadsBack, answering_back, entry_for_back, for_back, resolves_back}
-use Rattle.zsv_catalog.proofs.ShownBack.{OutcomeReadsBack, append_back, filter_back, lookup_back, sets_shown_back, transferred_back, zone_sound}
+use Rattle.zsv_catalog.proofs.ResolvedBack.{ResolutionReadsBack, answering_back, entry_for_back, for_back, found_one, resolves_back}
+use Rattle.zsv_catalog.proofs.ShownBack.{OutcomeReadsBack, SetIsSound, ZoneIsSound, append_back, filter_back, lookup_back, sets_shown_back, transferred_back, zone_sound}
 
 -- ---- parts of records that read back
 pub error_back : (m : Metadata) (code : ResponseCode) (parts : ReplyParts) → parts ≡ error_parts m code → AllReadBack parts
@@ -61,28 +68,62 @@ outcome_records dnssec name_exists back = tt
 outcome_records dnssec name_error back = tt
 outcome_records dnssec out_of_zone back = tt
 
+none_back : (records : List Record) → records ≡ [] → AllByRecursion IsServable records
+none_back records none = subst (AllByRecursion IsServable) (sym none) tt
+
 origin_back : (view : View) (dnssec : Bool) (t : RecordType) (records : List Record) → ViewReadsBack view → AtOrigin view dnssec t records → AllByRecursion IsServable records
 origin_back (Stored zone) dnssec t records back (outcome, is, shown) =
     subst (AllByRecursion IsServable) (sym shown) (outcome_records dnssec outcome (lookup_back zone zone.origin t outcome (zone_sound zone back.0 back.1) is))
-origin_back (Blocked blocklist) dnssec t records back none = subst (AllByRecursion IsServable) (sym none) tt
+origin_back (Blocked blocklist) dnssec t records back none = none_back records none
 
-beside_back : (view : View) (dnssec : Bool) (t : RecordType) (beside : List Record) → ViewReadsBack view → BesideAnswer view dnssec t beside → AllByRecursion IsServable beside
-beside_back view dnssec t beside back (start, other) = by (same_record_type t types.SOA) refl
+-- The sets that deny are stored ones.
+owned_sound : (zone : Zone) (t : RecordType) (sets : List RRset) → ZoneIsSound zone → AllByRecursion (IsSetOf zone t) sets → AllByRecursion SetIsSound sets
+owned_sound zone t [] sound all = tt
+owned_sound zone t (set ∷ sets) sound all = (
+  subst (λ (o : Option RRset). IfSome o SetIsSound) all.0.there (found_one SetIsSound (λ s. name_eq all.0.owner s.name && same_record_type s.record_type t) zone.sets sound),
+  owned_sound zone t sets sound all.1,
+)
+
+denial_sound : (kind : Option NxProofKind) (zone : Zone) (name : DomainName) (t : RecordType) (wild : Bool) (sets : List RRset) → ZoneIsSound zone → IsDenial kind zone name t wild sets → AllByRecursion SetIsSound sets
+denial_sound None zone name t wild sets sound none = subst (AllByRecursion SetIsSound) (sym none) tt
+denial_sound (Some kinds.Nsec) zone name t wild sets sound is = owned_sound zone types.NSEC sets sound (nsec_shown zone name sets is)
+denial_sound (Some (kinds.Nsec3 algorithm salt iterations opt_out)) zone name t wild sets sound is =
+    let hashing : Hashing = record { salt = salt; iterations = iterations } in
+    owned_sound zone types.NSEC3 sets sound (nsec3_shown hashing zone (lowercase_name name) t wild sets is)
+
+denial_back : (view : View) (dnssec : Bool) (name : DomainName) (t : RecordType) (wild : Bool) (records : List Record) → ViewReadsBack view → DenialRecords view dnssec name t wild records → AllByRecursion IsServable records
+denial_back (Stored zone) false name t wild records back none = none_back records none
+denial_back (Stored zone) true name t wild records back (sets, are, shown) =
+    subst (AllByRecursion IsServable) (sym shown) (sets_shown_back true sets (denial_sound zone.nx_proof_kind zone name t wild sets (zone_sound zone back.0 back.1) are))
+denial_back (Blocked blocklist) false name t wild records back none = none_back records none
+denial_back (Blocked blocklist) true name t wild records back none = none_back records none
+
+answer_denial_back : (view : View) (dnssec : Bool) (name : DomainName) (t : RecordType) (answers records : List Record) → ViewReadsBack view → AnswerDenial view dnssec name t answers records → AllByRecursion IsServable records
+answer_denial_back view dnssec name t answers records back is = by (is_expanded answers || is_by_hash (nx_proof_kind_of view)) is
+  where
+    by : (b : Bool) → MatchBool b (DenialRecords view dnssec name t (is_expanded answers) records) (records ≡ []) → AllByRecursion IsServable records
+    by true denies = denial_back view dnssec name t (is_expanded answers) records back denies
+    by false none = none_back records none
+
+beside_back : (view : View) (dnssec : Bool) (name : DomainName) (t : RecordType) (answers beside : List Record) → ViewReadsBack view → BesideAnswer view dnssec name t answers beside → AllByRecursion IsServable beside
+beside_back view dnssec name t answers beside back (start, other) = by (same_record_type t types.SOA) refl
   where
     by : (b : Bool) → same_record_type t types.SOA ≡ b → AllByRecursion IsServable beside
     by true e = origin_back view dnssec types.NS beside back (start e)
-    by false e = subst (AllByRecursion IsServable) (sym (other e)) tt
+    by false e = answer_denial_back view dnssec name t answers beside back (other e)
 
-denied_back : (view : View) (m : Metadata) (dnssec : Bool) (code : ResponseCode) (parts : ReplyParts) → ViewReadsBack view → DeniedParts view m dnssec code parts → AllReadBack parts
-denied_back view m dnssec code parts back (start, at, is) =
-    subst AllReadBack (sym is) (with_back (reply_metadata m true code) false [] [] start tt tt (origin_back view dnssec types.SOA start back at))
+denied_back : (view : View) (m : Metadata) (dnssec : Bool) (name : DomainName) (t : RecordType) (code : ResponseCode) (parts : ReplyParts) → ViewReadsBack view → DeniedParts view m dnssec name t code parts → AllReadBack parts
+denied_back view m dnssec name t code parts back (denial, start, denies, at, is) =
+    subst AllReadBack (sym is)
+    (with_back (reply_metadata m true code) false [] [] (denial ++ start) tt tt
+    (append_back denial start (denial_back view dnssec name t false denial back denies) (origin_back view dnssec types.SOA start back at)))
 
-authoritative_back : (view : View) (m : Metadata) (dnssec : Bool) (t : RecordType) (resolution : Resolution) (parts : ReplyParts) → ViewReadsBack view → ResolutionReadsBack resolution → AuthoritativeParts view m dnssec t resolution parts → AllReadBack parts
-authoritative_back view m dnssec t (resolved answers additionals) parts back shown (beside, at, is) =
-    subst AllReadBack (sym is) (with_back (reply_metadata m true responses.NoError) (is_referral t answers) answers additionals beside shown.0 shown.1 (beside_back view dnssec t beside back at))
-authoritative_back view m dnssec t no_such_type parts back shown is = denied_back view m dnssec responses.NoError parts back is
-authoritative_back view m dnssec t no_such_name parts back shown is = denied_back view m dnssec responses.NXDomain parts back is
-authoritative_back view m dnssec t (not_here code) parts back shown is =
+authoritative_back : (view : View) (m : Metadata) (dnssec : Bool) (name : DomainName) (t : RecordType) (resolution : Resolution) (parts : ReplyParts) → ViewReadsBack view → ResolutionReadsBack resolution → AuthoritativeParts view m dnssec name t resolution parts → AllReadBack parts
+authoritative_back view m dnssec name t (resolved answers additionals) parts back shown (beside, at, is) =
+    subst AllReadBack (sym is) (with_back (reply_metadata m true responses.NoError) (is_referral t answers) answers additionals beside shown.0 shown.1 (beside_back view dnssec name t answers beside back at))
+authoritative_back view m dnssec name t no_such_type parts back shown is = denied_back view m dnssec name t responses.NoError parts back is
+authoritative_back view m dnssec name t no_such_name parts back shown is = denied_back view m dnssec name t responses.NXDomain parts back is
+authoritative_back view m dnssec name t (not_here code) parts back shown is =
     subst AllReadBack (sym is) (with_back (reply_metadata m true code) false [] [] [] tt tt tt)
 
 -- ---- forwarded replies
@@ -107,10 +148,10 @@ forwarded_back m dnssec t resolution parts shown is = by m.recursion_desired ref
     by false e = bare_back m responses.Refused parts (is.0 e)
     by true e = resolved_back m dnssec t resolution parts shown (is.1 e)
 
-as_back : (kind : ZoneType) (view : View) (m : Metadata) (dnssec : Bool) (t : RecordType) (resolution : Resolution) (parts : ReplyParts) → ViewReadsBack view → ResolutionReadsBack resolution → PartsAs kind view m dnssec t resolution parts → AllReadBack parts
-as_back zones.Primary view m dnssec t resolution parts back shown is = authoritative_back view m dnssec t resolution parts back shown is
-as_back zones.Secondary view m dnssec t resolution parts back shown is = authoritative_back view m dnssec t resolution parts back shown is
-as_back zones.External view m dnssec t resolution parts back shown is = forwarded_back m dnssec t resolution parts shown is
+as_back : (kind : ZoneType) (view : View) (m : Metadata) (dnssec : Bool) (name : DomainName) (t : RecordType) (resolution : Resolution) (parts : ReplyParts) → ViewReadsBack view → ResolutionReadsBack resolution → PartsAs kind view m dnssec name t resolution parts → AllReadBack parts
+as_back zones.Primary view m dnssec name t resolution parts back shown is = authoritative_back view m dnssec name t resolution parts back shown is
+as_back zones.Secondary view m dnssec name t resolution parts back shown is = authoritative_back view m dnssec name t resolution parts back shown is
+as_back zones.External view m dnssec name t resolution parts back shown is = forwarded_back m dnssec t resolution parts shown is
 
 transferring_back : (chain : List View) → ChainReadsBack chain → IfSome (transferring chain) (λ z. ViewReadsBack (Stored z))
 transferring_back [] back = tt
@@ -126,7 +167,7 @@ chain_back chain m dnssec name t parts full all is = by (answering chain name) r
     by (Some view) e =
         let (resolution, gives, shown) = is.somebody view e in
         let back : ViewReadsBack view = subst (λ (o : Option View). IfSome o ViewReadsBack) e (answering_back chain name all) in
-        as_back (zone_type_of view) view m dnssec t resolution parts back (resolves_back chain view name t dnssec resolution full all back gives) shown
+        as_back (zone_type_of view) view m dnssec name t resolution parts back (resolves_back chain view name t dnssec resolution full all back gives) shown
 
 abbrev pub IsFull : Query → Type 0
 IsFull q = q.name.fqdn ≡ true

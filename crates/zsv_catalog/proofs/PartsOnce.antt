@@ -20,18 +20,20 @@ use Rattle.zsv_answer.specs.zst_request.dnw_codes.declared.dns_class.DNSClass.{D
 use Rattle.zsv_answer.specs.zst_request.dnw_codes.declared.record_type.RecordType.{RecordType}
 use Rattle.zsv_answer.specs.zst_request.dnw_codes.declared.record_type.RecordType.TheVariants as types
 use Rattle.zsv_answer.specs.zst_request.dnw_codes.RecordType.{same_record_type}
-use Rattle.zsv_answer.specs.zst_request.dnw_name.DomainName.{DomainName}
+use Rattle.zsv_answer.specs.zst_request.dnw_name.DomainName.{DomainName, num_labels}
 use Rattle.zsv_answer.specs.zst_request.zst_codes.declared.response_code.ResponseCode.{ResponseCode}
 use Rattle.zsv_answer.specs.zst_request.zst_codes.declared.response_code.ResponseCode.TheVariants as responses
 use Rattle.zsv_answer.specs.zst_request.zst_codes.declared.settings.ZoneType.{ZoneType}
 use Rattle.zsv_answer.specs.zst_request.zst_codes.declared.settings.ZoneType.TheVariants as zones
 use Rattle.zsv_answer.specs.zst_request.zst_handler.Zones.{Zone}
+use Rattle.zsv_answer.specs.DenialRecords.{fourth, is_expanded, is_fewer, signed_labels}
 use Rattle.zsv_answer.specs.Forwarding.{ForwardedParts, forwarded_metadata, resolved_parts}
 use Rattle.zsv_answer.specs.Parts.{AtOrigin, AuthoritativeParts, BesideAnswer, ChainParts, DeniedParts, PartsAs, answer_records, begins_with_ns, is_referral}
 use Rattle.zsv_answer.specs.Resolution.{GivesBlocked, ListResolves, Resolution, Resolves, ZoneResolves, answering, enforced, no_such_name, no_such_type, not_here, outcome_shown, resolved}
 use Rattle.zsv_answer.specs.Responses.{parts_with}
 use Rattle.zsv_answer.specs.zsv_reply.Writing.{reply_metadata}
 use Rattle.zsv_answer.specs.Shown.{hidden_but, is_dnssec_record, is_shown, shown_if, shown_to}
+use Rattle.zsv_catalog.proofs.DenialsOnce.{DeniesBeside, counted, one_answer_denial, one_denial_records}
 
 -- ---- the same in octets
 -- A record by its octets, whatever memory its RDATA own.
@@ -107,13 +109,6 @@ at-origin (Stored zone) dnssec_ok t rs others (outcome, is, shown) (other, also,
     shown ∙ ap (answer_records dnssec_ok) (one-lookup zone zone.origin t outcome other is also) ∙ sym too
 at-origin (Blocked blocklist) dnssec_ok t rs others is also = is ∙ sym also
 
-beside : (view : View) (dnssec_ok : Bool) (t : RecordType) (rs others : List Record) → BesideAnswer view dnssec_ok t rs → BesideAnswer view dnssec_ok t others → rs ≡ others
-beside view dnssec_ok t rs others is also = by (same_record_type t types.SOA) refl
-  where
-    by : (b : Bool) → same_record_type t types.SOA ≡ b → rs ≡ others
-    by true e = at-origin view dnssec_ok types.NS rs others (is.0 e) (also.0 e)
-    by false e = is.1 e ∙ sym (also.1 e)
-
 -- ---- lists that are the same
 first-same : (r other : Record) (rs others : List Record) → SameRecords (r ∷ rs) (other ∷ others) → in_octets r ≡ in_octets other
 first-same r other rs others e = cc
@@ -172,26 +167,55 @@ shown-same (Some t) (r ∷ rs) (other ∷ others) e =
     by true false is later = absurd (true≢false is)
     by false true is later = absurd (true≢false (sym is))
 
--- ---- the parts
-denied : (view : View) (m : Metadata) (dnssec_ok : Bool) (code : ResponseCode) (a b : ReplyParts) → DeniedParts view m dnssec_ok code a → DeniedParts view m dnssec_ok code b → SameParts a b
-denied view m dnssec_ok code a b (start, is, gives) (other, also, too) =
-    equal-parts a b (gives ∙ ap (λ (rs : List Record). parts_with (reply_metadata m true code) false [] [] rs) (at-origin view dnssec_ok types.SOA start other is also) ∙ sym too)
+-- ---- whether an answer is a wildcard's
+abbrev fewer-in : InOctets → Bool
+fewer-in x = is_fewer (cond (same_record_type x.record_type types.RRSIG) (fourth (Some x.rdata)) None) (num_labels x.name)
 
-authoritative : (view : View) (m : Metadata) (dnssec_ok : Bool) (t : RecordType) (r : Resolution) (a b : ReplyParts) → AuthoritativeParts view m dnssec_ok t r a → AuthoritativeParts view m dnssec_ok t r b → SameParts a b
-authoritative view m dnssec_ok t (resolved answers additionals) a b (later, is, gives) (other, also, too) =
-    equal-parts a b (gives ∙ ap (λ (rs : List Record). parts_with (reply_metadata m true responses.NoError) (is_referral t answers) answers additionals rs) (beside view dnssec_ok t later other is also) ∙ sym too)
-authoritative view m dnssec_ok t no_such_type a b is also = denied view m dnssec_ok responses.NoError a b is also
-authoritative view m dnssec_ok t no_such_name a b is also = denied view m dnssec_ok responses.NXDomain a b is also
-authoritative view m dnssec_ok t (not_here code) a b is also = equal-parts a b (is ∙ sym also)
+fewer : (r : Record) → is_fewer (signed_labels r.rdata) (num_labels r.name) ≡ fewer-in (in_octets r)
+fewer r = ap (λ (count : Option ℕ). is_fewer count (num_labels r.name)) (counted r.rdata)
+
+expanded : (rs others : List Record) → SameRecords rs others → is_expanded rs ≡ is_expanded others
+expanded [] [] e = refl
+expanded [] (other ∷ others) e = absurd (cc)
+expanded (r ∷ rs) [] e = absurd (cc)
+expanded (r ∷ rs) (other ∷ others) e =
+    let first = fewer r ∙ ap fewer-in (first-same r other rs others e) ∙ sym (fewer other) in
+    let later = expanded rs others (rest-same r other rs others e) in
+    λ i. first i || later i
+
+-- ---- what stands beside an answer
+beside : (view : View) (dnssec_ok : Bool) (name : DomainName) (t : RecordType) (answers shown rs others : List Record) → SameRecords answers shown
+    → BesideAnswer view dnssec_ok name t answers rs → BesideAnswer view dnssec_ok name t shown others → rs ≡ others
+beside view dnssec_ok name t answers shown rs others same is also = by (same_record_type t types.SOA) refl
+  where
+    by : (b : Bool) → same_record_type t types.SOA ≡ b → rs ≡ others
+    by true e = at-origin view dnssec_ok types.NS rs others (is.0 e) (also.0 e)
+    by false e =
+        one_answer_denial view dnssec_ok name t (is_expanded answers) rs others (is.1 e)
+        (subst (λ (wild : Bool). DeniesBeside view dnssec_ok name t wild others) (sym (expanded answers shown same)) (also.1 e))
+
+-- ---- the parts
+denied : (view : View) (m : Metadata) (dnssec_ok : Bool) (name : DomainName) (t : RecordType) (code : ResponseCode) (a b : ReplyParts) → DeniedParts view m dnssec_ok name t code a → DeniedParts view m dnssec_ok name t code b → SameParts a b
+denied view m dnssec_ok name t code a b (denial, start, denies, is, gives) (sets, other, also, at, too) =
+    let one = one_denial_records view dnssec_ok name t false denial sets denies also in
+    let origin = at-origin view dnssec_ok types.SOA start other is at in
+    equal-parts a b (gives ∙ (λ i. parts_with (reply_metadata m true code) false [] [] (one i ++ origin i)) ∙ sym too)
+
+authoritative : (view : View) (m : Metadata) (dnssec_ok : Bool) (name : DomainName) (t : RecordType) (r : Resolution) (a b : ReplyParts) → AuthoritativeParts view m dnssec_ok name t r a → AuthoritativeParts view m dnssec_ok name t r b → SameParts a b
+authoritative view m dnssec_ok name t (resolved answers additionals) a b (later, is, gives) (other, also, too) =
+    equal-parts a b (gives ∙ ap (λ (rs : List Record). parts_with (reply_metadata m true responses.NoError) (is_referral t answers) answers additionals rs) (beside view dnssec_ok name t answers answers later other refl is also) ∙ sym too)
+authoritative view m dnssec_ok name t no_such_type a b is also = denied view m dnssec_ok name t responses.NoError a b is also
+authoritative view m dnssec_ok name t no_such_name a b is also = denied view m dnssec_ok name t responses.NXDomain a b is also
+authoritative view m dnssec_ok name t (not_here code) a b is also = equal-parts a b (is ∙ sym also)
 
 -- Two replies to a blocked name.
-blocked-here : (view : View) (m : Metadata) (dnssec_ok : Bool) (t : RecordType) (rs others : List Record) (a b : ReplyParts) → SameRecords rs others
-    → AuthoritativeParts view m dnssec_ok t (resolved rs []) a → AuthoritativeParts view m dnssec_ok t (resolved others []) b → SameParts a b
-blocked-here view m dnssec_ok t rs others a b same (later, is, gives) (other, also, too) =
+blocked-here : (view : View) (m : Metadata) (dnssec_ok : Bool) (name : DomainName) (t : RecordType) (rs others : List Record) (a b : ReplyParts) → SameRecords rs others
+    → AuthoritativeParts view m dnssec_ok name t (resolved rs []) a → AuthoritativeParts view m dnssec_ok name t (resolved others []) b → SameParts a b
+blocked-here view m dnssec_ok name t rs others a b same (later, is, gives) (other, also, too) =
     subst (λ (p : ReplyParts). SameParts p b) (sym gives)
     (subst (λ (p : ReplyParts). SameParts (parts_with (reply_metadata m true responses.NoError) (is_referral t rs) rs [] later) p)
     (ap (λ (b : Bool). parts_with (reply_metadata m true responses.NoError) b others [] later) (referral t rs others same)
-    ∙ ap (λ (front : List Record). parts_with (reply_metadata m true responses.NoError) (is_referral t others) others [] front) (beside view dnssec_ok t later other is also)
+    ∙ ap (λ (front : List Record). parts_with (reply_metadata m true responses.NoError) (is_referral t others) others [] front) (beside view dnssec_ok name t rs others later other same is also)
     ∙ sym too)
     (with-same (reply_metadata m true responses.NoError) (is_referral t rs) rs others later same))
 
@@ -214,25 +238,25 @@ blocked-there m dnssec_ok t rs others a b same is also = by m.recursion_desired 
         (shown-same (hidden_but dnssec_ok t) rs others same)))
     by false e = equal-parts a b (is.0 e ∙ sym (also.0 e))
 
-one-as : (zone_type : ZoneType) (view : View) (m : Metadata) (dnssec_ok : Bool) (t : RecordType) (r : Resolution) (a b : ReplyParts) → PartsAs zone_type view m dnssec_ok t r a → PartsAs zone_type view m dnssec_ok t r b → SameParts a b
-one-as zones.Primary view m dnssec_ok t r a b is also = authoritative view m dnssec_ok t r a b is also
-one-as zones.Secondary view m dnssec_ok t r a b is also = authoritative view m dnssec_ok t r a b is also
-one-as zones.External view m dnssec_ok t r a b is also = forwarded m dnssec_ok t r a b is also
+one-as : (zone_type : ZoneType) (view : View) (m : Metadata) (dnssec_ok : Bool) (name : DomainName) (t : RecordType) (r : Resolution) (a b : ReplyParts) → PartsAs zone_type view m dnssec_ok name t r a → PartsAs zone_type view m dnssec_ok name t r b → SameParts a b
+one-as zones.Primary view m dnssec_ok name t r a b is also = authoritative view m dnssec_ok name t r a b is also
+one-as zones.Secondary view m dnssec_ok name t r a b is also = authoritative view m dnssec_ok name t r a b is also
+one-as zones.External view m dnssec_ok name t r a b is also = forwarded m dnssec_ok t r a b is also
 
-blocked-as : (zone_type : ZoneType) (view : View) (m : Metadata) (dnssec_ok : Bool) (t : RecordType) (rs others : List Record) (a b : ReplyParts) → SameRecords rs others
-    → PartsAs zone_type view m dnssec_ok t (resolved rs []) a → PartsAs zone_type view m dnssec_ok t (resolved others []) b → SameParts a b
-blocked-as zones.Primary view m dnssec_ok t rs others a b same is also = blocked-here view m dnssec_ok t rs others a b same is also
-blocked-as zones.Secondary view m dnssec_ok t rs others a b same is also = blocked-here view m dnssec_ok t rs others a b same is also
-blocked-as zones.External view m dnssec_ok t rs others a b same is also = blocked-there m dnssec_ok t rs others a b same is also
+blocked-as : (zone_type : ZoneType) (view : View) (m : Metadata) (dnssec_ok : Bool) (name : DomainName) (t : RecordType) (rs others : List Record) (a b : ReplyParts) → SameRecords rs others
+    → PartsAs zone_type view m dnssec_ok name t (resolved rs []) a → PartsAs zone_type view m dnssec_ok name t (resolved others []) b → SameParts a b
+blocked-as zones.Primary view m dnssec_ok name t rs others a b same is also = blocked-here view m dnssec_ok name t rs others a b same is also
+blocked-as zones.Secondary view m dnssec_ok name t rs others a b same is also = blocked-here view m dnssec_ok name t rs others a b same is also
+blocked-as zones.External view m dnssec_ok name t rs others a b same is also = blocked-there m dnssec_ok t rs others a b same is also
 
-resolved-as : (view : View) (m : Metadata) (dnssec_ok : Bool) (t : RecordType) (r s : Resolution) (a b : ReplyParts) → SameResolution r s
-    → PartsAs (zone_type_of view) view m dnssec_ok t r a → PartsAs (zone_type_of view) view m dnssec_ok t s b → SameParts a b
-resolved-as view m dnssec_ok t r s a b (one e) is also =
-    one-as (zone_type_of view) view m dnssec_ok t r a b is (subst (λ (x : Resolution). PartsAs (zone_type_of view) view m dnssec_ok t x b) (sym e) also)
-resolved-as view m dnssec_ok t r s a b (blocked rs others e f same) is also =
-    blocked-as (zone_type_of view) view m dnssec_ok t rs others a b same
-    (subst (λ (x : Resolution). PartsAs (zone_type_of view) view m dnssec_ok t x a) e is)
-    (subst (λ (x : Resolution). PartsAs (zone_type_of view) view m dnssec_ok t x b) f also)
+resolved-as : (view : View) (m : Metadata) (dnssec_ok : Bool) (name : DomainName) (t : RecordType) (r s : Resolution) (a b : ReplyParts) → SameResolution r s
+    → PartsAs (zone_type_of view) view m dnssec_ok name t r a → PartsAs (zone_type_of view) view m dnssec_ok name t s b → SameParts a b
+resolved-as view m dnssec_ok name t r s a b (one e) is also =
+    one-as (zone_type_of view) view m dnssec_ok name t r a b is (subst (λ (x : Resolution). PartsAs (zone_type_of view) view m dnssec_ok name t x b) (sym e) also)
+resolved-as view m dnssec_ok name t r s a b (blocked rs others e f same) is also =
+    blocked-as (zone_type_of view) view m dnssec_ok name t rs others a b same
+    (subst (λ (x : Resolution). PartsAs (zone_type_of view) view m dnssec_ok name t x a) e is)
+    (subst (λ (x : Resolution). PartsAs (zone_type_of view) view m dnssec_ok name t x b) f also)
 
 -- A chain has one answer to a question.
 pub one-chain-parts : (chain : List View) (m : Metadata) (dnssec_ok : Bool) (name : DomainName) (t : RecordType) (a b : ReplyParts) → ChainParts chain m dnssec_ok name t a → ChainParts chain m dnssec_ok name t b → SameParts a b
@@ -242,4 +266,4 @@ one-chain-parts chain m dnssec_ok name t a b is also = by (answering chain name)
     by None e = equal-parts a b (is.nobody e ∙ sym (also.nobody e))
     by (Some view) e =
         let first = is.somebody view e in let second = also.somebody view e in
-        resolved-as view m dnssec_ok t first.0 second.0 a b (one-resolution chain view name t dnssec_ok first.0 second.0 first.1 second.1) first.2 second.2
+        resolved-as view m dnssec_ok name t first.0 second.0 a b (one-resolution chain view name t dnssec_ok first.0 second.0 first.1 second.1) first.2 second.2

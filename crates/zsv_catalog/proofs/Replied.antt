@@ -44,11 +44,11 @@ repeated_of parts = (parts.metadata.id, parts.metadata.op_code)
 abbrev pub own : Metadata → Repeated
 own m = (m.id, m.op_code)
 
-authoritative_id : (view : View) (m : Metadata) (d : Bool) (t : RecordType) (resolution : Resolution) (parts : ReplyParts) → AuthoritativeParts view m d t resolution parts → repeated_of parts ≡ own m
-authoritative_id view m d t (resolved answers additionals) parts is = ap repeated_of is.2
-authoritative_id view m d t no_such_type parts is = ap repeated_of is.2
-authoritative_id view m d t no_such_name parts is = ap repeated_of is.2
-authoritative_id view m d t (not_here code) parts is = ap repeated_of is
+authoritative_id : (view : View) (m : Metadata) (d : Bool) (name : DomainName) (t : RecordType) (resolution : Resolution) (parts : ReplyParts) → AuthoritativeParts view m d name t resolution parts → repeated_of parts ≡ own m
+authoritative_id view m d name t (resolved answers additionals) parts is = ap repeated_of is.2
+authoritative_id view m d name t no_such_type parts is = ap repeated_of is.4
+authoritative_id view m d name t no_such_name parts is = ap repeated_of is.4
+authoritative_id view m d name t (not_here code) parts is = ap repeated_of is
 
 resolved_id : (m : Metadata) (d : Bool) (t : RecordType) (resolution : Resolution) (parts : ReplyParts) → parts ≡ resolved_parts m d t resolution → repeated_of parts ≡ own m
 resolved_id m d t (resolved answers additionals) parts is = ap repeated_of is
@@ -63,10 +63,10 @@ forwarded_id m d t resolution parts is = by m.recursion_desired refl
     by false e = ap repeated_of (is.0 e)
     by true e = resolved_id m d t resolution parts (is.1 e)
 
-as_id : (kind : ZoneType) (view : View) (m : Metadata) (d : Bool) (t : RecordType) (resolution : Resolution) (parts : ReplyParts) → PartsAs kind view m d t resolution parts → repeated_of parts ≡ own m
-as_id zones.Primary view m d t resolution parts is = authoritative_id view m d t resolution parts is
-as_id zones.Secondary view m d t resolution parts is = authoritative_id view m d t resolution parts is
-as_id zones.External view m d t resolution parts is = forwarded_id m d t resolution parts is
+as_id : (kind : ZoneType) (view : View) (m : Metadata) (d : Bool) (name : DomainName) (t : RecordType) (resolution : Resolution) (parts : ReplyParts) → PartsAs kind view m d name t resolution parts → repeated_of parts ≡ own m
+as_id zones.Primary view m d name t resolution parts is = authoritative_id view m d name t resolution parts is
+as_id zones.Secondary view m d name t resolution parts is = authoritative_id view m d name t resolution parts is
+as_id zones.External view m d name t resolution parts is = forwarded_id m d t resolution parts is
 
 chain_id : (chain : List View) (m : Metadata) (d : Bool) (name : DomainName) (t : RecordType) (parts : ReplyParts) → ChainParts chain m d name t parts → repeated_of parts ≡ own m
 chain_id chain m d name t parts is = by (answering chain name) refl
@@ -75,7 +75,7 @@ chain_id chain m d name t parts is = by (answering chain name) refl
     by None e = ap repeated_of (is.nobody e)
     by (Some view) e =
         let (resolution, resolves, shown) = is.somebody view e in
-        as_id (zone_type_of view) view m d t resolution parts shown
+        as_id (zone_type_of view) view m d name t resolution parts shown
 
 transfer_id : (m : Metadata) (refused : Option ResponseCode) (rs : List Record) → repeated_of (transfer_parts m refused rs) ≡ own m
 transfer_id m None rs = refl
