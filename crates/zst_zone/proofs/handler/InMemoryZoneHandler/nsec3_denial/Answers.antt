@@ -1,6 +1,6 @@
 use Rattle.std.proofs.Common.{sym}
 use Rattle.std.proofs.lemmas.Result.{IfOk-weaker}
-use Rattle.zst_zone.proofs.denial.InMemoryZoneHandler.nsec3_denial.Goals as goal
+use Rattle.zst_zone.proofs.handler.InMemoryZoneHandler.nsec3_denial.Goals as goal
 
 pub returns : goal.returns
 returns g c =

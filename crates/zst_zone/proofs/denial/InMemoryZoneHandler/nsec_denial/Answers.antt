@@ -1,7 +1,0 @@
-use Rattle.std.proofs.Common.{sym}
-use Rattle.std.proofs.lemmas.Result.{IfOk-weaker}
-use Rattle.zst_zone.proofs.denial.InMemoryZoneHandler.nsec_denial.Goals as goal
-
-pub returns : goal.returns
-returns g c =
-    IfOk-weaker c.nsec_denial.result _ _ (λ found shows. shows c.args.self.now (record { has_sets = sym c.records.ensures; has_origin = sym c.origin.ensures.value })) c.nsec_denial.ensures
