@@ -1,0 +1,2 @@
+pub use Rattle.zsv_catalog.proofs.Certified
+pub use Rattle.zsv_catalog.proofs.Denied
