@@ -68,9 +68,12 @@ at_holds {X} P (entry ∷ chains) name all = by (is_eq (name_cmp name entry.0)) 
     by true later = all.0
     by false later = later
 
+abbrev with_name : {X : Type 0} → DomainName → X → DomainName × X
+with_name name x = (name, x)
+
 module _ {X : Type 0} (P : X → Type 0) (chains : List (DomainName × X)) (all : AllByRecursion (λ entry. P entry.1) chains) (fqdn : Bool) where
-  found_holds : (labels : List (List ℕ)) → IfSome (option_map (λ x. (domain_name fqdn labels, x)) (chain_at chains (domain_name fqdn labels))) (λ entry. P entry.1)
-  found_holds labels = mapped (λ entry. P entry.1) (λ (x : X). (domain_name fqdn labels, x)) (chain_at chains (domain_name fqdn labels)) (at_holds P chains (domain_name fqdn labels) all)
+  found_holds : (labels : List (List ℕ)) → IfSome (option_map (with_name (domain_name fqdn labels)) (chain_at chains (domain_name fqdn labels))) (λ entry. P entry.1)
+  found_holds labels = mapped (λ entry. P entry.1) (with_name (domain_name fqdn labels)) (chain_at chains (domain_name fqdn labels)) (at_holds P chains (domain_name fqdn labels) all)
 
   nearest_holds : (labels : List (List ℕ)) → IfSome (nearest_from (chain_at chains) fqdn labels) (λ entry. P entry.1)
   nearest_holds [] = found_holds []
@@ -301,8 +304,8 @@ by_type reply name t false none = λ world received request question zone h s. (
 
 pub certified_name : {E : Type 0} (r : Result Bool E) (reply : List ℕ) (name : DomainName) → IfOk r (λ yes. MatchBool yes (DeniesName reply name) (DeniesName reply name → ⊥)) → IfOk r (Certifies reply name)
 certified_name (Err e) reply name is = tt
-certified_name (Ok yes) reply name is = by_name reply name yes is
+certified_name (Ok answer) reply name is = by_name reply name answer is
 
 pub certified_type : {E : Type 0} (r : Result Bool E) (reply : List ℕ) (name : DomainName) (t : RecordType) → IfOk r (λ yes. MatchBool yes (DeniesType reply name t) (DeniesType reply name t → ⊥)) → IfOk r (CertifiesType reply name t)
 certified_type (Err e) reply name t is = tt
-certified_type (Ok yes) reply name t is = by_type reply name t yes is
+certified_type (Ok answer) reply name t is = by_type reply name t answer is
