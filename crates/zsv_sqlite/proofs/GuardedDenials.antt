@@ -25,7 +25,7 @@ guarded guard zone = record zone { guard = guard }
 module _ (guard : Option Guard) (zone : Zone) where
   precedes : (t : RecordType) (name : DomainName) (found : Option RRset) → Precedes zone t name found → Precedes (guarded guard zone) t name found
   precedes t name None is = is
-  precedes t name (Some set) is = (is.0, record { there = is.1.there; last = is.1.last; around = is.1.around; })
+  precedes t name (Some set) is = (is.0, record { there = is.1.there; last = is.1.last; around = is.1.around })
 
   by_name : (name : DomainName) (sets : List RRset) → IsNsecDenial zone name sets → IsNsecDenial (guarded guard zone) name sets
   by_name name sets is = record {
@@ -59,12 +59,12 @@ module _ (guard : Option Guard) (zone : Zone) where
 module _ {K : Type 0} (handler : SqliteZoneHandler K) (zone : Zone) (same : zone ≡ handler.in_memory) (dnssec_ok : Bool) (flow : Flow) where
   pub handler_nsec : (name : DomainName) → Denies (Stored zone) (ShowsNsec name dnssec_ok) flow → Denies (Stored (guarded_zone handler)) (ShowsNsec name dnssec_ok) flow
   handler_nsec name is =
-    let own = subst (λ (z : Zone). Denies (Stored z) (ShowsNsec name dnssec_ok) flow) same is in
-    let shows = own.2 in
-    (own.0, own.1, (shows.0, by_name (guard_of handler) handler.in_memory name shows.0 shows.1, shows.2, shows.3, shows.4))
+      let own = subst (λ (z : Zone). Denies (Stored z) (ShowsNsec name dnssec_ok) flow) same is in
+      let shows = own.2 in
+      (own.0, own.1, (shows.0, by_name (guard_of handler) handler.in_memory name shows.0 shows.1, shows.2, shows.3, shows.4))
 
   pub handler_nsec3 : (info : Nsec3QueryInfo) → Denies (Stored zone) (ShowsNsec3 info dnssec_ok) flow → Denies (Stored (guarded_zone handler)) (ShowsNsec3 info dnssec_ok) flow
   handler_nsec3 info is =
-    let own = subst (λ (z : Zone). Denies (Stored z) (ShowsNsec3 info dnssec_ok) flow) same is in
-    let shows = own.2 in
-    (own.0, own.1, (shows.0, by_hash (guard_of handler) handler.in_memory (hashing_of info) info.qname.now info.qtype info.has_wildcard_match shows.0 shows.1, shows.2, shows.3, shows.4))
+      let own = subst (λ (z : Zone). Denies (Stored z) (ShowsNsec3 info dnssec_ok) flow) same is in
+      let shows = own.2 in
+      (own.0, own.1, (shows.0, by_hash (guard_of handler) handler.in_memory (hashing_of info) info.qname.now info.qtype info.has_wildcard_match shows.0 shows.1, shows.2, shows.3, shows.4))
