@@ -1,3 +1,4 @@
+pub mod Certificates
 pub mod Programs
 pub mod TwoRoads
 pub mod authority_server

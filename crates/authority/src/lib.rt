@@ -3,13 +3,15 @@
 
 pub use authority_server::{
     A, AccessControl, Arrival, Authority, DNSClass, Faults, IpNet, Label, NS, NSIDPayload, Name,
-    NoSuite, Protocol, RData, Record, RecordSet, RecordType, SOA, ServeError, SignFault,
-    StreamError, TSigResponseContext, Tsig, TsigRecord, TsigSuite, TsigVerdict, ZoneHandler,
+    NoSuite, Nsec3QueryInfo, Protocol, RData, Record, RecordSet, RecordType, SOA, ServeError,
+    SignFault, StreamError, TSigResponseContext, Tsig, TsigRecord, TsigSuite, TsigVerdict,
+    ZoneHandler,
 };
 pub use authority_transfer::{
     AuthLookup, AxfrPolicy, InMemoryZoneHandler, LoadCause, LoadError, LookupControlFlow,
-    LookupError, LookupOptions, LowerName, NxProofKind, ProtoError, ResponseCode, RrKey, Salt,
-    TransferError, ZoneError, ZoneSettings, ZoneTransfer, ZoneType, load_zone,
+    LookupError, LookupOptions, LowerName, Nsec3HashAlgorithm, NxProofKind, ProtoError,
+    ResponseCode, RrKey, Salt, TransferError, ZoneError, ZoneSettings, ZoneTransfer, ZoneType,
+    load_zone,
 };
 
 mod back;

@@ -6,5 +6,7 @@
 #![tactic(auto)]
 
 mod checking;
+mod laws;
 
 pub use checking::{check, check_type};
+pub use laws::{denials_are_of_the_parts, equal_names_are_denied, whole_replies_deny};

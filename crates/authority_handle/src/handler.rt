@@ -11,7 +11,9 @@ use authority_load::{
 };
 use authority_server::{Name, RecordType, ZoneHandler};
 use std::alloc::{AllocError, Global};
-use zsv_blocklist::{BlocklistZoneHandler, NameKey, TSigResponseContext, ZoneRequest};
+use zsv_blocklist::{
+    BlocklistZoneHandler, NameKey, Nsec3QueryInfo, TSigResponseContext, ZoneRequest,
+};
 
 /// A zone or a blocklist.
 #[derive(Drop)]
@@ -143,6 +145,30 @@ impl ZoneHandler for Handler {
         match self {
             Handler::Zone(zone) => zone.zone_transfer(alloc, request, options, now),
             Handler::Blocklist(list) => list.zone_transfer(alloc, request, options, now),
+        }
+    }
+
+    fn nsec_records<'z>(
+        &'z self,
+        alloc: Global,
+        name: &Name,
+        options: LookupOptions,
+    ) -> Result<LookupControlFlow<AuthLookup<'z>>, AllocError> {
+        match self {
+            Handler::Zone(zone) => zone.nsec_records(alloc, name, options),
+            Handler::Blocklist(list) => list.nsec_records(alloc, name, options),
+        }
+    }
+
+    fn nsec3_records<'z>(
+        &'z self,
+        alloc: Global,
+        info: Nsec3QueryInfo<'_>,
+        options: LookupOptions,
+    ) -> Result<LookupControlFlow<AuthLookup<'z>>, AllocError> {
+        match self {
+            Handler::Zone(zone) => zone.nsec3_records(alloc, info, options),
+            Handler::Blocklist(list) => list.nsec3_records(alloc, info, options),
         }
     }
 

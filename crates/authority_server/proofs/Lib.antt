@@ -8,3 +8,4 @@ mod StreamRuns
 mod Unguarded
 mod WorkedRows
 mod Zones
+pub mod zsv_catalog_lemmas

@@ -262,15 +262,15 @@ module _ (asks_for : Query → DomainName → Asked) where
     whole = none ∙ ap (λ (p : ReplyParts). with_edns p.edns (with_edns None parts)) (sym none);
   }
 
-  by_chain : (name : DomainName) (parts : ReplyParts) (outcome : Outcome) → IsLookup zone name types.A outcome → AuthoritativeParts (Stored zone) plain_metadata false types.A (outcome_shown false outcome) parts → ChainParts chain plain_metadata false name types.A parts
+  by_chain : (name : DomainName) (parts : ReplyParts) (outcome : Outcome) → IsLookup zone name types.A outcome → AuthoritativeParts (Stored zone) plain_metadata false name types.A (outcome_shown false outcome) parts → ChainParts chain plain_metadata false name types.A parts
   by_chain name parts outcome is shown = record {
     nobody = λ none. let h : ⊥ = cc in absurd h;
     somebody = λ view at.
-        subst (λ (v : View). (resolution : Resolution) × Resolves chain v name types.A false resolution × PartsAs (zone_type_of v) v plain_metadata false types.A resolution parts)
+        subst (λ (v : View). (resolution : Resolution) × Resolves chain v name types.A false resolution × PartsAs (zone_type_of v) v plain_metadata false name types.A resolution parts)
         (ap (λ (o : Option View). unwrap_or o (Stored zone)) at) (outcome_shown false outcome, (outcome, is, refl), shown);
   }
 
-  looked_up : (name : DomainName) (parts : ReplyParts) (outcome : Outcome) → chain_for chains name ≡ Some chain → IsLookup zone name types.A outcome → AuthoritativeParts (Stored zone) plain_metadata false types.A (outcome_shown false outcome) parts → QuestionParts chains plain_metadata false (asks_for (one name)) (one name) parts
+  looked_up : (name : DomainName) (parts : ReplyParts) (outcome : Outcome) → chain_for chains name ≡ Some chain → IsLookup zone name types.A outcome → AuthoritativeParts (Stored zone) plain_metadata false name types.A (outcome_shown false outcome) parts → QuestionParts chains plain_metadata false (asks_for (one name)) (one name) parts
   looked_up name parts outcome inside is shown = record {
     no_chain = λ none. absurd (none-some chain (sym none ∙ inside));
     transfer = λ e. absurd (false≢true e);
@@ -284,7 +284,7 @@ module _ (asks_for : Query → DomainName → Asked) where
   at_start = (one_set set_of_start [], lookup_of_one example types.SOA set_of_start [] refl refl refl refl refl, refl)
 
   missing_parts : Gives (one (below (codes "z")) ∷ []) (record { metadata = answer_metadata true responses.NXDomain; answers = []; authorities = start ∷ []; additionals = []; edns = None; signature = None })
-  missing_parts = gives _ _ refl (looked_up (below (codes "z")) _ name_error refl a_missing_name (start ∷ [], at_start, refl))
+  missing_parts = gives _ _ refl (looked_up (below (codes "z")) _ name_error refl a_missing_name ([], start ∷ [], refl, at_start, refl))
 
   outside_parts : Gives (one elsewhere ∷ []) (record { metadata = answer_metadata false responses.Refused; answers = []; authorities = []; additionals = []; edns = None; signature = None })
   outside_parts = gives _ _ refl (record { no_chain = λ _. refl; transfer = λ e. absurd (false≢true e); looked_up = λ other at e. let h : ⊥ = cc in absurd h })

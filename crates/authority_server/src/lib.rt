@@ -6,9 +6,9 @@
 
 pub use zsv_access::{AccessControl, IpNet};
 pub use zsv_catalog::{
-    A, DNSClass, Label, LowerName, NS, NSIDPayload, Name, NoSuite, Protocol, RData, Record,
-    RecordSet, RecordType, SOA, SignFault, TSigResponseContext, Tsig, TsigRecord, TsigSuite,
-    TsigVerdict, ZoneHandler,
+    A, DNSClass, Label, LowerName, NS, NSIDPayload, Name, NoSuite, Nsec3QueryInfo, Protocol, RData,
+    Record, RecordSet, RecordType, SOA, SignFault, TSigResponseContext, Tsig, TsigRecord,
+    TsigSuite, TsigVerdict, ZoneHandler,
 };
 
 mod faults;

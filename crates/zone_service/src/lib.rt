@@ -11,11 +11,11 @@ pub use zsv_catalog::{
     A, AuthLookup, BlocklistConsultAction, Catalog, Chains, DNSClass, DecodeError, Edns, Header,
     HeaderCounts, Label, LookupControlFlow, LookupError, LookupOptions, LookupRecords, LowerName,
     LowerQuery, MessageRequest, MessageResponse, MessageResponseBuilder, MessageType, Metadata, NS,
-    NSIDPayload, Name, NoSuite, OpCode, Protocol, Queries, Query, RData, Received, Record,
-    RecordRef, RecordSet, RecordType, Request, RequestHandler, RequestInfo, RequestTsig,
-    ResponseCode, ResponseHandler, ResponseInfo, SOA, SendFault, ServiceFault, SignFault,
-    TSigResponseContext, Tsig, TsigRecord, TsigSuite, TsigVerdict, UpdateRequest, ZoneHandler,
-    ZoneRequest, ZoneTransfer, ZoneType, error_response,
+    NSIDPayload, Name, NoSuite, Nsec3HashAlgorithm, Nsec3QueryInfo, NxProofKind, OpCode, Protocol,
+    Queries, Query, RData, Received, Record, RecordRef, RecordSet, RecordType, Request,
+    RequestHandler, RequestInfo, RequestTsig, ResponseCode, ResponseHandler, ResponseInfo, SOA,
+    SendFault, ServiceFault, SignFault, TSigResponseContext, Tsig, TsigRecord, TsigSuite,
+    TsigVerdict, UpdateRequest, ZoneHandler, ZoneRequest, ZoneTransfer, ZoneType, error_response,
 };
 pub use zsv_handlers::{
     BlocklistConfig, BlocklistError, BlocklistZoneHandler, InMemoryZoneHandler, ReadFaults,

@@ -1,0 +1,3 @@
+pub use Rattle.zsv_catalog.proofs.Certified
+pub use Rattle.zsv_catalog.proofs.Denied
+pub use Rattle.zsv_catalog.proofs.SentByZone
