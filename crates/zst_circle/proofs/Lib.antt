@@ -1,2 +1,5 @@
+pub mod Authoritative
+pub mod Circling
 pub mod Moving
+pub mod NsecSecured
 pub mod Placing

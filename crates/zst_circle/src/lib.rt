@@ -4,6 +4,12 @@
 
 pub use zst_absence::{Name, NameKey, Record, RecordSet, RecordType, ZoneSets};
 
+mod by_name;
 mod moves;
+mod names;
+mod signed;
+mod types;
 
+pub use by_name::put_nsec;
 pub use moves::{Placeholder, commit, placeholders};
+pub use names::authoritative_names;

@@ -1,13 +1,11 @@
 //! The names of a circle: the authoritative names of a zone (RFC 4035 section 2.3).
 
-ghost use Rattle.std.specs.Prelude.{◌≡◌, ◌×◌, ◌↔◌, IfOk, IsTrue, MatchOption, is_some};
-ghost use Rattle.zst_absence.specs.Absences.{IsZoneOf};
+ghost use Rattle.std.specs.Prelude.{◌≡◌, ◌↔◌, IfOk, IsTrue, MatchOption};
 ghost use Rattle.zst_absence.specs.dnw_codes.declared.record_type.RecordType.{RecordType};
-ghost use Rattle.zst_absence.specs.dnw_codes.declared.record_type.RecordType.TheVariants as kind;
-ghost use Rattle.zst_absence.specs.dnw_name.DomainName.{lowercase_name, name_eq};
-ghost use Rattle.zst_absence.specs.zst_denial.Circles.{IsAuthoritativeName, IsCutOff, is_delegation};
-ghost use Rattle.zst_absence.specs.zst_handler.Zones.{Zone, rrset_at};
-ghost use Rattle.zst_circle.specs.Securing.{AreAuthoritative, HasNone, IsAuthoritativeOwner};
+ghost use Rattle.zst_absence.specs.dnw_name.DomainName.{lowercase_name};
+ghost use Rattle.zst_absence.specs.zst_denial.Circles.{IsCutOff, is_delegation};
+ghost use Rattle.zst_absence.specs.zst_handler.Zones.{Zone};
+ghost use Rattle.zst_circle.specs.Securing.{AreAuthoritative, HasNone, IsAuthoritativeOwner, IsZoneAt, is_strictly_below};
 
 use std::alloc::{AllocError, Global};
 use zst_absence::{Name, NameKey, RecordType, ZoneSets, push};
@@ -19,7 +17,7 @@ pub fn authoritative_names(
     origin: &NameKey,
     sets: &ZoneSets,
 ) -> Result<Vec<Name>, AllocError>
-    ensures { IfOk result (λ names. (circle : RecordType) (zone : Zone) → IsZoneOf sets.now origin.now zone → HasNone sets.now circle
+    ensures { IfOk result (λ names. (circle : RecordType) (zone : Zone) → IsZoneAt sets.now origin.now zone → HasNone sets.now circle
         → AreAuthoritative circle zone names.items) }
 {
     let mut names = Vec::new(alloc);
@@ -37,9 +35,9 @@ fn authoritative_name(
     sets: &ZoneSets,
     key: &NameKey,
 ) -> Result<Option<Name>, AllocError>
-    ensures { IfOk result (λ found. (zone : Zone) → IsZoneOf sets.now origin.now zone
+    ensures { IfOk result (λ found. (zone : Zone) → IsZoneAt sets.now origin.now zone
         → MatchOption found (IsAuthoritativeOwner zone key.now → ⊥)
-        (λ name. IsAuthoritativeOwner zone key.now × (name_eq key.now name ≡ true) × (lowercase_name name ≡ name))) }
+        (λ name. IsAuthoritativeOwner zone key.now × (name ≡ lowercase_name key.now))) }
 {
     let Some(set) = sets.sets_at(key).first() else {
         return Ok(None);
@@ -56,7 +54,7 @@ pub(crate) fn is_cut_off(
     sets: &ZoneSets,
     key: &NameKey,
 ) -> Result<bool, AllocError>
-    ensures { IfOk result (λ cut. (zone : Zone) → IsZoneOf sets.now origin.now zone → (IsTrue cut ↔ IsCutOff zone key.now)) }
+    ensures { IfOk result (λ cut. (zone : Zone) → IsZoneAt sets.now origin.now zone → (IsTrue cut ↔ IsCutOff zone key.now)) }
 {
     let mut above = key.clone()?;
     'levels: while is_below(&above, origin) {
@@ -70,7 +68,7 @@ pub(crate) fn is_cut_off(
 
 /// Whether a name below the origin is delegated to the name servers that it owns.
 pub(crate) fn is_delegation(origin: &NameKey, sets: &ZoneSets, key: &NameKey) -> bool
-    ensures { (zone : Zone) → IsZoneOf sets.now origin.now zone → result ≡ is_delegation zone key.now }
+    ensures { (zone : Zone) → IsZoneAt sets.now origin.now zone → result ≡ is_delegation zone key.now }
 {
     is_below(key, origin) && sets.get(key, RecordType::NS).is_some()
 }
