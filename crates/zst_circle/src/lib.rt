@@ -7,9 +7,9 @@ pub use zst_absence::{Name, NameKey, Record, RecordSet, RecordType, ZoneSets};
 mod by_name;
 mod moves;
 mod names;
+mod resigned;
+mod secured;
 mod signed;
 mod types;
 
-pub use by_name::put_nsec;
-pub use moves::{Placeholder, commit, placeholders};
-pub use names::authoritative_names;
+pub use secured::secure;
