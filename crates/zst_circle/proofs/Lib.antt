@@ -3,3 +3,4 @@ pub mod Circling
 pub mod Moving
 pub mod NsecSecured
 pub mod Placing
+pub mod Secured

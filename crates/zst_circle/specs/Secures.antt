@@ -78,8 +78,9 @@ IsMadeFor (Some proofs.Nsec) zone set = IsNsecSet zone set.name set
 IsMadeFor (Some (proofs.Nsec3 algorithm salt iterations opt_out)) zone set = ⊥
 
 -- Some key fails for a set that is to be signed.
-abbrev pub FailsToSecure : {K : Type 0} → (K → RRset → ℕ → Bool) → List K → ℕ → Zone → Type 0
-FailsToSecure fails keys now zone =
+abbrev pub FailsToSecure : {K : Type 0} → (K → RRset → ℕ → Bool) → List K → ℕ
+    → Option NxProofKind → Zone → Type 0
+FailsToSecure fails keys now proof zone =
     SomeFails fails keys now (IsStoredToSign zone.sets (lowercase_name zone.origin))
     ⊎ SomeFails fails keys now
-    (λ set. (bare : Zone) → IsStripped zone bare → IsMadeFor zone.nx_proof_kind bare set)
+    (λ set. (bare : Zone) → IsStripped zone bare → IsMadeFor proof bare set)

@@ -38,7 +38,7 @@ pub fn secure<K: ZoneSigner>(
     ensures ok { OnOk result ((zone : Zone) → IsZoneOf sets.old origin.now (option_copied proof) zone
         → Secures K.gives K.fails keys.now now zone ttl (record zone { sets = sets.new })) }
     ensures failed { IfErr result (λ e. e ≡ SignerFault.Failed → (zone : Zone) → IsZoneOf sets.old origin.now (option_copied proof) zone
-        → FailsToSecure K.fails keys.now now zone) }
+        → FailsToSecure K.fails keys.now now (option_copied proof) zone) }
     ensures err { OnErr result (sets.new ≡ sets.old) }
 {
     let mut made = ZoneSets::new(alloc);
@@ -78,7 +78,7 @@ fn make<K: ZoneSigner>(
     ensures made { OnOk result ((name : DomainName) → (t : RecordType) → is_circle_type t ≡ true → IfSome (rrset_at new.new name t)
         (λ set. IsMade K.gives keys.now now ttl set × (any_fails K.fails keys.now set now ≡ false))) }
     ensures ordered { OnOk result (AreInOrder new.new) }
-    ensures failed { IfErr result (λ e. e ≡ SignerFault.Failed → (zone : Zone) → IsZoneAt old.now origin.now zone → FailsFor K.fails keys.now now (option_copied proof) zone) }
+    ensures failed { IfErr result (λ e. e ≡ SignerFault.Failed → (zone : Zone) → IsZoneAt old.now origin.now zone → FailsToSecure K.fails keys.now now (option_copied proof) zone) }
 {
     placeholders(alloc, origin, keys, now, old, new, list)?;
     put_circle(alloc, origin, proof, ttl, keys, now, new)
