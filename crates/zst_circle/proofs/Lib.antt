@@ -4,3 +4,4 @@ pub mod Moving
 pub mod NsecSecured
 pub mod Placing
 pub mod Secured
+pub mod TypesListed
