@@ -3,5 +3,5 @@ pub mod Circling
 pub mod Moving
 pub mod NsecSecured
 pub mod Placing
-pub mod Secured
+pub mod Settled
 pub mod TypesListed
