@@ -4,4 +4,5 @@ pub mod Moving
 pub mod NsecSecured
 pub mod Placing
 pub mod Settled
+pub mod Signatures
 pub mod TypesListed
