@@ -5,4 +5,5 @@ pub mod NsecSecured
 pub mod Placing
 pub mod Settled
 pub mod Signatures
+pub mod StoredSets
 pub mod TypesListed

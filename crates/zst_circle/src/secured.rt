@@ -9,7 +9,7 @@ ghost use Rattle.zst_absence.specs.dnw_name.DomainName.{DomainName, lowercase_na
 ghost use Rattle.zst_absence.specs.zst_denial.Circles.{IsNsecSet, IsSecured};
 ghost use Rattle.zst_absence.specs.zst_denial.Kept.{is_circle_type};
 ghost use Rattle.zst_absence.specs.zst_denial.Signing.{any_fails};
-ghost use Rattle.zst_absence.specs.zst_handler.Zones.{AreInOrder, IsStored, Zone, rrset_at};
+ghost use Rattle.zst_absence.specs.zst_handler.Zones.{AreInOrder, AreStored, IsStored, Zone, rrset_at};
 ghost use Rattle.zst_circle.specs.Moves.{CanMove, placeholder_of};
 ghost use Rattle.zst_circle.specs.Resigning.{IsStoredToSign, Resigns};
 ghost use Rattle.zst_circle.specs.Secures.{FailsToSecure, IsCircledBy, IsMadeFor, IsZoneOf, Secures};
@@ -38,6 +38,7 @@ pub fn secure<K: ZoneSigner>(
     requires { key.now ≡ lowercase_name origin.now }
     ensures ok { OnOk result ((zone : Zone) → IsZoneOf sets.old origin.now (option_copied proof.entry) zone
         → Secures K.gives K.fails keys.now now zone ttl (record zone { sets = sets.new })) }
+    ensures stored { OnOk result (AreStored sets.old → (name : DomainName) → (t : RecordType) → IfSome (rrset_at sets.new name t) IsStored) }
     ensures failed { IfErr result (λ e. e ≡ SignerFault.Failed → (zone : Zone) → IsZoneOf sets.old origin.now (option_copied proof.entry) zone
         → FailsToSecure K.fails keys.now now (option_copied proof.entry) zone) }
     ensures err { OnErr result (sets.new ≡ sets.old) }

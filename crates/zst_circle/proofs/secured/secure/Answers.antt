@@ -1,13 +1,15 @@
 use Rattle.std.proofs.Common.{◌≡◌, ◌∙◌, ap, refl, subst, sym, false, List}
-use Rattle.std.specs.Prelude.{Option, option_copied}
+use Rattle.std.specs.Prelude.{IfSome, Option, option_copied}
 use Rattle.zst_absence.specs.dnw_codes.declared.record_type.RecordType.{RecordType}
 use Rattle.zst_absence.specs.dnw_name.DomainName.{DomainName, lowercase_name}
 use Rattle.zst_absence.specs.zst_codes.declared.nx_proof.NxProofKind.{NxProofKind}
 use Rattle.zst_absence.specs.zst_denial.Signing.{any_fails}
-use Rattle.zst_absence.specs.zst_handler.Zones.{Zone, rrset_at}
+use Rattle.zst_absence.specs.zst_handler.Zones.{IsStored, Zone, rrset_at}
 use Rattle.zst_absence.specs.zst_record.RecordSets.{RRset}
+use Rattle.zst_circle.specs.Resigning.{IsResigning}
 use Rattle.zst_circle.specs.Secures.{IsCircledBy, KeepsSet, Secures}
 use Rattle.zst_circle.specs.Securing.{IsMade, IsZoneAt}
+use Rattle.zst_circle.proofs.StoredSets.{all_stored}
 use Rattle.zst_circle.proofs.Settled.{circled_then, kept_then, made_then}
 use Rattle.zst_circle.proofs.secured.secure.Goals as goal
 
@@ -38,3 +40,10 @@ returns-clause-ok g c = λ zone of.
       made = made_then old new final list moves it.listed it.there P it.made;
     } in
     subst (λ (sets : List RRset). Secures gives fails keys now zone c.args.ttl (record zone { sets = sets })) (sym c.replace.ensures.after) is
+
+pub returns-clause-stored : goal.returns-clause-stored
+returns-clause-stored g c = λ stored name t.
+    let it = c.in_default.ensures in
+    subst (λ (sets : List RRset). IfSome (rrset_at sets name t) IsStored) (sym c.replace.ensures.after)
+    (all_stored c.args.sets.now c.make.new.new c.commit.new.new c.make.new.list.items
+    (IsResigning g.K.ZoneSigner.gives g.K.ZoneSigner.fails c.args.keys.now c.args.now c.args.sets.now c.args.key.now) (λ p set is. is.fit) c.commit.ensures.moved it.listed it.there it.resigned it.stored stored name t)
