@@ -4,12 +4,17 @@
 
 pub use zst_absence::{Name, NameKey, Record, RecordSet, RecordType, ZoneSets};
 
+mod by_hash;
 mod by_name;
+mod hash_types;
+mod hashed;
 mod moves;
 mod names;
 mod signed;
 mod types;
 
+pub use by_hash::{put_nsec3, put_parameters};
 pub use by_name::put_nsec;
+pub use hashed::{HashedName, Nsec3Parameters};
 pub use moves::{Placeholder, commit, placeholders};
 pub use names::authoritative_names;
