@@ -9,7 +9,7 @@ ghost use Rattle.zst_absence.specs.zst_denial.Hashed.{AreApart, IsParameterSet, 
 ghost use Rattle.zst_absence.specs.zst_denial.Signing.{any_fails};
 ghost use Rattle.zst_absence.specs.zst_handler.Zones.{AreInOrder, Zone, rrset_at};
 ghost use Rattle.zst_circle.specs.declared.hashed.HashedName.{HashedName};
-ghost use Rattle.zst_circle.specs.Nsec3Circle.{IsNsec3In, IsNsec3Of, IsNsec3SetOn, IsParametersOf, IsSetWith, hash_cmp, hashing_of, next_place};
+ghost use Rattle.zst_circle.specs.Nsec3Circle.{IsNsec3In, IsNsec3SetOn, IsParametersOf, IsSetWith, hash_cmp, hashing_of, next_place};
 ghost use Rattle.zst_circle.specs.Securing.{AreAuthoritative, ChangesOnly, HasNone, IsMade, IsZoneAt, SomeFails};
 
 use crate::hash_types::nsec3_types;

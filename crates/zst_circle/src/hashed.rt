@@ -1,6 +1,6 @@
 //! The names on a circle by hash, with their digests (RFC 5155 section 7.1).
 
-ghost use Rattle.std.specs.Prelude.{◌≡◌, ◌&&◌, ◌+◌, ◌-◌, ◌<◌, ◌≤◌, not, length, get_or, take, IfOk, OnOk};
+ghost use Rattle.std.specs.Prelude.{◌≡◌, ◌&&◌, ◌+◌, ◌-◌, ◌<◌, ◌≤◌, not, length, get_or, nat_lt, take, IfOk, OnOk};
 ghost use Rattle.std.specs.BTreeMap.{insert_entry, values};
 ghost use Rattle.std.specs.List.Sorted.{IsStrictlySortedBy};
 ghost use Rattle.std.specs.Map.{keys_of};
@@ -32,11 +32,11 @@ pub struct Nsec3Parameters<'s> {
 
 /// A name on a circle by hash.
 #[derive(Drop)]
-pub struct HashedName {
+pub(crate) struct HashedName {
     /// The name's key.
-    pub key: NameKey,
+    pub(crate) key: NameKey,
     /// The name's digest.
-    pub digest: [u8; 20],
+    pub(crate) digest: [u8; 20],
 }
 
 /// The names on a zone's circle by hash, in the order of their hashed owners: the authoritative names, and those above them

@@ -15,6 +15,6 @@ mod types;
 
 pub use by_hash::{put_nsec3, put_parameters};
 pub use by_name::put_nsec;
-pub use hashed::{HashedName, Nsec3Parameters};
+pub use hashed::Nsec3Parameters;
 pub use moves::{Placeholder, commit, placeholders};
 pub use names::authoritative_names;
