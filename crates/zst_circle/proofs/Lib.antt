@@ -1,5 +1,9 @@
 pub mod Authoritative
 pub mod Circling
 pub mod Moving
+pub mod NsecHashed
+pub mod NsecHashedDigests
+pub mod NsecHashedNames
+pub mod NsecHashedTypes
 pub mod NsecSecured
 pub mod Placing

@@ -1,0 +1,105 @@
+-- The types that an NSEC3 record lists, by the sets of its name.
+use Rattle.std.proofs.Common.{◌≡◌, ℕ, Bool, true, false, not, ◌&&◌, ◌||◌, ◌==◌, List, [], ◌∷◌, refl, ap, sym, ◌∙◌, eqb-true}
+use Rattle.std.specs.Prelude.{Option, Some, None, cond, find, is_some}
+use Rattle.std.specs.List.{filter, list_any}
+use Rattle.zst_absence.specs.dnw_codes.declared.record_type.RecordType.{RecordType}
+use Rattle.zst_absence.specs.dnw_codes.declared.record_type.RecordType.TheVariants as kind
+use Rattle.zst_absence.specs.dnw_codes.RecordType.{record_type_number, same_record_type}
+use Rattle.zst_absence.specs.dnw_name.DomainName.{DomainName, name_eq}
+use Rattle.zst_absence.specs.zst_denial.Circles.{is_delegation, is_owned}
+use Rattle.zst_absence.specs.zst_denial.Hashed.{is_listed_by_hash, is_listed_of_delegation, owns_others}
+use Rattle.zst_absence.specs.zst_handler.Lookups.{sets_of_name}
+use Rattle.zst_absence.specs.zst_handler.Zones.{Zone, rrset_at}
+use Rattle.zst_absence.specs.zst_record.RecordSets.{RRset}
+use Rattle.zst_circle.specs.Nsec3Circle.{is_kept_type, is_nsec3_type, is_signed_type}
+use Rattle.zst_circle.specs.Securing.{IsZoneAt}
+
+-- ---- lists
+any_filter : {X : Type 0} (p q : X → Bool) (xs : List X) → list_any q (filter p xs) ≡ list_any (λ x. p x && q x) xs
+any_filter p q [] = refl
+any_filter p q (x ∷ xs) = by (p x) (any_filter p q xs)
+  where
+    by : (b : Bool) → list_any q (filter p xs) ≡ list_any (λ y. p y && q y) xs → list_any q (cond b (x ∷ filter p xs) (filter p xs)) ≡ ((b && q x) || list_any (λ y. p y && q y) xs)
+    by true later = ap (λ (c : Bool). q x || c) later
+    by false later = later
+
+any_find : {X : Type 0} (p : X → Bool) (xs : List X) → list_any p xs ≡ is_some (find p xs)
+any_find p [] = refl
+any_find p (x ∷ xs) = by (p x) (any_find p xs)
+  where
+    by : (b : Bool) → list_any p xs ≡ is_some (find p xs) → (b || list_any p xs) ≡ is_some (cond b (Some x) (find p xs))
+    by true later = refl
+    by false later = later
+
+-- ---- one type
+kept_number : (delegated : Bool) (t u : RecordType) → same_record_type u t ≡ true → is_kept_type delegated u ≡ is_kept_type delegated t
+kept_number delegated t u same = ap (λ (n : ℕ). cond delegated ((n == 2) || (n == 43)) (not (n == 50))) (eqb-true (record_type_number u) (record_type_number t) same)
+
+kept_found : (delegated : Bool) (t : RecordType) (p : RRset → Bool) (sets : List RRset)
+    → list_any (λ set. p set && (same_record_type set.record_type t && is_kept_type delegated set.record_type)) sets
+    ≡ (is_some (find (λ set. p set && same_record_type set.record_type t) sets) && is_kept_type delegated t)
+kept_found delegated t p [] = refl
+kept_found delegated t p (set ∷ sets) = by (p set) (same_record_type set.record_type t) refl (kept_found delegated t p sets)
+  where
+    both : (k x : Bool) → (k || (x && k)) ≡ k
+    both true x = refl
+    both false true = refl
+    both false false = refl
+
+    by : (b s : Bool) → same_record_type set.record_type t ≡ s
+        → list_any (λ r. p r && (same_record_type r.record_type t && is_kept_type delegated r.record_type)) sets ≡ (is_some (find (λ r. p r && same_record_type r.record_type t) sets) && is_kept_type delegated t)
+        → ((b && (s && is_kept_type delegated set.record_type)) || list_any (λ r. p r && (same_record_type r.record_type t && is_kept_type delegated r.record_type)) sets)
+        ≡ (is_some (cond (b && s) (Some set) (find (λ r. p r && same_record_type r.record_type t) sets)) && is_kept_type delegated t)
+    by false s e later = later
+    by true false e later = later
+    by true true e later =
+        (λ i. kept_number delegated t set.record_type e i || later i)
+        ∙ both (is_kept_type delegated t) (is_some (find (λ r. p r && same_record_type r.record_type t) sets))
+
+kept_owned : (sets : List RRset) (name : DomainName) (delegated : Bool) (t : RecordType)
+    → list_any (λ set. same_record_type set.record_type t && is_kept_type delegated set.record_type) (sets_of_name sets name) ≡ (is_some (rrset_at sets name t) && is_kept_type delegated t)
+kept_owned sets name delegated t =
+    any_filter (λ (set : RRset). name_eq name set.name) (λ set. same_record_type set.record_type t && is_kept_type delegated set.record_type) sets
+    ∙ kept_found delegated t (λ set. name_eq name set.name) sets
+
+signed_owned : (sets : List RRset) (name : DomainName) (delegated : Bool)
+    → list_any (λ set. is_signed_type delegated set.record_type) (sets_of_name sets name) ≡ list_any (λ set. name_eq name set.name && is_signed_type delegated set.record_type) sets
+signed_owned sets name delegated = any_filter (λ (set : RRset). name_eq name set.name) (λ set. is_signed_type delegated set.record_type) sets
+
+-- ---- what is listed
+turned : (a b : Bool) → (a && b) ≡ (b && a)
+turned true true = refl
+turned true false = refl
+turned false true = refl
+turned false false = refl
+
+listed_by : (zone : Zone) (name : DomainName) (delegated : Bool) (t : RecordType) → is_nsec3_type (sets_of_name zone.sets name) delegated t
+    ≡ cond delegated (is_listed_of_delegation zone name t) ((is_owned zone name t && not (same_record_type t kind.NSEC3)) || (same_record_type t kind.RRSIG && owns_others zone name))
+listed_by zone name true t =
+    (λ i. kept_owned zone.sets name true t i || (same_record_type t kind.RRSIG && signed_owned zone.sets name true i))
+    ∙ (λ i. turned (is_owned zone name t) (same_record_type t kind.NS || same_record_type t kind.DS) i
+    || (same_record_type t kind.RRSIG && any_find (λ (set : RRset). name_eq name set.name && same_record_type set.record_type kind.DS) zone.sets i))
+listed_by zone name false t =
+    λ i. kept_owned zone.sets name false t i || (same_record_type t kind.RRSIG && signed_owned zone.sets name false i)
+
+pub listed_in : (sets : List RRset) (key : DomainName) (zone : Zone) → IsZoneAt sets key zone → (name : DomainName) (delegated : Bool) → delegated ≡ is_delegation zone name
+    → (owned : List RRset) → owned ≡ sets_of_name sets name → (t : RecordType) → is_nsec3_type owned delegated t ≡ is_listed_by_hash zone name t
+listed_in sets key zone at name delegated is owned are t =
+    ap (λ (l : List RRset). is_nsec3_type l delegated t) (are ∙ ap (λ (l : List RRset). sets_of_name l name) (sym at.has_sets))
+    ∙ listed_by zone name delegated t
+    ∙ ap (λ (d : Bool). cond d (is_listed_of_delegation zone name t) ((is_owned zone name t && not (same_record_type t kind.NSEC3)) || (same_record_type t kind.RRSIG && owns_others zone name))) is
+
+-- ---- a turn of the loops
+pub kept_turn : (delegated : Bool) (t : RecordType) (listed : Bool) (set : RRset) (later : List RRset) (b : Bool) → is_kept_type delegated set.record_type ≡ b
+    → (listed || list_any (λ r. same_record_type r.record_type t && is_kept_type delegated r.record_type) (set ∷ later))
+    ≡ ((listed || (b && same_record_type set.record_type t)) || list_any (λ r. same_record_type r.record_type t && is_kept_type delegated r.record_type) later)
+kept_turn delegated t listed set later b is =
+    ap (λ (c : Bool). listed || ((same_record_type set.record_type t && c) || list_any (λ r. same_record_type r.record_type t && is_kept_type delegated r.record_type) later)) is
+    ∙ by listed (same_record_type set.record_type t) b (list_any (λ r. same_record_type r.record_type t && is_kept_type delegated r.record_type) later)
+  where
+    by : (l s k x : Bool) → (l || ((s && k) || x)) ≡ ((l || (k && s)) || x)
+    by true s k x = refl
+    by false true true x = refl
+    by false true false x = refl
+    by false false true x = refl
+    by false false false x = refl
