@@ -3,6 +3,7 @@ pub mod Circling
 pub mod Moving
 pub mod NsecHashed
 pub mod NsecHashedDigests
+pub mod NsecHashedKept
 pub mod NsecHashedNames
 pub mod NsecHashedTypes
 pub mod NsecSecured

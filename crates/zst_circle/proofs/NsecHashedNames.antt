@@ -1,5 +1,5 @@
 -- The names on a circle by hash are gathered: each authoritative name, and those above it.
-use Rattle.std.proofs.Common.{◌≡◌, ℕ, zero, suc, ◌+◌, ◌-◌, ◌<◌, ◌≤◌, Bool, true, false, not, ◌&&◌, ◌||◌, List, [], ◌∷◌, ◌++◌, drop, length, map, take, get_or, refl, ap, sym, subst, ◌∙◌, arith, inl, inr}
+use Rattle.std.proofs.Common.{◌≡◌, ℕ, zero, suc, ◌+◌, ◌-◌, ◌<◌, ◌≤◌, Bool, true, false, not, ◌&&◌, ◌||◌, List, [], ◌∷◌, ◌++◌, drop, length, map, take, get_or, refl, ap, sym, subst, ◌∙◌, arith, inl, inr, ◌⊎◌}
 use Rattle.std.specs.Prelude.{IsSome, None, Option, Some, cond, is_some, nat_lt, slice_get}
 use Rattle.std.specs.BTreeMap.{insert_entry}
 use Rattle.std.specs.Bool.{beq}
@@ -7,12 +7,13 @@ use Rattle.std.specs.Cmp.Lexicographic.{pointwise}
 use Rattle.std.specs.List.{AllByRecursion, list_any}
 use Rattle.std.specs.List.Sorted.{IsStrictlySortedBy}
 use Rattle.std.specs.Map.{keys_of, values_of}
+use Rattle.std.specs.Str.{str_to_ascii_lowercase}
 use Rattle.std.specs.Ordering.{is_eq, match_ordering, ordering_reverse}
 use Rattle.std.specs.declared.cmp.Ordering.{Ordering}
 use Rattle.std.specs.declared.cmp.Ordering.TheVariants.{Less, Equal, Greater}
 use Rattle.std.proofs.lemmas.Bool.{and_parts, cases_lt, true≢false}
 use Rattle.std.proofs.lemmas.Bool.Decides.{nat_tests}
-use Rattle.std.proofs.lemmas.List.{length-drop}
+use Rattle.std.proofs.lemmas.List.{length-drop, length-map}
 use Rattle.std.proofs.lemmas.Map.Keys.{sorted_head, sorted_tail}
 use Rattle.zst_absence.specs.dnw_label.Label.{label_eq}
 use Rattle.zst_absence.specs.dnw_codes.declared.record_type.RecordType.TheVariants as kind
@@ -25,20 +26,17 @@ use Rattle.zst_absence.specs.zst_hash.Owners.{hashed_owner}
 use Rattle.zst_absence.specs.zst_key.Ancestors.{up}
 use Rattle.zst_absence.specs.zst_record.RecordLaws.{name_eq_equiv}
 use Rattle.zst_absence.proofs.zst_denial_lemmas.zst_key_lemmas.Climbing.{up-up}
-use Rattle.zst_absence.proofs.zst_denial_lemmas.zst_key_lemmas.KeyLemmas.{below-lower, eq-lower, eq-lower-first, lower-twice, one-lower}
-use Rattle.zst_absence.proofs.zst_denial_lemmas.zst_key_lemmas.NamesAbove.{above-shorter, below-up, is-above, is-equal, name_total, up-lower}
+use Rattle.zst_absence.proofs.zst_denial_lemmas.zst_key_lemmas.KeyLemmas.{above-lower, below-lower, eq-lower, lower-twice, one-lower}
+use Rattle.zst_absence.proofs.zst_denial_lemmas.zst_key_lemmas.NamesAbove.{above-shorter, beq-itself, below-up, is-above, is-equal, name_total, up-lower}
 use Rattle.zst_absence.proofs.zst_map_lemmas.Replacing.{both_same}
 use Rattle.zst_circle.specs.Nsec3Circle.{AreGathered, AreHashed, IsHashedName, entries_with, has_digest, hash_cmp, is_left_out, is_level_of, level_count, with_digest}
 use Rattle.zst_circle.specs.Securing.{AreAuthoritative}
 use Rattle.zst_circle.specs.declared.hashed.HashedName.{HashedName}
 use Rattle.zst_circle.proofs.Authoritative.{all_and, all_as, delegation_alike, up_alike}
 use Rattle.zst_circle.proofs.NsecHashedDigests.{digest_alike}
-use Rattle.zst_circle.proofs.NsecSecured.{one_of}
+use Rattle.zst_circle.proofs.NsecSecured.{authoritative_alike, one_of}
 
 -- ---- entries with one more
-Entry : Type 0
-Entry = DomainName × HashedName
-
 any_true : (b c : Bool) → b ≡ true → (b || c) ≡ true
 any_true true c e = refl
 any_true false c e = absurd (true≢false (sym e))
@@ -91,6 +89,10 @@ equal_eq a b e = name_eq-by_cmp a b ∙ ap is_eq e
 eq_equal : (a b : DomainName) → name_eq a b ≡ true → name_cmp a b ≡ Equal
 eq_equal a b e = is-equal (name_cmp a b) (sym (name_eq-by_cmp a b) ∙ e)
 
+same_long : (a b : DomainName) → name_eq a b ≡ true → length a.labels ≡ length b.labels
+same_long a b e =
+    sym (length-map str_to_ascii_lowercase a.labels) ∙ ap (λ (n : DomainName). length n.labels) (one-lower a b e) ∙ length-map str_to_ascii_lowercase b.labels
+
 -- A name at or below another one is so up to that one's labels.
 below_at : (name origin : DomainName) (n : ℕ) → is_at_or_below name origin ≡ true → n < level_count origin name → is_at_or_below (up name n) origin ≡ true
 below_at name origin n below less =
@@ -118,9 +120,6 @@ kept_test true false c f = refl
 kept_test false b c f = refl
 
 module _ (by : Hashing) (opt_out : Bool) (zone : Zone) (origin : DomainName) where
-  owner_of : DomainName → DomainName
-  owner_of name = hashed_owner (digest_of by name) origin
-
   -- Names that are one in lower case have one digest among the entries.
   has_alike : (es : List (DomainName × HashedName)) (a b : DomainName) → lowercase_name a ≡ lowercase_name b → has_digest by opt_out zone origin es a ≡ has_digest by opt_out zone origin es b
   has_alike es a b e = ap (λ (d : List ℕ). list_any (λ (x : DomainName × HashedName). is_eq (name_cmp (hashed_owner d origin) x.0)) es) (digest_alike by a b e)
@@ -309,44 +308,43 @@ module _ (by : Hashing) (opt_out : Bool) (zone : Zone) (origin : DomainName) whe
       ∙ found.1 k (omega (arith, long, above-shorter on.below name on.above, above-shorter name zone.origin on.in_zone))
       (sym (left_alike opt_out zone name (up found.0 k) same) ∙ kept_test opt_out (is_delegation zone name) (is_owned zone name kind.DS) on.kept)
 
+  abbrev EntryParts : DomainName × HashedName → Type 0
+  EntryParts e = (name_eq (hashed_owner e.1.digest origin) e.0 ≡ true) × IsHashedName by opt_out zone origin e.1
+
+  abbrev owns_digest : DomainName → HashedName → Bool
+  owns_digest name other = name_eq (hashed_owner (digest_of by name) origin) (hashed_owner other.digest origin)
+
+  values_each : (xs : List (DomainName × HashedName)) → AllByRecursion EntryParts xs → AllByRecursion (IsHashedName by opt_out zone origin) (values_of xs)
+  values_each [] all = tt
+  values_each (x ∷ xs) all = (all.0.1, values_each xs all.1)
+
+  values_any : (name : DomainName) (xs : List (DomainName × HashedName)) → AllByRecursion EntryParts xs → has_digest by opt_out zone origin xs name ≡ true → list_any (owns_digest name) (values_of xs) ≡ true
+  values_any name [] all h = absurd (true≢false (sym h))
+  values_any name (x ∷ xs) all h = pick (is_eq (name_cmp (hashed_owner (digest_of by name) origin) x.0)) refl h (values_any name xs all.1)
+    where
+      pick : (b : Bool) → is_eq (name_cmp (hashed_owner (digest_of by name) origin) x.0) ≡ b → (b || has_digest by opt_out zone origin xs name) ≡ true
+          → (has_digest by opt_out zone origin xs name ≡ true → list_any (owns_digest name) (values_of xs) ≡ true)
+          → (owns_digest name x.1 || list_any (owns_digest name) (values_of xs)) ≡ true
+      pick true e h later =
+          let owner = hashed_owner (digest_of by name) origin in
+          let own = hashed_owner x.1.digest origin in
+          any_true (owns_digest name x.1) (list_any (owns_digest name) (values_of xs))
+          (name_eq_equiv.symm owner own ∙ name_eq_equiv.congr own x.0 owner all.0.0 ∙ name_eq_equiv.symm x.0 owner ∙ name_eq-by_cmp owner x.0 ∙ e)
+      pick false e h later = any_also (owns_digest name x.1) (list_any (owns_digest name) (values_of xs)) (later h)
+
   pub hashed_all : (names : List DomainName) (es : List (DomainName × HashedName)) (list : List HashedName) → list ≡ values_of es → AreAuthoritative kind.NSEC3 zone names → AreGathered by opt_out zone origin names es
       → AreHashed by opt_out zone origin list
-  hashed_all names es list is are g = subst (AreHashed by opt_out zone origin) (sym is) (record {
-    each = values_each es g.each;
-    all = λ name on. values_any name es g.each (gathered_on names es are g name on);
-  })
-    where
-      values_each : (xs : List (DomainName × HashedName)) → AllByRecursion (λ e. (name_eq (hashed_owner e.1.digest origin) e.0 ≡ true) × IsHashedName by opt_out zone origin e.1) xs
-          → AllByRecursion (IsHashedName by opt_out zone origin) (values_of xs)
-      values_each [] all = tt
-      values_each (x ∷ xs) all = (all.0.1, values_each xs all.1)
-
-      values_any : (name : DomainName) (xs : List (DomainName × HashedName)) → AllByRecursion (λ e. (name_eq (hashed_owner e.1.digest origin) e.0 ≡ true) × IsHashedName by opt_out zone origin e.1) xs
-          → has_digest by opt_out zone origin xs name ≡ true
-          → list_any (λ other. name_eq (hashed_owner (digest_of by name) origin) (hashed_owner other.digest origin)) (values_of xs) ≡ true
-      values_any name [] all h = absurd (true≢false (sym h))
-      values_any name (x ∷ xs) all h = pick (is_eq (name_cmp (hashed_owner (digest_of by name) origin) x.0)) refl h (values_any name xs all.1)
-        where
-          pick : (b : Bool) → is_eq (name_cmp (hashed_owner (digest_of by name) origin) x.0) ≡ b → (b || has_digest by opt_out zone origin xs name) ≡ true
-              → (has_digest by opt_out zone origin xs name ≡ true → list_any (λ other. name_eq (hashed_owner (digest_of by name) origin) (hashed_owner other.digest origin)) (values_of xs) ≡ true)
-              → (name_eq (hashed_owner (digest_of by name) origin) (hashed_owner x.1.digest origin)
-              || list_any (λ other. name_eq (hashed_owner (digest_of by name) origin) (hashed_owner other.digest origin)) (values_of xs))
-              ≡ true
-          pick true e h later =
-              let owner = hashed_owner (digest_of by name) origin in
-              let own = hashed_owner x.1.digest origin in
-              any_true (name_eq owner own) _
-              (name_eq_equiv.symm owner own ∙ name_eq_equiv.congr own x.0 owner all.0.0 ∙ name_eq_equiv.symm x.0 owner ∙ name_eq-by_cmp owner x.0 ∙ e)
-          pick false e h later = any_also (name_eq (hashed_owner (digest_of by name) origin) (hashed_owner x.1.digest origin)) _ (later h)
+  hashed_all names es list is are g =
+      subst (AreHashed by opt_out zone origin) (sym is) (record { each = values_each es g.each; all = λ name on. values_any name es g.each (gathered_on names es are g name on) })
 
   -- Their values are in the order of their keys.
-  pub values_sorted : (es : List (DomainName × HashedName)) → AllByRecursion (λ e. (name_eq (hashed_owner e.1.digest origin) e.0 ≡ true) × IsHashedName by opt_out zone origin e.1) es
+  pub values_sorted : (es : List (DomainName × HashedName)) → AllByRecursion EntryParts es
       → IsStrictlySortedBy name_cmp (keys_of es) → IsStrictlySortedBy (hash_cmp origin) (values_of es)
   unfolding IsStrictlySortedBy
   values_sorted [] all sorted = tt
   values_sorted (x ∷ xs) all sorted = (later xs all.1 sorted.0, values_sorted xs all.1 sorted.1)
     where
-      later : (ys : List (DomainName × HashedName)) → AllByRecursion (λ e. (name_eq (hashed_owner e.1.digest origin) e.0 ≡ true) × IsHashedName by opt_out zone origin e.1) ys
+      later : (ys : List (DomainName × HashedName)) → AllByRecursion EntryParts ys
           → AllByRecursion (λ k. name_cmp x.0 k ≡ Less) (keys_of ys) → AllByRecursion (λ v. hash_cmp origin x.1 v ≡ Less) (values_of ys)
       later [] each less = tt
       later (y ∷ ys) each less =
