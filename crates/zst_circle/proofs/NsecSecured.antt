@@ -18,10 +18,10 @@ use Rattle.zst_absence.specs.dnw_name.NameOrderLaws.{name_eq-by_cmp}
 use Rattle.zst_absence.specs.zst_denial.Circles.{Follows, IsAuthoritativeName, IsCutOff, IsNsecSet, IsSecured, is_delegation, is_listed, is_owned}
 use Rattle.zst_absence.specs.zst_denial.Signing.{AreSignatures, any_fails, unsigned}
 use Rattle.zst_absence.specs.zst_handler.Updates.{Replaces}
-use Rattle.zst_absence.specs.zst_handler.Zones.{AreInOrder, Zone, rrset_at}
+use Rattle.zst_absence.specs.zst_handler.Zones.{AreInOrder, IsStored, Zone, rrset_at}
 use Rattle.zst_absence.specs.zst_key.Ancestors.{up}
 use Rattle.zst_absence.specs.zst_record.RecordLaws.{name_eq_equiv}
-use Rattle.zst_absence.specs.zst_record.RecordSets.{RRset, least_ttl}
+use Rattle.zst_absence.specs.zst_record.RecordSets.{RRset, least_ttl, none_left}
 use Rattle.zst_absence.specs.zst_record.declared.records.Record.{Record}
 use Rattle.zst_absence.proofs.zst_map_lemmas.Replacing.{both_same}
 use Rattle.zst_circle.specs.NsecCircle.{IsNext, IsNsecIn, IsNsecOf, is_among}
@@ -221,6 +221,7 @@ module _ {K : Type 0} (gives : K → RRset → ℕ → Signing → Type 0) (fail
     pub is : IsNsecIn old origin names ttl owner (unsigned set)
     pub signed : IsSigned gives keys now set
     pub fine : any_fails fails keys set now ≡ false
+    pub stored : IsStored set
 
   pub record NsecsPut (old : List RRset) (origin : DomainName) (names : List DomainName) (ttl : ℕ) (finished : List DomainName) (sets : List RRset) : Type 0 where
     pub others : ChangesOnly kind.NSEC old sets
@@ -250,15 +251,19 @@ module _ {K : Type 0} (gives : K → RRset → ℕ → Signing → Type 0) (fail
   pub puts_one : (old sets after : List RRset) (origin : DomainName) (names finished : List DomainName) (ttl : ℕ) (owner : DomainName) (set : RRset) (signatures : List Record)
       → IsNsecIn sets origin names ttl owner set → AreSignatures gives keys (unsigned set) now signatures → any_fails fails keys set now ≡ false
       → Replaces sets set.name set.record_type (Some (record set { signatures = signatures })) after → AreInOrder after
+      → (none_left set.records ≡ false → IsSomeAnd (rrset_at after set.name set.record_type) IsStored)
       → AllByRecursion (λ n. name_cmp n owner ≡ Less) finished → NsecsPut old origin names ttl finished sets → NsecsPut old origin names ttl (finished ++ owner ∷ []) after
-  puts_one old sets after origin names finished ttl owner set signatures n signed fine put ordered less before =
+  puts_one old sets after origin names finished ttl owner set signatures n signed fine put ordered stored less before =
       let there : RRset = record set { signatures = signatures } in
       let replaces : Replaces sets owner kind.NSEC (Some there) after
       = subst (λ (t : RecordType). Replaces sets owner t (Some there) after) n.is.record_type (subst (λ (o : DomainName). Replaces sets o set.record_type (Some there) after) n.is.name put) in
       let here : rrset_at after owner kind.NSEC ≡ Some there
       = replaces owner kind.NSEC ∙ ap (λ (b : Bool). cond (b && true) (Some there) (rrset_at sets owner kind.NSEC)) (name_eq_equiv.refl owner) in
+      let first : rrset_at after set.name set.record_type ≡ rrset_at after owner kind.NSEC
+      = ap (λ (o : DomainName). rrset_at after o set.record_type) n.is.name ∙ ap (rrset_at after owner) n.is.record_type in
+      let held : IsStored there = subst (λ (o : Option RRset). IsSomeAnd o IsStored) (first ∙ here) (stored (ap none_left n.is.one)) in
       let is : IsPut old origin names ttl owner there
-      = record { is = as_before old sets origin names ttl owner (unsigned there) before.others (of_unsigned sets origin names ttl owner set signatures n); signed = signed; fine = fine } in
+      = record { is = as_before old sets origin names ttl owner (unsigned there) before.others (of_unsigned sets origin names ttl owner set signatures n); signed = signed; fine = fine; stored = held } in
       record {
         others = λ name t other. replaces name t ∙ kept name t other ∙ before.others name t other;
         ordered = ordered;
@@ -288,12 +293,13 @@ module _ {K : Type 0} (gives : K → RRset → ℕ → Signing → Type 0) (fail
       → place < length names → next ≡ place + 1 → ((owner : DomainName) → slice_get names place ≡ Some owner → IsNsecIn sets origin names ttl owner set)
       → AreSignatures gives keys (unsigned set) now signatures → any_fails fails keys set now ≡ false
       → Replaces sets set.name set.record_type (Some (record set { signatures = signatures })) after → AreInOrder after
+      → (none_left set.records ≡ false → IsSomeAnd (rrset_at after set.name set.record_type) IsStored)
       → NsecsPut old origin names ttl (take place names) sets → NsecsPut old origin names ttl (take next names) after
-  puts_next old sets after origin names ttl place next set signatures sorted within is n signed fine put ordered before =
+  puts_next old sets after origin names ttl place next set signatures sorted within is n signed fine put ordered stored before =
       let at = some_at names place within in
       let more : take next names ≡ take place names ++ at.0 ∷ [] = ap (λ (i : ℕ). take i names) (omega (arith, is)) ∙ one_more names place at.0 at.1 in
       subst (λ (l : List DomainName). NsecsPut old origin names ttl l after) (sym more)
-      (puts_one old sets after origin names (take place names) ttl at.0 set signatures (n at.0 at.1) signed fine put ordered (earlier names place at.0 sorted at.1) before)
+      (puts_one old sets after origin names (take place names) ttl at.0 set signatures (n at.0 at.1) signed fine put ordered stored (earlier names place at.0 sorted at.1) before)
 
   -- ---- when all are put
   at_old : (old new : List RRset) (origin : DomainName) (zone : Zone) → IsZoneAt new origin zone → IsZoneAt old origin (record zone { sets = old })
@@ -374,6 +380,17 @@ module _ {K : Type 0} (gives : K → RRset → ℕ → Signing → Type 0) (fail
           some_as (IsPut old origin names ttl found.0) (λ s. IsMade gives keys now ttl s × (any_fails fails keys s now ≡ false)) (rrset_at new found.0 kind.NSEC) (Some set)
           (sym e ∙ sym (both_same new name found.0 kind.NSEC kind.NSEC found.2 refl))
           (λ s p. made_one old origin names ttl found.0 s p) found.1
+
+  pub stored_then : (old new : List RRset) (origin : DomainName) (names : List DomainName) (ttl : ℕ) → NsecsPut old origin names ttl names new
+      → (name : DomainName) → IfSome (rrset_at new name kind.NSEC) IsStored
+  stored_then old new origin names ttl put name = by (rrset_at new name kind.NSEC) refl
+    where
+      by : (o : Option RRset) → rrset_at new name kind.NSEC ≡ o → IfSome o IsStored
+      by None e = tt
+      by (Some set) e =
+          let found = one_of (λ n. IsSomeAnd (rrset_at new n kind.NSEC) (IsPut old origin names ttl n)) names name put.each (put.only name (ap is_some e)) in
+          some_as (IsPut old origin names ttl found.0) IsStored (rrset_at new found.0 kind.NSEC) (Some set)
+          (sym e ∙ sym (both_same new name found.0 kind.NSEC kind.NSEC found.2 refl)) (λ s p. p.stored) found.1
 
   -- Where a key fails, it does for a set of the circle.
   pub some_fails : (old sets : List RRset) (origin : DomainName) (names : List DomainName) (ttl : ℕ) (place : ℕ) (set : RRset) → place < length names

@@ -7,7 +7,7 @@ ghost use Rattle.zst_absence.specs.dnw_codes.declared.record_type.RecordType.The
 ghost use Rattle.zst_absence.specs.dnw_name.DomainName.{DomainName, lowercase_name, name_cmp};
 ghost use Rattle.zst_absence.specs.zst_denial.Circles.{IsNsecSet, IsSecured};
 ghost use Rattle.zst_absence.specs.zst_denial.Signing.{any_fails};
-ghost use Rattle.zst_absence.specs.zst_handler.Zones.{AreInOrder, Zone, rrset_at};
+ghost use Rattle.zst_absence.specs.zst_handler.Zones.{AreInOrder, IsStored, Zone, rrset_at};
 ghost use Rattle.zst_circle.specs.NsecCircle.{IsNext, IsNsecIn, IsNsecOf, is_among};
 ghost use Rattle.zst_circle.specs.Securing.{AreAuthoritative, ChangesOnly, HasNone, IsMade, IsZoneAt, SomeFails};
 
@@ -40,6 +40,7 @@ pub fn put_nsec<K: ZoneSigner>(
     ensures others { OnOk result (ChangesOnly kind.NSEC sets.old sets.new) }
     ensures made { OnOk result ((name : DomainName) → IfSome (rrset_at sets.new name kind.NSEC) (λ set. IsMade K.gives keys.now now ttl set
         × (any_fails K.fails keys.now set now ≡ false))) }
+    ensures stored { OnOk result ((name : DomainName) → IfSome (rrset_at sets.new name kind.NSEC) IsStored) }
     ensures ordered { OnOk result (AreInOrder sets.new) }
     ensures failed { IfErr result (λ e. e ≡ SignerFault.Failed → (zone : Zone) → IsZoneAt sets.old origin.now zone
         → SomeFails K.fails keys.now now (λ set. IsNsecSet zone set.name set)) }

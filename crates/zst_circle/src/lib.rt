@@ -10,11 +10,10 @@ mod hash_types;
 mod hashed;
 mod moves;
 mod names;
+mod resigned;
+mod secured;
 mod signed;
 mod types;
 
-pub use by_hash::{put_nsec3, put_parameters};
-pub use by_name::put_nsec;
 pub use hashed::Nsec3Parameters;
-pub use moves::{Placeholder, commit, placeholders};
-pub use names::authoritative_names;
+pub use secured::secure;

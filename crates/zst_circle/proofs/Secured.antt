@@ -1,0 +1,160 @@
+-- A zone whose sets have moved to where its circle is.
+use Rattle.std.proofs.Common.{◌≡◌, ℕ, refl, ap, sym, subst, ◌∙◌, eqb-true}
+use Rattle.std.specs.Prelude.{◌×◌, Bool, true, false, not, ◌&&◌, ◌==◌, List, [], Option, Some, None, IfSome, IsSome, cond, is_some, option_map, if◌then◌else◌}
+use Rattle.std.specs.List.{AllByRecursion}
+use Rattle.std.proofs.lemmas.Bool.{and_parts, true≢false}
+use Rattle.zst_absence.specs.drd_denial.Rrsig.{Signing}
+use Rattle.zst_absence.specs.dnw_codes.declared.record_type.RecordType.{RecordType}
+use Rattle.zst_absence.specs.dnw_codes.declared.record_type.RecordType.TheVariants as kind
+use Rattle.zst_absence.specs.dnw_codes.RecordType.{record_type_number, same_record_type}
+use Rattle.zst_absence.specs.dnw_name.DomainName.{DomainName, is_at_or_below, lowercase_name, name_eq}
+use Rattle.zst_absence.specs.zst_codes.declared.nx_proof.NxProofKind.{NxProofKind}
+use Rattle.zst_absence.specs.zst_codes.declared.nx_proof.NxProofKind.TheVariants as proofs
+use Rattle.zst_absence.specs.zst_denial.Hashed.{AreApart, Hashing, IsOnHashCircle}
+use Rattle.zst_absence.specs.zst_denial.Kept.{HaveSameCircle, is_circle_type}
+use Rattle.zst_absence.specs.zst_handler.Zones.{Zone, rrset_at}
+use Rattle.zst_absence.specs.zst_record.RecordLaws.{name_eq_equiv}
+use Rattle.zst_absence.specs.zst_record.RecordSets.{RRset, raised_set}
+use Rattle.zst_absence.proofs.zst_denial_lemmas.KeptCircles.{same_delegation, secured_still, still_authoritative}
+use Rattle.zst_absence.proofs.zst_denial_lemmas.KeptHashes.{hash_still}
+use Rattle.zst_absence.proofs.zst_denial_lemmas.Signings.{same_number}
+use Rattle.zst_absence.proofs.zst_denial_lemmas.zst_key_lemmas.KeyLemmas.{eq-lower}
+use Rattle.zst_absence.proofs.zst_map_lemmas.Replacing.{both_same}
+use Rattle.zst_circle.specs.Moves.{is_placeholder_of, moved, placeholder_of, resigned}
+use Rattle.zst_circle.specs.Resigning.{IsSignedBy, Resigns, is_soa_set, risen}
+use Rattle.zst_circle.specs.Secures.{IsCircledBy, IsKeptAs, KeepsSet}
+use Rattle.zst_circle.specs.Securing.{HasNone, IsToBeSigned, IsZoneAt}
+use Rattle.zst_circle.specs.declared.moves.Placeholder.{Placeholder}
+use Rattle.zst_circle.proofs.Authoritative.{below_alike, cut_alike, delegation_alike}
+use Rattle.zst_circle.proofs.Moving.{find_all}
+
+-- ---- what is signed, under equal names
+pub to_sign_alike : (zone : Zone) (a b : DomainName) (t u : RecordType) → name_eq a b ≡ true → same_record_type u t ≡ true → IsToBeSigned zone a t → IsToBeSigned zone b u
+to_sign_alike zone a b t u e same is = record {
+  in_zone = sym (below_alike a b zone.origin e) ∙ is.in_zone;
+  uncut = λ cut. is.uncut (cut_alike zone b a (name_eq_equiv.symm b a ∙ e) cut);
+  kept = λ delegated. ap (λ (n : ℕ). n == 43) (eqb-true (record_type_number u) (record_type_number t) same) ∙ is.kept (delegation_alike zone a b 0 e ∙ delegated);
+}
+
+-- ---- options
+none_of : {X : Type 0} (o : Option X) → is_some o ≡ false → o ≡ None
+none_of None e = refl
+none_of (Some x) e = absurd (true≢false e)
+
+some_of : {X : Type 0} (o : Option X) → is_some o ≡ true → (x : X) × (o ≡ Some x)
+some_of None e = absurd (true≢false (sym e))
+some_of (Some x) e = (x, refl)
+
+-- ---- digests that differ
+on_still : (opt_out : Bool) (old new : Zone) → HaveSameCircle old new → (name : DomainName) → IsOnHashCircle opt_out old name → IsOnHashCircle opt_out new name
+on_still opt_out old new same name on = record {
+  below = on.below;
+  on = still_authoritative kind.NSEC3 old new same on.below on.on;
+  above = on.above;
+  flags = on.flags;
+  in_zone = ap (λ (o : DomainName). is_at_or_below name o) same.origin ∙ on.in_zone;
+  kept = λ out delegated. same.owned name kind.DS ∙ on.kept out (sym (same_delegation old new same name) ∙ delegated);
+}
+
+apart_still : (by : Hashing) (opt_out : Bool) (old new : Zone) → HaveSameCircle old new → AreApart by opt_out new → AreApart by opt_out old
+apart_still by opt_out old new same apart name other a b = apart name other (on_still opt_out old new same name a) (on_still opt_out old new same other b)
+
+-- Where no placeholder is, what was there stays.
+module _ (old new final : List RRset) (list : List Placeholder)
+    (moves : (name : DomainName) (t : RecordType) → rrset_at final name t ≡ moved (placeholder_of list name t) (rrset_at old name t) (rrset_at new name t))
+    (listed : (name : DomainName) (t : RecordType) → is_some (placeholder_of list name t) ≡ (is_some (rrset_at old name t) && not (is_circle_type t)))
+    (there : (name : DomainName) (t : RecordType) → is_circle_type t ≡ false → is_some (rrset_at new name t) ≡ is_some (rrset_at old name t)) where
+  stays : (name : DomainName) (t : RecordType) → placeholder_of list name t ≡ None → rrset_at final name t ≡ rrset_at new name t
+  stays name t none = moves name t ∙ ap (λ (o : Option Placeholder). moved o (rrset_at old name t) (rrset_at new name t)) none
+
+  and_off : (a b : Bool) → b ≡ true → (a && not b) ≡ false
+  and_off true true e = refl
+  and_off false b e = refl
+  and_off true false e = absurd (true≢false (sym e))
+
+  pub circle_stays : (name : DomainName) (t : RecordType) → is_circle_type t ≡ true → rrset_at final name t ≡ rrset_at new name t
+  circle_stays name t circle = stays name t (none_of (placeholder_of list name t) (listed name t ∙ and_off (is_some (rrset_at old name t)) (is_circle_type t) circle))
+
+  some_map : {X Y : Type 0} (f : X → Y) (o : Option X) → is_some (option_map f o) ≡ is_some o
+  some_map f None = refl
+  some_map f (Some x) = refl
+
+  pub owned_same : (name : DomainName) (t : RecordType) → is_some (rrset_at final name t) ≡ is_some (rrset_at new name t)
+  owned_same name t = by (is_circle_type t) refl (placeholder_of list name t) refl
+    where
+      by : (b : Bool) → is_circle_type t ≡ b → (o : Option Placeholder) → placeholder_of list name t ≡ o → is_some (rrset_at final name t) ≡ is_some (rrset_at new name t)
+      by true circle o e = ap is_some (circle_stays name t circle)
+      by false other None e = ap is_some (stays name t e)
+      by false other (Some p) e =
+          ap is_some (moves name t ∙ ap (λ (o : Option Placeholder). moved o (rrset_at old name t) (rrset_at new name t)) e)
+          ∙ some_map (resigned p) (rrset_at old name t) ∙ sym (there name t other)
+
+  pub same_circle : (zone : Zone) → HaveSameCircle (record zone { sets = new }) (record zone { sets = final })
+  same_circle zone = record {
+    origin = refl;
+    owned = owned_same;
+    records = λ name t circle. ap (option_map (λ (s : RRset). s.records)) (circle_stays name t circle);
+  }
+
+  has_none : (t : RecordType) → is_circle_type t ≡ true → HasNone new t → HasNone final t
+  has_none t circle none name = circle_stays name t circle ∙ none name
+
+  pub circled_then : (proof : Option NxProofKind) (zone : Zone) → IsCircledBy proof (record zone { sets = new }) → IsCircledBy proof (record zone { sets = final })
+  circled_then None zone is = (has_none kind.NSEC refl is.0, has_none kind.NSEC3 refl is.1.0, has_none kind.NSEC3PARAM refl is.1.1)
+  circled_then (Some proofs.Nsec) zone is =
+      (secured_still (record zone { sets = new }) (record zone { sets = final }) (same_circle zone) is.0, has_none kind.NSEC3 refl is.1.0, has_none kind.NSEC3PARAM refl is.1.1)
+  circled_then (Some (proofs.Nsec3 algorithm salt iterations opt_out)) zone is =
+      let by : Hashing = record { salt = salt.now; iterations = iterations } in (
+        has_none kind.NSEC refl is.0,
+        λ apart. hash_still by opt_out (record zone { sets = new }) (record zone { sets = final }) (same_circle zone)
+            (is.1 (apart_still by opt_out (record zone { sets = new }) (record zone { sets = final }) (same_circle zone) apart)),
+      )
+
+  pub made_then : (P : RRset → Type 0) → ((name : DomainName) (t : RecordType) → is_circle_type t ≡ true → IfSome (rrset_at new name t) P)
+      → (name : DomainName) (t : RecordType) → is_circle_type t ≡ true → IfSome (rrset_at final name t) P
+  made_then P each name t circle = subst (λ (o : Option RRset). IfSome o P) (sym (circle_stays name t circle)) (each name t circle)
+
+  -- ---- a set that moves
+  module _ {K : Type 0} (gives : K → RRset → ℕ → Signing → Type 0) (fails : K → RRset → ℕ → Bool) (keys : List K) (now : ℕ) (origin : DomainName) (zone : Zone)
+      (at : IsZoneAt old origin zone) (resigns : AllByRecursion (Resigns gives fails keys now old origin) list) where
+    kept_as : (name : DomainName) (t : RecordType) (p : Placeholder) (stored : RRset) → placeholder_of list name t ≡ Some p → rrset_at old name t ≡ Some stored
+        → IsKeptAs gives fails keys now zone name t stored (resigned p stored)
+    kept_as name t p stored found is =
+        let it = find_all (Resigns gives fails keys now old origin) (is_placeholder_of name t) list p resigns found in
+        let parts = and_parts (name_eq name p.key) (same_record_type p.record_type t) it.1 in
+        let r = it.0 stored (both_same old name p.key p.record_type t parts.0 parts.1 ∙ is) in
+        let here : name_eq p.key origin ≡ name_eq name zone.origin
+        = sym (name_eq_equiv.congr name p.key origin parts.0) ∙ ap (name_eq name) (sym at.has_origin) ∙ eq-lower name zone.origin in
+        record {
+          is = ap (λ (b : Bool). record (if b then raised_set stored else stored) { signatures = p.signatures.items }) (r.rises ∙ ap (λ (b : Bool). b && is_soa_set stored) here);
+          signed = λ signs.
+              subst (λ (b : Bool). IsSignedBy gives fails keys now (risen b stored) p.signatures.items) here
+              (r.signed zone at (to_sign_alike zone name p.key t p.record_type parts.0 parts.1 signs));
+          bare = λ stays. r.bare zone at (λ signs. stays (to_sign_alike zone p.key name p.record_type t (name_eq_equiv.symm p.key name ∙ parts.0) (turned p.record_type t parts.1) signs));
+        }
+      where
+        turned : (a b : RecordType) → same_record_type a b ≡ true → same_record_type b a ≡ true
+        turned a b e = ap (λ (n : ℕ). record_type_number b == n) (eqb-true (record_type_number a) (record_type_number b) e) ∙ same_number (record_type_number b)
+
+    pub kept_then : (name : DomainName) (t : RecordType) → is_circle_type t ≡ false → KeepsSet gives fails keys now zone name t (rrset_at old name t) (rrset_at final name t)
+    kept_then name t other = by (rrset_at old name t) refl
+      where
+        on : (a b : Bool) → a ≡ true → b ≡ false → (a && not b) ≡ true
+        on true false e f = refl
+        on false b e f = absurd (true≢false (sym e))
+        on true true e f = absurd (true≢false f)
+
+        off : (a b : Bool) → a ≡ false → (a && b) ≡ false
+        off false b e = refl
+        off true b e = absurd (true≢false e)
+
+        by : (o : Option RRset) → rrset_at old name t ≡ o → KeepsSet gives fails keys now zone name t o (rrset_at final name t)
+        by None e =
+            stays name t (none_of (placeholder_of list name t) (listed name t ∙ off (is_some (rrset_at old name t)) (not (is_circle_type t)) (ap is_some e)))
+            ∙ none_of (rrset_at new name t) (there name t other ∙ ap is_some e)
+        by (Some stored) e =
+            let p = some_of (placeholder_of list name t) (listed name t ∙ on (is_some (rrset_at old name t)) (is_circle_type t) (ap is_some e) other) in (
+              resigned p.0 stored,
+              moves name t ∙ ap (λ (o : Option Placeholder). moved o (rrset_at old name t) (rrset_at new name t)) p.1 ∙ ap (option_map (resigned p.0)) e,
+              kept_as name t p.0 stored p.1 e,
+            )

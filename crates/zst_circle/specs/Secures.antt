@@ -1,0 +1,86 @@
+-- A zone that is secured: its circle, and the signatures of its sets (RFC 4035, section 2; RFC 5155,
+-- section 7.1).
+use Rattle.std.specs.Prelude.{◌≡◌, ◌×◌, ◌⊎◌, ℕ, ◌<◌, ◌+◌, ◌&&◌, Bool, true, false, not, List, [], Option, Some, None, IfSome, MatchOption}
+use Rattle.zst_absence.specs.drd_denial.Rrsig.{Signing}
+use Rattle.zst_absence.specs.dnw_codes.declared.record_type.RecordType.{RecordType}
+use Rattle.zst_absence.specs.dnw_codes.declared.record_type.RecordType.TheVariants as kind
+use Rattle.zst_absence.specs.dnw_name.DomainName.{DomainName, lowercase_name, name_eq}
+use Rattle.zst_absence.specs.zst_codes.declared.nx_proof.NxProofKind.{NxProofKind}
+use Rattle.zst_absence.specs.zst_codes.declared.nx_proof.NxProofKind.TheVariants as proofs
+use Rattle.zst_absence.specs.zst_denial.Circles.{IsNsecSet, IsSecured, is_owned}
+use Rattle.zst_absence.specs.zst_denial.HashDenials.{has_hashed_owners}
+use Rattle.zst_absence.specs.zst_denial.Hashed.{AreApart, Hashing, IsNsec3Set, IsOnHashCircle, IsParameterSet, IsSecuredByHash}
+use Rattle.zst_absence.specs.zst_denial.Kept.{is_circle_type}
+use Rattle.zst_absence.specs.zst_denial.Signing.{any_fails}
+use Rattle.zst_absence.specs.zst_handler.Zones.{AreInOrder, Zone, rrset_at}
+use Rattle.zst_absence.specs.zst_record.RecordSets.{RRset}
+use Rattle.zst_circle.specs.Resigning.{IsSignedBy, IsStoredToSign, risen}
+use Rattle.zst_circle.specs.Securing.{HasNone, IsMade, IsToBeSigned, SomeFails}
+
+-- What is secured: sets, the zone's origin and how it proves that a name is absent.
+pub record IsZoneOf (sets : List RRset) (origin : DomainName) (proof : Option NxProofKind)
+    (zone : Zone) : Type 0 where
+  pub has_sets : zone.sets ≡ sets
+  pub has_origin : zone.origin ≡ origin
+  pub has_proof : zone.nx_proof_kind ≡ proof
+
+-- The zone without its circle.
+pub record IsStripped (old zone : Zone) : Type 0 where
+  pub origin : zone.origin ≡ old.origin
+  pub owned : (name : DomainName) (t : RecordType)
+      → is_owned zone name t ≡ (is_owned old name t && not (is_circle_type t))
+
+-- ---- the circle, by the zone's kind of proof
+abbrev pub IsCircledBy : Option NxProofKind → Zone → Type 0
+IsCircledBy None zone =
+    HasNone zone.sets kind.NSEC × HasNone zone.sets kind.NSEC3
+    × HasNone zone.sets kind.NSEC3PARAM
+IsCircledBy (Some proofs.Nsec) zone =
+    IsSecured zone × HasNone zone.sets kind.NSEC3 × HasNone zone.sets kind.NSEC3PARAM
+IsCircledBy (Some (proofs.Nsec3 algorithm salt iterations opt_out)) zone =
+    HasNone zone.sets kind.NSEC
+    × (AreApart (record { salt = salt.now; iterations = iterations }) opt_out zone
+    → IsSecuredByHash (record { salt = salt.now; iterations = iterations }) opt_out zone)
+
+module _ {K : Type 0} (gives : K → RRset → ℕ → Signing → Type 0) (fails : K → RRset → ℕ → Bool)
+    (keys : List K) (now : ℕ) where
+  -- A stored set has its records, but for the next serial number, and new signatures, if it is to
+  -- be signed.
+  pub record IsKeptAs (old : Zone) (name : DomainName) (t : RecordType) (stored set : RRset) :
+      Type 0 where
+    pub is : set ≡ record (risen (name_eq name old.origin) stored) { signatures = set.signatures }
+    pub signed : IsToBeSigned old name t
+        → IsSignedBy gives fails keys now (risen (name_eq name old.origin) stored) set.signatures
+    pub bare : (IsToBeSigned old name t → ⊥) → set.signatures ≡ []
+
+  abbrev pub KeepsSet : Zone → DomainName → RecordType → Option RRset → Option RRset → Type 0
+  KeepsSet old name t None new = new ≡ None
+  KeepsSet old name t (Some stored) new =
+      (set : RRset) × (new ≡ Some set) × IsKeptAs old name t stored set
+
+  -- A zone is secured: all sets but those of the circle stay and are signed, and those of the
+  -- circle are made.
+  pub record Secures (old : Zone) (ttl : ℕ) (new : Zone) : Type 0 where
+    pub rest : new ≡ record old { sets = new.sets }
+    pub ordered : AreInOrder new.sets
+    pub kept : (name : DomainName) (t : RecordType) → is_circle_type t ≡ false
+        → KeepsSet old name t (rrset_at old.sets name t) (rrset_at new.sets name t)
+    pub circle : IsCircledBy old.nx_proof_kind new
+    pub made : (name : DomainName) (t : RecordType) → is_circle_type t ≡ true
+        → IfSome (rrset_at new.sets name t)
+        (λ set. IsMade gives keys now ttl set × (any_fails fails keys set now ≡ false))
+
+-- ---- why a zone isn't secured
+-- A set that is made for the circle of a zone, which has no circle yet.
+abbrev pub IsMadeFor : Option NxProofKind → Zone → RRset → Type 0
+IsMadeFor None zone set = ⊥
+IsMadeFor (Some proofs.Nsec) zone set = IsNsecSet zone set.name set
+IsMadeFor (Some (proofs.Nsec3 algorithm salt iterations opt_out)) zone set = ⊥
+
+-- Some key fails for a set that is to be signed.
+abbrev pub FailsToSecure : {K : Type 0} → (K → RRset → ℕ → Bool) → List K → ℕ
+    → Option NxProofKind → Zone → Type 0
+FailsToSecure fails keys now proof zone =
+    SomeFails fails keys now (IsStoredToSign zone.sets (lowercase_name zone.origin))
+    ⊎ SomeFails fails keys now
+    (λ set. (bare : Zone) → IsStripped zone bare → IsMadeFor proof bare set)

@@ -1,0 +1,115 @@
+//! Zones that are secured: all sets are signed anew around a circle that is made anew (RFC 4035 section 2, RFC 5155 section
+//! 7.1).
+
+ghost use Rattle.std.specs.Prelude.{◌≡◌, ◌×◌, [], false, true, not, ◌&&◌, IfErr, IfSome, OnErr, OnOk, is_some, option_copied};
+ghost use Rattle.std.specs.List.{AllByRecursion};
+ghost use Rattle.zst_absence.specs.dnw_codes.declared.record_type.RecordType.{RecordType};
+ghost use Rattle.zst_absence.specs.dnw_codes.declared.record_type.RecordType.TheVariants as kind;
+ghost use Rattle.zst_absence.specs.dnw_name.DomainName.{DomainName, lowercase_name};
+ghost use Rattle.zst_absence.specs.zst_denial.Kept.{is_circle_type};
+ghost use Rattle.zst_absence.specs.zst_denial.Signing.{any_fails};
+ghost use Rattle.zst_absence.specs.zst_handler.Zones.{AreInOrder, Zone, rrset_at};
+ghost use Rattle.zst_circle.specs.Moves.{CanMove, placeholder_of};
+ghost use Rattle.zst_circle.specs.Resigning.{IsStoredToSign, Resigns};
+ghost use Rattle.zst_circle.specs.Secures.{FailsToSecure, IsCircledBy, IsMadeFor, IsZoneOf, Secures};
+ghost use Rattle.zst_circle.specs.Securing.{HasNone, IsMade, IsZoneAt, SomeFails};
+
+use crate::by_name::put_nsec;
+use crate::moves::{Placeholder, commit, placeholders};
+use crate::names::authoritative_names;
+use std::alloc::Global;
+use std::mem;
+use zst_absence::{Name, NameKey, NxProofKind, SignerFault, ZoneSets, ZoneSigner};
+
+/// Secures the sets of a zone with this origin: makes the circle of its kind of proof, raises the serial number of the SOA,
+/// and signs the sets of authoritative names by each key. Sets move, and no record is copied. Where that is refused, the sets
+/// are as they were.
+pub fn secure<K: ZoneSigner>(
+    alloc: Global,
+    origin: &Name,
+    key: &NameKey,
+    proof: Option<&NxProofKind>,
+    ttl: u32,
+    keys: &[K],
+    now: u64,
+    sets: &mut ZoneSets,
+) -> Result<(), SignerFault>
+    requires { key.now ≡ lowercase_name origin.now }
+    ensures ok { OnOk result ((zone : Zone) → IsZoneOf sets.old origin.now (option_copied proof) zone
+        → Secures K.gives K.fails keys.now now zone ttl (record zone { sets = sets.new })) }
+    ensures failed { IfErr result (λ e. e ≡ SignerFault.Failed → (zone : Zone) → IsZoneOf sets.old origin.now (option_copied proof) zone
+        → FailsToSecure K.fails keys.now now (option_copied proof) zone) }
+    ensures err { OnErr result (sets.new ≡ sets.old) }
+{
+    let mut made = ZoneSets::new(alloc);
+    let mut list = Vec::new(alloc);
+    let (old, new, moving) = (&*sets, &mut made, &mut list);
+    if let Err(fault) = make(alloc, key, proof, ttl, keys, now, old, new, moving) {
+        mem::drop(list);
+        mem::drop(made);
+        return Err(fault);
+    }
+    commit(list, sets, &mut made);
+    mem::drop(mem::replace(sets, made));
+    Ok(())
+}
+
+// Makes the circle among placeholders for the sets that move, and lists these with their signatures.
+fn make<K: ZoneSigner>(
+    alloc: Global,
+    origin: &NameKey,
+    proof: Option<&NxProofKind>,
+    ttl: u32,
+    keys: &[K],
+    now: u64,
+    old: &ZoneSets,
+    new: &mut ZoneSets,
+    list: &mut Vec<Placeholder>,
+) -> Result<(), SignerFault>
+    requires new { new.old ≡ [] }
+    requires list { list.old.items ≡ [] }
+    ensures there { OnOk result ((name : DomainName) → (t : RecordType) → is_circle_type t ≡ false
+        → is_some (rrset_at new.new name t) ≡ is_some (rrset_at old.now name t)) }
+    ensures listed { OnOk result ((name : DomainName) → (t : RecordType)
+        → is_some (placeholder_of list.new.items name t) ≡ (is_some (rrset_at old.now name t) && not (is_circle_type t))) }
+    ensures can { OnOk result (AllByRecursion (CanMove old.now new.new) list.new.items) }
+    ensures resigned { OnOk result (AllByRecursion (Resigns K.gives K.fails keys.now now old.now origin.now) list.new.items) }
+    ensures circle { OnOk result ((zone : Zone) → IsZoneAt new.new origin.now zone → IsCircledBy (option_copied proof) zone) }
+    ensures made { OnOk result ((name : DomainName) → (t : RecordType) → is_circle_type t ≡ true → IfSome (rrset_at new.new name t)
+        (λ set. IsMade K.gives keys.now now ttl set × (any_fails K.fails keys.now set now ≡ false))) }
+    ensures ordered { OnOk result (AreInOrder new.new) }
+    ensures failed { IfErr result (λ e. e ≡ SignerFault.Failed → (zone : Zone) → IsZoneAt old.now origin.now zone → FailsToSecure K.fails keys.now now (option_copied proof) zone) }
+{
+    placeholders(alloc, origin, keys, now, old, new, list)?;
+    put_circle(alloc, origin, proof, ttl, keys, now, new)
+}
+
+// Puts the sets of the circle that a kind of proof asks for.
+fn put_circle<K: ZoneSigner>(
+    alloc: Global,
+    origin: &NameKey,
+    proof: Option<&NxProofKind>,
+    ttl: u32,
+    keys: &[K],
+    now: u64,
+    sets: &mut ZoneSets,
+) -> Result<(), SignerFault>
+    requires none { (name : DomainName) → (t : RecordType) → is_circle_type t ≡ true → rrset_at sets.old name t ≡ None }
+    requires ordered { AreInOrder sets.old }
+    ensures others { OnOk result ((name : DomainName) → (t : RecordType) → is_circle_type t ≡ false → rrset_at sets.new name t ≡ rrset_at sets.old name t) }
+    ensures circle { OnOk result ((zone : Zone) → IsZoneAt sets.new origin.now zone → IsCircledBy (option_copied proof) zone) }
+    ensures made { OnOk result ((name : DomainName) → (t : RecordType) → is_circle_type t ≡ true → IfSome (rrset_at sets.new name t)
+        (λ set. IsMade K.gives keys.now now ttl set × (any_fails K.fails keys.now set now ≡ false))) }
+    ensures ordered { OnOk result (AreInOrder sets.new) }
+    ensures failed { IfErr result (λ e. e ≡ SignerFault.Failed → (zone : Zone) → IsZoneAt sets.old origin.now zone
+        → SomeFails K.fails keys.now now (IsMadeFor (option_copied proof) zone)) }
+{
+    match proof {
+        None => Ok(()),
+        Some(NxProofKind::Nsec) => {
+            let names = authoritative_names(alloc, origin, sets)?;
+            put_nsec(alloc, origin, ttl, &names, keys, now, sets)
+        }
+        Some(NxProofKind::Nsec3 { .. }) => Ok(()),
+    }
+}
