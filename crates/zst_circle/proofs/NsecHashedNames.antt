@@ -91,7 +91,7 @@ eq_equal a b e = is-equal (name_cmp a b) (sym (name_eq-by_cmp a b) ∙ e)
 
 same_long : (a b : DomainName) → name_eq a b ≡ true → length a.labels ≡ length b.labels
 same_long a b e =
-    sym (length-map str_to_ascii_lowercase a.labels) ∙ ap (λ (n : DomainName). length n.labels) (one-lower a b e) ∙ length-map str_to_ascii_lowercase b.labels
+    sym (length-map a.labels str_to_ascii_lowercase) ∙ ap (λ (n : DomainName). length n.labels) (one-lower a b e) ∙ length-map b.labels str_to_ascii_lowercase
 
 -- A name at or below another one is so up to that one's labels.
 below_at : (name origin : DomainName) (n : ℕ) → is_at_or_below name origin ≡ true → n < level_count origin name → is_at_or_below (up name n) origin ≡ true
@@ -103,6 +103,20 @@ below_at name origin n below less =
 left_alike : (opt_out : Bool) (zone : Zone) (a b : DomainName) → name_eq a b ≡ true → is_left_out opt_out zone a ≡ is_left_out opt_out zone b
 left_alike opt_out zone a b e =
     λ i. opt_out && (delegation_alike zone a b 0 e i && not (is_some (both_same zone.sets b a kind.DS kind.DS (name_eq_equiv.symm b a ∙ e) refl i)))
+
+pub left_key : (opt_out : Bool) (zone : Zone) (name key : DomainName) → key ≡ lowercase_name name → is_left_out opt_out zone key ≡ is_left_out opt_out zone name
+left_key opt_out zone name key is =
+    ap (is_left_out opt_out zone) is ∙ sym (left_alike opt_out zone name (lowercase_name name) (eq-lower name name ∙ name_eq_equiv.refl name))
+
+pub left_one : (opt_out : Bool) (zone : Zone) (name : DomainName) → opt_out ≡ false → is_left_out opt_out zone name ≡ false
+left_one opt_out zone name e = ap (λ (b : Bool). b && (is_delegation zone name && not (is_owned zone name kind.DS))) e
+
+pub left_two : (opt_out : Bool) (zone : Zone) (name : DomainName) → (is_delegation zone name && not (is_owned zone name kind.DS)) ≡ false → is_left_out opt_out zone name ≡ false
+left_two opt_out zone name e = ap (λ (b : Bool). opt_out && b) e ∙ nothing opt_out
+  where
+    nothing : (b : Bool) → (b && false) ≡ false
+    nothing true = refl
+    nothing false = refl
 
 kept_owner : (opt_out : Bool) (zone : Zone) (name : DomainName) → is_left_out opt_out zone name ≡ false → opt_out ≡ true → is_delegation zone name ≡ true → IsSome (rrset_at zone.sets name kind.DS)
 kept_owner opt_out zone name kept out delegated = by opt_out (is_delegation zone name) (is_owned zone name kind.DS) out delegated kept
@@ -123,6 +137,16 @@ module _ (by : Hashing) (opt_out : Bool) (zone : Zone) (origin : DomainName) whe
   -- Names that are one in lower case have one digest among the entries.
   has_alike : (es : List (DomainName × HashedName)) (a b : DomainName) → lowercase_name a ≡ lowercase_name b → has_digest by opt_out zone origin es a ≡ has_digest by opt_out zone origin es b
   has_alike es a b e = ap (λ (d : List ℕ). list_any (λ (x : DomainName × HashedName). is_eq (name_cmp (hashed_owner d origin) x.0)) es) (digest_alike by a b e)
+
+  -- A name that is left out leaves the entries as they are; another one is put under its hashed owner.
+  pub entries_left : (es : List (DomainName × HashedName)) (name : DomainName) → is_left_out opt_out zone name ≡ true → es ≡ entries_with by opt_out zone origin es name
+  entries_left es name is = sym (ap (λ (b : Bool). cond b es (insert_entry name_cmp es (lowercase_name (hashed_owner (digest_of by name) origin)) (with_digest by name))) is)
+
+  pub entries_put_as : (es new : List (DomainName × HashedName)) (name k : DomainName) (v : HashedName) → is_left_out opt_out zone name ≡ false → new ≡ insert_entry name_cmp es k v
+      → k ≡ lowercase_name (hashed_owner (digest_of by name) origin) → v ≡ with_digest by name → new ≡ entries_with by opt_out zone origin es name
+  entries_put_as es new name k v kept is key value =
+      is ∙ (λ i. insert_entry name_cmp es (key i) (value i))
+      ∙ sym (ap (λ (b : Bool). cond b es (insert_entry name_cmp es (lowercase_name (hashed_owner (digest_of by name) origin)) (with_digest by name))) kept)
 
   has_still : (es : List (DomainName × HashedName)) (name x : DomainName) → has_digest by opt_out zone origin es x ≡ true → has_digest by opt_out zone origin (entries_with by opt_out zone origin es name) x ≡ true
   has_still es name x h = go (is_left_out opt_out zone name)

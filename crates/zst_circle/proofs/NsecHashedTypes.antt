@@ -1,5 +1,5 @@
 -- The types that an NSEC3 record lists, by the sets of its name.
-use Rattle.std.proofs.Common.{◌≡◌, ℕ, Bool, true, false, not, ◌&&◌, ◌||◌, ◌==◌, List, [], ◌∷◌, refl, ap, sym, ◌∙◌, eqb-true}
+use Rattle.std.proofs.Common.{◌≡◌, ℕ, Bool, true, false, not, ◌&&◌, ◌||◌, ◌==◌, List, [], ◌∷◌, ◌++◌, refl, ap, sym, ◌∙◌, eqb-true}
 use Rattle.std.specs.Prelude.{Option, Some, None, cond, find, is_some}
 use Rattle.std.specs.List.{filter, list_any}
 use Rattle.zst_absence.specs.dnw_codes.declared.record_type.RecordType.{RecordType}
@@ -13,6 +13,7 @@ use Rattle.zst_absence.specs.zst_handler.Zones.{Zone, rrset_at}
 use Rattle.zst_absence.specs.zst_record.RecordSets.{RRset}
 use Rattle.zst_circle.specs.Nsec3Circle.{is_kept_type, is_nsec3_type, is_signed_type}
 use Rattle.zst_circle.specs.Securing.{IsZoneAt}
+use Rattle.zst_circle.proofs.NsecSecured.{type_turned}
 
 -- ---- lists
 any_filter : {X : Type 0} (p q : X → Bool) (xs : List X) → list_any q (filter p xs) ≡ list_any (λ x. p x && q x) xs
@@ -90,16 +91,64 @@ listed_in sets key zone at name delegated is owned are t =
     ∙ ap (λ (d : Bool). cond d (is_listed_of_delegation zone name t) ((is_owned zone name t && not (same_record_type t kind.NSEC3)) || (same_record_type t kind.RRSIG && owns_others zone name))) is
 
 -- ---- a turn of the loops
-pub kept_turn : (delegated : Bool) (t : RecordType) (listed : Bool) (set : RRset) (later : List RRset) (b : Bool) → is_kept_type delegated set.record_type ≡ b
-    → (listed || list_any (λ r. same_record_type r.record_type t && is_kept_type delegated r.record_type) (set ∷ later))
-    ≡ ((listed || (b && same_record_type set.record_type t)) || list_any (λ r. same_record_type r.record_type t && is_kept_type delegated r.record_type) later)
-kept_turn delegated t listed set later b is =
-    ap (λ (c : Bool). listed || ((same_record_type set.record_type t && c) || list_any (λ r. same_record_type r.record_type t && is_kept_type delegated r.record_type) later)) is
-    ∙ by listed (same_record_type set.record_type t) b (list_any (λ r. same_record_type r.record_type t && is_kept_type delegated r.record_type) later)
+any_more : {X : Type 0} (p : X → Bool) (xs : List X) (x : X) → list_any p (xs ++ x ∷ []) ≡ (list_any p xs || p x)
+any_more p [] x = by (p x)
   where
-    by : (l s k x : Bool) → (l || ((s && k) || x)) ≡ ((l || (k && s)) || x)
-    by true s k x = refl
-    by false true true x = refl
-    by false true false x = refl
-    by false false true x = refl
-    by false false false x = refl
+    by : (b : Bool) → (b || false) ≡ b
+    by true = refl
+    by false = refl
+any_more p (y ∷ ys) x = by (p y) (any_more p ys x)
+  where
+    by : (b : Bool) → list_any p (ys ++ x ∷ []) ≡ (list_any p ys || p x) → (b || list_any p (ys ++ x ∷ [])) ≡ ((b || list_any p ys) || p x)
+    by true e = refl
+    by false e = e
+
+-- RRSIG comes first, if some type is signed.
+pub first_types : (signed : Bool) (t : RecordType) (types : List RecordType) → types ≡ cond signed (kind.RRSIG ∷ []) [] → list_any (λ x. same_record_type x t) types ≡ (false || (same_record_type t kind.RRSIG && signed))
+first_types signed t types is = ap (λ (l : List RecordType). list_any (λ x. same_record_type x t) l) is ∙ by signed
+  where
+    core : (b : Bool) → (b || false) ≡ (b && true)
+    core true = refl
+    core false = refl
+
+    none : (b : Bool) → false ≡ (b && false)
+    none true = refl
+    none false = refl
+
+    by : (b : Bool) → list_any (λ x. same_record_type x t) (cond b (kind.RRSIG ∷ []) []) ≡ (same_record_type t kind.RRSIG && b)
+    by true = ap (λ (c : Bool). c || false) (type_turned kind.RRSIG t) ∙ core (same_record_type t kind.RRSIG)
+    by false = none (same_record_type t kind.RRSIG)
+
+abbrev pub are_kept : Bool → RecordType → List RRset → Bool
+are_kept delegated t sets = list_any (λ set. same_record_type set.record_type t && is_kept_type delegated set.record_type) sets
+
+-- A type that is listed comes last.
+pub lists_type : (delegated : Bool) (t : RecordType) (front : List RRset) (set : RRset) (types : List RecordType) (rest : Bool) → is_kept_type delegated set.record_type ≡ true
+    → list_any (λ x. same_record_type x t) types ≡ (are_kept delegated t front || rest)
+    → list_any (λ x. same_record_type x t) (types ++ set.record_type ∷ []) ≡ (are_kept delegated t (front ++ set ∷ []) || rest)
+lists_type delegated t front set types rest is before =
+    any_more (λ x. same_record_type x t) types set.record_type ∙ ap (λ (b : Bool). b || same_record_type set.record_type t) before
+    ∙ core (are_kept delegated t front) rest (same_record_type set.record_type t)
+    ∙ ap (λ (b : Bool). (are_kept delegated t front || (same_record_type set.record_type t && b)) || rest) (sym is)
+    ∙ ap (λ (b : Bool). b || rest) (sym (any_more (λ s. same_record_type s.record_type t && is_kept_type delegated s.record_type) front set))
+  where
+    core : (a r s : Bool) → ((a || r) || s) ≡ ((a || (s && true)) || r)
+    core true r s = refl
+    core false true true = refl
+    core false true false = refl
+    core false false true = refl
+    core false false false = refl
+
+-- Another one is left out.
+pub leaves_type : (delegated : Bool) (t : RecordType) (front : List RRset) (set : RRset) (types : List RecordType) (rest : Bool) → is_kept_type delegated set.record_type ≡ false
+    → list_any (λ x. same_record_type x t) types ≡ (are_kept delegated t front || rest)
+    → list_any (λ x. same_record_type x t) types ≡ (are_kept delegated t (front ++ set ∷ []) || rest)
+leaves_type delegated t front set types rest is before =
+    before ∙ core (are_kept delegated t front) rest (same_record_type set.record_type t)
+    ∙ ap (λ (b : Bool). (are_kept delegated t front || (same_record_type set.record_type t && b)) || rest) (sym is)
+    ∙ ap (λ (b : Bool). b || rest) (sym (any_more (λ s. same_record_type s.record_type t && is_kept_type delegated s.record_type) front set))
+  where
+    core : (a r s : Bool) → (a || r) ≡ ((a || (s && false)) || r)
+    core true r s = refl
+    core false r true = refl
+    core false r false = refl
