@@ -244,6 +244,10 @@ module _ (by : Hashing) (opt_out : Bool) (zone : Zone) (origin : DomainName) whe
     all = all_and (λ x. (n : ℕ) → n < level_count zone.origin x → is_left_out opt_out zone (up x n) ≡ false → has_digest by opt_out zone origin es (up x n) ≡ true) finished name l.gathered.all l.below;
   }
 
+  -- How many levels above another name this one is at a level.
+  abbrev shared_level : DomainName → DomainName → ℕ → ℕ
+  shared_level name other level = length other.labels - length (drop level name.labels)
+
   -- The rest of the names above are those above another one.
   pub levels_shared : (finished : List DomainName) (name other : DomainName) (level : ℕ) (es : List (DomainName × HashedName)) → lowercase_name name ≡ name → lowercase_name other ≡ other
       → level < level_count zone.origin name → is_at_or_below name zone.origin ≡ true
@@ -253,20 +257,15 @@ module _ (by : Hashing) (opt_out : Bool) (zone : Zone) (origin : DomainName) whe
   levels_shared finished name other level es low also less below shared all l =
       levels_all finished name es (record { gathered = l.gathered; below = λ n more kept. go n (cases_lt n level) more kept })
     where
-      k : ℕ
-      k = length other.labels - length (drop level name.labels)
-
-      is : up name level ≡ up other k
-      unfolding k
+      is : up name level ≡ up other (shared_level name other level)
       is = is-above other (up name level) also (up-lower name level low) shared
 
-      place : (n : ℕ) → level ≤ n → up name n ≡ up other (k + (n - level))
+      place : (n : ℕ) → level ≤ n → up name n ≡ up other (shared_level name other level + (n - level))
       place n past =
           let whole : level + (n - level) ≡ n = omega (arith, past) in
-          sym (up-up name level (n - level) ∙ ap (up name) whole) ∙ ap (λ (m : DomainName). up m (n - level)) is ∙ up-up other k (n - level)
+          sym (up-up name level (n - level) ∙ ap (up name) whole) ∙ ap (λ (m : DomainName). up m (n - level)) is ∙ up-up other (shared_level name other level) (n - level)
 
-      within : (n : ℕ) → level ≤ n → n < level_count zone.origin name → k + (n - level) < level_count zone.origin other
-      unfolding k
+      within : (n : ℕ) → level ≤ n → n < level_count zone.origin name → shared_level name other level + (n - level) < level_count zone.origin other
       within n past more =
           let long = above-shorter other (up name level) (and_parts (beq other.fqdn name.fqdn) (is_at_or_below other (up name level)) shared).1 in
           omega (arith, past, more, long, less, length-drop level name.labels, above-shorter name zone.origin below)
@@ -275,7 +274,7 @@ module _ (by : Hashing) (opt_out : Bool) (zone : Zone) (origin : DomainName) whe
       go n (inl before) more kept = l.below n before kept
       go n (inr past) more kept =
           ap (has_digest by opt_out zone origin es) (place n past)
-          ∙ all (k + (n - level)) (within n past more) (ap (is_left_out opt_out zone) (sym (place n past)) ∙ kept)
+          ∙ all (shared_level name other level + (n - level)) (within n past more) (ap (is_left_out opt_out zone) (sym (place n past)) ∙ kept)
 
   -- ---- by places
   taken : (P : DomainName → Type 0) (names : List DomainName) (place i : ℕ) (x : DomainName) → AllByRecursion P (take place names) → i < place → slice_get names i ≡ Some x → P x
