@@ -256,6 +256,10 @@ pub record Listing (sets : List RRset) (origin : DomainName) (left names : List 
   pub all : (zone : Zone) → IsZoneAt sets origin zone → (name : DomainName) → IsAuthoritativeOwner zone name
       → (list_any (name_eq name) names ≡ true) ⊎ (list_any (name_eq name) left ≡ true)
 
+sorted_none : IsStrictlySortedBy name_cmp []
+unfolding IsStrictlySortedBy
+sorted_none = tt
+
 pub lists_all : (sets : List RRset) (origin : DomainName) (owners : List DomainName) → IsStrictlySortedBy name_cmp owners
     → ((name : DomainName) → list_any (name_eq name) owners ≡ list_any (λ set. name_eq name set.name) sets) → Listing sets origin owners []
 lists_all sets origin owners ordered each = record {
@@ -266,10 +270,6 @@ lists_all sets origin owners ordered each = record {
   each = λ zone at. tt;
   all = λ zone at name is. inr (each name ∙ sym (ap (list_any (λ set. name_eq name set.name)) at.has_sets) ∙ is.owns);
 }
-  where
-    sorted_none : IsStrictlySortedBy name_cmp []
-    unfolding IsStrictlySortedBy
-    sorted_none = tt
 
 past_first : (key : DomainName) (left names : List DomainName) → AllByRecursion (λ name. AllByRecursion (λ k. name_cmp name k ≡ Less) (key ∷ left)) names
     → AllByRecursion (λ name. AllByRecursion (λ k. name_cmp name k ≡ Less) left) names

@@ -8,5 +8,5 @@ pub mod NsecHashedNames
 pub mod NsecHashedTypes
 pub mod NsecSecured
 pub mod Placing
-pub mod Secured
+pub mod Settled
 pub mod TypesListed

@@ -66,14 +66,13 @@ module _ (circle : RecordType) (servers : same_record_type circle kind.NS ≡ fa
     uncut = λ cut. on.uncut (same_cut new old (alike_turned circle old new same) name cut);
   }
 
+abbrev rest_listed : DomainName → RecordType → Zone → Bool
+rest_listed name t zone = is_owned zone name t && (not (is_delegation zone name) || (same_record_type t kind.NS || same_record_type t kind.DS))
+
 pub same_listed : (old new : Zone) → AlikeBut kind.NSEC old new → (name : DomainName) (t : RecordType) → is_listed new name t ≡ is_listed old name t
 same_listed old new same name t = by (same_record_type t kind.NSEC) refl
   where
-    rest : Zone → Bool
-    rest zone = is_owned zone name t && (not (is_delegation zone name) || (same_record_type t kind.NS || same_record_type t kind.DS))
-
-    by : (b : Bool) → same_record_type t kind.NSEC ≡ b → (same_record_type t kind.RRSIG || (b || rest new)) ≡ (same_record_type t kind.RRSIG || (b || rest old))
-    unfolding rest
+    by : (b : Bool) → same_record_type t kind.NSEC ≡ b → (same_record_type t kind.RRSIG || (b || rest_listed name t new)) ≡ (same_record_type t kind.RRSIG || (b || rest_listed name t old))
     by true e = refl
     by false e =
         λ i. same_record_type t kind.RRSIG || (false || (same.owned name t (type_turned kind.NSEC t ∙ e) i

@@ -1,6 +1,6 @@
 -- A zone that is secured: its circle, and the signatures of its sets (RFC 4035, section 2; RFC 5155,
 -- section 7.1).
-use Rattle.std.specs.Prelude.{◌≡◌, ◌×◌, ◌⊎◌, ℕ, ◌<◌, ◌+◌, ◌&&◌, Bool, true, false, not, List, [], Option, Some, None, IfSome, MatchOption}
+use Rattle.std.specs.Prelude.{◌≡◌, ◌⊎◌, ℕ, ◌<◌, ◌+◌, ◌&&◌, Bool, true, false, not, List, [], Option, Some, None, IfSome, MatchOption}
 use Rattle.zst_absence.specs.drd_denial.Rrsig.{Signing}
 use Rattle.zst_absence.specs.dnw_codes.declared.record_type.RecordType.{RecordType}
 use Rattle.zst_absence.specs.dnw_codes.declared.record_type.RecordType.TheVariants as kind
@@ -39,8 +39,8 @@ IsCircledBy (Some proofs.Nsec) zone =
     IsSecured zone × HasNone zone.sets kind.NSEC3 × HasNone zone.sets kind.NSEC3PARAM
 IsCircledBy (Some (proofs.Nsec3 algorithm salt iterations opt_out)) zone =
     HasNone zone.sets kind.NSEC
-    × (AreApart (record { salt = salt.now; iterations = iterations }) opt_out zone
-    → IsSecuredByHash (record { salt = salt.now; iterations = iterations }) opt_out zone)
+    × (AreApart (record { salt = salt; iterations = iterations }) opt_out zone
+    → IsSecuredByHash (record { salt = salt; iterations = iterations }) opt_out zone)
 
 module _ {K : Type 0} (gives : K → RRset → ℕ → Signing → Type 0) (fails : K → RRset → ℕ → Bool)
     (keys : List K) (now : ℕ) where

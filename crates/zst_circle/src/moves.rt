@@ -6,7 +6,7 @@ ghost use Rattle.std.specs.List.{AllByRecursion};
 ghost use Rattle.zst_absence.specs.dnw_codes.RecordType.{same_record_type};
 ghost use Rattle.zst_absence.specs.dnw_codes.declared.record_type.RecordType.{RecordType};
 ghost use Rattle.zst_absence.specs.dnw_name.DomainName.{DomainName, name_eq};
-ghost use Rattle.zst_absence.specs.zst_record.RecordSets.{RRset, is_signature_of};
+ghost use Rattle.zst_absence.specs.zst_record.RecordSets.{RRset, is_signature_of, raised_set};
 ghost use Rattle.zst_absence.specs.zst_handler.Updates.{Replaces};
 ghost use Rattle.zst_absence.specs.zst_handler.Zones.{AreInOrder, rrset_at};
 ghost use Rattle.zst_absence.specs.zst_denial.Kept.{is_circle_type};
@@ -143,9 +143,17 @@ fn move_one(placeholder: Placeholder, old: &mut ZoneSets, new: &mut ZoneSets)
         mem::drop(signatures);
         return;
     };
+    renew(&mut set, rises, signatures);
+    new.replace(&key, set);
+}
+
+// Gives a set new signatures, and the next serial number if that rises.
+fn renew(set: &mut RecordSet, rises: bool, signatures: Vec<Record>)
+    requires { AllByRecursion (λ r. is_signature_of set.old r ≡ true) signatures.items }
+    ensures { set.new ≡ record (if rises then raised_set set.old else set.old) { signatures = signatures.items } }
+{
     if rises {
         set.raise_serial();
     }
     set.sign_with(signatures);
-    new.replace(&key, set);
 }

@@ -1,6 +1,6 @@
 //! Stored sets as they are once their zone is secured: the next serial number, and signatures (RFC 4035 section 2.2).
 
-ghost use Rattle.std.specs.Prelude.{◌≡◌, ◌×◌, ◌↔◌, ◌&&◌, [], true, false, IfErr, IfOk, IsTrue, MatchOption, if◌then◌else◌};
+ghost use Rattle.std.specs.Prelude.{◌≡◌, ◌↔◌, ◌&&◌, [], true, false, IfErr, IfOk, IsTrue, MatchOption, if◌then◌else◌};
 ghost use Rattle.std.specs.List.{AllByRecursion};
 ghost use Rattle.zst_absence.specs.dnw_codes.declared.record_type.RecordType.{RecordType};
 ghost use Rattle.zst_absence.specs.dnw_name.DomainName.{name_eq};

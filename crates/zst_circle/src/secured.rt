@@ -1,7 +1,7 @@
 //! Zones that are secured: all sets are signed anew around a circle that is made anew (RFC 4035 section 2, RFC 5155 section
 //! 7.1).
 
-ghost use Rattle.std.specs.Prelude.{◌≡◌, ◌×◌, [], false, true, not, ◌&&◌, IfErr, IfSome, OnErr, OnOk, is_some, option_copied};
+ghost use Rattle.std.specs.Prelude.{◌≡◌, [], false, true, not, ◌&&◌, IfErr, IfSome, OnErr, OnOk, is_some, option_copied};
 ghost use Rattle.std.specs.List.{AllByRecursion};
 ghost use Rattle.zst_absence.specs.dnw_codes.declared.record_type.RecordType.{RecordType};
 ghost use Rattle.zst_absence.specs.dnw_codes.declared.record_type.RecordType.TheVariants as kind;
@@ -35,10 +35,10 @@ pub fn secure<K: ZoneSigner>(
     sets: &mut ZoneSets,
 ) -> Result<(), SignerFault>
     requires { key.now ≡ lowercase_name origin.now }
-    ensures ok { OnOk result ((zone : Zone) → IsZoneOf sets.old origin.now (option_copied proof) zone
+    ensures ok { OnOk result ((zone : Zone) → IsZoneOf sets.old origin.now (option_copied proof.entry) zone
         → Secures K.gives K.fails keys.now now zone ttl (record zone { sets = sets.new })) }
-    ensures failed { IfErr result (λ e. e ≡ SignerFault.Failed → (zone : Zone) → IsZoneOf sets.old origin.now (option_copied proof) zone
-        → FailsToSecure K.fails keys.now now (option_copied proof) zone) }
+    ensures failed { IfErr result (λ e. e ≡ SignerFault.Failed → (zone : Zone) → IsZoneOf sets.old origin.now (option_copied proof.entry) zone
+        → FailsToSecure K.fails keys.now now (option_copied proof.entry) zone) }
     ensures err { OnErr result (sets.new ≡ sets.old) }
 {
     let mut made = ZoneSets::new(alloc);
@@ -74,11 +74,11 @@ fn make<K: ZoneSigner>(
         → is_some (placeholder_of list.new.items name t) ≡ (is_some (rrset_at old.now name t) && not (is_circle_type t))) }
     ensures can { OnOk result (AllByRecursion (CanMove old.now new.new) list.new.items) }
     ensures resigned { OnOk result (AllByRecursion (Resigns K.gives K.fails keys.now now old.now origin.now) list.new.items) }
-    ensures circle { OnOk result ((zone : Zone) → IsZoneAt new.new origin.now zone → IsCircledBy (option_copied proof) zone) }
+    ensures circle { OnOk result ((zone : Zone) → IsZoneAt new.new origin.now zone → IsCircledBy (option_copied proof.entry) zone) }
     ensures made { OnOk result ((name : DomainName) → (t : RecordType) → is_circle_type t ≡ true → IfSome (rrset_at new.new name t)
         (λ set. IsMade K.gives keys.now now ttl set × (any_fails K.fails keys.now set now ≡ false))) }
     ensures ordered { OnOk result (AreInOrder new.new) }
-    ensures failed { IfErr result (λ e. e ≡ SignerFault.Failed → (zone : Zone) → IsZoneAt old.now origin.now zone → FailsToSecure K.fails keys.now now (option_copied proof) zone) }
+    ensures failed { IfErr result (λ e. e ≡ SignerFault.Failed → (zone : Zone) → IsZoneAt old.now origin.now zone → FailsToSecure K.fails keys.now now (option_copied proof.entry) zone) }
 {
     placeholders(alloc, origin, keys, now, old, new, list)?;
     put_circle(alloc, origin, proof, ttl, keys, now, new)
@@ -97,12 +97,12 @@ fn put_circle<K: ZoneSigner>(
     requires none { (name : DomainName) → (t : RecordType) → is_circle_type t ≡ true → rrset_at sets.old name t ≡ None }
     requires ordered { AreInOrder sets.old }
     ensures others { OnOk result ((name : DomainName) → (t : RecordType) → is_circle_type t ≡ false → rrset_at sets.new name t ≡ rrset_at sets.old name t) }
-    ensures circle { OnOk result ((zone : Zone) → IsZoneAt sets.new origin.now zone → IsCircledBy (option_copied proof) zone) }
+    ensures circle { OnOk result ((zone : Zone) → IsZoneAt sets.new origin.now zone → IsCircledBy (option_copied proof.entry) zone) }
     ensures made { OnOk result ((name : DomainName) → (t : RecordType) → is_circle_type t ≡ true → IfSome (rrset_at sets.new name t)
         (λ set. IsMade K.gives keys.now now ttl set × (any_fails K.fails keys.now set now ≡ false))) }
     ensures ordered { OnOk result (AreInOrder sets.new) }
     ensures failed { IfErr result (λ e. e ≡ SignerFault.Failed → (zone : Zone) → IsZoneAt sets.old origin.now zone
-        → SomeFails K.fails keys.now now (IsMadeFor (option_copied proof) zone)) }
+        → SomeFails K.fails keys.now now (IsMadeFor (option_copied proof.entry) zone)) }
 {
     match proof {
         None => Ok(()),

@@ -1,6 +1,6 @@
 //! Sets that are signed as they are put into a zone.
 
-ghost use Rattle.std.specs.Prelude.{◌≡◌, ◌×◌, true, false, IfErr, IsSomeAnd, OnOk, Some, List};
+ghost use Rattle.std.specs.Prelude.{◌≡◌, true, false, IfErr, IsSomeAnd, OnOk, Some, List};
 ghost use Rattle.zst_absence.specs.zst_denial.Signing.{AreSignatures, any_fails, unsigned};
 ghost use Rattle.zst_absence.specs.zst_handler.Updates.{Replaces};
 ghost use Rattle.zst_absence.specs.zst_handler.Zones.{AreInOrder, IsStored, rrset_at};

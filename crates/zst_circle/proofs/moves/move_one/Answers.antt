@@ -9,20 +9,20 @@ use Rattle.zst_circle.specs.Moves.{resigned}
 use Rattle.zst_absence.proofs.zst_map_lemmas.Replacing.{found_parts, one, replaced_as, type_same}
 use Rattle.zst_circle.proofs.moves.move_one.Goals as goal
 
-pub sign_with-requires : goal.sign_with-requires
-sign_with-requires c = c.requires.signed c.in-Some.set (sym c.in-Some.ensures.value)
+pub renew-requires : goal.renew-requires
+renew-requires c = c.requires.signed c.in-Some.set (sym c.in-Some.ensures.value)
 
 pub replace-requires-clause-owner : goal.replace-requires-clause-owner
 replace-requires-clause-owner c =
     let p = c.args.placeholder in
-    subst (λ (s : RRset). name_eq p.key s.name ≡ true) (sym c.sign_with.ensures)
+    subst (λ (s : RRset). name_eq p.key s.name ≡ true) (sym c.renew.ensures)
     (found_parts c.args.old.now p.key p.record_type c.in-Some.set (sym c.in-Some.ensures.value)).0
 
 pub replace-requires-clause-there : goal.replace-requires-clause-there
 replace-requires-clause-there c =
     let p = c.args.placeholder in
     let found = sym c.in-Some.ensures.value in
-    subst (λ (s : RRset). IsSome (rrset_at c.args.new.now p.key s.record_type)) (sym c.sign_with.ensures)
+    subst (λ (s : RRset). IsSome (rrset_at c.args.new.now p.key s.record_type)) (sym c.renew.ensures)
     (subst IsSome (sym (type_same c.args.new.now p.key c.in-Some.set.record_type p.record_type (found_parts c.args.old.now p.key p.record_type c.in-Some.set found).1))
     (c.requires.placed c.in-Some.set found))
 
@@ -30,9 +30,9 @@ pub returns-clause-moved : goal.returns-clause-moved
 returns-clause-moved c = λ set e.
     let p = c.args.placeholder in
     let found = sym c.in-Some.ensures.value in
-    let then = c.sign_with.new.self in
+    let then = c.renew.new.set in
     subst (λ (s : RRset). Replaces c.args.new.now p.key p.record_type (Some (resigned p s)) c.replace.new.self) (one c.in-Some.set set (sym found ∙ e))
-    (subst (λ (s : RRset). Replaces c.args.new.now p.key p.record_type (Some s) c.replace.new.self) c.sign_with.ensures
+    (subst (λ (s : RRset). Replaces c.args.new.now p.key p.record_type (Some s) c.replace.new.self) c.renew.ensures
     (replaced_as c.args.new.now c.replace.new.self p.key p.record_type then then.record_type
-    (subst (λ (s : RRset). same_record_type s.record_type p.record_type ≡ true) (sym c.sign_with.ensures) (found_parts c.args.old.now p.key p.record_type c.in-Some.set found).1)
+    (subst (λ (s : RRset). same_record_type s.record_type p.record_type ≡ true) (sym c.renew.ensures) (found_parts c.args.old.now p.key p.record_type c.in-Some.set found).1)
     c.replace.ensures.others))

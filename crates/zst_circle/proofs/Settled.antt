@@ -1,6 +1,6 @@
 -- A zone whose sets have moved to where its circle is.
 use Rattle.std.proofs.Common.{◌≡◌, ℕ, refl, ap, sym, subst, ◌∙◌, eqb-true}
-use Rattle.std.specs.Prelude.{◌×◌, Bool, true, false, not, ◌&&◌, ◌==◌, List, [], Option, Some, None, IfSome, IsSome, cond, is_some, option_map, if◌then◌else◌}
+use Rattle.std.specs.Prelude.{Bool, true, false, not, ◌&&◌, ◌==◌, List, [], Option, Some, None, IfSome, IsSome, cond, is_some, option_map, if◌then◌else◌}
 use Rattle.std.specs.List.{AllByRecursion}
 use Rattle.std.proofs.lemmas.Bool.{and_parts, true≢false}
 use Rattle.zst_absence.specs.drd_denial.Rrsig.{Signing}
@@ -104,7 +104,7 @@ module _ (old new final : List RRset) (list : List Placeholder)
   circled_then (Some proofs.Nsec) zone is =
       (secured_still (record zone { sets = new }) (record zone { sets = final }) (same_circle zone) is.0, has_none kind.NSEC3 refl is.1.0, has_none kind.NSEC3PARAM refl is.1.1)
   circled_then (Some (proofs.Nsec3 algorithm salt iterations opt_out)) zone is =
-      let by : Hashing = record { salt = salt.now; iterations = iterations } in (
+      let by : Hashing = record { salt = salt; iterations = iterations } in (
         has_none kind.NSEC refl is.0,
         λ apart. hash_still by opt_out (record zone { sets = new }) (record zone { sets = final }) (same_circle zone)
             (is.1 (apart_still by opt_out (record zone { sets = new }) (record zone { sets = final }) (same_circle zone) apart)),
