@@ -55,7 +55,9 @@ next_follows cmp total xs sorted place owner next here after = by (nat_lt (place
         subst (λ (x : X). IsNext cmp (is_among cmp (y ∷ ys)) owner x) same (follows_first cmp total y ys order place owner at (slice_past (y ∷ ys) (suc place) past))
 
     by : (b : Bool) → nat_lt (place + 1) (length xs) ≡ b → slice_get xs (cond b (place + 1) 0) ≡ Some next → IsNext cmp (is_among cmp xs) owner next
-    by true within e = follows_next cmp total xs sorted place owner next here (ap (slice_get xs) (omega (arith)) ∙ e)
+    by true within e =
+        let step : suc place ≡ place + 1 = omega (arith) in
+        follows_next cmp total xs sorted place owner next here (ap (slice_get xs) step ∙ e)
     by false past e =
         let end : length xs ≤ suc place = grind (past, nat_tests, arith) in
         first xs sorted here end e
@@ -316,7 +318,8 @@ module _ (by : Hashing) (opt_out : Bool) where
           → Nsec3sPut (take place names) sets → Nsec3sPut (take next names) after
       puts_next sets after place next set signatures sorted within is n signed fine put ordered before =
           let at = some_at names place within in
-          let more : take next names ≡ take place names ++ at.0 ∷ [] = ap (λ (i : ℕ). take i names) (omega (arith, is)) ∙ one_taken names place at.0 at.1 in
+          let after_it : next ≡ suc place = omega (arith, is) in
+          let more : take next names ≡ take place names ++ at.0 ∷ [] = ap (λ (i : ℕ). take i names) after_it ∙ one_taken names place at.0 at.1 in
           subst (λ (l : List HashedName). Nsec3sPut l after) (sym more)
           (puts_one sets after (take place names) at.0 set signatures (n at.0 at.1) signed fine put ordered (earlier origin names place at.0 sorted at.1) before)
 

@@ -13,7 +13,7 @@ use Rattle.std.specs.declared.cmp.Ordering.{Ordering}
 use Rattle.std.specs.declared.cmp.Ordering.TheVariants.{Less, Equal, Greater}
 use Rattle.std.proofs.lemmas.Bool.{and_parts, cases_lt, true≢false}
 use Rattle.std.proofs.lemmas.Bool.Decides.{nat_tests}
-use Rattle.std.proofs.lemmas.List.{length-drop, length-map}
+use Rattle.std.proofs.lemmas.List.{drop-map, length-drop, length-map}
 use Rattle.std.proofs.lemmas.Map.Keys.{sorted_head, sorted_tail}
 use Rattle.zst_absence.specs.dnw_label.Label.{label_eq}
 use Rattle.zst_absence.specs.dnw_codes.declared.record_type.RecordType.TheVariants as kind
@@ -30,9 +30,13 @@ use Rattle.zst_absence.proofs.zst_denial_lemmas.zst_key_lemmas.KeyLemmas.{above-
 use Rattle.zst_absence.proofs.zst_denial_lemmas.zst_key_lemmas.NamesAbove.{above-shorter, beq-itself, below-up, is-above, is-equal, name_total, up-lower}
 use Rattle.zst_absence.proofs.zst_map_lemmas.Replacing.{both_same}
 use Rattle.zst_circle.specs.Nsec3Circle.{AreGathered, AreHashed, IsHashedName, entries_with, has_digest, hash_cmp, is_left_out, is_level_of, level_count, with_digest}
-use Rattle.zst_circle.specs.Securing.{AreAuthoritative}
+use Rattle.zst_absence.specs.zst_codes.declared.settings.AxfrPolicy.TheVariants.{Deny}
+use Rattle.zst_absence.specs.zst_codes.declared.settings.ZoneType.TheVariants.{Primary}
+use Rattle.zst_absence.specs.zst_record.RecordSets.{RRset}
+use Rattle.zst_circle.specs.Securing.{AreAuthoritative, IsZoneAt}
 use Rattle.zst_circle.specs.declared.hashed.HashedName.{HashedName}
-use Rattle.zst_circle.proofs.Authoritative.{all_and, all_as, delegation_alike, up_alike}
+use Rattle.zst_circle.proofs.Authoritative.{all_and, all_as, delegation_alike}
+use Rattle.zst_circle.proofs.Circling.{slice_at}
 use Rattle.zst_circle.proofs.NsecHashedDigests.{digest_alike}
 use Rattle.zst_circle.proofs.NsecSecured.{authoritative_alike, one_of}
 
@@ -89,6 +93,11 @@ equal_eq a b e = name_eq-by_cmp a b ∙ ap is_eq e
 eq_equal : (a b : DomainName) → name_eq a b ≡ true → name_cmp a b ≡ Equal
 eq_equal a b e = is-equal (name_cmp a b) (sym (name_eq-by_cmp a b) ∙ e)
 
+up_alike : (a b : DomainName) (n : ℕ) → name_eq a b ≡ true → lowercase_name (up a n) ≡ lowercase_name (up b n)
+up_alike a b n e =
+    ap (domain_name a.fqdn) (sym (drop-map str_to_ascii_lowercase n a.labels)) ∙ ap (λ (m : DomainName). up m n) (one-lower a b e)
+    ∙ ap (domain_name b.fqdn) (drop-map str_to_ascii_lowercase n b.labels)
+
 same_long : (a b : DomainName) → name_eq a b ≡ true → length a.labels ≡ length b.labels
 same_long a b e =
     sym (length-map a.labels str_to_ascii_lowercase) ∙ ap (λ (n : DomainName). length n.labels) (one-lower a b e) ∙ length-map b.labels str_to_ascii_lowercase
@@ -132,6 +141,37 @@ kept_test true true true f = refl
 kept_test true true false f = absurd (true≢false (sym (f refl refl)))
 kept_test true false c f = refl
 kept_test false b c f = refl
+
+-- ---- what the code finds
+pub got_at : (names : List DomainName) (i : ℕ) (x : DomainName) → i < length names → x ≡ get_or names i x → slice_get names i ≡ Some x
+got_at names i x less e = slice_at names i x less e
+
+-- What is got at a place is there, whatever is got elsewhere.
+pub above_it : (names : List DomainName) (i : ℕ) (d : DomainName) → get_or names i d ≡ get_or names i (get_or names i d)
+above_it [] zero d = refl
+above_it [] (suc i) d = refl
+above_it (n ∷ names) zero d = refl
+above_it (n ∷ names) (suc i) d = above_it names i d
+
+pub before_it : (names : List DomainName) (place : ℕ) (above : DomainName) → (nat_lt 0 place && is_level_of (get_or names (place - 1) above) above) ≡ true
+    → (0 < place) × (is_level_of (get_or names (place - 1) above) above ≡ true)
+before_it names place above e =
+    let parts = and_parts (nat_lt 0 place) (is_level_of (get_or names (place - 1) above) above) e in
+    let test = parts.0 in
+    (grind (test, nat_tests, arith), parts.1)
+
+pub count_alike : (sets : List RRset) (key origin name : DomainName) (zone : Zone) → IsZoneAt sets key zone → key ≡ lowercase_name origin → level_count zone.origin name ≡ level_count origin name
+count_alike sets key origin name zone at is =
+    let long : length zone.origin.labels ≡ length origin.labels
+    = sym (length-map zone.origin.labels str_to_ascii_lowercase) ∙ ap (λ (n : DomainName). length n.labels) (at.has_origin ∙ is) ∙ length-map origin.labels str_to_ascii_lowercase in
+    ap (λ (n : ℕ). length name.labels - n + 1) long
+
+pub within_count : (zone : Zone) (name : DomainName) (level : ℕ) → level < level_count zone.origin name → is_at_or_below name zone.origin ≡ true → level ≤ length name.labels
+within_count zone name level less below = omega (arith, less, above-shorter name zone.origin below)
+
+-- A zone of these sets.
+abbrev pub a_zone : List RRset → DomainName → Zone
+a_zone sets origin = record { origin = origin; zone_type = Primary; axfr_policy = Deny; nx_proof_kind = None; guard = None; sets = sets }
 
 module _ (by : Hashing) (opt_out : Bool) (zone : Zone) (origin : DomainName) where
   -- Names that are one in lower case have one digest among the entries.
@@ -293,18 +333,20 @@ module _ (by : Hashing) (opt_out : Bool) (zone : Zone) (origin : DomainName) whe
   one_taken (y ∷ ys) zero x e = let same : y ≡ x = cc e in ap (λ (z : DomainName). z ∷ []) same
   one_taken (y ∷ ys) (suc i) x e = ap (λ (zs : List DomainName). y ∷ zs) (one_taken ys i x e)
 
-  pub gathered_place : (names : List DomainName) (place next : ℕ) (name : DomainName) (es : List (DomainName × HashedName)) → slice_get names place ≡ Some name → next ≡ place + 1
-      → Levels (take place names) name (level_count zone.origin name) es → AreGathered by opt_out zone origin (take next names) es
-  gathered_place names place next name es at is l =
-      subst (λ (finished : List DomainName). AreGathered by opt_out zone origin finished es) (sym (ap (λ (i : ℕ). take i names) (omega (arith, is)) ∙ one_taken names place name at))
-      (levels_all (take place names) name es l)
+  pub gathered_place : (names : List DomainName) (place next level : ℕ) (name : DomainName) (es : List (DomainName × HashedName)) → slice_get names place ≡ Some name → next ≡ place + 1
+      → level_count zone.origin name ≤ level → Levels (take place names) name level es → AreGathered by opt_out zone origin (take next names) es
+  gathered_place names place next level name es at is end l =
+      let more : next ≡ suc place = omega (arith, is) in
+      subst (λ (finished : List DomainName). AreGathered by opt_out zone origin finished es) (sym (ap (λ (i : ℕ). take i names) more ∙ one_taken names place name at))
+      (levels_all (take place names) name es (record { gathered = l.gathered; below = λ n less kept. l.below n (omega (arith, less, end)) kept }))
 
   pub shared_place : (names : List DomainName) (place next level : ℕ) (name other : DomainName) (es : List (DomainName × HashedName)) → AreAuthoritative kind.NSEC3 zone names → slice_get names place ≡ Some name
       → next ≡ place + 1 → 0 < place → slice_get names (place - 1) ≡ Some other → level < level_count zone.origin name → is_level_of other (up name level) ≡ true
       → Levels (take place names) name level es → AreGathered by opt_out zone origin (take next names) es
   shared_place names place next level name other es are at is proper before less shared l =
       let on = at_place (IsAuthoritativeName kind.NSEC3 zone) names place name are.each at in
-      subst (λ (finished : List DomainName). AreGathered by opt_out zone origin finished es) (sym (ap (λ (i : ℕ). take i names) (omega (arith, is)) ∙ one_taken names place name at))
+      let more : next ≡ suc place = omega (arith, is) in
+      subst (λ (finished : List DomainName). AreGathered by opt_out zone origin finished es) (sym (ap (λ (i : ℕ). take i names) more ∙ one_taken names place name at))
       (levels_shared (take place names) name other level es (at_place (λ n. lowercase_name n ≡ n) names place name are.lower at) (at_place (λ n. lowercase_name n ≡ n) names (place - 1) other are.lower before)
       less on.in_zone shared
       (taken (λ x. (n : ℕ) → n < level_count zone.origin x → is_left_out opt_out zone (up x n) ≡ false → has_digest by opt_out zone origin es (up x n) ≡ true) names place (place - 1) other l.gathered.all (omega (arith, proper)) before)

@@ -1,6 +1,6 @@
 -- The types that an NSEC3 record lists, by the sets of its name.
-use Rattle.std.proofs.Common.{◌≡◌, ℕ, Bool, true, false, not, ◌&&◌, ◌||◌, ◌==◌, List, [], ◌∷◌, ◌++◌, refl, ap, sym, ◌∙◌, eqb-true}
-use Rattle.std.specs.Prelude.{Option, Some, None, cond, find, is_some}
+use Rattle.std.proofs.Common.{◌≡◌, ℕ, Bool, true, false, not, ◌&&◌, ◌||◌, ◌==◌, List, [], ◌∷◌, ◌++◌, ◌+◌, ◌<◌, ◌≤◌, zero, suc, length, get_or, take, arith, refl, ap, sym, ◌∙◌, eqb-true}
+use Rattle.std.specs.Prelude.{Err, IfOk, Ok, Option, Result, Some, None, cond, find, is_some}
 use Rattle.std.specs.List.{filter, list_any}
 use Rattle.zst_absence.specs.dnw_codes.declared.record_type.RecordType.{RecordType}
 use Rattle.zst_absence.specs.dnw_codes.declared.record_type.RecordType.TheVariants as kind
@@ -31,6 +31,24 @@ any_find p (x ∷ xs) = by (p x) (any_find p xs)
     by : (b : Bool) → list_any p xs ≡ is_some (find p xs) → (b || list_any p xs) ≡ is_some (cond b (Some x) (find p xs))
     by true later = refl
     by false later = later
+
+taken_at : {X : Type 0} (xs : List X) (n : ℕ) (x : X) → n < length xs → x ≡ get_or xs n x → take (suc n) xs ≡ take n xs ++ x ∷ []
+taken_at [] n x within same = absurd (omega (arith, within))
+taken_at (y ∷ ys) zero x within same = ap (λ z. z ∷ []) (sym same)
+taken_at (y ∷ ys) (suc n) x within same = ap (λ zs. y ∷ zs) (taken_at ys n x (omega (arith, within)) same)
+
+pub taken : {X : Type 0} (xs : List X) (i : ℕ) (x : X) → i < length xs → x ≡ get_or xs i x → take (i + 1) xs ≡ take i xs ++ x ∷ []
+taken xs i x less e = let next : i + 1 ≡ suc i = omega (arith) in ap (λ (n : ℕ). take n xs) next ∙ taken_at xs i x less e
+
+pub all_taken : {X : Type 0} (xs : List X) (n : ℕ) → length xs ≤ n → take n xs ≡ xs
+all_taken [] zero past = refl
+all_taken [] (suc n) past = refl
+all_taken (x ∷ xs) zero past = absurd (omega (arith, past))
+all_taken (x ∷ xs) (suc n) past = ap (λ ys. x ∷ ys) (all_taken xs n (omega (arith, past)))
+
+pub if_ok : {T E : Type 0} {P Q : T → Type 0} (r : Result T E) → ((x : T) → P x → Q x) → IfOk r P → IfOk r Q
+if_ok (Ok x) f p = f x p
+if_ok (Err e) f p = tt
 
 -- ---- one type
 kept_number : (delegated : Bool) (t u : RecordType) → same_record_type u t ≡ true → is_kept_type delegated u ≡ is_kept_type delegated t

@@ -11,4 +11,4 @@ use Rattle.zst_circle.proofs.hash_types.nsec3_types.Given as goal
 abbrev pub invariant-sets : goal.invariant-sets
 invariant-sets l =
     (t : RecordType) → list_any (λ x. same_record_type x t) l.types.items
-    ≡ (are_kept l.delegated t (take l.set-index l.sets) || (same_record_type t kind.RRSIG && list_any (λ set. is_signed_type l.delegated set.record_type) l.sets))
+    ≡ (are_kept l.fn.delegated t (take l.set-index l.sets) || (same_record_type t kind.RRSIG && list_any (λ set. is_signed_type l.fn.delegated set.record_type) l.sets))
