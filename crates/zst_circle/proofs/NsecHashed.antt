@@ -22,10 +22,10 @@ use Rattle.zst_absence.specs.dnw_name.NameOrderLaws.{name_eq-by_cmp}
 use Rattle.zst_absence.specs.zst_denial.Hashed.{AreApart, FollowsByHash, Hashing, IsNsec3Set, IsOnHashCircle, IsParameterSet, IsSecuredByHash, digest_of, hashed_name}
 use Rattle.zst_absence.specs.zst_denial.Signing.{AreSignatures, any_fails, unsigned}
 use Rattle.zst_absence.specs.zst_handler.Updates.{Replaces}
-use Rattle.zst_absence.specs.zst_handler.Zones.{AreInOrder, Zone, rrset_at}
+use Rattle.zst_absence.specs.zst_handler.Zones.{AreInOrder, IsStored, Zone, rrset_at}
 use Rattle.zst_absence.specs.zst_hash.Owners.{hashed_owner}
 use Rattle.zst_absence.specs.zst_record.RecordLaws.{name_eq_equiv}
-use Rattle.zst_absence.specs.zst_record.RecordSets.{RRset, least_ttl}
+use Rattle.zst_absence.specs.zst_record.RecordSets.{RRset, least_ttl, none_left}
 use Rattle.zst_absence.specs.zst_record.declared.records.Record.{Record}
 use Rattle.zst_absence.proofs.zst_map_lemmas.Replacing.{both_same}
 use Rattle.zst_absence.proofs.zst_denial_lemmas.zst_key_lemmas.KeyLemmas.{eq-lower}
@@ -46,7 +46,7 @@ hash_total origin = on_total (λ (name : HashedName). hashed_owner name.digest o
 
 next_follows : {X : Type 0} (cmp : X → X → Ordering) → IsTotalOrder cmp → (xs : List X) → IsStrictlySortedBy cmp xs → (place : ℕ) (owner next : X) → slice_get xs place ≡ Some owner
     → slice_get xs (next_place (length xs) place) ≡ Some next → IsNext cmp (is_among cmp xs) owner next
-next_follows cmp total xs sorted place owner next here after = by (nat_lt (place + 1) (length xs)) refl after
+next_follows {X = X} cmp total xs sorted place owner next here after = by (nat_lt (place + 1) (length xs)) refl after
   where
     first : (ys : List X) → IsStrictlySortedBy cmp ys → slice_get ys place ≡ Some owner → length ys ≤ suc place → slice_get ys 0 ≡ Some next → IsNext cmp (is_among cmp ys) owner next
     first [] order at past e = absurd (cc e)
@@ -244,6 +244,7 @@ module _ (by : Hashing) (opt_out : Bool) where
         pub is : IsNsec3In by opt_out old key origin names ttl name (unsigned set)
         pub signed : IsSigned gives keys now set
         pub fine : any_fails fails keys set now ≡ false
+        pub stored : IsStored set
 
       pub record Nsec3sPut (finished : List HashedName) (sets : List RRset) : Type 0 where
         pub others : ChangesOnly kind.NSEC3 old sets
@@ -276,16 +277,20 @@ module _ (by : Hashing) (opt_out : Bool) where
       puts_one : (sets after : List RRset) (finished : List HashedName) (name : HashedName) (set : RRset) (signatures : List Record)
           → IsNsec3In by opt_out sets key origin names ttl name set → AreSignatures gives keys (unsigned set) now signatures → any_fails fails keys set now ≡ false
           → Replaces sets set.name set.record_type (Some (record set { signatures = signatures })) after → AreInOrder after
+          → (none_left set.records ≡ false → IsSomeAnd (rrset_at after set.name set.record_type) IsStored)
           → AllByRecursion (λ n. hash_cmp origin n name ≡ Less) finished → Nsec3sPut finished sets → Nsec3sPut (finished ++ name ∷ []) after
-      puts_one sets after finished name set signatures n signed fine put ordered less before =
+      puts_one sets after finished name set signatures n signed fine put ordered stored less before =
           let owner = hashed_owner name.digest origin in
           let there : RRset = record set { signatures = signatures } in
           let replaces : Replaces sets owner kind.NSEC3 (Some there) after
           = subst (λ (t : RecordType). Replaces sets owner t (Some there) after) n.is.record_type (subst (λ (o : DomainName). Replaces sets o set.record_type (Some there) after) n.is.name put) in
           let here : rrset_at after owner kind.NSEC3 ≡ Some there
           = replaces owner kind.NSEC3 ∙ ap (λ (b : Bool). cond (b && true) (Some there) (rrset_at sets owner kind.NSEC3)) (name_eq_equiv.refl owner) in
+          let first : rrset_at after set.name set.record_type ≡ rrset_at after owner kind.NSEC3
+          = ap (λ (o : DomainName). rrset_at after o set.record_type) n.is.name ∙ ap (rrset_at after owner) n.is.record_type in
+          let held : IsStored there = subst (λ (o : Option RRset). IsSomeAnd o IsStored) (first ∙ here) (stored (ap none_left n.is.one)) in
           let is : IsPut name there
-          = record { is = as_before old sets key origin names ttl name (unsigned there) before.others (of_unsigned sets key origin names ttl name set signatures n); signed = signed; fine = fine } in
+          = record { is = as_before old sets key origin names ttl name (unsigned there) before.others (of_unsigned sets key origin names ttl name set signatures n); signed = signed; fine = fine; stored = held } in
           record {
             others = λ x t other. replaces x t ∙ kept x t other ∙ before.others x t other;
             ordered = ordered;
@@ -315,13 +320,14 @@ module _ (by : Hashing) (opt_out : Bool) where
           → ((name : HashedName) → slice_get names place ≡ Some name → IsNsec3In by opt_out sets key origin names ttl name set)
           → AreSignatures gives keys (unsigned set) now signatures → any_fails fails keys set now ≡ false
           → Replaces sets set.name set.record_type (Some (record set { signatures = signatures })) after → AreInOrder after
+          → (none_left set.records ≡ false → IsSomeAnd (rrset_at after set.name set.record_type) IsStored)
           → Nsec3sPut (take place names) sets → Nsec3sPut (take next names) after
-      puts_next sets after place next set signatures sorted within is n signed fine put ordered before =
+      puts_next sets after place next set signatures sorted within is n signed fine put ordered stored before =
           let at = some_at names place within in
           let after_it : next ≡ suc place = omega (arith, is) in
           let more : take next names ≡ take place names ++ at.0 ∷ [] = ap (λ (i : ℕ). take i names) after_it ∙ one_taken names place at.0 at.1 in
           subst (λ (l : List HashedName). Nsec3sPut l after) (sym more)
-          (puts_one sets after (take place names) at.0 set signatures (n at.0 at.1) signed fine put ordered (earlier origin names place at.0 sorted at.1) before)
+          (puts_one sets after (take place names) at.0 set signatures (n at.0 at.1) signed fine put ordered stored (earlier origin names place at.0 sorted at.1) before)
 
       -- ---- when all are put
       module _ (spelled : key ≡ lowercase_name origin) where
@@ -414,3 +420,13 @@ module _ (by : Hashing) (opt_out : Bool) where
               some_as (IsPut found.0) (λ s. IsMade gives keys now ttl s × (any_fails fails keys s now ≡ false)) (rrset_at new (hashed_owner found.0.digest origin) kind.NSEC3) (Some set)
               (sym e ∙ sym (both_same new name (hashed_owner found.0.digest origin) kind.NSEC3 kind.NSEC3 found.2 refl))
               (λ s p. made_one found.0 s p) found.1
+
+      pub stored_then : (new : List RRset) → Nsec3sPut names new → (name : DomainName) → IfSome (rrset_at new name kind.NSEC3) IsStored
+      stored_then new put name = go (rrset_at new name kind.NSEC3) refl
+        where
+          go : (o : Option RRset) → rrset_at new name kind.NSEC3 ≡ o → IfSome o IsStored
+          go None e = tt
+          go (Some set) e =
+              let found = one_that (λ n. IsSomeAnd (rrset_at new (hashed_owner n.digest origin) kind.NSEC3) (IsPut n)) (λ n. name_eq name (hashed_owner n.digest origin)) names put.each (put.only name (ap is_some e)) in
+              some_as (IsPut found.0) IsStored (rrset_at new (hashed_owner found.0.digest origin) kind.NSEC3) (Some set)
+              (sym e ∙ sym (both_same new name (hashed_owner found.0.digest origin) kind.NSEC3 kind.NSEC3 found.2 refl)) (λ s p. p.stored) found.1

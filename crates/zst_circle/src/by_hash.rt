@@ -7,7 +7,7 @@ ghost use Rattle.zst_absence.specs.dnw_codes.declared.record_type.RecordType.The
 ghost use Rattle.zst_absence.specs.dnw_name.DomainName.{DomainName, labels_len, lowercase_name, name_eq};
 ghost use Rattle.zst_absence.specs.zst_denial.Hashed.{AreApart, IsParameterSet, IsSecuredByHash};
 ghost use Rattle.zst_absence.specs.zst_denial.Signing.{any_fails};
-ghost use Rattle.zst_absence.specs.zst_handler.Zones.{AreInOrder, Zone, rrset_at};
+ghost use Rattle.zst_absence.specs.zst_handler.Zones.{AreInOrder, IsStored, Zone, rrset_at};
 ghost use Rattle.zst_circle.specs.declared.hashed.HashedName.{HashedName};
 ghost use Rattle.zst_circle.specs.Nsec3Circle.{IsNsec3In, IsNsec3SetOn, IsParametersOf, IsSetWith, hash_cmp, hashing_of, next_place};
 ghost use Rattle.zst_circle.specs.Securing.{AreAuthoritative, ChangesOnly, HasNone, IsMade, IsZoneAt, SomeFails};
@@ -32,11 +32,11 @@ pub fn put_parameters<K: ZoneSigner>(
     now: u64,
     sets: &mut ZoneSets,
 ) -> Result<(), SignerFault>
-    requires salt { length by.entry.salt.now ≤ 255 }
+    requires salt { length by.salt.now ≤ 255 }
     requires none { HasNone sets.old kind.NSEC3PARAM }
     ensures others { OnOk result (ChangesOnly kind.NSEC3PARAM sets.old sets.new) }
     ensures made { OnOk result (IsSomeAnd (rrset_at sets.new origin.now kind.NSEC3PARAM) (λ set. IsParameterSet (hashing_of by.entry) set
-        × IsMade K.gives keys.now now ttl set × (any_fails K.fails keys.now set now ≡ false))) }
+        × IsMade K.gives keys.now now ttl set × (any_fails K.fails keys.now set now ≡ false) × IsStored set)) }
     ensures only { OnOk result ((name : DomainName) → IsSome (rrset_at sets.new name kind.NSEC3PARAM) → name_eq name origin.now ≡ true) }
     ensures ordered { OnOk result (AreInOrder sets.new) }
     ensures failed { IfErr result (λ e. e ≡ SignerFault.Failed → SomeFails K.fails keys.now now (IsParametersOf (hashing_of by.entry) origin.now ttl)) }
@@ -52,7 +52,7 @@ fn parameter_set(
     ttl: u32,
     by: Nsec3Parameters<'_>,
 ) -> Result<RecordSet, AllocError>
-    requires { length by.entry.salt.now ≤ 255 }
+    requires { length by.salt.now ≤ 255 }
     ensures { IfOk result (IsParametersOf (hashing_of by.entry) origin.now ttl) }
 {
     let octets = nsec3param_data(alloc, by.iterations, by.salt)?;
@@ -64,7 +64,7 @@ fn parameter_set(
 pub(crate) fn has_room(origin: &Name) -> bool
     ensures { result ≡ nat_le (labels_len origin.now.labels + 34) 255 }
 {
-    origin.as_octets().len() + 34 <= Name::MAX_LENGTH
+    origin.len() + 34 <= Name::MAX_LENGTH
 }
 
 /// Puts the NSEC3 set of each name on a zone's circle by hash, signed by each key: its record has the next digest, the last
@@ -82,9 +82,9 @@ pub fn put_nsec3<K: ZoneSigner>(
     sets: &mut ZoneSets,
 ) -> Result<(), SignerFault>
     requires origin { key.now ≡ lowercase_name origin.now }
-    requires salt { length by.entry.salt.now ≤ 255 }
+    requires salt { length by.salt.now ≤ 255 }
     requires names { (zone : Zone) → IsZoneAt sets.old key.now zone → AreAuthoritative kind.NSEC3 zone names.now }
-    requires parameters { IsSomeAnd (rrset_at sets.old origin.now kind.NSEC3PARAM) (IsParameterSet (hashing_of by.entry)) }
+    requires parameters { IsSomeAnd (rrset_at sets.old origin.now kind.NSEC3PARAM) (IsParameterSet (hashing_of by)) }
     requires none { HasNone sets.old kind.NSEC3 }
     requires ordered { AreInOrder sets.old }
     ensures secured { OnOk result ((zone : Zone) → IsZoneAt sets.new key.now zone → AreApart (hashing_of by.entry) by.entry.opt_out zone
@@ -92,6 +92,7 @@ pub fn put_nsec3<K: ZoneSigner>(
     ensures others { OnOk result (ChangesOnly kind.NSEC3 sets.old sets.new) }
     ensures made { OnOk result ((name : DomainName) → IfSome (rrset_at sets.new name kind.NSEC3) (λ set. IsMade K.gives keys.now now ttl set
         × (any_fails K.fails keys.now set now ≡ false))) }
+    ensures stored { OnOk result ((name : DomainName) → IfSome (rrset_at sets.new name kind.NSEC3) IsStored) }
     ensures ordered { OnOk result (AreInOrder sets.new) }
     ensures fits { OnOk result (labels_len origin.now.labels + 34 ≤ 255) }
     ensures failed { IfErr result (λ e. e ≡ SignerFault.Failed → (255 < labels_len origin.now.labels + 34)
@@ -122,7 +123,7 @@ fn nsec3_set(
     sets: &ZoneSets,
 ) -> Result<RecordSet, AllocError>
     requires place { place < length hashed.now }
-    requires salt { length by.entry.salt.now ≤ 255 }
+    requires salt { length by.salt.now ≤ 255 }
     requires fits { labels_len origin.now.labels + 34 ≤ 255 }
     requires sorted { IsStrictlySortedBy (hash_cmp origin.now) hashed.now }
     ensures { IfOk result (λ set. (name : HashedName) → slice_get hashed.now place ≡ Some name
