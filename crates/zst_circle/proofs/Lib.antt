@@ -5,6 +5,7 @@ pub mod NsecHashed
 pub mod NsecHashedDigests
 pub mod NsecHashedKept
 pub mod NsecHashedNames
+pub mod NsecHashedParameters
 pub mod NsecHashedTypes
 pub mod NsecSecured
 pub mod Placing

@@ -1,5 +1,5 @@
 -- The NSEC3 sets of a zone, put one after the other: the zone is secured then.
-use Rattle.std.proofs.Common.{◌≡◌, ℕ, zero, suc, ◌+◌, ◌<◌, ◌≤◌, Bool, true, false, not, ◌&&◌, ◌||◌, List, [], ◌∷◌, ◌++◌, length, take, refl, ap, sym, subst, ◌∙◌, arith}
+use Rattle.std.proofs.Common.{◌≡◌, ℕ, zero, suc, ◌+◌, ◌<◌, ◌≤◌, Bool, true, false, not, ◌&&◌, ◌||◌, ◌==◌, List, [], ◌∷◌, ◌++◌, get_or, length, take, refl, ap, sym, subst, ◌∙◌, arith}
 use Rattle.std.specs.Prelude.{IfSome, IsSome, IsSomeAnd, None, Option, Some, cond, is_some, nat_lt, slice_get}
 use Rattle.std.specs.Cmp.{IsTotalOrder}
 use Rattle.std.specs.List.{AllByRecursion, list_any}
@@ -16,10 +16,10 @@ use Rattle.zst_absence.specs.drd_denial.Nsec3.{IsNsec3Data}
 use Rattle.zst_absence.specs.drd_denial.Rrsig.{Signing}
 use Rattle.zst_absence.specs.dnw_codes.declared.record_type.RecordType.{RecordType}
 use Rattle.zst_absence.specs.dnw_codes.declared.record_type.RecordType.TheVariants as kind
-use Rattle.zst_absence.specs.dnw_codes.RecordType.{same_record_type}
+use Rattle.zst_absence.specs.dnw_codes.RecordType.{record_type_number, same_record_type}
 use Rattle.zst_absence.specs.dnw_name.DomainName.{DomainName, lowercase_name, name_cmp, name_eq}
 use Rattle.zst_absence.specs.dnw_name.NameOrderLaws.{name_eq-by_cmp}
-use Rattle.zst_absence.specs.zst_denial.Hashed.{AreApart, FollowsByHash, Hashing, IsNsec3Set, IsOnHashCircle, IsParameterSet, IsSecuredByHash, digest_of, hashed_name}
+use Rattle.zst_absence.specs.zst_denial.Hashed.{AreApart, FollowsByHash, Hashing, IsNsec3Set, IsOnHashCircle, IsParameterSet, IsSecuredByHash, digest_of, hashed_name, is_listed_by_hash}
 use Rattle.zst_absence.specs.zst_denial.Signing.{AreSignatures, any_fails, unsigned}
 use Rattle.zst_absence.specs.zst_handler.Updates.{Replaces}
 use Rattle.zst_absence.specs.zst_handler.Zones.{AreInOrder, IsStored, Zone, rrset_at}
@@ -27,7 +27,7 @@ use Rattle.zst_absence.specs.zst_hash.Owners.{hashed_owner}
 use Rattle.zst_absence.specs.zst_record.RecordLaws.{name_eq_equiv}
 use Rattle.zst_absence.specs.zst_record.RecordSets.{RRset, least_ttl, none_left}
 use Rattle.zst_absence.specs.zst_record.declared.records.Record.{Record}
-use Rattle.zst_absence.proofs.zst_map_lemmas.Replacing.{both_same}
+use Rattle.zst_absence.proofs.zst_map_lemmas.Replacing.{both_same, one}
 use Rattle.zst_absence.proofs.zst_denial_lemmas.zst_key_lemmas.KeyLemmas.{eq-lower}
 use Rattle.zst_absence.proofs.zst_denial_lemmas.zst_key_lemmas.NamesAbove.{name_total}
 use Rattle.zst_circle.specs.Nsec3Circle.{AreHashed, IsHashedName, IsNsec3In, IsNsec3SetOn, IsSetWith, hash_cmp, next_place, with_digest}
@@ -35,7 +35,7 @@ use Rattle.zst_circle.specs.NsecCircle.{IsNext, is_among}
 use Rattle.zst_circle.specs.Securing.{ChangesOnly, HasNone, IsMade, IsSigned, IsZoneAt, SomeFails}
 use Rattle.zst_circle.specs.declared.hashed.HashedName.{HashedName}
 use Rattle.zst_circle.proofs.Authoritative.{all_and, any_front, any_last, any_named}
-use Rattle.zst_circle.proofs.Circling.{follows_first, follows_next, slice_past}
+use Rattle.zst_circle.proofs.Circling.{follows_first, follows_next, slice_at, slice_past}
 use Rattle.zst_circle.proofs.NsecHashedDigests.{order_alike, owner_alike, same_digest}
 use Rattle.zst_circle.proofs.NsecHashedKept.{listed_alike, same_listed_by_hash, same_on}
 use Rattle.zst_circle.proofs.NsecSecured.{AlikeBut, alike_turned, some_at}
@@ -236,6 +236,27 @@ module _ (by : Hashing) (opt_out : Bool) where
     are = n.are;
     is = n.is;
   }
+
+  -- The set that is made of the name at a place.
+  pub nsec3_in : (sets : List RRset) (key origin : DomainName) (names : List HashedName) (ttl place : ℕ) (it next : HashedName) (types octets : List ℕ) (owner : DomainName) (set : RRset)
+      → IsStrictlySortedBy (hash_cmp origin) names → place < length names → it ≡ get_or names place it → slice_get names (next_place (length names) place) ≡ Some next
+      → ((zone : Zone) → IsZoneAt sets key zone → (t : RecordType) → list_any (λ code. code == record_type_number t) types ≡ is_listed_by_hash zone it.key t)
+      → IsNsec3Data octets (cond opt_out 1 0) by.iterations by.salt next.digest types → owner ≡ hashed_owner it.digest origin → IsSetWith owner kind.NSEC3 ttl octets set
+      → (name : HashedName) → slice_get names place ≡ Some name → IsNsec3In by opt_out sets key origin names ttl name set
+  nsec3_in sets key origin names ttl place it next types octets owner set sorted within at after lists are owned is name named =
+      let here : slice_get names place ≡ Some it = slice_at names place it within at in
+      let same : it ≡ name = one it name (sym here ∙ named) in
+      subst (λ (n : HashedName). IsNsec3In by opt_out sets key origin names ttl n set) same (record {
+        place = next_place (length names) place;
+        next = next;
+        there = after;
+        follows = next_hashed origin names sorted place it next here after;
+        types = types;
+        lists = lists;
+        octets = octets;
+        are = are;
+        is = subst (λ (o : DomainName). IsSetWith o kind.NSEC3 ttl octets set) owned is;
+      })
 
   -- ---- the loop
   module _ {K : Type 0} (gives : K → RRset → ℕ → Signing → Type 0) (fails : K → RRset → ℕ → Bool) (keys : List K) (now : ℕ) where
