@@ -1,6 +1,12 @@
 pub mod Authoritative
 pub mod Circling
 pub mod Moving
+pub mod NsecHashed
+pub mod NsecHashedDigests
+pub mod NsecHashedKept
+pub mod NsecHashedNames
+pub mod NsecHashedParameters
+pub mod NsecHashedTypes
 pub mod NsecSecured
 pub mod Placing
 pub mod Settled

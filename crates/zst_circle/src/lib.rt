@@ -4,7 +4,10 @@
 
 pub use zst_absence::{Name, NameKey, Record, RecordSet, RecordType, ZoneSets};
 
+mod by_hash;
 mod by_name;
+mod hash_types;
+mod hashed;
 mod moves;
 mod names;
 mod resigned;
@@ -12,4 +15,5 @@ mod secured;
 mod signed;
 mod types;
 
+pub use hashed::Nsec3Parameters;
 pub use secured::secure;
