@@ -1,5 +1,6 @@
 pub mod Authoritative
 pub mod Circling
+pub mod HashCircled
 pub mod Moving
 pub mod NsecHashed
 pub mod NsecHashedDigests
