@@ -21,8 +21,10 @@ mod back;
 mod chain;
 mod denial;
 mod handler;
+mod in_memory;
 mod lookup;
 mod seen;
 mod zone_handler;
 
-pub use handler::{InMemoryZoneHandler, ZoneError};
+pub use handler::{StoredZone, ZoneError};
+pub use in_memory::InMemoryZoneHandler;
