@@ -4,7 +4,6 @@ ghost use Rattle.std.specs.Prelude.{◌≡◌, ◌↔◌, [], true, false, Some,
 ghost use Rattle.zst_absence.specs.dnw_name.DomainName.{is_at_or_below, lowercase_name};
 ghost use Rattle.zst_absence.specs.zst_handler.Answers.{LookupAnswers, denial_error, records_in};
 ghost use Rattle.zst_absence.specs.zst_handler.Lookups.{denial};
-ghost use Rattle.zst_absence.specs.dnw_codes.declared.dns_class.DNSClass.TheVariants.{IN};
 ghost use Rattle.zst_absence.specs.dnw_codes.RecordType.{same_record_type};
 ghost use Rattle.zst_absence.specs.dnw_codes.declared.record_type.RecordType.TheVariants as types;
 ghost use Rattle.zst_absence.specs.zst_map.Edits.{CanEdit, edited};
@@ -24,7 +23,7 @@ use std::marker::Model;
 use std::mem;
 use thiserror::Error;
 use zst_absence::{
-    AnswerSet, AuthLookup, AxfrPolicy, DNSClass, Edit, LookupControlFlow, LookupError,
+    AnswerSet, AuthLookup, AxfrPolicy, Edit, LookupControlFlow, LookupError,
     LookupOptions, LookupRecords, Name, NameKey, NxProofKind, RData, Record, RecordSet, RecordType,
     ResponseCode, RrKey, Search, ZoneSets, ZoneSettings, ZoneType,
 };
