@@ -23,9 +23,9 @@ use std::marker::Model;
 use std::mem;
 use thiserror::Error;
 use zst_absence::{
-    AnswerSet, AuthLookup, AxfrPolicy, Edit, LookupControlFlow, LookupError,
-    LookupOptions, LookupRecords, Name, NameKey, NxProofKind, RData, Record, RecordSet, RecordType,
-    ResponseCode, RrKey, Search, ZoneSets, ZoneSettings, ZoneType,
+    AnswerSet, AuthLookup, AxfrPolicy, Edit, LookupControlFlow, LookupError, LookupOptions,
+    LookupRecords, Name, NameKey, NxProofKind, RData, Record, RecordSet, RecordType, ResponseCode,
+    RrKey, Search, ZoneSets, ZoneSettings, ZoneType,
 };
 use zst_request::{AxfrRecords, ZoneTransfer};
 

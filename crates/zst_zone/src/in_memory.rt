@@ -16,8 +16,8 @@ use std::alloc::{AllocError, Global};
 use std::collections::BTreeMap;
 use std::mem;
 use zst_absence::{
-    AuthLookup, AxfrPolicy, DNSClass, LookupControlFlow, LookupOptions, Name, NameKey,
-    NxProofKind, Record, RecordSet, RecordType, RrKey, ZoneSets, ZoneSettings, ZoneType,
+    AuthLookup, AxfrPolicy, DNSClass, LookupControlFlow, LookupOptions, Name, NameKey, NxProofKind,
+    Record, RecordSet, RecordType, RrKey, ZoneSets, ZoneSettings, ZoneType,
 };
 
 /// A zone kept in memory, and the keys that sign it.

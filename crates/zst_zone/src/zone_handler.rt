@@ -71,7 +71,9 @@ impl<K: Drop> ZoneHandler for InMemoryZoneHandler<K> {
         if request.query_type == RecordType::AXFR {
             return Ok((LookupControlFlow::Break(Err(LookupError::NetError)), None));
         }
-        let flow = self.zone.lookup_at(alloc, request.name, key, request.query_type, options)?;
+        let flow = self
+            .zone
+            .lookup_at(alloc, request.name, key, request.query_type, options)?;
         Ok((flow, None))
     }
 
