@@ -17,6 +17,7 @@ pub enum SignerFault {
 }
 
 impl From<AllocError> for SignerFault {
+    ghost use Rattle.std.specs.Prelude.{◌≡◌};
     ghost use Rattle.zst_denial.specs.declared.signer.SignerFault.TheVariants.{OutOfMemory};
 
     ghost from_gives = { λ _ fault. fault ≡ OutOfMemory };
