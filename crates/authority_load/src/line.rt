@@ -42,11 +42,7 @@ pub struct KeyedRecord {
 }
 
 /// The record of a line, which may join the zone, with its owner's key; or the first cause why the line is refused.
-pub fn record_of(
-    alloc: Global,
-    zone: &StoredZone,
-    line: &str,
-) -> Result<KeyedRecord, LoadCause>
+pub fn record_of(alloc: Global, zone: &StoredZone, line: &str) -> Result<KeyedRecord, LoadCause>
     ensures gives { LineGives zone.now line.now (λ taken. taken.next) result }
     ensures keyed { IfOk result (λ taken. taken.key ≡ lowercase_name taken.next.name) }
 {
@@ -67,11 +63,7 @@ pub fn record_of(
 }
 
 /// A record that may join the zone, with its owner's key; or the first cause that keeps it out.
-fn tested(
-    zone: &StoredZone,
-    key: NameKey,
-    next: Record,
-) -> Result<KeyedRecord, LoadCause>
+fn tested(zone: &StoredZone, key: NameKey, next: Record) -> Result<KeyedRecord, LoadCause>
     requires { key ≡ lowercase_name next.name }
     ensures ok { IfOk result (λ taken. (taken.next ≡ next) × (taken.key ≡ key) × MayJoin zone.now next) }
     ensures refused { IfErr result (λ cause. RefusesValue zone.now next cause) }

@@ -112,11 +112,7 @@ fn load_stored(
 }
 
 /// Adds the records of the lines, up to the first line that is refused.
-fn load_lines(
-    alloc: Global,
-    zone: &mut StoredZone,
-    text: &str,
-) -> Result<(), LoadError>
+fn load_lines(alloc: Global, zone: &mut StoredZone, text: &str) -> Result<(), LoadError>
     ensures loads { OnOk result (IsZoneText zone.old text.now zone.new) }
     ensures refused { IfErr result (λ error. IsRefusedAt zone.old text.now error.line error.cause) }
 {
@@ -135,11 +131,7 @@ fn load_lines(
 }
 
 /// Adds the record of a line, unless the line is skipped.
-fn load_line(
-    alloc: Global,
-    zone: &mut StoredZone,
-    line: &str,
-) -> Result<(), LoadCause>
+fn load_line(alloc: Global, zone: &mut StoredZone, line: &str) -> Result<(), LoadCause>
     ensures { LineLoads zone.old line.now zone.new result }
 {
     if is_skipped(line.as_bytes()) {

@@ -101,11 +101,7 @@ impl ZoneDraft {
     }
 
     /// Puts the drafted sets into the zone: all of them, or none if memory runs out.
-    pub fn commit(
-        self,
-        zone: &mut StoredZone,
-        alloc: Global,
-    ) -> Result<(), AllocError>
+    pub fn commit(self, zone: &mut StoredZone, alloc: Global) -> Result<(), AllocError>
         requires { IsDraftOfZone zone.old self }
         ensures ok { OnOk result ((at : Owned) → DraftsZone zone.old self at → LeavesZone zone.old at zone.new) }
         ensures err { OnErr result (zone.new ≡ zone.old) }

@@ -58,10 +58,7 @@ fn gather<'r>(
 }
 
 /// Whether each set has exactly the records that are asked for. It takes no memory.
-pub(crate) fn are_met<'r>(
-    zone: &StoredZone,
-    groups: &BTreeMap<SetKey, Vec<&'r Record>>,
-) -> bool
+pub(crate) fn are_met<'r>(zone: &StoredZone, groups: &BTreeMap<SetKey, Vec<&'r Record>>) -> bool
     ensures { (rs : List Record) → Gathers rs groups.now → result ≡ list_all (is_met zone.now.sets rs) rs }
 {
     // (wakes the order of the keys)
@@ -69,10 +66,7 @@ pub(crate) fn are_met<'r>(
     are_all_met(zone, groups)
 }
 
-fn are_all_met<'r>(
-    zone: &StoredZone,
-    groups: &BTreeMap<SetKey, Vec<&'r Record>>,
-) -> bool
+fn are_all_met<'r>(zone: &StoredZone, groups: &BTreeMap<SetKey, Vec<&'r Record>>) -> bool
     ensures { result ≡ list_all (is_group_met zone.now.sets) groups.now.entries }
 {
     for (key, wanted) in groups.iter() {

@@ -114,11 +114,7 @@ fn refusal_if_present(
 }
 
 // Whether the name has a set of the type, or of any type where that is asked for.
-fn is_in_use(
-    alloc: Global,
-    zone: &StoredZone,
-    asked: &Record,
-) -> Result<bool, AllocError>
+fn is_in_use(alloc: Global, zone: &StoredZone, asked: &Record) -> Result<bool, AllocError>
     ensures { IfOk result (λ there. there ≡ is_in_use zone.now.sets asked.now) }
 {
     let key = NameKey::of(alloc, &asked.name)?;
