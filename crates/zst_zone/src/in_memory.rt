@@ -1,6 +1,6 @@
 //! A zone kept in memory, with the keys that sign it.
 
-ghost use Rattle.std.specs.Prelude.{◌≡◌, ◌↔◌, ◌∷◌, ◌++◌, [], Some, None, IsTrue, option_copied, IfOk, IfErr, OnOk, OnErr};
+ghost use Rattle.std.specs.Prelude.{◌≡◌, ◌↔◌, ◌∷◌, ◌++◌, [], false, Some, None, IsTrue, option_copied, IfOk, IfErr, OnOk, OnErr};
 ghost use Rattle.zst_absence.specs.dnw_codes.declared.dns_class.DNSClass.TheVariants.{IN};
 ghost use Rattle.zst_absence.specs.dnw_codes.declared.record_type.RecordType.TheVariants as types;
 ghost use Rattle.zst_absence.specs.dnw_name.DomainName.{lowercase_name};
