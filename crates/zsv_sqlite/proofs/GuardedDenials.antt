@@ -1,10 +1,9 @@
 -- A guard changes no denial.
-use Rattle.std.proofs.Common.{◌≡◌, Bool, List, refl, subst}
+use Rattle.std.proofs.Common.{◌≡◌, Bool, List, subst}
 use Rattle.std.specs.Prelude.{Option, Some, None}
 use Rattle.zst_draft.specs.declared.InMemoryZoneHandler.{InMemoryZoneHandler}
 use Rattle.zst_map.specs.zst_handler.Zones.{Guard, Zone}
 use Rattle.zst_request.specs.zst_codes.declared.nx_proof.Nsec3QueryInfo.{Nsec3QueryInfo}
-use Rattle.zst_map.specs.zst_handler.declared.auth_lookup.AuthLookup.{AuthLookup}
 use Rattle.zst_map.specs.dnw_codes.declared.record_type.RecordType.{RecordType}
 use Rattle.zst_map.specs.dnw_codes.declared.record_type.RecordType.TheVariants as kind
 use Rattle.zst_map.specs.dnw_name.DomainName.{DomainName}
