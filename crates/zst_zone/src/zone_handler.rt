@@ -168,6 +168,7 @@ impl<K: Drop> ZoneHandler for InMemoryZoneHandler<K> {
         ensures refused { result ≡ Ok (Err ResponseCode.NotImp, None) }
         ensures told { IfOk result (λ given. UpdatesView (Stored self.old.zone) (asked_of request.entry) given.0 (Stored self.new.zone)) }
         ensures context { IfOk result (λ given. option_map context_of given.1 ≡ update_context (Stored self.old.zone) (asked_of request.entry) now) }
+        ensures keys { self.new.keys ≡ self.old.keys }
         ensures err { OnErr result (Stored self.new.zone ≡ Stored self.old.zone) }
     {
         mem::drop(request);
