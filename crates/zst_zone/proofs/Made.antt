@@ -49,6 +49,7 @@ refused-is (entry ∷ entries) e some memory = by (refusal entry) refl some (ref
 pub refuses-first : (entries : List (RrKey × RRset)) (e : ZoneError) → first_refusal entries ≡ Some e → RefusesAll entries e
 refuses-first entries errors.WrongKey some = some
 refuses-first entries errors.EmptySet some = some
+refuses-first entries errors.SignerFailed some = some
 refuses-first entries errors.OutOfMemory some = absurd (refused-is entries errors.OutOfMemory some refl)
 
 pub none-left : {X : Type 0} (entries : List X) → (0 < length entries → ⊥) → entries ≡ []

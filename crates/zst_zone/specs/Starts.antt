@@ -31,3 +31,4 @@ abbrev pub RefusesSet : RRset → ZoneError → Type 0
 RefusesSet set errors.EmptySet = none_left set.records ≡ true
 RefusesSet set errors.OutOfMemory = none_left set.records ≡ false
 RefusesSet set errors.WrongKey = ⊥
+RefusesSet set errors.SignerFailed = ⊥

@@ -4,7 +4,6 @@ ghost use Rattle.std.specs.Prelude.{◌≡◌, ◌↔◌, [], true, false, Some,
 ghost use Rattle.zst_absence.specs.dnw_name.DomainName.{is_at_or_below, lowercase_name};
 ghost use Rattle.zst_absence.specs.zst_handler.Answers.{LookupAnswers, denial_error, records_in};
 ghost use Rattle.zst_absence.specs.zst_handler.Lookups.{denial};
-ghost use Rattle.zst_absence.specs.dnw_codes.declared.dns_class.DNSClass.TheVariants.{IN};
 ghost use Rattle.zst_absence.specs.dnw_codes.RecordType.{same_record_type};
 ghost use Rattle.zst_absence.specs.dnw_codes.declared.record_type.RecordType.TheVariants as types;
 ghost use Rattle.zst_absence.specs.zst_map.Edits.{CanEdit, edited};
@@ -20,17 +19,17 @@ use crate::back::all_read_back;
 use crate::lookup::{all_of, answer_alone, answer_from};
 use std::alloc::{AllocError, Global};
 use std::collections::BTreeMap;
-use std::marker::{Model, PhantomData};
+use std::marker::Model;
 use std::mem;
 use thiserror::Error;
 use zst_absence::{
-    AnswerSet, AuthLookup, AxfrPolicy, DNSClass, Edit, LookupControlFlow, LookupError,
-    LookupOptions, LookupRecords, Name, NameKey, NxProofKind, RData, Record, RecordSet, RecordType,
-    ResponseCode, RrKey, Search, ZoneSets, ZoneSettings, ZoneType,
+    AnswerSet, AuthLookup, AxfrPolicy, Edit, LookupControlFlow, LookupError, LookupOptions,
+    LookupRecords, Name, NameKey, NxProofKind, RData, Record, RecordSet, RecordType, ResponseCode,
+    RrKey, Search, ZoneSets, ZoneSettings, ZoneType,
 };
 use zst_request::{AxfrRecords, ZoneTransfer};
 
-/// Why a zone is not changed or made. The numbers are stable; 3 is free.
+/// Why a zone is not changed or made. The numbers are stable.
 #[derive(Clone, Copy, Debug, PartialEq, Eq, Error)]
 pub enum ZoneError {
     /// A set is under another owner or type than its own.
@@ -39,14 +38,17 @@ pub enum ZoneError {
     /// A set has no records.
     #[error("EmptySet")]
     EmptySet = 2,
+    /// A signer gave no signature, or a hashed owner would pass 255 octets.
+    #[error("SignerFailed")]
+    SignerFailed = 3,
     /// Memory was refused.
     #[error("OutOfMemory")]
     OutOfMemory = 4,
 }
 
-/// A zone kept in memory. `K` is to sign it.
+/// A zone kept in memory: where it begins, how it may be used, and its sets.
 #[derive(Drop)]
-pub struct InMemoryZoneHandler<K> {
+pub struct StoredZone {
     origin: Name,
     /// The origin's key, made once.
     origin_key: NameKey,
@@ -54,10 +56,9 @@ pub struct InMemoryZoneHandler<K> {
     axfr_policy: AxfrPolicy,
     nx_proof_kind: Option<NxProofKind>,
     sets: ZoneSets,
-    signer: PhantomData<K>,
 }
 
-impl<K> Model for InMemoryZoneHandler<K> {
+impl Model for StoredZone {
     ghost use Rattle.std.specs.Prelude.{None};
     ghost use Rattle.zst_absence.specs.zst_handler.Zones.{Zone};
     ghost use Rattle.zst_zone.specs.Answering.{IsKept};
@@ -69,24 +70,23 @@ impl<K> Model for InMemoryZoneHandler<K> {
     ghost invariant = { λ zone. IsKept zone.origin zone.origin_key zone.sets };
 }
 
-impl<K> InMemoryZoneHandler<K> {
+impl StoredZone {
     /// A zone without records.
     pub fn empty(
         alloc: Global,
         origin: Name,
         settings: ZoneSettings,
-    ) -> Result<InMemoryZoneHandler<K>, AllocError>
+    ) -> Result<StoredZone, AllocError>
         ensures { IfOk result (λ zone. zone ≡ empty_zone origin settings) }
     {
         let origin_key = NameKey::of(alloc, &origin)?;
-        Ok(InMemoryZoneHandler {
+        Ok(StoredZone {
             origin,
             origin_key,
             zone_type: settings.zone_type,
             axfr_policy: settings.axfr_policy,
             nx_proof_kind: settings.nx_proof_kind,
             sets: ZoneSets::new(alloc),
-            signer: PhantomData,
         })
     }
 
@@ -98,7 +98,7 @@ impl<K> InMemoryZoneHandler<K> {
         origin: Name,
         records: BTreeMap<RrKey, RecordSet>,
         settings: ZoneSettings,
-    ) -> Result<InMemoryZoneHandler<K>, ZoneError>
+    ) -> Result<StoredZone, ZoneError>
         ensures ok { IfOk result (λ zone. (first_refusal records.entries ≡ None) × PutsAll (empty_zone origin settings) records.entries zone) }
         ensures refused { IfErr result (RefusesAll records.entries) }
     {
@@ -106,7 +106,7 @@ impl<K> InMemoryZoneHandler<K> {
             mem::drop(records);
             return Err(refused);
         }
-        let Ok(mut zone) = InMemoryZoneHandler::empty(alloc, origin, settings) else {
+        let Ok(mut zone) = StoredZone::empty(alloc, origin, settings) else {
             mem::drop(records);
             return Err(ZoneError::OutOfMemory);
         };
@@ -127,13 +127,6 @@ impl<K> InMemoryZoneHandler<K> {
         ensures stored { AreStored self.now.sets }
     {
         &self.origin
-    }
-
-    /// The class of the zone, that of the Internet.
-    pub fn class(&self) -> DNSClass
-        ensures { result ≡ IN }
-    {
-        DNSClass::IN
     }
 
     /// The sets of the zone, by owner in canonical order, then by type.
@@ -436,20 +429,6 @@ impl<K> InMemoryZoneHandler<K> {
         self.sets.upsert(alloc, key, next)
     }
 
-    /// What `upsert` does: a zone is changed by whoever holds it alone.
-    pub fn upsert_mut(
-        &mut self,
-        alloc: Global,
-        next: Record,
-        serial: u32,
-    ) -> Result<bool, AllocError>
-        ensures changed { IfOk result (λ changed. changed ≡ upsert_changes self.old.sets next) }
-        ensures ok { OnOk result (Upserts self.old next self.new) }
-        ensures err { OnErr result (self.new ≡ self.old) }
-    {
-        self.upsert(alloc, next, serial)
-    }
-
     /// Puts a set in place of the one of its owner and type.
     pub fn put_set(&mut self, alloc: Global, set: RecordSet) -> Result<(), ZoneError>
         ensures ok { OnOk result ((none_left set.records ≡ false) × ZoneReplaces self.old set.name set.record_type (Some set) self.new) }
@@ -519,13 +498,6 @@ impl<K> InMemoryZoneHandler<K> {
         ensures { self.new ≡ record self.old { sets = [] } }
     {
         self.sets.clear();
-    }
-
-    /// What signs the zone: nothing yet.
-    pub fn secure_keys(&self) -> &[K]
-        ensures { result.now ≡ [] }
-    {
-        &[]
     }
 }
 

@@ -1,7 +1,7 @@
 //! A zone in memory: the sets of its records, and what a lookup answers (RFC 1034 section 4.3.2, RFC 2308).
 //!
-//! A contract sees a zone as a `Zone`: where it begins, how it may be used, and its sets. `IsLookup` says what is answered
-//! to a name and a type, or why nothing is.
+//! A contract sees a `StoredZone` as a `Zone`: where it begins, how it may be used, and its sets; an `InMemoryZoneHandler` is
+//! that and the keys that sign it. `IsLookup` says what is answered to a name and a type, or why nothing is.
 #![tactic(auto)]
 
 pub use zst_absence::{
@@ -21,8 +21,10 @@ mod back;
 mod chain;
 mod denial;
 mod handler;
+mod in_memory;
 mod lookup;
 mod seen;
 mod zone_handler;
 
-pub use handler::{InMemoryZoneHandler, ZoneError};
+pub use handler::{StoredZone, ZoneError};
+pub use in_memory::InMemoryZoneHandler;
