@@ -3,7 +3,7 @@ use Rattle.std.proofs.Common.{◌≡◌, ◌<◌, refl, ◌∙◌, arith, length
 use Rattle.std.specs.Prelude.{Bool, true, false, not, List, [], ◌∷◌, Option, Some, None, cond}
 use Rattle.zst_key.specs.Ancestors.{or_else}
 use Rattle.zst_key.specs.dnw_name.declared.rr_key.RrKey.{RrKey}
-use Rattle.zst_absence.specs.zst_record.RecordSets.{RRset, none_left}
+use Rattle.zst_circle.specs.zst_record.RecordSets.{RRset, none_left}
 use Rattle.zst_zone.specs.Makings.{RefusesAll, first_refusal, is_own_key, refusal}
 use Rattle.zst_zone.specs.declared.handler.ZoneError.{ZoneError}
 use Rattle.zst_zone.specs.declared.handler.ZoneError.TheVariants as errors

@@ -5,7 +5,7 @@ ghost use Rattle.zst_request.specs.Denying.{ShowsNsec, ShowsNsec3};
 
 use crate::handler::StoredZone;
 use std::alloc::{AllocError, Global};
-use zst_absence::{AuthLookup, HashedQuery, LookupOptions, Name, nsec_denial, nsec3_denial};
+use zst_circle::{AuthLookup, HashedQuery, LookupOptions, Name, nsec_denial, nsec3_denial};
 use zst_request::Nsec3QueryInfo;
 
 impl StoredZone {

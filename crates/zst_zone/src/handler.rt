@@ -1,18 +1,20 @@
 //! A zone kept in memory, and what it answers.
 
 ghost use Rattle.std.specs.Prelude.{◌≡◌, ◌↔◌, [], true, false, Some, None, Err, IsTrue, option_copied, IfOk, IfErr, IsOkAnd, MatchOption, OnOk, OnErr};
-ghost use Rattle.zst_absence.specs.dnw_name.DomainName.{is_at_or_below, lowercase_name};
-ghost use Rattle.zst_absence.specs.zst_handler.Answers.{LookupAnswers, denial_error, records_in};
-ghost use Rattle.zst_absence.specs.zst_handler.Lookups.{denial};
-ghost use Rattle.zst_absence.specs.dnw_codes.RecordType.{same_record_type};
-ghost use Rattle.zst_absence.specs.dnw_codes.declared.record_type.RecordType.TheVariants as types;
-ghost use Rattle.zst_absence.specs.zst_map.Edits.{CanEdit, edited};
-ghost use Rattle.zst_absence.specs.zst_record.RecordSets.{RRset, none_left};
-ghost use Rattle.zst_absence.specs.zst_handler.Updates.{Upserts, ZoneReplaces, upsert_changes};
-ghost use Rattle.zst_absence.specs.zst_handler.Zones.{exists_in, rrset_at, empty_zone, AddsTo, AreInOrder, AreStored, ZoneReadsBack};
+ghost use Rattle.zst_circle.specs.dnw_name.DomainName.{is_at_or_below, lowercase_name};
+ghost use Rattle.zst_circle.specs.zst_handler.Answers.{LookupAnswers, denial_error, records_in};
+ghost use Rattle.zst_circle.specs.zst_handler.Lookups.{denial};
+ghost use Rattle.zst_circle.specs.dnw_codes.RecordType.{same_record_type};
+ghost use Rattle.zst_circle.specs.dnw_codes.declared.record_type.RecordType.TheVariants as types;
+ghost use Rattle.zst_circle.specs.zst_map.Edits.{CanEdit, edited};
+ghost use Rattle.zst_circle.specs.zst_record.RecordSets.{RRset, none_left};
+ghost use Rattle.zst_circle.specs.zst_handler.Updates.{Upserts, ZoneReplaces, upsert_changes};
+ghost use Rattle.zst_circle.specs.zst_handler.Zones.{exists_in, rrset_at, empty_zone, AddsTo, AreInOrder, AreStored, ZoneReadsBack};
 ghost use Rattle.zst_request.specs.Handed.{transfer_records};
 ghost use Rattle.zst_request.specs.Transfers.{own_refused, transfer_of};
 ghost use Rattle.zst_zone.specs.Makings.{PutsAll, RefusesAll, first_refusal, is_own_key, refusal};
+ghost use Rattle.zst_circle.specs.Secures.{Secures, has_room};
+ghost use Rattle.zst_zone.specs.Securings.{RefusesToSecure, denial_ttl};
 ghost use Rattle.zst_zone.specs.Starts.{RefusesSet, first_data, minimum_of, serial_of};
 
 use crate::back::all_read_back;
@@ -22,10 +24,10 @@ use std::collections::BTreeMap;
 use std::marker::Model;
 use std::mem;
 use thiserror::Error;
-use zst_absence::{
+use zst_circle::{
     AnswerSet, AuthLookup, AxfrPolicy, Edit, LookupControlFlow, LookupError, LookupOptions,
     LookupRecords, Name, NameKey, NxProofKind, RData, Record, RecordSet, RecordType, ResponseCode,
-    RrKey, Search, ZoneSets, ZoneSettings, ZoneType,
+    RrKey, Search, SignerFault, ZoneSets, ZoneSettings, ZoneSigner, ZoneType, secure,
 };
 use zst_request::{AxfrRecords, ZoneTransfer};
 
@@ -60,7 +62,7 @@ pub struct StoredZone {
 
 impl Model for StoredZone {
     ghost use Rattle.std.specs.Prelude.{None};
-    ghost use Rattle.zst_absence.specs.zst_handler.Zones.{Zone};
+    ghost use Rattle.zst_circle.specs.zst_handler.Zones.{Zone};
     ghost use Rattle.zst_zone.specs.Answering.{IsKept};
 
     ghost Value = { Zone };
@@ -491,6 +493,30 @@ impl StoredZone {
     {
         let key = NameKey::of(alloc, &at.name)?;
         Ok(self.remove_at(&key, at.record_type))
+    }
+
+    /// Secures the zone: makes the circle of its kind of proof with the time to live of a denial, raises the serial number of
+    /// its SOA, and signs the sets of authoritative names by each key (RFC 4035 section 2, RFC 5155 section 7.1). Sets move,
+    /// and no record is copied.
+    pub fn secure<K: ZoneSigner>(
+        &mut self,
+        alloc: Global,
+        keys: &[K],
+        now: u64,
+    ) -> Result<(), ZoneError>
+        ensures ok { OnOk result (Secures K.gives K.fails keys.now now self.old (denial_ttl self.old) self.new) }
+        ensures room { OnOk result (has_room self.old.nx_proof_kind self.old.origin ≡ true) }
+        ensures refused { IfErr result (RefusesToSecure K.fails keys.now now self.old) }
+        ensures err { OnErr result (self.new ≡ self.old) }
+    {
+        let ttl = self.minimum_ttl();
+        let proof = self.nx_proof_kind.as_ref();
+        let (origin, key) = (&self.origin, &self.origin_key);
+        match secure(alloc, origin, key, proof, ttl, keys, now, &mut self.sets) {
+            Ok(()) => Ok(()),
+            Err(SignerFault::Failed) => Err(ZoneError::SignerFailed),
+            Err(SignerFault::OutOfMemory) => Err(ZoneError::OutOfMemory),
+        }
     }
 
     /// Takes out all sets.

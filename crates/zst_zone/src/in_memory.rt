@@ -1,23 +1,24 @@
 //! A zone kept in memory, with the keys that sign it.
 
-ghost use Rattle.std.specs.Prelude.{◌≡◌, ◌↔◌, ◌∷◌, ◌++◌, [], false, Some, None, IsTrue, option_copied, IfOk, IfErr, OnOk, OnErr};
-ghost use Rattle.zst_absence.specs.dnw_codes.declared.dns_class.DNSClass.TheVariants.{IN};
-ghost use Rattle.zst_absence.specs.dnw_codes.declared.record_type.RecordType.TheVariants as types;
-ghost use Rattle.zst_absence.specs.dnw_name.DomainName.{lowercase_name};
-ghost use Rattle.zst_absence.specs.zst_record.RecordSets.{none_left};
-ghost use Rattle.zst_absence.specs.zst_handler.Answers.{LookupAnswers};
-ghost use Rattle.zst_absence.specs.zst_handler.Updates.{Upserts, ZoneReplaces, upsert_changes};
-ghost use Rattle.zst_absence.specs.zst_handler.Zones.{rrset_at, empty_zone, AddsTo, AreInOrder, AreStored, ZoneReadsBack};
+ghost use Rattle.std.specs.Prelude.{◌≡◌, ◌↔◌, ◌∷◌, ◌++◌, [], false, Some, None, IsTrue, option_copied, IfOk, IfErr, IsOk, OnOk, OnErr};
+ghost use Rattle.zst_circle.specs.dnw_codes.declared.dns_class.DNSClass.TheVariants.{IN};
+ghost use Rattle.zst_circle.specs.dnw_codes.declared.record_type.RecordType.TheVariants as types;
+ghost use Rattle.zst_circle.specs.dnw_name.DomainName.{lowercase_name};
+ghost use Rattle.zst_circle.specs.zst_record.RecordSets.{none_left};
+ghost use Rattle.zst_circle.specs.zst_handler.Answers.{LookupAnswers};
+ghost use Rattle.zst_circle.specs.zst_handler.Updates.{Upserts, ZoneReplaces, upsert_changes};
+ghost use Rattle.zst_circle.specs.zst_handler.Zones.{rrset_at, empty_zone, AddsTo, AreInOrder, AreStored, ZoneReadsBack};
 ghost use Rattle.zst_zone.specs.Makings.{PutsAll, RefusesAll, first_refusal};
+ghost use Rattle.zst_zone.specs.Securings.{RefusesToSecure, SecuresBy};
 ghost use Rattle.zst_zone.specs.Starts.{RefusesSet, first_data, minimum_of, serial_of};
 
 use crate::handler::{StoredZone, ZoneError};
 use std::alloc::{AllocError, Global};
 use std::collections::BTreeMap;
 use std::mem;
-use zst_absence::{
+use zst_circle::{
     AuthLookup, AxfrPolicy, DNSClass, LookupControlFlow, LookupOptions, Name, NameKey, NxProofKind,
-    Record, RecordSet, RecordType, RrKey, ZoneSets, ZoneSettings, ZoneType,
+    Record, RecordSet, RecordType, RrKey, ZoneSets, ZoneSettings, ZoneSigner, ZoneType,
 };
 
 /// A zone kept in memory, and the keys that sign it.
@@ -277,6 +278,33 @@ impl<K: Drop> InMemoryZoneHandler<K> {
         ensures err { OnErr result (self.new ≡ self.old) }
     {
         self.add_zone_signing_key(alloc, key)
+    }
+}
+
+impl<K: ZoneSigner> InMemoryZoneHandler<K> {
+    /// Secures the zone by its keys, as `StoredZone::secure` does. Without keys it changes nothing.
+    pub fn secure_zone(&mut self, alloc: Global, now: u64) -> Result<(), ZoneError>
+        ensures ok { OnOk result (SecuresBy K.gives K.fails self.old.keys.items now self.old.zone self.new.zone) }
+        ensures none { self.old.keys.items ≡ [] → IsOk result }
+        ensures keys { self.new.keys ≡ self.old.keys }
+        ensures refused { IfErr result (RefusesToSecure K.fails self.old.keys.items now self.old.zone) }
+        ensures err { OnErr result (self.new ≡ self.old) }
+    {
+        if self.keys.is_empty() {
+            return Ok(());
+        }
+        self.zone.secure(alloc, &self.keys, now)
+    }
+
+    /// What `secure_zone` does: a zone is changed by whoever holds it alone.
+    pub fn secure_zone_mut(&mut self, alloc: Global, now: u64) -> Result<(), ZoneError>
+        ensures ok { OnOk result (SecuresBy K.gives K.fails self.old.keys.items now self.old.zone self.new.zone) }
+        ensures none { self.old.keys.items ≡ [] → IsOk result }
+        ensures keys { self.new.keys ≡ self.old.keys }
+        ensures refused { IfErr result (RefusesToSecure K.fails self.old.keys.items now self.old.zone) }
+        ensures err { OnErr result (self.new ≡ self.old) }
+    {
+        self.secure_zone(alloc, now)
     }
 }
 

@@ -4,12 +4,12 @@
 //! that and the keys that sign it. `IsLookup` says what is answered to a name and a type, or why nothing is.
 #![tactic(auto)]
 
-pub use zst_absence::{
+pub use zst_circle::{
     AnswerSet, AuthLookup, AxfrPolicy, DNSClass, Draft, Edit, LentSets, LookupControlFlow,
     LookupError, LookupOptions, LookupRecords, LookupRecordsIter, LowerName, Name, NameKey,
     Nsec3HashAlgorithm, NxProofKind, ProtoError, RData, Record, RecordRef, RecordSet, RecordType,
-    ResponseCode, RrKey, RrsetRecords, Salt, SaltLenError, ZoneSets, ZoneSetsIter, ZoneSettings,
-    ZoneType,
+    ResponseCode, RrKey, RrsetRecords, Salt, SaltLenError, SignerFault, ZoneSets, ZoneSetsIter, ZoneSettings,
+    ZoneSignature, ZoneSigner, ZoneType,
 };
 pub use zst_request::{
     AxfrRecords, AxfrRecordsIter, BlocklistConsultAction, Nsec3QueryInfo, RequestTsig,
@@ -24,7 +24,9 @@ mod handler;
 mod in_memory;
 mod lookup;
 mod seen;
+mod signed;
 mod zone_handler;
 
 pub use handler::{StoredZone, ZoneError};
 pub use in_memory::InMemoryZoneHandler;
+pub use signed::DnssecZoneHandler;

@@ -1,5 +1,5 @@
 use Rattle.std.proofs.Common.{◌∙◌, ap}
-use Rattle.zst_absence.specs.zst_handler.Zones.{Zone, rrset_at}
+use Rattle.zst_circle.specs.zst_handler.Zones.{Zone, rrset_at}
 use Rattle.zst_zone.proofs.LowerNames.{rrset-keyed}
 use Rattle.zst_zone.proofs.handler.StoredZone.apex.Goals as goal
 

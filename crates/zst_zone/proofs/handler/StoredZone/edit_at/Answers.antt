@@ -1,8 +1,8 @@
 use Rattle.std.proofs.Common.{◌≡◌, ◌∙◌, ap, refl, subst}
 use Rattle.std.specs.Prelude.{Some}
-use Rattle.zst_absence.specs.zst_map.Edits.{edited}
-use Rattle.zst_absence.specs.zst_handler.Updates.{ZoneReplaces}
-use Rattle.zst_absence.specs.zst_handler.Zones.{IsStored, Zone, rrset_at}
+use Rattle.zst_circle.specs.zst_map.Edits.{edited}
+use Rattle.zst_circle.specs.zst_handler.Updates.{ZoneReplaces}
+use Rattle.zst_circle.specs.zst_handler.Zones.{IsStored, Zone, rrset_at}
 use Rattle.zst_zone.proofs.EditedSets.{edited_stored}
 use Rattle.zst_zone.proofs.ReadBack.{found_of}
 use Rattle.zst_zone.proofs.Stored.{replaces_stored}

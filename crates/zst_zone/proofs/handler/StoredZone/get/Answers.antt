@@ -1,5 +1,5 @@
 use Rattle.std.proofs.Common.{◌∙◌, ap}
-use Rattle.zst_absence.specs.dnw_name.DomainName.{lowercase_name}
+use Rattle.zst_circle.specs.dnw_name.DomainName.{lowercase_name}
 use Rattle.zst_zone.proofs.LowerNames.{rrset-keyed}
 use Rattle.zst_zone.proofs.handler.StoredZone.get.Goals as goal
 

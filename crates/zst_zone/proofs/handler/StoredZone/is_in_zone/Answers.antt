@@ -1,6 +1,6 @@
 use Rattle.std.proofs.Common.{◌∙◌, ap}
-use Rattle.zst_absence.specs.dnw_name.DomainName.{is_at_or_below}
-use Rattle.zst_absence.specs.zst_handler.Zones.{Zone}
+use Rattle.zst_circle.specs.dnw_name.DomainName.{is_at_or_below}
+use Rattle.zst_circle.specs.zst_handler.Zones.{Zone}
 use Rattle.zst_key.proofs.KeyLemmas.{above-lower}
 use Rattle.zst_zone.proofs.handler.StoredZone.is_in_zone.Goals as goal
 

@@ -1,10 +1,10 @@
 use Rattle.std.proofs.Common.{◌≡◌, ◌∙◌, ap, sym, subst, refl, List, Some, None, Ok, Err, true≢false}
-use Rattle.zst_absence.specs.zst_codes.declared.lookup_control_flow.LookupControlFlow.TheVariants as flows
-use Rattle.zst_absence.specs.zst_codes.declared.lookup_error.LookupError.{LookupError}
-use Rattle.zst_absence.specs.zst_record.RecordSets.{RRset}
-use Rattle.zst_absence.specs.zst_handler.Answers.{denial_error}
-use Rattle.zst_absence.specs.zst_handler.Lookups.{sets_of_name}
-use Rattle.zst_absence.specs.zst_handler.Zones.{Zone}
+use Rattle.zst_circle.specs.zst_codes.declared.lookup_control_flow.LookupControlFlow.TheVariants as flows
+use Rattle.zst_circle.specs.zst_codes.declared.lookup_error.LookupError.{LookupError}
+use Rattle.zst_circle.specs.zst_record.RecordSets.{RRset}
+use Rattle.zst_circle.specs.zst_handler.Answers.{denial_error}
+use Rattle.zst_circle.specs.zst_handler.Lookups.{sets_of_name}
+use Rattle.zst_circle.specs.zst_handler.Zones.{Zone}
 use Rattle.zst_zone.specs.Answering.{AnswersAll}
 use Rattle.zst_zone.proofs.LowerNames.{denial-keyed, sets-keyed}
 use Rattle.zst_zone.proofs.Told.{tells}

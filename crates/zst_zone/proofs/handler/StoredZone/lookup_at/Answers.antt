@@ -1,11 +1,11 @@
 use Rattle.std.proofs.Common.{◌∙◌, ap, sym, subst, refl, List, Some, None, Ok, Err, true≢false}
 use Rattle.std.specs.Prelude.{Option}
-use Rattle.zst_absence.specs.zst_codes.declared.lookup_control_flow.LookupControlFlow.TheVariants as flows
-use Rattle.zst_absence.specs.zst_codes.declared.lookup_error.LookupError.{LookupError}
-use Rattle.zst_absence.specs.zst_record.RecordSets.{RRset}
-use Rattle.zst_absence.specs.zst_handler.Answers.{denial_error}
-use Rattle.zst_absence.specs.zst_handler.Found.{found}
-use Rattle.zst_absence.specs.zst_handler.Zones.{Zone}
+use Rattle.zst_circle.specs.zst_codes.declared.lookup_control_flow.LookupControlFlow.TheVariants as flows
+use Rattle.zst_circle.specs.zst_codes.declared.lookup_error.LookupError.{LookupError}
+use Rattle.zst_circle.specs.zst_record.RecordSets.{RRset}
+use Rattle.zst_circle.specs.zst_handler.Answers.{denial_error}
+use Rattle.zst_circle.specs.zst_handler.Found.{found}
+use Rattle.zst_circle.specs.zst_handler.Zones.{Zone}
 use Rattle.zst_zone.specs.Answering.{AnswersOne}
 use Rattle.zst_zone.proofs.LowerNames.{denial-keyed}
 use Rattle.zst_zone.proofs.Matches.{found-match, found-none}

@@ -1,10 +1,10 @@
 use Rattle.std.proofs.Common.{sym, subst, refl, Some, Ok, true≢false}
 use Rattle.std.specs.Prelude.{Option}
-use Rattle.zst_absence.specs.dnw_codes.declared.record_type.RecordType.TheVariants as kind
-use Rattle.zst_absence.specs.zst_codes.declared.lookup_control_flow.LookupControlFlow.TheVariants as flows
-use Rattle.zst_absence.specs.zst_record.RecordSets.{RRset}
-use Rattle.zst_absence.specs.zst_handler.Answers.{LookupAnswers}
-use Rattle.zst_absence.specs.zst_handler.Zones.{Zone}
+use Rattle.zst_circle.specs.dnw_codes.declared.record_type.RecordType.TheVariants as kind
+use Rattle.zst_circle.specs.zst_codes.declared.lookup_control_flow.LookupControlFlow.TheVariants as flows
+use Rattle.zst_circle.specs.zst_record.RecordSets.{RRset}
+use Rattle.zst_circle.specs.zst_handler.Answers.{LookupAnswers}
+use Rattle.zst_circle.specs.zst_handler.Zones.{Zone}
 use Rattle.zst_zone.specs.Answering.{AnswersOne}
 use Rattle.zst_zone.proofs.Matches.{found-match}
 use Rattle.zst_zone.proofs.Told.{tells}

@@ -1,6 +1,6 @@
 use Rattle.std.proofs.Common.{◌≡◌, ◌∙◌, ◌∷◌, List, ap, sym, subst, rules}
 use Rattle.zst_key.specs.dnw_name.declared.rr_key.RrKey.{RrKey}
-use Rattle.zst_absence.specs.zst_record.RecordSets.{RRset}
+use Rattle.zst_circle.specs.zst_record.RecordSets.{RRset}
 use Rattle.zst_zone.specs.Makings.{PutsAll, first_refusal}
 use Rattle.zst_zone.proofs.Made.{none-refused, refuses-first}
 use Rattle.zst_zone.proofs.handler.StoredZone.new.Goals as goal

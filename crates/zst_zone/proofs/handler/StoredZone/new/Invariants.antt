@@ -1,6 +1,6 @@
 use Rattle.std.proofs.Common.{◌≡◌, length}
 use Rattle.std.specs.Prelude.{None}
-use Rattle.zst_absence.specs.zst_handler.Zones.{Zone, empty_zone}
+use Rattle.zst_circle.specs.zst_handler.Zones.{Zone, empty_zone}
 use Rattle.zst_zone.specs.Makings.{PutsAll, first_refusal}
 use Rattle.zst_zone.proofs.handler.StoredZone.new.Given as goal
 

@@ -1,6 +1,6 @@
 use Rattle.std.proofs.Common.{◌≡◌, ℕ, List, subst, sym}
 use Rattle.std.proofs.lemmas.Result.{IfOk-weaker}
-use Rattle.zst_absence.specs.dnw_name.DomainName.{DomainName}
+use Rattle.zst_circle.specs.dnw_name.DomainName.{DomainName}
 use Rattle.zst_request.specs.zst_denial.HashDenials.{IsNsec3Denial}
 use Rattle.zst_request.specs.zst_denial.Shown.{ShowsDenial}
 use Rattle.zst_zone.proofs.handler.StoredZone.nsec3_denial.Goals as goal

@@ -1,6 +1,6 @@
 use Rattle.std.proofs.Common.{◌∙◌, ap}
 use Rattle.std.specs.Prelude.{None}
-use Rattle.zst_absence.specs.dnw_name.DomainName.{lowercase_name}
+use Rattle.zst_circle.specs.dnw_name.DomainName.{lowercase_name}
 use Rattle.zst_zone.proofs.LowerNames.{rrset-keyed}
 use Rattle.zst_zone.proofs.Stored.{replaces_named}
 use Rattle.zst_zone.proofs.handler.StoredZone.remove_set.Goals as goal

@@ -1,7 +1,7 @@
 use Rattle.std.proofs.Common.{subst}
 use Rattle.std.specs.Prelude.{None, OnOk}
-use Rattle.zst_absence.specs.zst_handler.Updates.{Upserts}
-use Rattle.zst_absence.specs.zst_handler.Zones.{Zone}
+use Rattle.zst_circle.specs.zst_handler.Updates.{Upserts}
+use Rattle.zst_circle.specs.zst_handler.Zones.{Zone}
 use Rattle.zst_zone.proofs.Stored.{kept_updated, upserts_to}
 use Rattle.zst_zone.proofs.handler.StoredZone.upsert.Goals as goal
 
