@@ -43,6 +43,7 @@ pub fn secure<K: ZoneSigner>(
     requires { key.now ≡ lowercase_name origin.now }
     ensures ok { OnOk result ((zone : Zone) → IsZoneOf sets.old origin.now (option_copied proof.entry) zone
         → Secures K.gives K.fails keys.now now zone ttl (record zone { sets = sets.new })) }
+    ensures ordered { OnOk result (AreInOrder sets.new) }
     ensures stored { OnOk result (AreStored sets.old → (name : DomainName) → (t : RecordType) → IfSome (rrset_at sets.new name t) IsStored) }
     ensures failed { IfErr result (λ e. e ≡ SignerFault.Failed → (zone : Zone) → IsZoneOf sets.old origin.now (option_copied proof.entry) zone
         → FailsToSecure K.fails keys.now now (option_copied proof.entry) zone) }
