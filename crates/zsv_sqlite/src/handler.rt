@@ -1,6 +1,6 @@
 //! A zone kept in memory, with a guard that says who may transfer and change it.
 
-ghost use Rattle.std.specs.Prelude.{◌≡◌, [], true, not, None, Some, Ok, Err, IfOk, IsOk, OnErr, option_map};
+ghost use Rattle.std.specs.Prelude.{◌≡◌, ◌∷◌, ◌++◌, IfErr, OnOk, [], true, not, None, Some, Ok, Err, IfOk, IsOk, OnErr, option_map};
 ghost use Rattle.std.specs.Borrow.{sem};
 ghost use Rattle.zst_request.specs.Prerequisites.{first_refused, prerequisites_refused, prescan_refused, refused_if};
 ghost use Rattle.zst_request.specs.Requested.{asked_of, context_of, signed_by};
@@ -8,6 +8,7 @@ ghost use Rattle.zst_request.specs.Transfers.{guard_refused, policy_refused, tra
 ghost use Rattle.zst_request.specs.Updating.{ChangesBy, context_for, is_good, soa_refused, update_context};
 ghost use Rattle.zst_request.specs.Views.{Stored};
 ghost use Rattle.zst_request.specs.zst_codes.declared.response_code.ResponseCode.TheVariants as codes;
+ghost use Rattle.zst_draft.specs.zst_zone.Securings.{RefusesToSecure, SecuresBy};
 ghost use Rattle.zst_map.specs.zst_key.Ancestors.{or_else};
 ghost use Rattle.zsv_sqlite.specs.Guarded.{AppliesAll, LendsZone, forbidden, guarded_zone, refused_before, refused_unasked, unless_refused};
 ghost use Rattle.zsv_sqlite.specs.Laws.{AliasesAlone, HasNs, HasOneSoa};
@@ -18,7 +19,9 @@ use crate::prerequisites::prerequisites_refusal;
 use crate::prescan::prescan;
 use std::alloc::{AllocError, Global};
 use std::mem;
-use zst_draft::{AxfrPolicy, InMemoryZoneHandler, Record, ResponseCode};
+use zst_draft::{
+    AxfrPolicy, DnssecZoneHandler, InMemoryZoneHandler, Record, ResponseCode, ZoneError, ZoneSigner,
+};
 use zst_request::{TSigResponseContext, TsigVerdict, ZoneRequest};
 
 /// A zone kept in memory with its keys, which messages may change (RFC 2136), if its guard allows it. Changes are kept nowhere
@@ -251,5 +254,41 @@ fn if_good(verdict: TsigVerdict) -> Result<(), ResponseCode>
     match verdict {
         TsigVerdict::Good => Ok(()),
         _ => Err(ResponseCode::NotAuth),
+    }
+}
+
+impl<K: ZoneSigner> SqliteZoneHandler<K> {
+    /// Adds a key after the others. It signs nothing yet.
+    pub fn add_zone_signing_key(&mut self, alloc: Global, key: K) -> Result<(), AllocError>
+        ensures keys { OnOk result (self.new.in_memory.keys.items ≡ self.old.in_memory.keys.items ++ key ∷ []) }
+        ensures zone { OnOk result (guarded_zone self.new ≡ guarded_zone self.old) }
+        ensures err { OnErr result (self.new ≡ self.old) }
+    {
+        self.in_memory.add_zone_signing_key(alloc, key)
+    }
+
+    /// Secures the zone by its keys, as `StoredZone::secure` does. Without keys it changes nothing. The guard stays.
+    pub fn secure_zone(&mut self, alloc: Global, now: u64) -> Result<(), ZoneError>
+        ensures ok { OnOk result (SecuresBy K.gives K.fails self.old.in_memory.keys.items now self.old.in_memory.zone self.new.in_memory.zone) }
+        ensures keys { self.new.in_memory.keys ≡ self.old.in_memory.keys }
+        ensures guard { (self.new.axfr_policy ≡ self.old.axfr_policy) × (self.new.allow_update ≡ self.old.allow_update) }
+        ensures refused { IfErr result (RefusesToSecure K.fails self.old.in_memory.keys.items now self.old.in_memory.zone) }
+        ensures err { OnErr result (self.new ≡ self.old) }
+    {
+        self.in_memory.secure_zone(alloc, now)
+    }
+}
+
+impl<K: ZoneSigner> DnssecZoneHandler<K> for SqliteZoneHandler<K> {
+    ghost zone = { λ handler. handler.in_memory.zone };
+
+    ghost keys = { λ handler. handler.in_memory.keys.items };
+
+    fn add_zone_signing_key(&mut self, alloc: Global, key: K) -> Result<(), AllocError> {
+        self.in_memory.add_zone_signing_key(alloc, key)
+    }
+
+    fn secure_zone(&mut self, alloc: Global, now: u64) -> Result<(), ZoneError> {
+        self.in_memory.secure_zone(alloc, now)
     }
 }
