@@ -152,7 +152,7 @@ WordsGive words origin now (Err faults.ZoneFile) = ⊥
 WordsGive words origin now (Err (faults.Zone error)) = ⊥
 WordsGive words origin now (Err (faults.Stream error)) = error ≡ streams.OutOfMemory false
 
--- What the text gives; this is the zone of what is made.
+-- What the text gives; `zone_of` gives the zone of what is made.
 abbrev pub TextGives : {X : Type 0} → DomainName → List ℕ → (X → Zone) → Result X Fault → Type 0
 TextGives origin text zone_of (Ok made) =
     IsZoneText (first_zone origin) text (zone_of made)
