@@ -385,9 +385,11 @@ module _ (by : Hashing) (opt_out : Bool) where
               (put.only owner (ap (λ (l : List RRset). is_some (rrset_at l owner kind.NSEC3)) (sym here.has_sets) ∙ some)) in
               let own : name_eq (hashed_owner found.0.digest origin) (hashed_name by zone found.0.key) ≡ true
               = ap (λ (d : List ℕ). name_eq (hashed_owner d origin) (hashed_name by zone found.0.key)) found.1.digest
-              ∙ owner_alike (digest_of by found.0.key) origin zone.origin (sym (here.has_origin ∙ spelled)) in
-              (found.0.key, same_on opt_out was zone same found.0.key found.1.on,
-              name_eq_equiv.congr owner (hashed_owner found.0.digest origin) (hashed_name by zone found.0.key) found.2 ∙ own);
+              ∙ owner_alike (digest_of by found.0.key) origin zone.origin (sym (here.has_origin ∙ spelled)) in (
+                found.0.key,
+                same_on opt_out was zone same found.0.key found.1.on,
+                name_eq_equiv.congr owner (hashed_owner found.0.digest origin) (hashed_name by zone found.0.key) found.2 ∙ own,
+              );
           parameters = some_as (IsParameterSet by) (IsParameterSet by) (rrset_at old origin kind.NSEC3PARAM) (rrset_at zone.sets zone.origin kind.NSEC3PARAM)
               (ap (λ (l : List RRset). rrset_at l zone.origin kind.NSEC3PARAM) here.has_sets ∙ put.others zone.origin kind.NSEC3PARAM refl
               ∙ sym (both_same old zone.origin origin kind.NSEC3PARAM kind.NSEC3PARAM (same_origin zone here) refl))

@@ -414,9 +414,11 @@ module _ (by : Hashing) (opt_out : Bool) (zone : Zone) (origin : DomainName) whe
       later [] each less = tt
       later (y ∷ ys) each less =
           let own = hashed_owner x.1.digest origin in
-          let other = hashed_owner y.1.digest origin in
-          (name_total.congr own x.0 other (eq_equal own x.0 all.0.0) ∙ name_total.antisymm x.0 other ∙ ap ordering_reverse (name_total.congr other y.0 x.0 (eq_equal other y.0 each.0.0))
-          ∙ sym (name_total.antisymm x.0 y.0) ∙ less.0, later ys each.1 less.1)
+          let other = hashed_owner y.1.digest origin in (
+            name_total.congr own x.0 other (eq_equal own x.0 all.0.0) ∙ name_total.antisymm x.0 other ∙ ap ordering_reverse (name_total.congr other y.0 x.0 (eq_equal other y.0 each.0.0))
+                ∙ sym (name_total.antisymm x.0 y.0) ∙ less.0,
+            later ys each.1 less.1,
+          )
 
   pub gathered_none : AreGathered by opt_out zone origin [] []
   gathered_none = record { each = tt; all = tt }
