@@ -19,7 +19,7 @@ use Rattle.zst_absence.specs.dnw_codes.declared.record_type.RecordType.TheVarian
 use Rattle.zst_absence.specs.dnw_codes.RecordType.{record_type_number, same_record_type}
 use Rattle.zst_absence.specs.dnw_name.DomainName.{DomainName, lowercase_name, name_cmp, name_eq}
 use Rattle.zst_absence.specs.dnw_name.NameOrderLaws.{name_eq-by_cmp}
-use Rattle.zst_absence.specs.zst_denial.Hashed.{AreApart, FollowsByHash, Hashing, IsNsec3Set, IsOnHashCircle, IsParameterSet, IsSecuredByHash, digest_of, hashed_name, is_listed_by_hash}
+use Rattle.zst_absence.specs.zst_denial.Hashed.{AreApart, Hashing, IsNsec3Set, IsParameterSet, IsSecuredByHash, digest_of, hashed_name, is_listed_by_hash}
 use Rattle.zst_absence.specs.zst_denial.Signing.{AreSignatures, any_fails, unsigned}
 use Rattle.zst_absence.specs.zst_handler.Updates.{Replaces}
 use Rattle.zst_absence.specs.zst_handler.Zones.{AreInOrder, IsStored, Zone, rrset_at}

@@ -1,10 +1,9 @@
 -- The NSEC3 sets of a zone as they are made: the digests on the circle, the next digest of each, and
 -- the types that its record lists (RFC 5155, sections 3 and 7.1).
-use Rattle.std.specs.Prelude.{◌≡◌, ℕ, ◌+◌, ◌-◌, ◌<◌, ◌==◌, ◌&&◌, ◌||◌, Bool, true, false, not, List, [], ◌∷◌, cond, length, nat_lt, slice_get, Some, IsSome, if◌then◌else◌}
+use Rattle.std.specs.Prelude.{◌≡◌, ℕ, ◌+◌, ◌-◌, ◌<◌, ◌==◌, ◌&&◌, ◌||◌, Bool, true, false, not, List, [], ◌∷◌, cond, length, nat_lt, slice_get, Some, if◌then◌else◌}
 use Rattle.std.specs.BTreeMap.{insert_entry}
 use Rattle.std.specs.Bool.{beq}
 use Rattle.std.specs.List.{AllByRecursion, list_any}
-use Rattle.std.specs.List.Sorted.{IsStrictlySortedBy}
 use Rattle.std.specs.Ordering.{is_eq, on}
 use Rattle.std.specs.declared.cmp.Ordering.{Ordering}
 use Rattle.zst_absence.specs.drd_denial.Nsec3.{IsNsec3Data, parameter_octets}
