@@ -1,6 +1,6 @@
 -- The authoritative names of a zone: which they are under equal names, and how they are listed.
-use Rattle.std.proofs.Common.{◌≡◌, ◌⊎◌, ℕ, ◌+◌, ◌-◌, ◌<◌, ◌≤◌, Bool, true, false, not, ◌&&◌, ◌||◌, List, [], ◌∷◌, ◌++◌, drop, length, refl, ap, sym, subst, ◌∙◌, arith, inl, inr}
-use Rattle.std.specs.Prelude.{Option, Some, None, IsSome, MatchOption, cond, find, is_some, map, nat_lt}
+use Rattle.std.proofs.Common.{Bor, ◌≡◌, ◌⊎◌, ℕ, ◌+◌, ◌-◌, ◌<◌, ◌≤◌, Bool, true, false, not, ◌&&◌, ◌||◌, List, [], ◌∷◌, ◌++◌, drop, length, refl, ap, sym, subst, ◌∙◌, arith, inl, inr}
+use Rattle.std.specs.Prelude.{Option, Some, None, IsSome, MatchOption, cond, find, is_some, map, nat_lt, option_copied, slice_get}
 use Rattle.std.specs.Bool.{beq}
 use Rattle.std.specs.Cmp.Lexicographic.{pointwise}
 use Rattle.std.specs.List.{AllByRecursion, filter, list_any}
@@ -136,7 +136,7 @@ pub origin_below : (sets : List RRset) (key : DomainName) (zone : Zone) → IsZo
 origin_below sets key zone at name = ap (is_at_or_below name) (sym at.has_origin) ∙ above-lower name zone.origin
 
 origin_long : (sets : List RRset) (key : DomainName) (zone : Zone) → IsZoneAt sets key zone → length key.labels ≡ length zone.origin.labels
-origin_long sets key zone at = ap (λ (n : DomainName). length n.labels) (sym at.has_origin) ∙ length-map str_to_ascii_lowercase zone.origin.labels
+origin_long sets key zone at = ap (λ (n : DomainName). length n.labels) (sym at.has_origin) ∙ length-map zone.origin.labels str_to_ascii_lowercase
 
 pub delegated : (sets : List RRset) (key : DomainName) (zone : Zone) → IsZoneAt sets key zone → (name : DomainName)
     → (is_strictly_below name key && is_some (rrset_at sets name kind.NS)) ≡ is_delegation zone name
@@ -152,15 +152,15 @@ up_alike a b n e =
     ap (domain_name a.fqdn) (sym (drop-map str_to_ascii_lowercase n a.labels)) ∙ ap (λ (m : DomainName). up m n) (one-lower a b e)
     ∙ ap (domain_name b.fqdn) (drop-map str_to_ascii_lowercase n b.labels)
 
-eq_lower : (a : DomainName) → name_eq a (lowercase_name a) ≡ true
+pub eq_lower : (a : DomainName) → name_eq a (lowercase_name a) ≡ true
 eq_lower a = eq-lower a a ∙ name_eq_equiv.refl a
 
 pub same_type : (t : RecordType) → same_record_type t t ≡ true
 same_type t = grind (nat_tests, arith)
 
-delegation_lower : (zone : Zone) (name : DomainName) → is_delegation zone (lowercase_name name) ≡ is_delegation zone name
+pub delegation_lower : (zone : Zone) (name : DomainName) → is_delegation zone (lowercase_name name) ≡ is_delegation zone name
 delegation_lower zone name =
-    λ i. (below-lower name zone.origin i && nat_lt (length zone.origin.labels) (length-map str_to_ascii_lowercase name.labels i))
+    λ i. (below-lower name zone.origin i && nat_lt (length zone.origin.labels) (length-map name.labels str_to_ascii_lowercase i))
     && is_some (both_same zone.sets name (lowercase_name name) kind.NS kind.NS (eq_lower name) refl i)
 
 pub delegation_alike : (zone : Zone) (a b : DomainName) (n : ℕ) → name_eq a b ≡ true → is_delegation zone (up a n) ≡ is_delegation zone (up b n)
@@ -169,6 +169,19 @@ delegation_alike zone a b n e =
 
 pub cut_alike : (zone : Zone) (a b : DomainName) → name_eq a b ≡ true → IsCutOff zone a → IsCutOff zone b
 cut_alike zone a b e cut = record { levels = cut.levels; proper = cut.proper; cut = sym (delegation_alike zone a b cut.levels e) ∙ cut.cut }
+
+-- ---- look-ups
+pub some_copied : {X : Type 0} (o : Option (Bor X)) → is_some o ≡ is_some (option_copied o)
+some_copied None = refl
+some_copied (Some x) = refl
+
+pub first_of : {X : Type 0} (xs : List X) (x : X) → slice_get xs 0 ≡ Some x → (ys : List X) × (xs ≡ x ∷ ys)
+first_of [] x e = absurd (cc e)
+first_of (y ∷ ys) x e = let same : y ≡ x = cc e in (ys, ap (λ (z : _). z ∷ ys) same)
+
+pub none_first : {X : Type 0} (xs : List X) → slice_get xs 0 ≡ None → xs ≡ []
+none_first [] e = refl
+none_first (y ∷ ys) e = absurd (cc e)
 
 pub owner_alike : (zone : Zone) (a b : DomainName) → name_eq a b ≡ true → IsAuthoritativeOwner zone a → IsAuthoritativeOwner zone b
 owner_alike zone a b e is = record {
@@ -234,17 +247,18 @@ pub no_owner : (sets : List RRset) (origin key : DomainName) → sets_of_name se
 no_owner sets origin key none zone at is =
     true≢false (sym is.owns ∙ ap (list_any (λ set. name_eq key set.name)) at.has_sets ∙ none_kept (λ (set : RRset). name_eq key set.name) sets none)
 
-pub is_owner : (sets : List RRset) (origin key : DomainName) (set : RRset) (others : List RRset) (name : DomainName) → sets_of_name sets key ≡ set ∷ others → name ≡ lowercase_name set.name
+pub is_owner : (sets : List RRset) (origin key : DomainName) (set : RRset) (others : List RRset) → sets_of_name sets key ≡ set ∷ others
     → is_at_or_below key origin ≡ true → ((zone : Zone) → IsZoneAt sets origin zone → IsCutOff zone key → ⊥)
-    → (zone : Zone) → IsZoneAt sets origin zone → IsAuthoritativeOwner zone key × (name ≡ lowercase_name key)
-is_owner sets origin key set others name own named below uncut zone at =
-    let kept = first_kept (λ (s : RRset). name_eq key s.name) sets set others own in
-    let owner : IsAuthoritativeOwner zone key = record {
-      owns = ap (list_any (λ s. name_eq key s.name)) at.has_sets ∙ kept.1;
-      in_zone = sym (origin_below sets origin zone at key) ∙ below;
-      uncut = uncut zone at;
-    } in
-    (owner, named ∙ sym (one-lower key set.name kept.0))
+    → (zone : Zone) → IsZoneAt sets origin zone → IsAuthoritativeOwner zone key
+is_owner sets origin key set others own below uncut zone at = record {
+  owns = ap (list_any (λ s. name_eq key s.name)) at.has_sets ∙ (first_kept (λ (s : RRset). name_eq key s.name) sets set others own).1;
+  in_zone = sym (origin_below sets origin zone at key) ∙ below;
+  uncut = uncut zone at;
+}
+
+pub owner_named : (sets : List RRset) (key : DomainName) (set : RRset) (others : List RRset) (name : DomainName) → sets_of_name sets key ≡ set ∷ others → name ≡ lowercase_name set.name
+    → name ≡ lowercase_name key
+owner_named sets key set others name own named = named ∙ sym (one-lower key set.name (first_kept (λ (s : RRset). name_eq key s.name) sets set others own).0)
 
 -- ---- the list
 pub record Listing (sets : List RRset) (origin : DomainName) (left names : List DomainName) : Type 0 where

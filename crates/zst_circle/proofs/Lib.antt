@@ -10,4 +10,6 @@ pub mod NsecHashedTypes
 pub mod NsecSecured
 pub mod Placing
 pub mod Settled
+pub mod Signatures
+pub mod StoredSets
 pub mod TypesListed

@@ -296,7 +296,7 @@ module _ {K : Type 0} (gives : K → RRset → ℕ → Signing → Type 0) (fail
       → NsecsPut old origin names ttl (take place names) sets → NsecsPut old origin names ttl (take next names) after
   puts_next old sets after origin names ttl place next set signatures sorted within is n signed fine put ordered stored before =
       let at = some_at names place within in
-      let more : take next names ≡ take place names ++ at.0 ∷ [] = ap (λ (i : ℕ). take i names) (omega (arith, is)) ∙ one_more names place at.0 at.1 in
+      let more : take next names ≡ take place names ++ at.0 ∷ [] = let last : next ≡ suc place = omega (arith, is) in ap (λ (i : ℕ). take i names) last ∙ one_more names place at.0 at.1 in
       subst (λ (l : List DomainName). NsecsPut old origin names ttl l after) (sym more)
       (puts_one old sets after origin names (take place names) ttl at.0 set signatures (n at.0 at.1) signed fine put ordered stored (earlier names place at.0 sorted at.1) before)
 
@@ -310,7 +310,7 @@ module _ {K : Type 0} (gives : K → RRset → ℕ → Signing → Type 0) (fail
     owned = λ name t other. ap (λ (l : List RRset). is_some (rrset_at l name t)) at.has_sets ∙ ap is_some (others name t other);
   }
 
-  now_nsec : (old new : Zone) → AlikeBut kind.NSEC old new → (owner : DomainName) (set : RRset) → IsNsecSet old owner set → IsNsecSet new owner set
+  pub now_nsec : (old new : Zone) → AlikeBut kind.NSEC old new → (owner : DomainName) (set : RRset) → IsNsecSet old owner set → IsNsecSet new owner set
   now_nsec old new same owner set n = record {
     only = n.only;
     one = n.one;

@@ -85,7 +85,7 @@ found_there [] p later =
 found_there (q ∷ front) p later =
     some_later (is_placeholder_of p.key p.record_type q) q (placeholder_of (front ++ p ∷ later) p.key p.record_type) (found_there front p later)
 
-listed_all : (front list : List Placeholder) → AllByRecursion (λ p. IsSome (placeholder_of (front ++ list) p.key p.record_type)) list
+pub listed_all : (front list : List Placeholder) → AllByRecursion (λ p. IsSome (placeholder_of (front ++ list) p.key p.record_type)) list
 listed_all front [] = tt
 listed_all front (p ∷ later) = (
   found_there front p later,
@@ -120,3 +120,22 @@ pub all_can : (fits : Placeholder → Type 0) (old new : List RRset) (list : Lis
     → ((name : DomainName) (t : RecordType) → is_some (placeholder_of list name t) ≡ (is_some (rrset_at old name t) && not (is_circle_type t)))
     → AllByRecursion fits list → AllByRecursion (CanMove old new) list
 all_can fits old new list fit there listed each = can_all fits old new list list fit there listed (listed_all [] list) each
+
+-- A set of the circle that is put among them keeps none from moving.
+pub can_still : (old new after : List RRset) (whole list : List Placeholder) → ((name : DomainName) (t : RecordType) → is_circle_type t ≡ false → rrset_at after name t ≡ rrset_at new name t)
+    → ((name : DomainName) (t : RecordType) → is_some (placeholder_of whole name t) ≡ (is_some (rrset_at old name t) && not (is_circle_type t)))
+    → AllByRecursion (λ p. IsSome (placeholder_of whole p.key p.record_type)) list → AllByRecursion (CanMove old new) list → AllByRecursion (CanMove old after) list
+can_still old new after whole [] others listed is can = tt
+can_still old new after whole (p ∷ later) others listed is can =
+    let both = and_parts (is_some (rrset_at old p.key p.record_type)) (not (is_circle_type p.record_type)) (sym (listed p.key p.record_type) ∙ is.0) in
+    let here : CanMove old after p = record {
+      set = can.0.set;
+      stored = can.0.stored;
+      placed = ap is_some (others p.key p.record_type (not_true (is_circle_type p.record_type) both.1)) ∙ can.0.placed;
+      signed = can.0.signed;
+    } in
+    (here, can_still old new after whole later others listed is.1 can.1)
+  where
+    not_true : (b : Bool) → not b ≡ true → b ≡ false
+    not_true false e = refl
+    not_true true e = absurd (true≢false (sym e))

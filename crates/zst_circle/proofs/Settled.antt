@@ -1,7 +1,7 @@
 -- A zone whose sets have moved to where its circle is.
 use Rattle.std.proofs.Common.{◌≡◌, ℕ, refl, ap, sym, subst, ◌∙◌, eqb-true}
-use Rattle.std.specs.Prelude.{Bool, true, false, not, ◌&&◌, ◌==◌, List, [], Option, Some, None, IfSome, IsSome, cond, is_some, option_map, if◌then◌else◌}
-use Rattle.std.specs.List.{AllByRecursion}
+use Rattle.std.specs.Prelude.{Bool, true, false, not, ◌&&◌, ◌||◌, ◌==◌, List, [], ◌∷◌, Option, Some, None, IfSome, IsSome, cond, is_some, option_map, if◌then◌else◌}
+use Rattle.std.specs.List.{AllByRecursion, filter}
 use Rattle.std.proofs.lemmas.Bool.{and_parts, true≢false}
 use Rattle.zst_absence.specs.drd_denial.Rrsig.{Signing}
 use Rattle.zst_absence.specs.dnw_codes.declared.record_type.RecordType.{RecordType}
@@ -19,14 +19,15 @@ use Rattle.zst_absence.proofs.zst_denial_lemmas.KeptCircles.{same_delegation, se
 use Rattle.zst_absence.proofs.zst_denial_lemmas.KeptHashes.{hash_still}
 use Rattle.zst_absence.proofs.zst_denial_lemmas.Signings.{same_number}
 use Rattle.zst_absence.proofs.zst_denial_lemmas.zst_key_lemmas.KeyLemmas.{eq-lower}
-use Rattle.zst_absence.proofs.zst_map_lemmas.Replacing.{both_same}
+use Rattle.zst_absence.proofs.zst_map_lemmas.Replacing.{both_same, type_same}
 use Rattle.zst_circle.specs.Moves.{is_placeholder_of, moved, placeholder_of, resigned}
 use Rattle.zst_circle.specs.Resigning.{IsSignedBy, Resigns, is_soa_set, risen}
-use Rattle.zst_circle.specs.Secures.{IsCircledBy, IsKeptAs, KeepsSet}
-use Rattle.zst_circle.specs.Securing.{HasNone, IsToBeSigned, IsZoneAt}
+use Rattle.zst_circle.specs.Secures.{IsCircledBy, IsKeptAs, IsMadeFor, KeepsSet, stripped}
+use Rattle.zst_circle.specs.Securing.{HasNone, IsToBeSigned, IsZoneAt, SomeFails}
 use Rattle.zst_circle.specs.declared.moves.Placeholder.{Placeholder}
 use Rattle.zst_circle.proofs.Authoritative.{below_alike, cut_alike, delegation_alike}
 use Rattle.zst_circle.proofs.Moving.{find_all}
+use Rattle.zst_circle.proofs.NsecSecured.{now_nsec}
 
 -- ---- what is signed, under equal names
 pub to_sign_alike : (zone : Zone) (a b : DomainName) (t u : RecordType) → name_eq a b ≡ true → same_record_type u t ≡ true → IsToBeSigned zone a t → IsToBeSigned zone b u
@@ -100,9 +101,9 @@ module _ (old new final : List RRset) (list : List Placeholder)
   has_none t circle none name = circle_stays name t circle ∙ none name
 
   pub circled_then : (proof : Option NxProofKind) (zone : Zone) → IsCircledBy proof (record zone { sets = new }) → IsCircledBy proof (record zone { sets = final })
-  circled_then None zone is = (has_none kind.NSEC refl is.0, has_none kind.NSEC3 refl is.1.0, has_none kind.NSEC3PARAM refl is.1.1)
+  circled_then None zone is = (has_none kind.NSEC refl is.0, has_none kind.NSEC3 refl is.1, has_none kind.NSEC3PARAM refl is.2)
   circled_then (Some proofs.Nsec) zone is =
-      (secured_still (record zone { sets = new }) (record zone { sets = final }) (same_circle zone) is.0, has_none kind.NSEC3 refl is.1.0, has_none kind.NSEC3PARAM refl is.1.1)
+      (secured_still (record zone { sets = new }) (record zone { sets = final }) (same_circle zone) is.0, has_none kind.NSEC3 refl is.1, has_none kind.NSEC3PARAM refl is.2)
   circled_then (Some (proofs.Nsec3 algorithm salt iterations opt_out)) zone is =
       let by : Hashing = record { salt = salt; iterations = iterations } in (
         has_none kind.NSEC refl is.0,
@@ -158,3 +159,70 @@ module _ (old new final : List RRset) (list : List Placeholder)
               moves name t ∙ ap (λ (o : Option Placeholder). moved o (rrset_at old name t) (rrset_at new name t)) p.1 ∙ ap (option_map (resigned p.0)) e,
               kept_as name t p.0 stored p.1 e,
             )
+
+-- ---- sets of the circle by their types
+pub by_types : (P : RRset → Type 0) (sets : List RRset) → ((name : DomainName) → IfSome (rrset_at sets name kind.NSEC) P) → ((name : DomainName) → IfSome (rrset_at sets name kind.NSEC3) P)
+    → ((name : DomainName) → IfSome (rrset_at sets name kind.NSEC3PARAM) P) → (name : DomainName) (t : RecordType) → is_circle_type t ≡ true → IfSome (rrset_at sets name t) P
+by_types P sets one two three name t = by (same_record_type t kind.NSEC) refl (same_record_type t kind.NSEC3) refl (same_record_type t kind.NSEC3PARAM) refl
+  where
+    at : (u : RecordType) → same_record_type t u ≡ true → IfSome (rrset_at sets name u) P → IfSome (rrset_at sets name t) P
+    at u same is = subst (λ (o : Option RRset). IfSome o P) (sym (type_same sets name t u same)) is
+
+    by : (a : Bool) → same_record_type t kind.NSEC ≡ a → (b : Bool) → same_record_type t kind.NSEC3 ≡ b → (c : Bool) → same_record_type t kind.NSEC3PARAM ≡ c → (a || (b || c)) ≡ true
+        → IfSome (rrset_at sets name t) P
+    by true e b f c g circle = at kind.NSEC e (one name)
+    by false e true f c g circle = at kind.NSEC3 f (two name)
+    by false e false f true g circle = at kind.NSEC3PARAM g (three name)
+    by false e false f false g circle = absurd (true≢false (sym circle))
+
+pub none_is : (P : RRset → Type 0) (sets : List RRset) (t : RecordType) → HasNone sets t → (name : DomainName) → IfSome (rrset_at sets name t) P
+none_is P sets t none name = subst (λ (o : Option RRset). IfSome o P) (sym (none name)) tt
+
+-- ---- the zone without its circle
+pub stripped_owned : (sets : List RRset) (name : DomainName) (t : RecordType)
+    → is_some (rrset_at (filter (λ set. not (is_circle_type set.record_type)) sets) name t) ≡ (is_some (rrset_at sets name t) && not (is_circle_type t))
+stripped_owned [] name t = refl
+stripped_owned (set ∷ sets) name t = by (is_circle_type set.record_type) refl (stripped_owned sets name t)
+  where
+    both : (b : Bool) → is_circle_type set.record_type ≡ b → same_record_type set.record_type t ≡ true → is_circle_type t ≡ b
+    both b e same = ap (λ (n : ℕ). (n == 47) || ((n == 50) || (n == 51))) (sym (eqb-true (record_type_number set.record_type) (record_type_number t) same)) ∙ e
+
+    out : (rest : List RRset) (n s : Bool) → (s ≡ true → is_circle_type t ≡ true) → is_some (rrset_at rest name t) ≡ (is_some (rrset_at sets name t) && not (is_circle_type t))
+        → is_some (rrset_at rest name t) ≡ (is_some (cond (n && s) (Some set) (rrset_at sets name t)) && not (is_circle_type t))
+    out rest true true circle more = more ∙ off (is_some (rrset_at sets name t)) (is_circle_type t) (circle refl)
+      where
+        off : (a c : Bool) → c ≡ true → (a && not c) ≡ (true && not c)
+        off true c f = refl
+        off false true f = refl
+        off false false f = absurd (true≢false (sym f))
+    out rest true false circle more = more
+    out rest false s circle more = more
+
+    kept : (rest : List RRset) (n s : Bool) → (s ≡ true → is_circle_type t ≡ false) → is_some (rrset_at rest name t) ≡ (is_some (rrset_at sets name t) && not (is_circle_type t))
+        → is_some (cond (n && s) (Some set) (rrset_at rest name t)) ≡ (is_some (cond (n && s) (Some set) (rrset_at sets name t)) && not (is_circle_type t))
+    kept rest true true circle more = sym (ap not (circle refl))
+    kept rest true false circle more = more
+    kept rest false s circle more = more
+
+    by : (b : Bool) → is_circle_type set.record_type ≡ b
+        → is_some (rrset_at (filter (λ s. not (is_circle_type s.record_type)) sets) name t) ≡ (is_some (rrset_at sets name t) && not (is_circle_type t))
+        → is_some (rrset_at (cond (not b) (set ∷ filter (λ s. not (is_circle_type s.record_type)) sets) (filter (λ s. not (is_circle_type s.record_type)) sets)) name t)
+        ≡ (is_some (rrset_at (set ∷ sets) name t) && not (is_circle_type t))
+    by true e more = out (filter (λ s. not (is_circle_type s.record_type)) sets) (name_eq name set.name) (same_record_type set.record_type t) (both true e) more
+    by false e more = kept (filter (λ s. not (is_circle_type s.record_type)) sets) (name_eq name set.name) (same_record_type set.record_type t) (both false e) more
+
+-- What is made for a zone of placeholders is made for the zone without its circle.
+pub made_bare : {K : Type 0} (gives : K → RRset → ℕ → Signing → Type 0) (fails : K → RRset → ℕ → Bool) (keys : List K) (now : ℕ) (proof : Option NxProofKind) (old new : List RRset) (zone : Zone)
+    → zone.sets ≡ old → ((name : DomainName) (t : RecordType) → is_some (rrset_at new name t) ≡ (is_some (rrset_at old name t) && not (is_circle_type t)))
+    → SomeFails fails keys now (IsMadeFor proof (record zone { sets = new })) → SomeFails fails keys now (IsMadeFor proof (stripped zone))
+made_bare gives fails keys now None old new zone has there some = absurd some.is
+made_bare gives fails keys now (Some proofs.Nsec) old new zone has there some = record {
+  set = some.set;
+  is = now_nsec gives fails keys now (record zone { sets = new }) (stripped zone) (record {
+    origin = refl;
+    owned = λ name t other.
+        stripped_owned zone.sets name t ∙ ap (λ (l : List RRset). is_some (rrset_at l name t) && not (is_circle_type t)) has ∙ sym (there name t);
+  }) some.set.name some.set some.is;
+  failed = some.failed;
+}
+made_bare gives fails keys now (Some (proofs.Nsec3 algorithm salt iterations opt_out)) old new zone has there some = absurd some.is

@@ -1,12 +1,21 @@
 -- The types that an NSEC record lists, one set's after the other's.
-use Rattle.std.proofs.Common.{◌≡◌, ℕ, refl, ap, sym, ◌∙◌, eqb-true}
-use Rattle.std.specs.Prelude.{Bool, true, false, not, ◌&&◌, ◌||◌, ◌==◌, List, [], ◌∷◌, ◌++◌}
+use Rattle.std.proofs.Common.{◌≡◌, ℕ, ◌<◌, refl, ap, sym, ◌∙◌, eqb-true, get_or, length}
+use Rattle.std.specs.Prelude.{Bool, true, false, not, ◌&&◌, ◌||◌, ◌==◌, List, [], ◌∷◌, ◌++◌, Some, cond, find, is_some, slice_get}
 use Rattle.std.specs.List.{list_any}
 use Rattle.std.proofs.lemmas.Bool.{true≢false}
 use Rattle.zst_absence.specs.dnw_codes.declared.record_type.RecordType.{RecordType}
 use Rattle.zst_absence.specs.dnw_codes.declared.record_type.RecordType.TheVariants as kind
 use Rattle.zst_absence.specs.dnw_codes.RecordType.{record_type_number, same_record_type}
+use Rattle.zst_absence.specs.dnw_name.DomainName.{DomainName, lowercase_name, name_eq}
+use Rattle.zst_absence.specs.zst_denial.Circles.{is_delegation, is_listed, is_owned}
+use Rattle.zst_absence.specs.zst_handler.Lookups.{sets_of_name}
+use Rattle.zst_absence.specs.zst_handler.Zones.{Zone, rrset_at}
 use Rattle.zst_absence.specs.zst_record.RecordSets.{RRset}
+use Rattle.zst_absence.proofs.zst_map_lemmas.NamedSets.{type_among}
+use Rattle.zst_absence.proofs.zst_map_lemmas.Replacing.{both_same, one}
+use Rattle.zst_circle.specs.Securing.{IsZoneAt}
+use Rattle.zst_circle.proofs.Authoritative.{delegation_lower, eq_lower, same_type}
+use Rattle.zst_circle.proofs.Circling.{slice_at}
 use Rattle.zst_circle.specs.NsecCircle.{is_nsec_type}
 use Rattle.zst_circle.proofs.NsecSecured.{type_turned}
 
@@ -66,3 +75,29 @@ leaves_type delegated front set types t allowed before =
     core false false true w h e = refl
     core false false false w true e = sym (e refl)
     core false false false w false e = refl
+
+-- ---- by the sets of a name
+pub one_at : {X : Type 0} (xs : List X) (i : ℕ) (x y : X) → i < length xs → x ≡ get_or xs i x → slice_get xs i ≡ Some y → x ≡ y
+one_at xs i x y within e at = one x y (sym (slice_at xs i x within e) ∙ at)
+
+any_found : (t : RecordType) (sets : List RRset) → list_any (λ set. same_record_type set.record_type t) sets ≡ is_some (find (λ (set : RRset). same_record_type set.record_type t) sets)
+any_found t [] = refl
+any_found t (set ∷ sets) = by (same_record_type set.record_type t) (any_found t sets)
+  where
+    by : (b : Bool) → list_any (λ s. same_record_type s.record_type t) sets ≡ is_some (find (λ (s : RRset). same_record_type s.record_type t) sets)
+        → (b || list_any (λ s. same_record_type s.record_type t) sets) ≡ is_some (cond b (Some set) (find (λ (s : RRset). same_record_type s.record_type t) sets))
+    by true e = refl
+    by false e = e
+
+pub owned_among : (sets : List RRset) (key : DomainName) (t : RecordType) → list_any (λ set. same_record_type set.record_type t) (sets_of_name sets key) ≡ is_some (rrset_at sets key t)
+owned_among sets key t = any_found t (sets_of_name sets key) ∙ ap is_some (sym (type_among sets key t))
+
+pub listed_by_sets : (sets : List RRset) (origin : DomainName) (zone : Zone) → IsZoneAt sets origin zone → (key owner : DomainName) → key ≡ lowercase_name owner → (delegated : Bool)
+    → delegated ≡ is_delegation zone key → (t : RecordType) → is_nsec_type (sets_of_name sets key) delegated t ≡ is_listed zone owner t
+listed_by_sets sets origin zone at key owner keyed delegated is t =
+    let there : is_some (rrset_at sets key t) ≡ is_owned zone owner t =
+    ap (λ (l : List RRset). is_some (rrset_at l key t)) (sym at.has_sets)
+    ∙ ap is_some (both_same zone.sets owner key t t (ap (name_eq owner) keyed ∙ eq_lower owner) (same_type t)) in
+    let cut : delegated ≡ is_delegation zone owner = is ∙ ap (is_delegation zone) keyed ∙ delegation_lower zone owner in
+    let owned : list_any (λ (set : RRset). same_record_type set.record_type t) (sets_of_name sets key) ≡ is_owned zone owner t = owned_among sets key t ∙ there in
+    λ i. same_record_type t kind.RRSIG || (same_record_type t kind.NSEC || (owned i && (not (cut i) || (same_record_type t kind.NS || same_record_type t kind.DS))))

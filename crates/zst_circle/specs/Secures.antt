@@ -1,13 +1,14 @@
 -- A zone that is secured: its circle, and the signatures of its sets (RFC 4035, section 2; RFC 5155,
 -- section 7.1).
 use Rattle.std.specs.Prelude.{◌≡◌, ◌⊎◌, ℕ, ◌<◌, ◌+◌, ◌&&◌, Bool, true, false, not, List, [], Option, Some, None, IfSome, MatchOption}
+use Rattle.std.specs.List.{filter}
 use Rattle.zst_absence.specs.drd_denial.Rrsig.{Signing}
 use Rattle.zst_absence.specs.dnw_codes.declared.record_type.RecordType.{RecordType}
 use Rattle.zst_absence.specs.dnw_codes.declared.record_type.RecordType.TheVariants as kind
 use Rattle.zst_absence.specs.dnw_name.DomainName.{DomainName, lowercase_name, name_eq}
 use Rattle.zst_absence.specs.zst_codes.declared.nx_proof.NxProofKind.{NxProofKind}
 use Rattle.zst_absence.specs.zst_codes.declared.nx_proof.NxProofKind.TheVariants as proofs
-use Rattle.zst_absence.specs.zst_denial.Circles.{IsNsecSet, IsSecured, is_owned}
+use Rattle.zst_absence.specs.zst_denial.Circles.{IsNsecSet, IsSecured}
 use Rattle.zst_absence.specs.zst_denial.HashDenials.{has_hashed_owners}
 use Rattle.zst_absence.specs.zst_denial.Hashed.{AreApart, Hashing, IsNsec3Set, IsOnHashCircle, IsParameterSet, IsSecuredByHash}
 use Rattle.zst_absence.specs.zst_denial.Kept.{is_circle_type}
@@ -25,10 +26,9 @@ pub record IsZoneOf (sets : List RRset) (origin : DomainName) (proof : Option Nx
   pub has_proof : zone.nx_proof_kind ≡ proof
 
 -- The zone without its circle.
-pub record IsStripped (old zone : Zone) : Type 0 where
-  pub origin : zone.origin ≡ old.origin
-  pub owned : (name : DomainName) (t : RecordType)
-      → is_owned zone name t ≡ (is_owned old name t && not (is_circle_type t))
+abbrev pub stripped : Zone → Zone
+stripped zone =
+    record zone { sets = filter (λ set. not (is_circle_type set.record_type)) zone.sets }
 
 -- ---- the circle, by the zone's kind of proof
 abbrev pub IsCircledBy : Option NxProofKind → Zone → Type 0
@@ -77,10 +77,9 @@ IsMadeFor None zone set = ⊥
 IsMadeFor (Some proofs.Nsec) zone set = IsNsecSet zone set.name set
 IsMadeFor (Some (proofs.Nsec3 algorithm salt iterations opt_out)) zone set = ⊥
 
--- Some key fails for a set that is to be signed.
+-- Some key fails for a set that is to be signed: a stored one, or one of the circle.
 abbrev pub FailsToSecure : {K : Type 0} → (K → RRset → ℕ → Bool) → List K → ℕ
     → Option NxProofKind → Zone → Type 0
 FailsToSecure fails keys now proof zone =
     SomeFails fails keys now (IsStoredToSign zone.sets (lowercase_name zone.origin))
-    ⊎ SomeFails fails keys now
-    (λ set. (bare : Zone) → IsStripped zone bare → IsMadeFor proof bare set)
+    ⊎ SomeFails fails keys now (IsMadeFor proof (stripped zone))

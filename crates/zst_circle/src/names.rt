@@ -1,8 +1,10 @@
 //! The names of a circle: the authoritative names of a zone (RFC 4035 section 2.3).
 
-ghost use Rattle.std.specs.Prelude.{◌≡◌, ◌↔◌, IfOk, IsTrue, MatchOption};
+ghost use Rattle.std.specs.Prelude.{◌≡◌, ◌↔◌, IfOk, IfSome, IsTrue, MatchOption};
+ghost use Rattle.std.specs.List.{AllByRecursion};
+ghost use Rattle.std.specs.List.Sorted.{IsStrictlySortedBy};
 ghost use Rattle.zst_absence.specs.dnw_codes.declared.record_type.RecordType.{RecordType};
-ghost use Rattle.zst_absence.specs.dnw_name.DomainName.{lowercase_name};
+ghost use Rattle.zst_absence.specs.dnw_name.DomainName.{lowercase_name, name_cmp};
 ghost use Rattle.zst_absence.specs.zst_denial.Circles.{IsCutOff, is_delegation};
 ghost use Rattle.zst_absence.specs.zst_handler.Zones.{Zone};
 ghost use Rattle.zst_circle.specs.Securing.{AreAuthoritative, HasNone, IsAuthoritativeOwner, IsZoneAt, is_strictly_below};
@@ -17,8 +19,10 @@ pub fn authoritative_names(
     origin: &NameKey,
     sets: &ZoneSets,
 ) -> Result<Vec<Name>, AllocError>
-    ensures { IfOk result (λ names. (circle : RecordType) (zone : Zone) → IsZoneAt sets.now origin.now zone → HasNone sets.now circle
+    ensures are { IfOk result (λ names. (circle : RecordType) (zone : Zone) → IsZoneAt sets.now origin.now zone → HasNone sets.now circle
         → AreAuthoritative circle zone names.items) }
+    ensures sorted { IfOk result (λ names. IsStrictlySortedBy name_cmp names.items) }
+    ensures lower { IfOk result (λ names. AllByRecursion (λ name. lowercase_name name ≡ name) names.items) }
 {
     let mut names = Vec::new(alloc);
     'owners: for key in sets.owners() {
@@ -35,9 +39,9 @@ fn authoritative_name(
     sets: &ZoneSets,
     key: &NameKey,
 ) -> Result<Option<Name>, AllocError>
-    ensures { IfOk result (λ found. (zone : Zone) → IsZoneAt sets.now origin.now zone
-        → MatchOption found (IsAuthoritativeOwner zone key.now → ⊥)
-        (λ name. IsAuthoritativeOwner zone key.now × (name ≡ lowercase_name key.now))) }
+    ensures is { IfOk result (λ found. (zone : Zone) → IsZoneAt sets.now origin.now zone
+        → MatchOption found (IsAuthoritativeOwner zone key.now → ⊥) (λ name. IsAuthoritativeOwner zone key.now)) }
+    ensures named { IfOk result (λ found. IfSome found (λ name. name ≡ lowercase_name key.now)) }
 {
     let Some(set) = sets.sets_at(key).first() else {
         return Ok(None);

@@ -6,13 +6,14 @@ ghost use Rattle.std.specs.List.{AllByRecursion};
 ghost use Rattle.zst_absence.specs.dnw_codes.declared.record_type.RecordType.{RecordType};
 ghost use Rattle.zst_absence.specs.dnw_codes.declared.record_type.RecordType.TheVariants as kind;
 ghost use Rattle.zst_absence.specs.dnw_name.DomainName.{DomainName, lowercase_name};
+ghost use Rattle.zst_absence.specs.zst_denial.Circles.{IsNsecSet, IsSecured};
 ghost use Rattle.zst_absence.specs.zst_denial.Kept.{is_circle_type};
 ghost use Rattle.zst_absence.specs.zst_denial.Signing.{any_fails};
-ghost use Rattle.zst_absence.specs.zst_handler.Zones.{AreInOrder, Zone, rrset_at};
+ghost use Rattle.zst_absence.specs.zst_handler.Zones.{AreInOrder, AreStored, IsStored, Zone, rrset_at};
 ghost use Rattle.zst_circle.specs.Moves.{CanMove, placeholder_of};
 ghost use Rattle.zst_circle.specs.Resigning.{IsStoredToSign, Resigns};
 ghost use Rattle.zst_circle.specs.Secures.{FailsToSecure, IsCircledBy, IsMadeFor, IsZoneOf, Secures};
-ghost use Rattle.zst_circle.specs.Securing.{HasNone, IsMade, IsZoneAt, SomeFails};
+ghost use Rattle.zst_circle.specs.Securing.{ChangesOnly, HasNone, IsMade, IsZoneAt, SomeFails};
 
 use crate::by_name::put_nsec;
 use crate::moves::{Placeholder, commit, placeholders};
@@ -37,6 +38,7 @@ pub fn secure<K: ZoneSigner>(
     requires { key.now ≡ lowercase_name origin.now }
     ensures ok { OnOk result ((zone : Zone) → IsZoneOf sets.old origin.now (option_copied proof.entry) zone
         → Secures K.gives K.fails keys.now now zone ttl (record zone { sets = sets.new })) }
+    ensures stored { OnOk result (AreStored sets.old → (name : DomainName) → (t : RecordType) → IfSome (rrset_at sets.new name t) IsStored) }
     ensures failed { IfErr result (λ e. e ≡ SignerFault.Failed → (zone : Zone) → IsZoneOf sets.old origin.now (option_copied proof.entry) zone
         → FailsToSecure K.fails keys.now now (option_copied proof.entry) zone) }
     ensures err { OnErr result (sets.new ≡ sets.old) }
@@ -77,6 +79,7 @@ fn make<K: ZoneSigner>(
     ensures circle { OnOk result ((zone : Zone) → IsZoneAt new.new origin.now zone → IsCircledBy (option_copied proof.entry) zone) }
     ensures made { OnOk result ((name : DomainName) → (t : RecordType) → is_circle_type t ≡ true → IfSome (rrset_at new.new name t)
         (λ set. IsMade K.gives keys.now now ttl set × (any_fails K.fails keys.now set now ≡ false))) }
+    ensures stored { OnOk result ((name : DomainName) → (t : RecordType) → is_circle_type t ≡ true → IfSome (rrset_at new.new name t) IsStored) }
     ensures ordered { OnOk result (AreInOrder new.new) }
     ensures failed { IfErr result (λ e. e ≡ SignerFault.Failed → (zone : Zone) → IsZoneAt old.now origin.now zone → FailsToSecure K.fails keys.now now (option_copied proof.entry) zone) }
 {
@@ -100,16 +103,38 @@ fn put_circle<K: ZoneSigner>(
     ensures circle { OnOk result ((zone : Zone) → IsZoneAt sets.new origin.now zone → IsCircledBy (option_copied proof.entry) zone) }
     ensures made { OnOk result ((name : DomainName) → (t : RecordType) → is_circle_type t ≡ true → IfSome (rrset_at sets.new name t)
         (λ set. IsMade K.gives keys.now now ttl set × (any_fails K.fails keys.now set now ≡ false))) }
+    ensures stored { OnOk result ((name : DomainName) → (t : RecordType) → is_circle_type t ≡ true → IfSome (rrset_at sets.new name t) IsStored) }
     ensures ordered { OnOk result (AreInOrder sets.new) }
     ensures failed { IfErr result (λ e. e ≡ SignerFault.Failed → (zone : Zone) → IsZoneAt sets.old origin.now zone
         → SomeFails K.fails keys.now now (IsMadeFor (option_copied proof.entry) zone)) }
 {
     match proof {
         None => Ok(()),
-        Some(NxProofKind::Nsec) => {
-            let names = authoritative_names(alloc, origin, sets)?;
-            put_nsec(alloc, origin, ttl, &names, keys, now, sets)
-        }
+        Some(NxProofKind::Nsec) => put_nsec_circle(alloc, origin, ttl, keys, now, sets),
         Some(NxProofKind::Nsec3 { .. }) => Ok(()),
     }
+}
+
+// Puts the NSEC sets of all authoritative names.
+fn put_nsec_circle<K: ZoneSigner>(
+    alloc: Global,
+    origin: &NameKey,
+    ttl: u32,
+    keys: &[K],
+    now: u64,
+    sets: &mut ZoneSets,
+) -> Result<(), SignerFault>
+    requires none { HasNone sets.old kind.NSEC }
+    requires ordered { AreInOrder sets.old }
+    ensures secured { OnOk result ((zone : Zone) → IsZoneAt sets.new origin.now zone → IsSecured zone) }
+    ensures others { OnOk result (ChangesOnly kind.NSEC sets.old sets.new) }
+    ensures made { OnOk result ((name : DomainName) → IfSome (rrset_at sets.new name kind.NSEC) (λ set. IsMade K.gives keys.now now ttl set
+        × (any_fails K.fails keys.now set now ≡ false))) }
+    ensures stored { OnOk result ((name : DomainName) → IfSome (rrset_at sets.new name kind.NSEC) IsStored) }
+    ensures ordered { OnOk result (AreInOrder sets.new) }
+    ensures failed { IfErr result (λ e. e ≡ SignerFault.Failed → (zone : Zone) → IsZoneAt sets.old origin.now zone
+        → SomeFails K.fails keys.now now (λ set. IsNsecSet zone set.name set)) }
+{
+    let names = authoritative_names(alloc, origin, sets)?;
+    put_nsec(alloc, origin, ttl, &names, keys, now, sets)
 }

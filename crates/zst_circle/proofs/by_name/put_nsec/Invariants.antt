@@ -4,4 +4,4 @@ use Rattle.zst_circle.proofs.by_name.put_nsec.Given as goal
 
 abbrev pub invariant-places : goal.invariant-places
 invariant-places g l =
-    NsecsPut g.K.ZoneSigner.gives g.K.ZoneSigner.fails l.keys l.now l.initial.sets l.origin l.names l.ttl (take l.place-iterator.start l.names) l.sets
+    NsecsPut g.K.ZoneSigner.gives g.K.ZoneSigner.fails l.keys l.now l.initial.sets l.origin l.names l.ttl (take l.place l.names) l.sets

@@ -1,0 +1,37 @@
+use Rattle.std.proofs.Common.{rules, ◌≡◌, ◌∙◌, ap, refl, subst, sym, true, false}
+use Rattle.std.specs.Prelude.{Option, Some, None, option_copied}
+use Rattle.zst_absence.specs.dnw_codes.declared.record_type.RecordType.TheVariants as kind
+use Rattle.zst_absence.specs.zst_codes.declared.nx_proof.NxProofKind.{NxProofKind}
+use Rattle.zst_absence.specs.zst_codes.declared.nx_proof.NxProofKind.TheVariants as proofs
+use Rattle.zst_absence.specs.zst_denial.Signing.{any_fails}
+use Rattle.zst_absence.specs.zst_handler.Zones.{IsStored}
+use Rattle.zst_absence.specs.zst_record.RecordSets.{RRset}
+use Rattle.zst_circle.specs.Secures.{IsMadeFor}
+use Rattle.zst_circle.specs.Securing.{IsMade, SomeFails}
+use Rattle.zst_circle.proofs.Settled.{by_types, none_is}
+use Rattle.zst_circle.proofs.Signatures.{err_as, ok_two}
+use Rattle.zst_circle.proofs.secured.put_circle.Goals as goal
+
+pub returns-in-Some-Nsec-clause-made : goal.returns-in-Some-Nsec-clause-made
+returns-in-Some-Nsec-clause-made g c =
+    let P : RRset → Type 0 = λ set. IsMade g.K.ZoneSigner.gives c.args.keys.now c.args.now c.args.ttl set × (any_fails g.K.ZoneSigner.fails c.args.keys.now set c.args.now ≡ false) in
+    ok_two c.put_nsec_circle.result (λ made others. by_types P c.put_nsec_circle.new.sets made
+    (none_is P c.put_nsec_circle.new.sets kind.NSEC3 (λ name. others name kind.NSEC3 refl ∙ c.requires.none name kind.NSEC3 refl))
+    (none_is P c.put_nsec_circle.new.sets kind.NSEC3PARAM (λ name. others name kind.NSEC3PARAM refl ∙ c.requires.none name kind.NSEC3PARAM refl)))
+    c.put_nsec_circle.ensures.made c.put_nsec_circle.ensures.others
+
+pub returns-in-Some-Nsec-clause-stored : goal.returns-in-Some-Nsec-clause-stored
+returns-in-Some-Nsec-clause-stored g c =
+    ok_two c.put_nsec_circle.result (λ made others. by_types IsStored c.put_nsec_circle.new.sets made
+    (none_is IsStored c.put_nsec_circle.new.sets kind.NSEC3 (λ name. others name kind.NSEC3 refl ∙ c.requires.none name kind.NSEC3 refl))
+    (none_is IsStored c.put_nsec_circle.new.sets kind.NSEC3PARAM (λ name. others name kind.NSEC3PARAM refl ∙ c.requires.none name kind.NSEC3PARAM refl)))
+    c.put_nsec_circle.ensures.stored c.put_nsec_circle.ensures.others
+
+pub returns-in-Some-Nsec-clause-failed : goal.returns-in-Some-Nsec-clause-failed
+returns-in-Some-Nsec-clause-failed g c =
+    let by_nsec : option_copied c.args.proof ≡ Some proofs.Nsec = search rules in
+    err_as c.put_nsec_circle.result (λ e failed is zone at. subst (λ (o : Option NxProofKind). SomeFails g.K.ZoneSigner.fails c.args.keys.now c.args.now (IsMadeFor o zone)) (sym by_nsec) (failed is zone at))
+    c.put_nsec_circle.ensures.failed
+
+pub returns-in-Some-Nsec3-clause-circle : goal.returns-in-Some-Nsec3-clause-circle
+returns-in-Some-Nsec3-clause-circle g c = ?
