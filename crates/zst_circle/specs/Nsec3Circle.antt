@@ -1,6 +1,6 @@
 -- The NSEC3 sets of a zone as they are made: the digests on the circle, the next digest of each, and
 -- the types that its record lists (RFC 5155, sections 3 and 7.1).
-use Rattle.std.specs.Prelude.{◌≡◌, ◌⊎◌, ℕ, ◌+◌, ◌-◌, ◌<◌, ◌==◌, ◌&&◌, ◌||◌, Bool, true, false, not, List, [], ◌∷◌, cond, length, nat_lt, slice_get, Some, if◌then◌else◌}
+use Rattle.std.specs.Prelude.{◌≡◌, ℕ, ◌+◌, ◌-◌, ◌<◌, ◌==◌, ◌&&◌, ◌||◌, Bool, true, false, not, List, [], ◌∷◌, cond, length, nat_lt, slice_get, Some, if◌then◌else◌}
 use Rattle.std.specs.BTreeMap.{insert_entry}
 use Rattle.std.specs.Bool.{beq}
 use Rattle.std.specs.List.{AllByRecursion, list_any}
@@ -13,7 +13,7 @@ use Rattle.zst_absence.specs.dnw_codes.declared.record_type.RecordType.TheVarian
 use Rattle.zst_absence.specs.dnw_codes.RecordType.{record_type_number, same_record_type}
 use Rattle.zst_absence.specs.dnw_name.DomainName.{DomainName, is_at_or_below, lowercase_name, name_cmp, name_eq}
 use Rattle.zst_absence.specs.zst_denial.Circles.{is_delegation, is_owned}
-use Rattle.zst_absence.specs.zst_denial.Hashed.{Hashing, IsNsec3Set, IsOnHashCircle, IsParameterSet, digest_of, hashed_name, is_listed_by_hash}
+use Rattle.zst_absence.specs.zst_denial.Hashed.{Hashing, IsNsec3Set, IsOnHashCircle, digest_of, hashed_name, is_listed_by_hash}
 use Rattle.zst_absence.specs.zst_denial.Octets.{octets_of}
 use Rattle.zst_absence.specs.zst_handler.Zones.{Zone}
 use Rattle.zst_absence.specs.zst_hash.Owners.{hashed_owner}
@@ -156,20 +156,3 @@ pub record IsNsec3SetOn (by : Hashing) (opt_out : Bool) (zone : Zone) (set : RRs
   pub on : IsOnHashCircle opt_out zone name
   pub owner : name_eq set.name (hashed_name by zone name) ≡ true
   pub is : IsNsec3Set by opt_out zone name set
-
--- ---- the whole circle
-abbrev pub is_hash_type : RecordType → Bool
-is_hash_type t = same_record_type t kind.NSEC3 || same_record_type t kind.NSEC3PARAM
-
--- A zone as another one, but that its origin owns NSEC3PARAM, too.
-pub record HasParameters (zone with : Zone) : Type 0 where
-  pub origin : with.origin ≡ zone.origin
-  pub owned : (name : DomainName) (t : RecordType) → is_owned with name t
-      ≡ (is_owned zone name t || (name_eq name zone.origin && same_record_type kind.NSEC3PARAM t))
-
--- A set that is made for the circle of a zone, which has none yet: its NSEC3PARAM set, or the NSEC3
--- set of some name, made when the zone has that one.
-abbrev pub IsMadeByHash : Hashing → Bool → Zone → RRset → Type 0
-IsMadeByHash by opt_out zone set =
-    (IsParameterSet by set × (name_eq set.name zone.origin ≡ true))
-    ⊎ ((with : Zone) × HasParameters zone with × IsNsec3SetOn by opt_out with set)

@@ -2,62 +2,24 @@
 
 ghost use Rattle.std.specs.Prelude.{◌≡◌, ◌⊎◌, ◌+◌, ◌<◌, ◌≤◌, Some, IfErr, IfOk, IfSome, IsSome, IsSomeAnd, OnOk, false, length, nat_le, slice_get, true};
 ghost use Rattle.std.specs.List.Sorted.{IsStrictlySortedBy};
-ghost use Rattle.zst_absence.specs.dnw_codes.declared.record_type.RecordType.{RecordType};
 ghost use Rattle.zst_absence.specs.dnw_codes.declared.record_type.RecordType.TheVariants as kind;
 ghost use Rattle.zst_absence.specs.dnw_name.DomainName.{DomainName, labels_len, lowercase_name, name_eq};
 ghost use Rattle.zst_absence.specs.zst_denial.Hashed.{AreApart, IsParameterSet, IsSecuredByHash};
 ghost use Rattle.zst_absence.specs.zst_denial.Signing.{any_fails};
 ghost use Rattle.zst_absence.specs.zst_handler.Zones.{AreInOrder, IsStored, Zone, rrset_at};
 ghost use Rattle.zst_circle.specs.declared.hashed.HashedName.{HashedName};
-ghost use Rattle.zst_circle.specs.Nsec3Circle.{IsMadeByHash, IsNsec3In, IsNsec3SetOn, IsParametersOf, IsSetWith, hash_cmp, hashing_of, is_hash_type, next_place};
+ghost use Rattle.zst_circle.specs.Nsec3Circle.{IsNsec3In, IsNsec3SetOn, IsParametersOf, IsSetWith, hash_cmp, hashing_of, next_place};
 ghost use Rattle.zst_circle.specs.Securing.{AreAuthoritative, ChangesOnly, HasNone, IsMade, IsZoneAt, SomeFails};
 
 use crate::hash_types::nsec3_types;
 use crate::hashed::{HashedName, Nsec3Parameters, hashed_names, owner_of};
-use crate::names::{authoritative_names, is_delegation};
+use crate::names::is_delegation;
 use crate::signed::put_signed;
 use std::alloc::{AllocError, Global};
 use zst_absence::{
     DNSClass, NULL, Name, NameKey, RData, Record, RecordSet, RecordType, SignerFault, ZoneSets,
     ZoneSigner, nsec3_data, nsec3param_data,
 };
-
-/// Puts the circle of digests into a zone that has none: the NSEC3PARAM set, which is one of the origin's own, and then the
-/// NSEC3 sets (RFC 5155 section 7.1). An origin that leaves no room for hashed owners is a failure, found before memory is
-/// asked for.
-pub fn put_nsec3_circle<K: ZoneSigner>(
-    alloc: Global,
-    origin: &Name,
-    key: &NameKey,
-    ttl: u32,
-    by: Nsec3Parameters<'_>,
-    keys: &[K],
-    now: u64,
-    sets: &mut ZoneSets,
-) -> Result<(), SignerFault>
-    requires origin { key.now ≡ lowercase_name origin.now }
-    requires salt { length by.salt.now ≤ 255 }
-    requires none { HasNone sets.old kind.NSEC3 }
-    requires no_parameters { HasNone sets.old kind.NSEC3PARAM }
-    ensures secured { OnOk result ((zone : Zone) → IsZoneAt sets.new key.now zone → AreApart (hashing_of by.entry) by.entry.opt_out zone
-        → IsSecuredByHash (hashing_of by.entry) by.entry.opt_out zone) }
-    ensures others { OnOk result ((name : DomainName) → (t : RecordType) → is_hash_type t ≡ false → rrset_at sets.new name t ≡ rrset_at sets.old name t) }
-    ensures made { OnOk result ((name : DomainName) → (t : RecordType) → is_hash_type t ≡ true → IfSome (rrset_at sets.new name t)
-        (λ set. IsMade K.gives keys.now now ttl set × (any_fails K.fails keys.now set now ≡ false) × IsStored set)) }
-    ensures ordered { OnOk result (AreInOrder sets.new) }
-    ensures fits { OnOk result (labels_len origin.now.labels + 34 ≤ 255) }
-    ensures failed { IfErr result (λ e. e ≡ SignerFault.Failed → (255 < labels_len origin.now.labels + 34)
-        ⊎ ((zone : Zone) → IsZoneAt sets.old key.now zone
-        → SomeFails K.fails keys.now now (IsMadeByHash (hashing_of by.entry) by.entry.opt_out zone))) }
-    ensures memory { IfErr result (λ e. e ≡ SignerFault.OutOfMemory → labels_len origin.now.labels + 34 ≤ 255) }
-{
-    if !has_room(origin) {
-        return Err(SignerFault::Failed);
-    }
-    put_parameters(alloc, origin, ttl, by, keys, now, sets)?;
-    let names = authoritative_names(alloc, key, sets)?;
-    put_nsec3(alloc, origin, key, ttl, by, &names, keys, now, sets)
-}
 
 /// Puts the NSEC3PARAM set of a zone, signed by each key (RFC 5155 section 4).
 pub fn put_parameters<K: ZoneSigner>(
