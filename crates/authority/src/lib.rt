@@ -10,8 +10,8 @@ pub use authority_server::{
 pub use authority_transfer::{
     AuthLookup, AxfrPolicy, InMemoryZoneHandler, LoadCause, LoadError, LookupControlFlow,
     LookupError, LookupOptions, LowerName, Nsec3HashAlgorithm, NxProofKind, ProtoError,
-    ResponseCode, RrKey, Salt, TransferError, ZoneError, ZoneSettings, ZoneTransfer, ZoneType,
-    load_zone,
+    ResponseCode, RrKey, Salt, StoredZone, TransferError, ZoneError, ZoneSettings, ZoneTransfer,
+    ZoneType, load_zone,
 };
 
 mod back;

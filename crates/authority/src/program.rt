@@ -135,9 +135,9 @@ fn server_of(
     alloc: Global,
     zone: InMemoryZoneHandler<NoSigner>,
 ) -> Result<Authority<NoSuite, InMemoryZoneHandler<NoSigner>>, Fault>
-    requires { ZoneReadsBack zone }
-    ensures server { IfOk result (λ server. world_of (λ suite. no_keys) (λ handler. Stored handler) server ≡ one_zone zone) }
-    ensures stored { AreStored zone.sets }
+    requires { ZoneReadsBack zone.zone }
+    ensures server { IfOk result (λ server. world_of (λ suite. no_keys) (λ handler. Stored handler.zone) server ≡ one_zone zone.zone) }
+    ensures stored { AreStored zone.zone.sets }
     ensures memory { IfErr result (λ fault. fault ≡ out_of_memory) }
 {
     let origin = zone.origin().clone()?;
@@ -157,9 +157,9 @@ fn loopback() -> SocketAddr
 
 /// The zone of the text: kept here, to be transferred by everybody, without proofs of absence.
 fn load(alloc: Global, origin: Name, text: &str) -> Result<InMemoryZoneHandler<NoSigner>, Fault>
-    ensures text { TextGives origin text.now result }
-    ensures reads_back { IfOk result ZoneReadsBack }
-    ensures unguarded { IfOk result (λ zone. zone.guard ≡ None) }
+    ensures text { TextGives origin text.now (λ handler. handler.zone) result }
+    ensures reads_back { IfOk result (λ handler. ZoneReadsBack handler.zone) }
+    ensures unguarded { IfOk result (λ handler. handler.zone.guard ≡ None) }
 {
     let settings = ZoneSettings {
         zone_type: ZoneType::Primary,

@@ -7,7 +7,7 @@
 pub use zst_zone::{
     AuthLookup, AxfrPolicy, InMemoryZoneHandler, LookupControlFlow, LookupError, LookupOptions,
     LowerName, NameKey, Nsec3HashAlgorithm, NxProofKind, ProtoError, ResponseCode, RrKey, Salt,
-    ZoneError, ZoneSettings, ZoneTransfer, ZoneType,
+    StoredZone, ZoneError, ZoneSettings, ZoneTransfer, ZoneType,
 };
 
 mod joining;

@@ -8,8 +8,8 @@
 pub use authority_load::{
     AuthLookup, AxfrPolicy, InMemoryZoneHandler, LoadCause, LoadError, LookupControlFlow,
     LookupError, LookupOptions, LowerName, Nsec3HashAlgorithm, NxProofKind, ProtoError,
-    ResponseCode, RrKey, Salt, TextError, ZoneError, ZoneSettings, ZoneTransfer, ZoneType,
-    load_zone, parse_owner, parse_u64,
+    ResponseCode, RrKey, Salt, StoredZone, TextError, ZoneError, ZoneSettings, ZoneTransfer,
+    ZoneType, load_zone, parse_owner, parse_u64,
 };
 pub use zsv_message::Name;
 

@@ -11,7 +11,7 @@ pub use zst_zone::{
     AnswerSet, AuthLookup, AxfrPolicy, AxfrRecords, AxfrRecordsIter, BlocklistConsultAction,
     DNSClass, InMemoryZoneHandler, LookupOptions, LookupRecords, LookupRecordsIter, LowerName,
     Name, NameKey, Nsec3HashAlgorithm, NxProofKind, ProtoError, RData, Record, RecordRef,
-    RecordSet, RecordType, RequestTsig, RrKey, RrsetRecords, Salt, SaltLenError,
+    RecordSet, RecordType, RequestTsig, RrKey, RrsetRecords, Salt, SaltLenError, StoredZone,
     TSigResponseContext, ZoneError, ZoneHandler, ZoneRequest, ZoneSets, ZoneSetsIter, ZoneSettings,
     ZoneTransfer, ZoneTransferIter, ZoneType,
 };

@@ -1,5 +1,6 @@
 pub mod Authoritative
 pub mod Circling
+pub mod HashCircled
 pub mod Moving
 pub mod NsecHashed
 pub mod NsecHashedDigests
@@ -13,3 +14,7 @@ pub mod Settled
 pub mod Signatures
 pub mod StoredSets
 pub mod TypesListed
+pub use Rattle.zst_absence.proofs.Denied
+pub use Rattle.zst_absence.proofs.Enclosers
+pub use Rattle.zst_absence.proofs.zst_denial_lemmas
+pub use Rattle.zst_absence.proofs.zst_map_lemmas

@@ -174,7 +174,7 @@ module _ (by : Hashing) (opt_out : Bool) where
     lists = λ t small. is.lists t small ∙ sym (listed_alike zone name n e t);
   }
 
-  now_nsec3 : (old new : Zone) → AlikeBut kind.NSEC3 old new → (name : DomainName) (set : RRset) → IsNsec3Set by opt_out old name set → IsNsec3Set by opt_out new name set
+  pub now_nsec3 : (old new : Zone) → AlikeBut kind.NSEC3 old new → (name : DomainName) (set : RRset) → IsNsec3Set by opt_out old name set → IsNsec3Set by opt_out new name set
   now_nsec3 old new same name set n = record {
     only = n.only;
     one = n.one;

@@ -26,6 +26,7 @@ use Rattle.zst_circle.specs.Secures.{IsCircledBy, IsKeptAs, IsMadeFor, KeepsSet,
 use Rattle.zst_circle.specs.Securing.{HasNone, IsToBeSigned, IsZoneAt, SomeFails}
 use Rattle.zst_circle.specs.declared.moves.Placeholder.{Placeholder}
 use Rattle.zst_circle.proofs.Authoritative.{below_alike, cut_alike, delegation_alike}
+use Rattle.zst_circle.proofs.HashCircled.{made_still}
 use Rattle.zst_circle.proofs.Moving.{find_all}
 use Rattle.zst_circle.proofs.NsecSecured.{now_nsec}
 
@@ -225,4 +226,9 @@ made_bare gives fails keys now (Some proofs.Nsec) old new zone has there some = 
   }) some.set.name some.set some.is;
   failed = some.failed;
 }
-made_bare gives fails keys now (Some (proofs.Nsec3 algorithm salt iterations opt_out)) old new zone has there some = absurd some.is
+made_bare gives fails keys now (Some (proofs.Nsec3 algorithm salt iterations opt_out)) old new zone has there some = record {
+  set = some.set;
+  is = made_still (record { salt = salt; iterations = iterations }) opt_out zone new (stripped zone).sets
+      (λ name t. stripped_owned zone.sets name t ∙ ap (λ (l : List RRset). is_some (rrset_at l name t) && not (is_circle_type t)) has ∙ sym (there name t)) some.set some.is;
+  failed = some.failed;
+}

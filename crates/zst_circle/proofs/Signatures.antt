@@ -34,3 +34,7 @@ err_as (Err e) f p = f e p
 pub ok_as : {T E A C : Type 0} (r : Result T E) → (A → C) → OnOk r A → OnOk r C
 ok_as (Ok x) f a = f a
 ok_as (Err e) f a = tt
+
+pub ok_three : {T E A B C D : Type 0} (r : Result T E) → (A → B → C → D) → OnOk r A → OnOk r B → OnOk r C → OnOk r D
+ok_three (Ok x) f a b c = f a b c
+ok_three (Err e) f a b c = tt

@@ -1,20 +1,20 @@
 -- A zone that is secured: its circle, and the signatures of its sets (RFC 4035, section 2; RFC 5155,
 -- section 7.1).
-use Rattle.std.specs.Prelude.{◌≡◌, ◌⊎◌, ℕ, ◌<◌, ◌+◌, ◌&&◌, Bool, true, false, not, List, [], Option, Some, None, IfSome, MatchOption}
+use Rattle.std.specs.Prelude.{◌≡◌, ◌⊎◌, ℕ, ◌+◌, Bool, true, false, not, nat_le, List, [], ◌∷◌, Option, Some, None, IfSome}
 use Rattle.std.specs.List.{filter}
 use Rattle.zst_absence.specs.drd_denial.Rrsig.{Signing}
 use Rattle.zst_absence.specs.dnw_codes.declared.record_type.RecordType.{RecordType}
 use Rattle.zst_absence.specs.dnw_codes.declared.record_type.RecordType.TheVariants as kind
-use Rattle.zst_absence.specs.dnw_name.DomainName.{DomainName, lowercase_name, name_eq}
+use Rattle.zst_absence.specs.dnw_name.DomainName.{DomainName, labels_len, lowercase_name, name_eq}
 use Rattle.zst_absence.specs.zst_codes.declared.nx_proof.NxProofKind.{NxProofKind}
 use Rattle.zst_absence.specs.zst_codes.declared.nx_proof.NxProofKind.TheVariants as proofs
 use Rattle.zst_absence.specs.zst_denial.Circles.{IsNsecSet, IsSecured}
-use Rattle.zst_absence.specs.zst_denial.HashDenials.{has_hashed_owners}
-use Rattle.zst_absence.specs.zst_denial.Hashed.{AreApart, Hashing, IsNsec3Set, IsOnHashCircle, IsParameterSet, IsSecuredByHash}
+use Rattle.zst_absence.specs.zst_denial.Hashed.{AreApart, Hashing, IsParameterSet, IsSecuredByHash}
 use Rattle.zst_absence.specs.zst_denial.Kept.{is_circle_type}
 use Rattle.zst_absence.specs.zst_denial.Signing.{any_fails}
 use Rattle.zst_absence.specs.zst_handler.Zones.{AreInOrder, Zone, rrset_at}
-use Rattle.zst_absence.specs.zst_record.RecordSets.{RRset}
+use Rattle.zst_absence.specs.zst_record.RecordSets.{RRset, empty_set}
+use Rattle.zst_circle.specs.Nsec3Circle.{IsNsec3SetOn}
 use Rattle.zst_circle.specs.Resigning.{IsSignedBy, IsStoredToSign, risen}
 use Rattle.zst_circle.specs.Securing.{HasNone, IsMade, IsToBeSigned, SomeFails}
 
@@ -71,15 +71,35 @@ module _ {K : Type 0} (gives : K → RRset → ℕ → Signing → Type 0) (fail
         (λ set. IsMade gives keys now ttl set × (any_fails fails keys set now ≡ false))
 
 -- ---- why a zone isn't secured
+-- The zone with an NSEC3PARAM set, before its NSEC3 sets are made.
+abbrev pub with_parameters : Zone → Zone
+with_parameters zone =
+    record zone { sets = empty_set zone.origin kind.NSEC3PARAM ∷ zone.sets }
+
+-- The NSEC3PARAM set at the origin, or an NSEC3 set.
+abbrev pub IsMadeByHash : Hashing → Bool → Zone → RRset → Type 0
+IsMadeByHash by opt_out zone set =
+    (name_eq set.name zone.origin ≡ true) × IsParameterSet by set
+    ⊎ IsNsec3SetOn by opt_out (with_parameters zone) set
+
 -- A set that is made for the circle of a zone, which has no circle yet.
 abbrev pub IsMadeFor : Option NxProofKind → Zone → RRset → Type 0
 IsMadeFor None zone set = ⊥
 IsMadeFor (Some proofs.Nsec) zone set = IsNsecSet zone set.name set
-IsMadeFor (Some (proofs.Nsec3 algorithm salt iterations opt_out)) zone set = ⊥
+IsMadeFor (Some (proofs.Nsec3 algorithm salt iterations opt_out)) zone set =
+    IsMadeByHash (record { salt = salt; iterations = iterations }) opt_out zone set
 
--- Some key fails for a set that is to be signed: a stored one, or one of the circle.
+-- A circle by hash has room for its owners, one label of 32 octets below the origin.
+abbrev pub has_room : Option NxProofKind → DomainName → Bool
+has_room (Some (proofs.Nsec3 algorithm salt iterations opt_out)) origin =
+    nat_le (labels_len origin.labels + 34) 255
+has_room other origin = true
+
+-- Some key fails for a set that is to be signed, a stored one or one of the circle; or owners of
+-- the circle would have more than 255 octets.
 abbrev pub FailsToSecure : {K : Type 0} → (K → RRset → ℕ → Bool) → List K → ℕ
     → Option NxProofKind → Zone → Type 0
 FailsToSecure fails keys now proof zone =
     SomeFails fails keys now (IsStoredToSign zone.sets (lowercase_name zone.origin))
-    ⊎ SomeFails fails keys now (IsMadeFor proof (stripped zone))
+    ⊎ (SomeFails fails keys now (IsMadeFor proof (stripped zone))
+    ⊎ (has_room proof zone.origin ≡ false))

@@ -10,8 +10,8 @@ pub use zst_zone::{
     DNSClass, Draft, Edit, InMemoryZoneHandler, LookupControlFlow, LookupError, LookupOptions,
     LookupRecords, LookupRecordsIter, LowerName, Name, NameKey, Nsec3HashAlgorithm, NxProofKind,
     ProtoError, RData, Record, RecordRef, RecordSet, RecordType, RequestTsig, ResponseCode, RrKey,
-    RrsetRecords, Salt, SaltLenError, TSigResponseContext, ZoneError, ZoneHandler, ZoneRequest,
-    ZoneSets, ZoneSetsIter, ZoneSettings, ZoneTransfer, ZoneTransferIter, ZoneType,
+    RrsetRecords, Salt, SaltLenError, StoredZone, TSigResponseContext, ZoneError, ZoneHandler,
+    ZoneRequest, ZoneSets, ZoneSetsIter, ZoneSettings, ZoneTransfer, ZoneTransferIter, ZoneType,
 };
 
 mod commit;

@@ -21,7 +21,8 @@ use std::mem;
 use zst_draft::{AxfrPolicy, InMemoryZoneHandler, Record, ResponseCode};
 use zst_request::{TSigResponseContext, TsigVerdict, ZoneRequest};
 
-/// A zone kept in memory that messages may change (RFC 2136), if its guard allows it. Changes are kept nowhere else.
+/// A zone kept in memory with its keys, which messages may change (RFC 2136), if its guard allows it. Changes are kept nowhere
+/// else.
 #[derive(Drop)]
 pub struct SqliteZoneHandler<K> {
     in_memory: InMemoryZoneHandler<K>,
@@ -92,7 +93,7 @@ impl<K> SqliteZoneHandler<K> {
         ensures none { prerequisites.now ≡ [] → IsOk result }
         ensures form { (code : ResponseCode) → refused_unasked (guarded_zone self.now).origin prerequisites.now ≡ Some code → result ≡ Ok (Err code) }
     {
-        let refused = prerequisites_refusal(alloc, &self.in_memory, prerequisites)?;
+        let refused = prerequisites_refusal(alloc, &self.in_memory.zone, prerequisites)?;
         Ok(unless_refused(refused))
     }
 
@@ -159,7 +160,7 @@ impl<K> SqliteZoneHandler<K> {
         ensures none { prerequisites.now ≡ [] → result ≡ Ok (first_refused (prescan_refused (guarded_zone self.now).origin) changes.now) }
         ensures form { (code : ResponseCode) → refused_unasked (guarded_zone self.now).origin prerequisites.now ≡ Some code → result ≡ Ok (Some code) }
     {
-        let refused = prerequisites_refusal(alloc, &self.in_memory, prerequisites)?;
+        let refused = prerequisites_refusal(alloc, &self.in_memory.zone, prerequisites)?;
         if refused.is_some() {
             return Ok(refused);
         }
@@ -176,6 +177,7 @@ impl<K> SqliteZoneHandler<K> {
     ) -> Result<Result<bool, ResponseCode>, AllocError>
         ensures ok { IfOk result (λ answer. ChangesBy (or_else (refused_before (guarded_zone self.old) prerequisites.now changes.items)
             (soa_refused (guarded_zone self.old) changes.items)) true (guarded_zone self.old) changes.items answer (guarded_zone self.new)) }
+        ensures keys { self.new.in_memory.keys ≡ self.old.in_memory.keys }
         ensures err { OnErr result (self.new ≡ self.old) }
         ensures form { prerequisites.now ≡ [] → (code : ResponseCode) → first_refused (prescan_refused (guarded_zone self.old).origin) changes.items ≡ Some code
             → result ≡ Ok (Err code) }
@@ -203,12 +205,13 @@ impl<K> SqliteZoneHandler<K> {
     ) -> Result<Result<bool, ResponseCode>, AllocError>
         requires { first_refused (prescan_refused (guarded_zone self.old).origin) records.items ≡ None }
         ensures ok { IfOk result (λ answer. AppliesAll increment (guarded_zone self.old) records.items answer (guarded_zone self.new)) }
+        ensures keys { self.new.in_memory.keys ≡ self.old.in_memory.keys }
         ensures err { OnErr result (self.new ≡ self.old) }
         ensures alias { AliasesAlone (guarded_zone self.old) → AliasesAlone (guarded_zone self.new) }
         ensures soa { HasOneSoa (guarded_zone self.old) → HasOneSoa (guarded_zone self.new) }
         ensures ns { HasNs (guarded_zone self.old) → HasNs (guarded_zone self.new) }
     {
-        apply_changes(alloc, &mut self.in_memory, records, increment)
+        apply_changes(alloc, &mut self.in_memory.zone, records, increment)
     }
 }
 

@@ -1,4 +1,4 @@
-use Rattle.std.proofs.Common.{[], ◌≡◌, ◌∙◌, ap, refl, subst, sym, inr}
+use Rattle.std.proofs.Common.{[], ◌≡◌, ◌∙◌, ap, refl, subst, sym, inl, inr}
 use Rattle.std.specs.Prelude.{is_some, Option, Some}
 use Rattle.zst_absence.specs.dnw_codes.declared.record_type.RecordType.TheVariants as kind
 use Rattle.zst_circle.proofs.Placing.{can_still, listed_all}
@@ -17,6 +17,6 @@ pub returns-clause-failed : goal.returns-clause-failed
 returns-clause-failed g c =
     let placed = c.in_ok-placeholders.ensures in
     err_as c.put_circle.result (λ e failed is zone at.
-    inr (made_bare g.K.ZoneSigner.gives g.K.ZoneSigner.fails c.args.keys.now c.args.now _ c.args.old.now c.placeholders.new.new zone at.has_sets placed.there
-    (failed is (record zone { sets = c.placeholders.new.new }) (record { has_sets = refl; has_origin = at.has_origin }))))
+    inr (inl (made_bare g.K.ZoneSigner.gives g.K.ZoneSigner.fails c.args.keys.now c.args.now _ c.args.old.now c.placeholders.new.new zone at.has_sets placed.there
+    (failed is (record zone { sets = c.placeholders.new.new }) (record { has_sets = refl; has_origin = at.has_origin })))))
     c.put_circle.ensures.failed
