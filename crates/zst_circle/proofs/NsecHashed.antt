@@ -19,7 +19,7 @@ use Rattle.zst_absence.specs.dnw_codes.declared.record_type.RecordType.TheVarian
 use Rattle.zst_absence.specs.dnw_codes.RecordType.{record_type_number, same_record_type}
 use Rattle.zst_absence.specs.dnw_name.DomainName.{DomainName, lowercase_name, name_cmp, name_eq}
 use Rattle.zst_absence.specs.dnw_name.NameOrderLaws.{name_eq-by_cmp}
-use Rattle.zst_absence.specs.zst_denial.Hashed.{AreApart, FollowsByHash, Hashing, IsNsec3Set, IsOnHashCircle, IsParameterSet, IsSecuredByHash, digest_of, hashed_name, is_listed_by_hash}
+use Rattle.zst_absence.specs.zst_denial.Hashed.{AreApart, Hashing, IsNsec3Set, IsParameterSet, IsSecuredByHash, digest_of, hashed_name, is_listed_by_hash}
 use Rattle.zst_absence.specs.zst_denial.Signing.{AreSignatures, any_fails, unsigned}
 use Rattle.zst_absence.specs.zst_handler.Updates.{Replaces}
 use Rattle.zst_absence.specs.zst_handler.Zones.{AreInOrder, IsStored, Zone, rrset_at}
@@ -128,10 +128,10 @@ module _ (by : Hashing) (opt_out : Bool) where
       order_alike (digest_of by other) (digest_of by b.key) zone.origin origin same ∙ (λ i. name_cmp (hashed_owner (digest_of by other) origin) (hashed_owner (sym second i) origin))
 
   pub is_nsec3_set : (sets : List RRset) (key origin : DomainName) (names : List HashedName) (ttl : ℕ) (zone : Zone) → IsZoneAt sets key zone → key ≡ lowercase_name origin
-      → AreHashed by opt_out zone origin names → (name : HashedName) → IsHashedName by opt_out zone origin name → (set : RRset)
+      → AreHashed by opt_out zone origin names → (name : HashedName) → IsHashedName by opt_out zone name → (set : RRset)
       → IsNsec3In by opt_out sets key origin names ttl name (unsigned set) → IsNsec3Set by opt_out zone name.key set
   is_nsec3_set sets key origin names ttl zone at spelled are name on set n =
-      let next : IsHashedName by opt_out zone origin n.next = at_place (IsHashedName by opt_out zone origin) names n.place n.next are.each n.there in
+      let next : IsHashedName by opt_out zone n.next = at_place (IsHashedName by opt_out zone) names n.place n.next are.each n.there in
       let same = one_origin sets key origin zone at spelled in
       record {
         only = n.is.only;
@@ -366,9 +366,9 @@ module _ (by : Hashing) (opt_out : Bool) where
         secured_for new was zone at here same are parameters put apart_names = record {
           each = λ name on.
               let back = same_on opt_out zone was (alike_turned kind.NSEC3 was zone same) name on in
-              let found = one_that (λ n. IsHashedName by opt_out was origin n × IsSomeAnd (rrset_at new (hashed_owner n.digest origin) kind.NSEC3) (IsPut n))
+              let found = one_that (λ n. IsHashedName by opt_out was n × IsSomeAnd (rrset_at new (hashed_owner n.digest origin) kind.NSEC3) (IsPut n))
               (λ n. name_eq (hashed_owner (digest_of by name) origin) (hashed_owner n.digest origin)) names
-              (both_all (IsHashedName by opt_out was origin) (λ n. IsSomeAnd (rrset_at new (hashed_owner n.digest origin) kind.NSEC3) (IsPut n)) names are.each put.each) (are.all name back) in
+              (both_all (IsHashedName by opt_out was) (λ n. IsSomeAnd (rrset_at new (hashed_owner n.digest origin) kind.NSEC3) (IsPut n)) names are.each put.each) (are.all name back) in
               let digest : digest_of by name ≡ digest_of by found.0.key
               = same_digest by name found.0.key origin origin (ap (λ (d : List ℕ). name_eq (hashed_owner (digest_of by name) origin) (hashed_owner d origin)) (sym found.1.0.digest) ∙ found.2) in
               let equal = apart_names name found.0.key on (same_on opt_out was zone same found.0.key found.1.0.on) digest in
@@ -381,13 +381,15 @@ module _ (by : Hashing) (opt_out : Bool) where
               (now_nsec3 was zone same found.0.key set (is_nsec3_set old key origin names ttl was at spelled are found.0 found.1.0 set p.is)))
               found.1.1;
           only = λ owner some.
-              let found = one_that (IsHashedName by opt_out was origin) (λ n. name_eq owner (hashed_owner n.digest origin)) names are.each
+              let found = one_that (IsHashedName by opt_out was) (λ n. name_eq owner (hashed_owner n.digest origin)) names are.each
               (put.only owner (ap (λ (l : List RRset). is_some (rrset_at l owner kind.NSEC3)) (sym here.has_sets) ∙ some)) in
               let own : name_eq (hashed_owner found.0.digest origin) (hashed_name by zone found.0.key) ≡ true
               = ap (λ (d : List ℕ). name_eq (hashed_owner d origin) (hashed_name by zone found.0.key)) found.1.digest
-              ∙ owner_alike (digest_of by found.0.key) origin zone.origin (sym (here.has_origin ∙ spelled)) in
-              (found.0.key, same_on opt_out was zone same found.0.key found.1.on,
-              name_eq_equiv.congr owner (hashed_owner found.0.digest origin) (hashed_name by zone found.0.key) found.2 ∙ own);
+              ∙ owner_alike (digest_of by found.0.key) origin zone.origin (sym (here.has_origin ∙ spelled)) in (
+                found.0.key,
+                same_on opt_out was zone same found.0.key found.1.on,
+                name_eq_equiv.congr owner (hashed_owner found.0.digest origin) (hashed_name by zone found.0.key) found.2 ∙ own,
+              );
           parameters = some_as (IsParameterSet by) (IsParameterSet by) (rrset_at old origin kind.NSEC3PARAM) (rrset_at zone.sets zone.origin kind.NSEC3PARAM)
               (ap (λ (l : List RRset). rrset_at l zone.origin kind.NSEC3PARAM) here.has_sets ∙ put.others zone.origin kind.NSEC3PARAM refl
               ∙ sym (both_same old zone.origin origin kind.NSEC3PARAM kind.NSEC3PARAM (same_origin zone here) refl))
@@ -412,7 +414,7 @@ module _ (by : Hashing) (opt_out : Bool) where
         some_fails sets place set within n failed others are zone at =
             let it = some_at names place within in
             let is = n it.0 it.1 in
-            let on : IsHashedName by opt_out zone origin it.0 = at_place (IsHashedName by opt_out zone origin) names place it.0 (are zone at).each it.1 in
+            let on : IsHashedName by opt_out zone it.0 = at_place (IsHashedName by opt_out zone) names place it.0 (are zone at).each it.1 in
             record {
               set = unsigned set;
               is = record {

@@ -1,19 +1,19 @@
 -- A circle by hash and its lists stay where sets of NSEC3 alone change.
-use Rattle.std.proofs.Common.{◌≡◌, ℕ, Bool, true, false, not, ◌&&◌, ◌||◌, ◌==◌, eqb-true, List, [], ◌∷◌, refl, sym, ap, subst, ◌∙◌, true≢false, cond}
-use Rattle.std.specs.Prelude.{IsSome, Some, find, is_some}
+use Rattle.std.proofs.Common.{◌≡◌, ℕ, Bool, true, false, not, ◌&&◌, ◌||◌, ◌==◌, eqb-true, List, [], ◌∷◌, refl, sym, ap, ◌∙◌, true≢false, cond}
+use Rattle.std.specs.Prelude.{Some, find, is_some}
 use Rattle.std.specs.List.{list_any}
-use Rattle.std.proofs.lemmas.Bool.{and_parts, eq-eqb}
+use Rattle.std.proofs.lemmas.Bool.{and_parts}
 use Rattle.zst_absence.specs.dnw_codes.declared.record_type.RecordType.{RecordType}
 use Rattle.zst_absence.specs.dnw_codes.declared.record_type.RecordType.TheVariants as kind
 use Rattle.zst_absence.specs.dnw_codes.RecordType.{record_type_number, same_record_type}
 use Rattle.zst_absence.specs.dnw_name.DomainName.{DomainName, is_at_or_below, name_eq}
-use Rattle.zst_absence.specs.zst_denial.Circles.{is_delegation, is_owned}
+use Rattle.zst_absence.specs.zst_denial.Circles.{is_owned}
 use Rattle.zst_absence.specs.zst_denial.Hashed.{IsOnHashCircle, is_listed_by_hash, owns_others}
 use Rattle.zst_absence.specs.zst_handler.Zones.{Zone, rrset_at}
 use Rattle.zst_absence.specs.zst_record.RecordLaws.{name_eq_equiv}
 use Rattle.zst_absence.specs.zst_record.RecordSets.{RRset}
 use Rattle.zst_absence.proofs.zst_map_lemmas.Replacing.{both_same}
-use Rattle.zst_circle.proofs.Authoritative.{any_named, below_alike, delegation_alike, same_type}
+use Rattle.zst_circle.proofs.Authoritative.{any_named, delegation_alike, same_type}
 use Rattle.zst_circle.proofs.NsecSecured.{AlikeBut, alike_turned, same_authoritative, same_delegation, type_turned}
 
 -- ---- whether a name owns a set of another type than NSEC3

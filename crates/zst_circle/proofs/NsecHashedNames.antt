@@ -1,6 +1,6 @@
 -- The names on a circle by hash are gathered: each authoritative name, and those above it.
-use Rattle.std.proofs.Common.{◌≡◌, ℕ, zero, suc, ◌+◌, ◌-◌, ◌<◌, ◌≤◌, Bool, true, false, not, ◌&&◌, ◌||◌, List, [], ◌∷◌, ◌++◌, drop, length, map, take, get_or, refl, ap, sym, subst, ◌∙◌, arith, inl, inr, ◌⊎◌}
-use Rattle.std.specs.Prelude.{IsSome, None, Option, Some, cond, is_some, nat_lt, slice_get}
+use Rattle.std.proofs.Common.{◌≡◌, ℕ, zero, suc, ◌+◌, ◌-◌, ◌<◌, ◌≤◌, Bool, true, false, not, ◌&&◌, ◌||◌, List, [], ◌∷◌, ◌++◌, drop, length, take, get_or, refl, ap, sym, subst, ◌∙◌, arith, inl, inr, ◌⊎◌}
+use Rattle.std.specs.Prelude.{IsSome, None, Some, cond, is_some, nat_lt, slice_get}
 use Rattle.std.specs.BTreeMap.{insert_entry}
 use Rattle.std.specs.Bool.{beq}
 use Rattle.std.specs.Cmp.Lexicographic.{pointwise}
@@ -14,7 +14,6 @@ use Rattle.std.specs.declared.cmp.Ordering.TheVariants.{Less, Equal, Greater}
 use Rattle.std.proofs.lemmas.Bool.{and_parts, cases_lt, true≢false}
 use Rattle.std.proofs.lemmas.Bool.Decides.{nat_tests}
 use Rattle.std.proofs.lemmas.List.{drop-map, length-drop, length-map}
-use Rattle.std.proofs.lemmas.Map.Keys.{sorted_head, sorted_tail}
 use Rattle.zst_absence.specs.dnw_label.Label.{label_eq}
 use Rattle.zst_absence.specs.dnw_codes.declared.record_type.RecordType.TheVariants as kind
 use Rattle.zst_absence.specs.dnw_name.DomainName.{DomainName, domain_name, is_at_or_below, lowercase_name, name_cmp, name_eq}
@@ -175,7 +174,7 @@ a_zone sets origin = record { origin = origin; zone_type = Primary; axfr_policy 
 
 module _ (by : Hashing) (opt_out : Bool) (zone : Zone) (origin : DomainName) where
   -- Names that are one in lower case have one digest among the entries.
-  has_alike : (es : List (DomainName × HashedName)) (a b : DomainName) → lowercase_name a ≡ lowercase_name b → has_digest by opt_out zone origin es a ≡ has_digest by opt_out zone origin es b
+  has_alike : (es : List (DomainName × HashedName)) (a b : DomainName) → lowercase_name a ≡ lowercase_name b → has_digest by origin es a ≡ has_digest by origin es b
   has_alike es a b e = ap (λ (d : List ℕ). list_any (λ (x : DomainName × HashedName). is_eq (name_cmp (hashed_owner d origin) x.0)) es) (digest_alike by a b e)
 
   -- A name that is left out leaves the entries as they are; another one is put under its hashed owner.
@@ -188,28 +187,28 @@ module _ (by : Hashing) (opt_out : Bool) (zone : Zone) (origin : DomainName) whe
       is ∙ (λ i. insert_entry name_cmp es (key i) (value i))
       ∙ sym (ap (λ (b : Bool). cond b es (insert_entry name_cmp es (lowercase_name (hashed_owner (digest_of by name) origin)) (with_digest by name))) kept)
 
-  has_still : (es : List (DomainName × HashedName)) (name x : DomainName) → has_digest by opt_out zone origin es x ≡ true → has_digest by opt_out zone origin (entries_with by opt_out zone origin es name) x ≡ true
+  has_still : (es : List (DomainName × HashedName)) (name x : DomainName) → has_digest by origin es x ≡ true → has_digest by origin (entries_with by opt_out zone origin es name) x ≡ true
   has_still es name x h = go (is_left_out opt_out zone name)
     where
-      go : (b : Bool) → has_digest by opt_out zone origin (cond b es (insert_entry name_cmp es (lowercase_name (hashed_owner (digest_of by name) origin)) (with_digest by name))) x ≡ true
+      go : (b : Bool) → has_digest by origin (cond b es (insert_entry name_cmp es (lowercase_name (hashed_owner (digest_of by name) origin)) (with_digest by name))) x ≡ true
       go true = h
       go false = kept_key (λ k. is_eq (name_cmp (hashed_owner (digest_of by x) origin) k)) (lowercase_name (hashed_owner (digest_of by name) origin)) (with_digest by name) es h
 
-  has_new : (es : List (DomainName × HashedName)) (name : DomainName) → is_left_out opt_out zone name ≡ false → has_digest by opt_out zone origin (entries_with by opt_out zone origin es name) name ≡ true
+  has_new : (es : List (DomainName × HashedName)) (name : DomainName) → is_left_out opt_out zone name ≡ false → has_digest by origin (entries_with by opt_out zone origin es name) name ≡ true
   has_new es name kept =
       let owner = hashed_owner (digest_of by name) origin in
       let own : name_eq owner (lowercase_name owner) ≡ true = eq-lower owner owner ∙ name_eq_equiv.refl owner in
-      ap (λ (b : Bool). has_digest by opt_out zone origin (cond b es (insert_entry name_cmp es (lowercase_name owner) (with_digest by name))) name) kept
+      ap (λ (b : Bool). has_digest by origin (cond b es (insert_entry name_cmp es (lowercase_name owner) (with_digest by name))) name) kept
       ∙ put_key (λ k. is_eq (name_cmp owner k)) (lowercase_name owner) (with_digest by name) es (sym (name_eq-by_cmp owner (lowercase_name owner)) ∙ own)
       (λ x e. ap is_eq (name_total.congr owner (lowercase_name owner) x (eq_equal owner (lowercase_name owner) own) ∙ e))
 
   -- An entry: a name on the circle under its hashed owner.
   abbrev IsEntry : DomainName → HashedName → Type 0
-  IsEntry k v = (name_eq (hashed_owner v.digest origin) k ≡ true) × IsHashedName by opt_out zone origin v
+  IsEntry k v = (name_eq (hashed_owner v.digest origin) k ≡ true) × IsHashedName by opt_out zone v
 
-  -- The name so many levels up is on the circle.
+  -- The name n levels up is on the circle.
   is_hashed : (name : DomainName) (n : ℕ) → IsAuthoritativeName kind.NSEC3 zone name → n < level_count zone.origin name → is_left_out opt_out zone (up name n) ≡ false
-      → IsHashedName by opt_out zone origin (with_digest by (up name n))
+      → IsHashedName by opt_out zone (with_digest by (up name n))
   is_hashed name n on less kept =
       let above = up name n in
       let same : name_eq above (lowercase_name above) ≡ true = eq-lower above above ∙ name_eq_equiv.refl above in
@@ -248,17 +247,17 @@ module _ (by : Hashing) (opt_out : Bool) (zone : Zone) (origin : DomainName) whe
   -- ---- one name and those above it
   pub record Levels (finished : List DomainName) (name : DomainName) (level : ℕ) (es : List (DomainName × HashedName)) : Type 0 where
     pub gathered : AreGathered by opt_out zone origin finished es
-    pub below : (n : ℕ) → n < level → is_left_out opt_out zone (up name n) ≡ false → has_digest by opt_out zone origin es (up name n) ≡ true
+    pub below : (n : ℕ) → n < level → is_left_out opt_out zone (up name n) ≡ false → has_digest by origin es (up name n) ≡ true
 
   pub levels_none : (finished : List DomainName) (name : DomainName) (es : List (DomainName × HashedName)) → AreGathered by opt_out zone origin finished es → Levels finished name 0 es
   levels_none finished name es gathered = record { gathered = gathered; below = λ n less. absurd (omega (arith, less)) }
 
   still_gathered : (finished : List DomainName) (es more : List (DomainName × HashedName)) → AllByRecursion (λ e. IsEntry e.0 e.1) more
-      → ((x : DomainName) → has_digest by opt_out zone origin es x ≡ true → has_digest by opt_out zone origin more x ≡ true) → AreGathered by opt_out zone origin finished es → AreGathered by opt_out zone origin finished more
+      → ((x : DomainName) → has_digest by origin es x ≡ true → has_digest by origin more x ≡ true) → AreGathered by opt_out zone origin finished es → AreGathered by opt_out zone origin finished more
   still_gathered finished es more each still g = record {
     each = each;
-    all = all_as (λ x. (n : ℕ) → n < level_count zone.origin x → is_left_out opt_out zone (up x n) ≡ false → has_digest by opt_out zone origin es (up x n) ≡ true)
-        (λ x. (n : ℕ) → n < level_count zone.origin x → is_left_out opt_out zone (up x n) ≡ false → has_digest by opt_out zone origin more (up x n) ≡ true)
+    all = all_as (λ x. (n : ℕ) → n < level_count zone.origin x → is_left_out opt_out zone (up x n) ≡ false → has_digest by origin es (up x n) ≡ true)
+        (λ x. (n : ℕ) → n < level_count zone.origin x → is_left_out opt_out zone (up x n) ≡ false → has_digest by origin more (up x n) ≡ true)
         (λ x h n less kept. still (up x n) (h n less kept)) finished g.all;
   }
 
@@ -270,18 +269,18 @@ module _ (by : Hashing) (opt_out : Bool) (zone : Zone) (origin : DomainName) whe
   }
     where
       go : (n : ℕ) → ((n < level) ⊎ (level ≤ n)) → n < suc level → is_left_out opt_out zone (up name n) ≡ false
-          → has_digest by opt_out zone origin (entries_with by opt_out zone origin es (up name level)) (up name n) ≡ true
+          → has_digest by origin (entries_with by opt_out zone origin es (up name level)) (up name n) ≡ true
       go n (inl before) more kept = has_still es (up name level) (up name n) (l.below n before kept)
       go n (inr past) more kept =
           let last : n ≡ level = omega (arith, more, past) in
-          ap (λ (m : ℕ). has_digest by opt_out zone origin (entries_with by opt_out zone origin es (up name level)) (up name m)) last
+          ap (λ (m : ℕ). has_digest by origin (entries_with by opt_out zone origin es (up name level)) (up name m)) last
           ∙ has_new es (up name level) (ap (λ (m : ℕ). is_left_out opt_out zone (up name m)) (sym last) ∙ kept)
 
   pub levels_all : (finished : List DomainName) (name : DomainName) (es : List (DomainName × HashedName)) → Levels finished name (level_count zone.origin name) es
       → AreGathered by opt_out zone origin (finished ++ name ∷ []) es
   levels_all finished name es l = record {
     each = l.gathered.each;
-    all = all_and (λ x. (n : ℕ) → n < level_count zone.origin x → is_left_out opt_out zone (up x n) ≡ false → has_digest by opt_out zone origin es (up x n) ≡ true) finished name l.gathered.all l.below;
+    all = all_and (λ x. (n : ℕ) → n < level_count zone.origin x → is_left_out opt_out zone (up x n) ≡ false → has_digest by origin es (up x n) ≡ true) finished name l.gathered.all l.below;
   }
 
   -- How many levels above another name this one is at a level.
@@ -292,7 +291,7 @@ module _ (by : Hashing) (opt_out : Bool) (zone : Zone) (origin : DomainName) whe
   pub levels_shared : (finished : List DomainName) (name other : DomainName) (level : ℕ) (es : List (DomainName × HashedName)) → lowercase_name name ≡ name → lowercase_name other ≡ other
       → level < level_count zone.origin name → is_at_or_below name zone.origin ≡ true
       → is_level_of other (up name level) ≡ true
-      → ((n : ℕ) → n < level_count zone.origin other → is_left_out opt_out zone (up other n) ≡ false → has_digest by opt_out zone origin es (up other n) ≡ true)
+      → ((n : ℕ) → n < level_count zone.origin other → is_left_out opt_out zone (up other n) ≡ false → has_digest by origin es (up other n) ≡ true)
       → Levels finished name level es → AreGathered by opt_out zone origin (finished ++ name ∷ []) es
   levels_shared finished name other level es low also less below shared all l =
       levels_all finished name es (record { gathered = l.gathered; below = λ n more kept. go n (cases_lt n level) more kept })
@@ -310,10 +309,10 @@ module _ (by : Hashing) (opt_out : Bool) (zone : Zone) (origin : DomainName) whe
           let long = above-shorter other (up name level) (and_parts (beq other.fqdn name.fqdn) (is_at_or_below other (up name level)) shared).1 in
           omega (arith, past, more, long, less, length-drop level name.labels, above-shorter name zone.origin below)
 
-      go : (n : ℕ) → ((n < level) ⊎ (level ≤ n)) → n < level_count zone.origin name → is_left_out opt_out zone (up name n) ≡ false → has_digest by opt_out zone origin es (up name n) ≡ true
+      go : (n : ℕ) → ((n < level) ⊎ (level ≤ n)) → n < level_count zone.origin name → is_left_out opt_out zone (up name n) ≡ false → has_digest by origin es (up name n) ≡ true
       go n (inl before) more kept = l.below n before kept
       go n (inr past) more kept =
-          ap (has_digest by opt_out zone origin es) (place n past)
+          ap (has_digest by origin es) (place n past)
           ∙ all (shared_level name other level + (n - level)) (within n past more) (ap (is_left_out opt_out zone) (sym (place n past)) ∙ kept)
 
   -- ---- by places
@@ -349,7 +348,7 @@ module _ (by : Hashing) (opt_out : Bool) (zone : Zone) (origin : DomainName) whe
       subst (λ (finished : List DomainName). AreGathered by opt_out zone origin finished es) (sym (ap (λ (i : ℕ). take i names) more ∙ one_taken names place name at))
       (levels_shared (take place names) name other level es (at_place (λ n. lowercase_name n ≡ n) names place name are.lower at) (at_place (λ n. lowercase_name n ≡ n) names (place - 1) other are.lower before)
       less on.in_zone shared
-      (taken (λ x. (n : ℕ) → n < level_count zone.origin x → is_left_out opt_out zone (up x n) ≡ false → has_digest by opt_out zone origin es (up x n) ≡ true) names place (place - 1) other l.gathered.all (omega (arith, proper)) before)
+      (taken (λ x. (n : ℕ) → n < level_count zone.origin x → is_left_out opt_out zone (up x n) ≡ false → has_digest by origin es (up x n) ≡ true) names place (place - 1) other l.gathered.all (omega (arith, proper)) before)
       l)
 
   -- ---- when all are gathered
@@ -360,10 +359,10 @@ module _ (by : Hashing) (opt_out : Bool) (zone : Zone) (origin : DomainName) whe
       rw same e
 
   gathered_on : (names : List DomainName) (es : List (DomainName × HashedName)) → AreAuthoritative kind.NSEC3 zone names → AreGathered by opt_out zone origin names es
-      → (name : DomainName) → IsOnHashCircle opt_out zone name → has_digest by opt_out zone origin es name ≡ true
+      → (name : DomainName) → IsOnHashCircle opt_out zone name → has_digest by origin es name ≡ true
   gathered_on names es are g name on =
       let k = length on.below.labels - length name.labels in
-      let found = one_of (λ x. (n : ℕ) → n < level_count zone.origin x → is_left_out opt_out zone (up x n) ≡ false → has_digest by opt_out zone origin es (up x n) ≡ true) names on.below g.all (are.all on.below on.on) in
+      let found = one_of (λ x. (n : ℕ) → n < level_count zone.origin x → is_left_out opt_out zone (up x n) ≡ false → has_digest by origin es (up x n) ≡ true) names on.below g.all (are.all on.below on.on) in
       let at : name_eq name (up on.below k) ≡ true = above_level on.below name on.above on.flags in
       let lower : lowercase_name name ≡ lowercase_name (up found.0 k) = one-lower name (up on.below k) at ∙ up_alike on.below found.0 k found.2 in
       let same : name_eq name (up found.0 k) ≡ true
@@ -374,21 +373,21 @@ module _ (by : Hashing) (opt_out : Bool) (zone : Zone) (origin : DomainName) whe
       (sym (left_alike opt_out zone name (up found.0 k) same) ∙ kept_test opt_out (is_delegation zone name) (is_owned zone name kind.DS) on.kept)
 
   abbrev EntryParts : DomainName × HashedName → Type 0
-  EntryParts e = (name_eq (hashed_owner e.1.digest origin) e.0 ≡ true) × IsHashedName by opt_out zone origin e.1
+  EntryParts e = (name_eq (hashed_owner e.1.digest origin) e.0 ≡ true) × IsHashedName by opt_out zone e.1
 
   abbrev owns_digest : DomainName → HashedName → Bool
   owns_digest name other = name_eq (hashed_owner (digest_of by name) origin) (hashed_owner other.digest origin)
 
-  values_each : (xs : List (DomainName × HashedName)) → AllByRecursion EntryParts xs → AllByRecursion (IsHashedName by opt_out zone origin) (values_of xs)
+  values_each : (xs : List (DomainName × HashedName)) → AllByRecursion EntryParts xs → AllByRecursion (IsHashedName by opt_out zone) (values_of xs)
   values_each [] all = tt
   values_each (x ∷ xs) all = (all.0.1, values_each xs all.1)
 
-  values_any : (name : DomainName) (xs : List (DomainName × HashedName)) → AllByRecursion EntryParts xs → has_digest by opt_out zone origin xs name ≡ true → list_any (owns_digest name) (values_of xs) ≡ true
+  values_any : (name : DomainName) (xs : List (DomainName × HashedName)) → AllByRecursion EntryParts xs → has_digest by origin xs name ≡ true → list_any (owns_digest name) (values_of xs) ≡ true
   values_any name [] all h = absurd (true≢false (sym h))
   values_any name (x ∷ xs) all h = pick (is_eq (name_cmp (hashed_owner (digest_of by name) origin) x.0)) refl h (values_any name xs all.1)
     where
-      pick : (b : Bool) → is_eq (name_cmp (hashed_owner (digest_of by name) origin) x.0) ≡ b → (b || has_digest by opt_out zone origin xs name) ≡ true
-          → (has_digest by opt_out zone origin xs name ≡ true → list_any (owns_digest name) (values_of xs) ≡ true)
+      pick : (b : Bool) → is_eq (name_cmp (hashed_owner (digest_of by name) origin) x.0) ≡ b → (b || has_digest by origin xs name) ≡ true
+          → (has_digest by origin xs name ≡ true → list_any (owns_digest name) (values_of xs) ≡ true)
           → (owns_digest name x.1 || list_any (owns_digest name) (values_of xs)) ≡ true
       pick true e h later =
           let owner = hashed_owner (digest_of by name) origin in
@@ -414,9 +413,11 @@ module _ (by : Hashing) (opt_out : Bool) (zone : Zone) (origin : DomainName) whe
       later [] each less = tt
       later (y ∷ ys) each less =
           let own = hashed_owner x.1.digest origin in
-          let other = hashed_owner y.1.digest origin in
-          (name_total.congr own x.0 other (eq_equal own x.0 all.0.0) ∙ name_total.antisymm x.0 other ∙ ap ordering_reverse (name_total.congr other y.0 x.0 (eq_equal other y.0 each.0.0))
-          ∙ sym (name_total.antisymm x.0 y.0) ∙ less.0, later ys each.1 less.1)
+          let other = hashed_owner y.1.digest origin in (
+            name_total.congr own x.0 other (eq_equal own x.0 all.0.0) ∙ name_total.antisymm x.0 other ∙ ap ordering_reverse (name_total.congr other y.0 x.0 (eq_equal other y.0 each.0.0))
+                ∙ sym (name_total.antisymm x.0 y.0) ∙ less.0,
+            later ys each.1 less.1,
+          )
 
   pub gathered_none : AreGathered by opt_out zone origin [] []
   gathered_none = record { each = tt; all = tt }

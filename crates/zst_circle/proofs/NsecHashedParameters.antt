@@ -1,9 +1,8 @@
 -- The NSEC3PARAM set is put at the origin: no other owner has one, and no other type changes.
 use Rattle.std.proofs.Common.{◌≡◌, Bool, true, false, ◌&&◌, List, refl, ap, sym, ◌∙◌}
-use Rattle.std.specs.Prelude.{Err, IfErr, IsErrAnd, IsSome, None, Ok, Option, Result, Some, cond, is_some}
+use Rattle.std.specs.Prelude.{Err, IfErr, IsErrAnd, IsSome, Ok, Option, Result, Some, cond, is_some}
 use Rattle.std.proofs.lemmas.Bool.{true≢false}
 use Rattle.zst_absence.specs.dnw_codes.declared.record_type.RecordType.{RecordType}
-use Rattle.zst_absence.specs.dnw_codes.declared.record_type.RecordType.TheVariants as kind
 use Rattle.zst_absence.specs.dnw_codes.RecordType.{same_record_type}
 use Rattle.zst_absence.specs.dnw_name.DomainName.{DomainName, name_eq}
 use Rattle.zst_absence.specs.zst_handler.Updates.{Replaces}

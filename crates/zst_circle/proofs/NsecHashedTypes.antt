@@ -1,6 +1,6 @@
 -- The types that an NSEC3 record lists, by the sets of its name.
 use Rattle.std.proofs.Common.{◌≡◌, ℕ, Bool, true, false, not, ◌&&◌, ◌||◌, ◌==◌, List, [], ◌∷◌, ◌++◌, ◌+◌, ◌<◌, ◌≤◌, zero, suc, length, get_or, take, arith, refl, ap, sym, ◌∙◌, eqb-true}
-use Rattle.std.specs.Prelude.{Err, IfOk, Ok, Option, Result, Some, None, cond, find, is_some}
+use Rattle.std.specs.Prelude.{Err, IfOk, Ok, Result, Some, cond, find, is_some}
 use Rattle.std.specs.List.{filter, list_any}
 use Rattle.zst_absence.specs.dnw_codes.declared.record_type.RecordType.{RecordType}
 use Rattle.zst_absence.specs.dnw_codes.declared.record_type.RecordType.TheVariants as kind

@@ -1,10 +1,9 @@
 -- The NSEC3 sets of a zone as they are made: the digests on the circle, the next digest of each, and
 -- the types that its record lists (RFC 5155, sections 3 and 7.1).
-use Rattle.std.specs.Prelude.{◌≡◌, ℕ, ◌+◌, ◌-◌, ◌<◌, ◌==◌, ◌&&◌, ◌||◌, Bool, true, false, not, List, [], ◌∷◌, cond, length, nat_lt, slice_get, Some, IsSome, if◌then◌else◌}
+use Rattle.std.specs.Prelude.{◌≡◌, ℕ, ◌+◌, ◌-◌, ◌<◌, ◌==◌, ◌&&◌, ◌||◌, Bool, true, false, not, List, [], ◌∷◌, cond, length, nat_lt, slice_get, Some, if◌then◌else◌}
 use Rattle.std.specs.BTreeMap.{insert_entry}
 use Rattle.std.specs.Bool.{beq}
 use Rattle.std.specs.List.{AllByRecursion, list_any}
-use Rattle.std.specs.List.Sorted.{IsStrictlySortedBy}
 use Rattle.std.specs.Ordering.{is_eq, on}
 use Rattle.std.specs.declared.cmp.Ordering.{Ordering}
 use Rattle.zst_absence.specs.drd_denial.Nsec3.{IsNsec3Data, parameter_octets}
@@ -47,8 +46,19 @@ is_left_out opt_out zone name =
 abbrev pub with_digest : Hashing → DomainName → HashedName
 with_digest by name = record { key = lowercase_name name; digest = digest_of by name }
 
+-- A name on the circle, with its digest.
+pub record IsHashedName (by : Hashing) (opt_out : Bool) (zone : Zone) (name : HashedName) : Type 0
+  where
+    pub on : IsOnHashCircle opt_out zone name.key
+    pub digest : name.digest ≡ digest_of by name.key
+
+-- The digest of a name is that of an entry, which is kept by the key of its hashed owner.
+abbrev pub has_digest : Hashing → DomainName → List (DomainName × HashedName) → DomainName → Bool
+has_digest by origin entries name =
+    list_any (λ e. is_eq (name_cmp (hashed_owner (digest_of by name) origin) e.0)) entries
+
 module _ (by : Hashing) (opt_out : Bool) (zone : Zone) (origin : DomainName) where
-  -- The entries of names by the keys of their hashed owners, with one name more.
+  -- Entries with one name more, unless opt-out leaves it out.
   abbrev pub entries_with : List (DomainName × HashedName) → DomainName
       → List (DomainName × HashedName)
   entries_with entries name =
@@ -56,25 +66,18 @@ module _ (by : Hashing) (opt_out : Bool) (zone : Zone) (origin : DomainName) whe
       else insert_entry name_cmp entries (lowercase_name (hashed_owner (digest_of by name) origin))
       (with_digest by name)
 
-  -- The digest of a name is that of an entry.
-  abbrev pub has_digest : List (DomainName × HashedName) → DomainName → Bool
-  has_digest entries name =
-      list_any (λ e. is_eq (name_cmp (hashed_owner (digest_of by name) origin) e.0)) entries
-
-  -- A name on the circle, with its digest.
-  pub record IsHashedName (name : HashedName) : Type 0 where
-    pub on : IsOnHashCircle opt_out zone name.key
-    pub digest : name.digest ≡ digest_of by name.key
-
-  -- Entries by the keys of their hashed owners: names on the circle, and the digests of these names
-  -- and of those above them up to the origin.
+  -- Entries of names on the circle, among them the digests of these names and of those above them up
+  -- to the origin.
   pub record AreGathered (names : List DomainName) (entries : List (DomainName × HashedName)) :
       Type 0 where
     pub each : AllByRecursion
-        (λ e. (name_eq (hashed_owner e.1.digest origin) e.0 ≡ true) × IsHashedName e.1) entries
+        (λ e. (name_eq (hashed_owner e.1.digest origin) e.0 ≡ true)
+        × IsHashedName by opt_out zone e.1)
+        entries
     pub all : AllByRecursion
         (λ name. (n : ℕ) → n < level_count zone.origin name
-        → is_left_out opt_out zone (up name n) ≡ false → has_digest entries (up name n) ≡ true)
+        → is_left_out opt_out zone (up name n) ≡ false
+        → has_digest by origin entries (up name n) ≡ true)
         names
 
 -- The order of digests, by their owners (section 1.3, hash order).
@@ -84,7 +87,7 @@ hash_cmp origin = on (λ name. hashed_owner name.digest origin) name_cmp
 -- Names on the circle with their digests, and all of its digests.
 pub record AreHashed (by : Hashing) (opt_out : Bool) (zone : Zone) (origin : DomainName)
     (names : List HashedName) : Type 0 where
-  pub each : AllByRecursion (IsHashedName by opt_out zone origin) names
+  pub each : AllByRecursion (IsHashedName by opt_out zone) names
   pub all : (name : DomainName) → IsOnHashCircle opt_out zone name
       → list_any
       (λ other. name_eq (hashed_owner (digest_of by name) origin) (hashed_owner other.digest origin))

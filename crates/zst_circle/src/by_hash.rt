@@ -1,8 +1,7 @@
 //! The circle of digests: the NSEC3 sets of a zone, and its NSEC3PARAM set (RFC 5155 section 7.1).
 
-ghost use Rattle.std.specs.Prelude.{◌≡◌, ◌⊎◌, ◌+◌, ◌<◌, ◌≤◌, Some, IfErr, IfOk, IfSome, IsSome, IsSomeAnd, OnOk, cond, false, length, nat_le, slice_get, true};
+ghost use Rattle.std.specs.Prelude.{◌≡◌, ◌⊎◌, ◌+◌, ◌<◌, ◌≤◌, Some, IfErr, IfOk, IfSome, IsSome, IsSomeAnd, OnOk, false, length, nat_le, slice_get, true};
 ghost use Rattle.std.specs.List.Sorted.{IsStrictlySortedBy};
-ghost use Rattle.zst_absence.specs.drd_denial.Nsec3.{IsNsec3Data, parameter_octets};
 ghost use Rattle.zst_absence.specs.dnw_codes.declared.record_type.RecordType.TheVariants as kind;
 ghost use Rattle.zst_absence.specs.dnw_name.DomainName.{DomainName, labels_len, lowercase_name, name_eq};
 ghost use Rattle.zst_absence.specs.zst_denial.Hashed.{AreApart, IsParameterSet, IsSecuredByHash};

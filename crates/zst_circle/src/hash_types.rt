@@ -61,6 +61,6 @@ fn is_signed_type(delegated: bool, record_type: RecordType) -> bool
     if delegated {
         record_type == RecordType::DS
     } else {
-        record_type != RecordType::NSEC3
+        is_kept_type(delegated, record_type)
     }
 }

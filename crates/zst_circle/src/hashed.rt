@@ -157,11 +157,7 @@ fn is_unsigned_delegation(origin: &NameKey, sets: &ZoneSets, key: &NameKey) -> b
 }
 
 /// The owner of a digest's NSEC3 set, where an origin leaves room for it.
-pub(crate) fn owner_of(
-    alloc: Global,
-    digest: &[u8; 20],
-    origin: &Name,
-) -> Result<Name, AllocError>
+pub(crate) fn owner_of(alloc: Global, digest: &[u8; 20], origin: &Name) -> Result<Name, AllocError>
     requires { labels_len origin.now.labels + 34 ≤ 255 }
     ensures { IfOk result (λ owner. owner ≡ hashed_owner digest.now origin.now) }
 {
@@ -172,11 +168,7 @@ pub(crate) fn owner_of(
 }
 
 // Puts a value under a key. (This and the next one are generic, so that dropping a value takes no proof of its own.)
-fn put<K: Ord + Drop, V: Drop>(
-    map: &mut BTreeMap<K, V>,
-    key: K,
-    value: V,
-) -> Result<(), AllocError>
+fn put<K: Ord + Drop, V: Drop>(map: &mut BTreeMap<K, V>, key: K, value: V) -> Result<(), AllocError>
     ensures { OnOk result (map.new.entries ≡ insert_entry K.cmp map.old.entries key value) }
 {
     match map.insert(key, value) {

@@ -1,6 +1,5 @@
-use Rattle.std.proofs.Common.{◌≡◌, ◌∙◌, ◌+◌, ◌<◌, ◌≤◌, ℕ, List, take, length, ap, sym, subst, refl, inr}
+use Rattle.std.proofs.Common.{◌≡◌, ◌∙◌, ◌+◌, ◌<◌, ◌≤◌, ℕ, List, length, sym, subst, refl, inr}
 use Rattle.std.specs.Prelude.{Some, slice_get}
-use Rattle.zst_absence.specs.dnw_name.DomainName.{DomainName}
 use Rattle.zst_circle.specs.Nsec3Circle.{IsNsec3In, hashing_of}
 use Rattle.zst_circle.specs.declared.hashed.HashedName.{HashedName}
 use Rattle.zst_circle.proofs.NsecHashed.{Nsec3sPut, made_then, puts_next, secured_then, some_fails, stored_then}

@@ -1,4 +1,4 @@
-use Rattle.std.proofs.Common.{◌≡◌, ◌∙◌, ap, sym, subst, refl, Bool}
+use Rattle.std.proofs.Common.{◌∙◌, ap, sym, subst, refl, Bool}
 use Rattle.std.specs.Prelude.{Some, None, cond}
 use Rattle.zst_circle.specs.Nsec3Circle.{IsSetWith}
 use Rattle.zst_circle.proofs.Authoritative.{same_type}

@@ -1,7 +1,6 @@
-use Rattle.std.proofs.Common.{◌≡◌, ◌∙◌, ◌≤◌, ℕ, List, take, length, ap, sym, subst, refl}
+use Rattle.std.proofs.Common.{List, sym, subst, refl}
 use Rattle.std.specs.List.Sorted.{IsStrictlySortedBy}
 use Rattle.zst_absence.specs.dnw_name.DomainName.{DomainName}
-use Rattle.zst_absence.specs.zst_handler.Zones.{Zone}
 use Rattle.zst_circle.specs.Nsec3Circle.{AreGathered, hash_cmp, hashing_of}
 use Rattle.zst_circle.proofs.NsecHashedNames.{a_zone, hashed_all, values_sorted}
 use Rattle.zst_circle.proofs.NsecHashedTypes.{all_taken, if_ok}

@@ -1,12 +1,9 @@
-use Rattle.std.proofs.Common.{◌≡◌, ◌∙◌, ◌+◌, ◌-◌, ◌<◌, ◌≤◌, ℕ, suc, List, get_or, take, length, ap, sym, subst, arith, refl}
+use Rattle.std.proofs.Common.{◌≡◌, ◌∙◌, ◌+◌, ◌-◌, ◌<◌, ◌≤◌, ℕ, suc, get_or, take, ap, sym, subst, arith, refl}
 use Rattle.std.specs.Prelude.{Some, slice_get}
 use Rattle.zst_absence.specs.dnw_codes.declared.record_type.RecordType.TheVariants as kind
-use Rattle.zst_absence.specs.dnw_name.DomainName.{DomainName}
 use Rattle.zst_absence.specs.zst_denial.Circles.{IsAuthoritativeName}
-use Rattle.zst_absence.specs.zst_handler.Zones.{Zone}
 use Rattle.zst_absence.specs.zst_key.Ancestors.{up}
 use Rattle.zst_circle.specs.Nsec3Circle.{entries_with, hashing_of, is_level_of, level_count}
-use Rattle.zst_circle.specs.Securing.{IsZoneAt}
 use Rattle.zst_circle.proofs.NsecHashedNames.{Levels, above_it, at_place, before_it, count_alike, gathered_place, got_at, levels_more, shared_place, within_count}
 use Rattle.zst_circle.proofs.hashed.put_levels.Goals as goal
 

@@ -1,7 +1,6 @@
-use Rattle.std.proofs.Common.{◌≡◌, ◌∙◌, ap, sym, true, false, not, ◌&&◌, Bool, List, ℕ}
-use Rattle.std.specs.BTreeMap.{insert_entry}
+use Rattle.std.proofs.Common.{◌≡◌, ◌∙◌, ap, sym, true, false, ◌&&◌, Bool, List, ℕ}
 use Rattle.std.proofs.lemmas.Result.{on_ok_weaker}
-use Rattle.zst_absence.specs.dnw_name.DomainName.{DomainName, lowercase_name}
+use Rattle.zst_absence.specs.dnw_name.DomainName.{lowercase_name}
 use Rattle.zst_absence.specs.zst_handler.Zones.{Zone}
 use Rattle.zst_absence.specs.zst_hash.Owners.{hashed_owner}
 use Rattle.zst_circle.specs.Nsec3Circle.{hashing_of, is_left_out}
