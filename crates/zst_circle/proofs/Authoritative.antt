@@ -1,7 +1,6 @@
 -- The authoritative names of a zone: which they are under equal names, and how they are listed.
-use Rattle.std.proofs.Common.{Bor, ◌≡◌, ◌⊎◌, ℕ, ◌+◌, ◌-◌, ◌<◌, ◌≤◌, Bool, true, false, not, ◌&&◌, ◌||◌, List, [], ◌∷◌, ◌++◌, drop, length, refl, ap, sym, subst, ◌∙◌, arith, inl, inr}
-use Rattle.std.specs.Prelude.{Option, Some, None, IsSome, MatchOption, cond, find, is_some, map, nat_lt, option_copied, slice_get}
-use Rattle.std.specs.Bool.{beq}
+use Rattle.std.proofs.Common.{Bor, ◌≡◌, ◌⊎◌, ℕ, ◌+◌, ◌-◌, ◌<◌, ◌≤◌, Bool, true, false, not, ◌&&◌, ◌||◌, List, [], ◌∷◌, ◌++◌, drop, length, refl, ap, sym, ◌∙◌, arith, inl, inr}
+use Rattle.std.specs.Prelude.{Option, Some, None, IsSome, cond, is_some, nat_lt, option_copied, slice_get}
 use Rattle.std.specs.Cmp.Lexicographic.{pointwise}
 use Rattle.std.specs.List.{AllByRecursion, filter, list_any}
 use Rattle.std.specs.List.Sorted.{IsStrictlySortedBy}
@@ -15,7 +14,7 @@ use Rattle.std.proofs.lemmas.Map.Keys.{sorted_head, sorted_tail}
 use Rattle.zst_absence.specs.dnw_label.Label.{label_eq}
 use Rattle.zst_absence.specs.dnw_codes.declared.record_type.RecordType.{RecordType}
 use Rattle.zst_absence.specs.dnw_codes.declared.record_type.RecordType.TheVariants as kind
-use Rattle.zst_absence.specs.dnw_codes.RecordType.{record_type_number, same_record_type}
+use Rattle.zst_absence.specs.dnw_codes.RecordType.{same_record_type}
 use Rattle.zst_absence.specs.dnw_name.DomainName.{DomainName, domain_name, is_at_or_below, lowercase_name, name_cmp, name_eq}
 use Rattle.zst_absence.specs.zst_denial.Circles.{IsAuthoritativeName, IsCutOff, is_delegation}
 use Rattle.zst_absence.specs.zst_handler.Lookups.{sets_of_name}

@@ -1,12 +1,11 @@
 -- The circle by hash of a zone with its NSEC3PARAM set.
 use Rattle.std.proofs.Common.{◌≡◌, ◌∙◌, refl, ap, sym, subst, inl, inr}
-use Rattle.std.specs.Prelude.{Bool, true, false, ◌&&◌, List, [], ◌∷◌, Option, Some, None, IfSome, IsSome, IsSomeAnd, cond, is_some}
+use Rattle.std.specs.Prelude.{Bool, true, false, ◌&&◌, List, Option, Some, None, IfSome, IsSome, IsSomeAnd, cond, is_some}
 use Rattle.std.proofs.lemmas.Bool.{true≢false}
 use Rattle.zst_absence.specs.dnw_codes.declared.record_type.RecordType.{RecordType}
 use Rattle.zst_absence.specs.dnw_codes.declared.record_type.RecordType.TheVariants as kind
 use Rattle.zst_absence.specs.dnw_codes.RecordType.{same_record_type}
 use Rattle.zst_absence.specs.dnw_name.DomainName.{DomainName, lowercase_name, name_eq}
-use Rattle.zst_absence.specs.zst_denial.Circles.{is_owned}
 use Rattle.zst_absence.specs.zst_denial.Hashed.{Hashing, digest_of}
 use Rattle.zst_absence.specs.zst_handler.Zones.{Zone, rrset_at}
 use Rattle.zst_absence.specs.zst_hash.Owners.{hashed_owner}
@@ -16,7 +15,7 @@ use Rattle.zst_absence.proofs.zst_denial_lemmas.zst_key_lemmas.KeyLemmas.{eq-low
 use Rattle.zst_absence.proofs.zst_map_lemmas.Replacing.{both_same, type_same}
 use Rattle.zst_circle.specs.Nsec3Circle.{IsNsec3SetOn}
 use Rattle.zst_circle.specs.Secures.{IsMadeByHash, with_parameters}
-use Rattle.zst_circle.specs.Securing.{ChangesOnly, HasNone, IsZoneAt}
+use Rattle.zst_circle.specs.Securing.{ChangesOnly, HasNone}
 use Rattle.zst_circle.proofs.Authoritative.{eq_lower}
 use Rattle.zst_circle.proofs.NsecHashed.{now_nsec3}
 use Rattle.zst_circle.proofs.NsecHashedKept.{same_on}

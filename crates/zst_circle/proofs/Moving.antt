@@ -1,12 +1,11 @@
 -- Sets that move, one placeholder's after the other's: what two zones have under each owner and type.
-use Rattle.std.proofs.Common.{◌≡◌, ℕ, refl, ap, sym, subst, ◌∙◌}
-use Rattle.std.specs.Prelude.{Bool, true, false, ◌&&◌, ◌==◌, List, [], ◌∷◌, Option, Some, None, cond, find, is_some, IsSome, option_map}
+use Rattle.std.proofs.Common.{◌≡◌, refl, ap, sym, subst, ◌∙◌}
+use Rattle.std.specs.Prelude.{Bool, true, false, ◌&&◌, List, [], ◌∷◌, Option, Some, None, cond, find, is_some, IsSome, option_map}
 use Rattle.std.specs.List.{AllByRecursion}
-use Rattle.std.proofs.lemmas.Bool.{and_parts, eqb-true, true≢false}
+use Rattle.std.proofs.lemmas.Bool.{and_parts, true≢false}
 use Rattle.zst_absence.specs.dnw_codes.declared.record_type.RecordType.{RecordType}
-use Rattle.zst_absence.specs.dnw_codes.RecordType.{record_type_number, same_record_type}
+use Rattle.zst_absence.specs.dnw_codes.RecordType.{same_record_type}
 use Rattle.zst_absence.specs.dnw_name.DomainName.{DomainName, name_eq}
-use Rattle.zst_absence.specs.zst_record.RecordLaws.{name_eq_equiv}
 use Rattle.zst_absence.specs.zst_record.RecordSets.{RRset, is_signature_of, raised_set}
 use Rattle.zst_absence.specs.zst_handler.Updates.{Replaces}
 use Rattle.zst_absence.specs.zst_handler.Zones.{rrset_at}

@@ -4,7 +4,6 @@ use Rattle.std.specs.Prelude.{IfSome, IsSome, IsSomeAnd, None, Option, Some, con
 use Rattle.std.specs.List.{AllByRecursion, list_any}
 use Rattle.std.specs.List.Sorted.{IsStrictlySortedBy}
 use Rattle.std.specs.Ordering.{is_eq, is_lt}
-use Rattle.std.specs.declared.cmp.Ordering.{Ordering}
 use Rattle.std.specs.declared.cmp.Ordering.TheVariants.{Less}
 use Rattle.std.proofs.lemmas.Bool.{eq-eqb, true≢false}
 use Rattle.std.proofs.lemmas.Map.Keys.{sorted_head, sorted_tail}
@@ -13,9 +12,9 @@ use Rattle.zst_absence.specs.drd_denial.Rrsig.{Signing}
 use Rattle.zst_absence.specs.dnw_codes.declared.record_type.RecordType.{RecordType}
 use Rattle.zst_absence.specs.dnw_codes.declared.record_type.RecordType.TheVariants as kind
 use Rattle.zst_absence.specs.dnw_codes.RecordType.{record_type_number, same_record_type}
-use Rattle.zst_absence.specs.dnw_name.DomainName.{DomainName, domain_name, is_at_or_below, lowercase_name, name_cmp, name_eq}
+use Rattle.zst_absence.specs.dnw_name.DomainName.{DomainName, domain_name, is_at_or_below, name_cmp, name_eq}
 use Rattle.zst_absence.specs.dnw_name.NameOrderLaws.{name_eq-by_cmp}
-use Rattle.zst_absence.specs.zst_denial.Circles.{Follows, IsAuthoritativeName, IsCutOff, IsNsecSet, IsSecured, is_delegation, is_listed, is_owned}
+use Rattle.zst_absence.specs.zst_denial.Circles.{IsAuthoritativeName, IsCutOff, IsNsecSet, IsSecured, is_delegation, is_listed, is_owned}
 use Rattle.zst_absence.specs.zst_denial.Signing.{AreSignatures, any_fails, unsigned}
 use Rattle.zst_absence.specs.zst_handler.Updates.{Replaces}
 use Rattle.zst_absence.specs.zst_handler.Zones.{AreInOrder, IsStored, Zone, rrset_at}
@@ -24,7 +23,7 @@ use Rattle.zst_absence.specs.zst_record.RecordLaws.{name_eq_equiv}
 use Rattle.zst_absence.specs.zst_record.RecordSets.{RRset, least_ttl, none_left}
 use Rattle.zst_absence.specs.zst_record.declared.records.Record.{Record}
 use Rattle.zst_absence.proofs.zst_map_lemmas.Replacing.{both_same}
-use Rattle.zst_circle.specs.NsecCircle.{IsNext, IsNsecIn, IsNsecOf, is_among}
+use Rattle.zst_circle.specs.NsecCircle.{IsNsecIn, is_among}
 use Rattle.zst_circle.specs.Securing.{AreAuthoritative, ChangesOnly, HasNone, IsMade, IsSigned, IsZoneAt, SomeFails}
 use Rattle.zst_absence.proofs.zst_denial_lemmas.zst_key_lemmas.NamesAbove.{is-equal, name_total}
 use Rattle.zst_circle.proofs.Authoritative.{all_and, any_front, any_last, any_named, below_alike, cut_alike, delegation_alike, same_type}

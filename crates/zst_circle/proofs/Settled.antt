@@ -1,13 +1,13 @@
 -- A zone whose sets have moved to where its circle is.
 use Rattle.std.proofs.Common.{◌≡◌, ℕ, refl, ap, sym, subst, ◌∙◌, eqb-true}
-use Rattle.std.specs.Prelude.{Bool, true, false, not, ◌&&◌, ◌||◌, ◌==◌, List, [], ◌∷◌, Option, Some, None, IfSome, IsSome, cond, is_some, option_map, if◌then◌else◌}
+use Rattle.std.specs.Prelude.{Bool, true, false, not, ◌&&◌, ◌||◌, ◌==◌, List, [], ◌∷◌, Option, Some, None, IfSome, cond, is_some, option_map, if◌then◌else◌}
 use Rattle.std.specs.List.{AllByRecursion, filter}
 use Rattle.std.proofs.lemmas.Bool.{and_parts, true≢false}
 use Rattle.zst_absence.specs.drd_denial.Rrsig.{Signing}
 use Rattle.zst_absence.specs.dnw_codes.declared.record_type.RecordType.{RecordType}
 use Rattle.zst_absence.specs.dnw_codes.declared.record_type.RecordType.TheVariants as kind
 use Rattle.zst_absence.specs.dnw_codes.RecordType.{record_type_number, same_record_type}
-use Rattle.zst_absence.specs.dnw_name.DomainName.{DomainName, is_at_or_below, lowercase_name, name_eq}
+use Rattle.zst_absence.specs.dnw_name.DomainName.{DomainName, is_at_or_below, name_eq}
 use Rattle.zst_absence.specs.zst_codes.declared.nx_proof.NxProofKind.{NxProofKind}
 use Rattle.zst_absence.specs.zst_codes.declared.nx_proof.NxProofKind.TheVariants as proofs
 use Rattle.zst_absence.specs.zst_denial.Hashed.{AreApart, Hashing, IsOnHashCircle}

@@ -1,5 +1,5 @@
 -- Signatures of a set are those of the set without its own.
-use Rattle.std.proofs.Common.{◌≡◌, List, [], ◌∷◌, ℕ}
+use Rattle.std.proofs.Common.{List, [], ◌∷◌, ℕ}
 use Rattle.std.specs.Prelude.{IfErr, IfOk, OnOk, Result, Ok, Err}
 use Rattle.zst_absence.specs.drd_denial.Rrsig.{Signing}
 use Rattle.zst_absence.specs.zst_denial.Signing.{AreSignatures, unsigned}

@@ -12,9 +12,9 @@ use Rattle.zst_absence.specs.dnw_codes.RecordType.{same_record_type}
 use Rattle.zst_absence.specs.dnw_name.DomainName.{DomainName, name_eq}
 use Rattle.zst_absence.specs.zst_denial.Kept.{is_circle_type}
 use Rattle.zst_absence.specs.zst_handler.Zones.{AreStored, IsStored, rrset_at}
-use Rattle.zst_absence.specs.zst_record.RecordSets.{IsRRset, IsRecordOf, RRset, is_signature_of, none_left, raised_data, raised_first, raised_set}
+use Rattle.zst_absence.specs.zst_record.RecordSets.{IsRecordOf, RRset, is_signature_of, none_left, raised_data, raised_first, raised_set}
 use Rattle.zst_absence.specs.zst_record.declared.records.Record.{Record}
-use Rattle.zst_absence.proofs.zst_map_lemmas.Replacing.{both_same, one}
+use Rattle.zst_absence.proofs.zst_map_lemmas.Replacing.{both_same}
 use Rattle.zst_circle.specs.Moves.{is_placeholder_of, moved, placeholder_of, resigned}
 use Rattle.zst_circle.specs.declared.moves.Placeholder.{Placeholder}
 use Rattle.zst_circle.proofs.Moving.{find_all}

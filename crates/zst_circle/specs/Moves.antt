@@ -28,7 +28,7 @@ pub record CanMove (old new : List RRset) (placeholder : Placeholder) : Type 0 w
 abbrev pub resigned : Placeholder → RRset → RRset
 resigned placeholder set =
     record (if placeholder.rises then raised_set set else set) {
-      signatures = placeholder.signatures.items
+      signatures = placeholder.signatures.items;
     }
 
 -- What is under an owner and a type then, by the set that was to move and the one that was there.

@@ -1,5 +1,5 @@
--- The NSEC3 sets of a zone as they are made: the digests on the circle, the next digest of each, and
--- the types that its record lists (RFC 5155, sections 3 and 7.1).
+-- The NSEC3 sets of a zone as they are made: the digests on the circle, the next digest of each,
+-- and the types that its record lists (RFC 5155, sections 3 and 7.1).
 use Rattle.std.specs.Prelude.{◌≡◌, ℕ, ◌+◌, ◌-◌, ◌<◌, ◌==◌, ◌&&◌, ◌||◌, Bool, true, false, not, List, [], ◌∷◌, cond, length, nat_lt, slice_get, Some, if◌then◌else◌}
 use Rattle.std.specs.BTreeMap.{insert_entry}
 use Rattle.std.specs.Bool.{beq}
@@ -66,8 +66,8 @@ module _ (by : Hashing) (opt_out : Bool) (zone : Zone) (origin : DomainName) whe
       else insert_entry name_cmp entries (lowercase_name (hashed_owner (digest_of by name) origin))
       (with_digest by name)
 
-  -- Entries of names on the circle, among them the digests of these names and of those above them up
-  -- to the origin.
+  -- Entries of names on the circle, among them the digests of these names and of those above them
+  -- up to the origin.
   pub record AreGathered (names : List DomainName) (entries : List (DomainName × HashedName)) :
       Type 0 where
     pub each : AllByRecursion
@@ -89,9 +89,8 @@ pub record AreHashed (by : Hashing) (opt_out : Bool) (zone : Zone) (origin : Dom
     (names : List HashedName) : Type 0 where
   pub each : AllByRecursion (IsHashedName by opt_out zone) names
   pub all : (name : DomainName) → IsOnHashCircle opt_out zone name
-      → list_any
-      (λ other. name_eq (hashed_owner (digest_of by name) origin) (hashed_owner other.digest origin))
-      names
+      → list_any (λ other. name_eq (hashed_owner (digest_of by name) origin)
+      (hashed_owner other.digest origin)) names
       ≡ true
 
 -- The place after another one; after the last one comes the first.

@@ -1,5 +1,5 @@
--- What stored sets become where a zone is secured: the serial number of its SOA rises, and the sets of
--- authoritative names are signed (RFC 4035, section 2.2; RFC 2136, section 3.6).
+-- What stored sets become where a zone is secured: the serial number of its SOA rises, and the sets
+-- of authoritative names are signed (RFC 4035, section 2.2; RFC 2136, section 3.6).
 use Rattle.std.specs.Prelude.{◌≡◌, ℕ, ◌&&◌, Bool, true, false, List, [], ◌∷◌, Some, if◌then◌else◌}
 use Rattle.std.specs.List.{AllByRecursion}
 use Rattle.zst_absence.specs.drd_denial.Rrsig.{Signing}

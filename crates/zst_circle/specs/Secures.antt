@@ -1,5 +1,5 @@
--- A zone that is secured: its circle, and the signatures of its sets (RFC 4035, section 2; RFC 5155,
--- section 7.1).
+-- A zone that is secured: its circle, and the signatures of its sets (RFC 4035, section 2;
+-- RFC 5155, section 7.1).
 use Rattle.std.specs.Prelude.{◌≡◌, ◌⊎◌, ℕ, ◌+◌, Bool, true, false, not, nat_le, List, [], ◌∷◌, Option, Some, None, IfSome}
 use Rattle.std.specs.List.{filter}
 use Rattle.zst_absence.specs.drd_denial.Rrsig.{Signing}

@@ -45,7 +45,8 @@ abbrev pub HasNone : List RRset → RecordType → Type 0
 HasNone sets t = (name : DomainName) → rrset_at sets name t ≡ None
 
 -- ---- what is signed
--- A set of an authoritative name is signed; of a delegation DS and NSEC alone (RFC 4035, section 2.2).
+-- A set of an authoritative name is signed; of a delegation DS and NSEC alone (RFC 4035, section
+-- 2.2).
 pub record IsToBeSigned (zone : Zone) (name : DomainName) (t : RecordType) : Type 0 where
   pub in_zone : is_at_or_below name zone.origin ≡ true
   pub uncut : IsCutOff zone name → ⊥

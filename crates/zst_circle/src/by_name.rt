@@ -16,8 +16,8 @@ use crate::signed::put_signed;
 use crate::types::nsec_types;
 use std::alloc::{AllocError, Global};
 use zst_absence::{
-    DNSClass, NULL, Name, NameKey, RData, Record, RecordSet, RecordType, RecordTypeSet, SignerFault,
-    ZoneSets, ZoneSigner, nsec_data,
+    DNSClass, NULL, Name, NameKey, RData, Record, RecordSet, RecordType, RecordTypeSet,
+    SignerFault, ZoneSets, ZoneSigner, nsec_data,
 };
 
 /// Puts the NSEC set of each authoritative name of a zone, signed by each key: its record has the next name, the last one's

@@ -105,7 +105,8 @@ fn make<K: ZoneSigner>(
         (λ set. IsMade K.gives keys.now now ttl set × (any_fails K.fails keys.now set now ≡ false))) }
     ensures stored { OnOk result ((name : DomainName) → (t : RecordType) → is_circle_type t ≡ true → IfSome (rrset_at new.new name t) IsStored) }
     ensures ordered { OnOk result (AreInOrder new.new) }
-    ensures failed { IfErr result (λ e. e ≡ SignerFault.Failed → (zone : Zone) → IsZoneAt old.now key.now zone → FailsToSecure K.fails keys.now now (option_copied proof.entry) zone) }
+    ensures failed { IfErr result (λ e. e ≡ SignerFault.Failed → (zone : Zone) → IsZoneAt old.now key.now zone
+        → FailsToSecure K.fails keys.now now (option_copied proof.entry) zone) }
 {
     placeholders(alloc, key, keys, now, old, new, list)?;
     put_circle(alloc, origin, key, proof, ttl, keys, now, new)
@@ -138,12 +139,14 @@ fn put_circle<K: ZoneSigner>(
     match proof {
         None => Ok(()),
         Some(NxProofKind::Nsec) => put_nsec_circle(alloc, key, ttl, keys, now, sets),
-        Some(NxProofKind::Nsec3 {
-            salt,
-            iterations,
-            opt_out,
-            ..
-        }) => {
+        Some(
+            NxProofKind::Nsec3 {
+                salt,
+                iterations,
+                opt_out,
+                ..
+            },
+        ) => {
             let by = Nsec3Parameters {
                 salt: salt.as_bytes(),
                 iterations: *iterations,

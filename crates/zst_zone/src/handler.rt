@@ -183,7 +183,8 @@ impl StoredZone {
         alloc: Global,
         options: LookupOptions,
     ) -> Result<ZoneTransfer<'_>, LookupError>
-        ensures answer { MatchOption (own_refused self.now.axfr_policy) (IsOkAnd result (λ transfer. transfer_records transfer ≡ transfer_of self.now options.dnssec_ok))
+        ensures answer { MatchOption (own_refused self.now.axfr_policy)
+            (IsOkAnd result (λ transfer. transfer_records transfer ≡ transfer_of self.now options.dnssec_ok))
             (λ code. result ≡ Err (LookupError.ResponseCode code)) }
         ensures guard { self.now.guard ≡ None }
     {

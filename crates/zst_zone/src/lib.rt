@@ -8,8 +8,8 @@ pub use zst_circle::{
     AnswerSet, AuthLookup, AxfrPolicy, DNSClass, Draft, Edit, LentSets, LookupControlFlow,
     LookupError, LookupOptions, LookupRecords, LookupRecordsIter, LowerName, Name, NameKey,
     Nsec3HashAlgorithm, NxProofKind, ProtoError, RData, Record, RecordRef, RecordSet, RecordType,
-    ResponseCode, RrKey, RrsetRecords, Salt, SaltLenError, SignerFault, ZoneSets, ZoneSetsIter, ZoneSettings,
-    ZoneSignature, ZoneSigner, ZoneType,
+    ResponseCode, RrKey, RrsetRecords, Salt, SaltLenError, SignerFault, ZoneSets, ZoneSetsIter,
+    ZoneSettings, ZoneSignature, ZoneSigner, ZoneType,
 };
 pub use zst_request::{
     AxfrRecords, AxfrRecordsIter, BlocklistConsultAction, Nsec3QueryInfo, RequestTsig,

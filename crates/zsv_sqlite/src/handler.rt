@@ -225,7 +225,8 @@ fn authorize_signed(
     request: &ZoneRequest<'_>,
     now: u64,
 ) -> Result<(Result<(), ResponseCode>, Option<TSigResponseContext>), AllocError>
-    ensures permitted { IfOk result (λ given. given.0 ≡ unless_refused (policy_refused AxfrPolicy.AllowSigned (option_map signed_by request.now.tsig) request.now.verdict)) }
+    ensures permitted { IfOk result (λ given. given.0
+        ≡ unless_refused (policy_refused AxfrPolicy.AllowSigned (option_map signed_by request.now.tsig) request.now.verdict)) }
     ensures context { IfOk result (λ given. option_map context_of given.1
         ≡ option_map (context_for request.now.id request.now.verdict now) (option_map signed_by request.now.tsig)) }
     ensures unsigned { request.now.tsig ≡ None → IsOk result }

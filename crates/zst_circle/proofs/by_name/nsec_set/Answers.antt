@@ -1,7 +1,5 @@
-use Rattle.std.proofs.Common.{◌≡◌, ◌∙◌, ap, subst, sym, arith, Bool, not, ◌&&◌, ◌||◌, ◌<◌, length, List}
-use Rattle.std.specs.Prelude.{Some, slice_get}
-use Rattle.std.specs.List.{list_any}
-use Rattle.zst_absence.specs.dnw_name.DomainName.{DomainName, lowercase_name}
+use Rattle.std.proofs.Common.{◌≡◌, ◌∙◌, ap, subst, List}
+use Rattle.zst_absence.specs.dnw_name.DomainName.{DomainName}
 use Rattle.zst_absence.specs.zst_record.RecordSets.{RRset}
 use Rattle.zst_circle.specs.NsecCircle.{IsNsecIn, is_nsec_type}
 use Rattle.zst_circle.proofs.Circling.{slice_at}

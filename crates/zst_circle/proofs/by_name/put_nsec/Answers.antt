@@ -1,4 +1,4 @@
-use Rattle.std.proofs.Common.{◌≡◌, ◌+◌, refl, subst, List}
+use Rattle.std.proofs.Common.{◌+◌, refl, subst, List}
 use Rattle.std.proofs.lemmas.Result.{err_from_is_err_and}
 use Rattle.std.proofs.lemmas.List.{take_all}
 use Rattle.zst_absence.specs.dnw_name.DomainName.{DomainName}

@@ -1,5 +1,5 @@
 use Rattle.std.proofs.Common.{◌≡◌, ◌∙◌, ap, sym, subst}
-use Rattle.std.specs.Prelude.{Some, IsSome, true}
+use Rattle.std.specs.Prelude.{Some, IsSome}
 use Rattle.zst_absence.specs.dnw_codes.RecordType.{same_record_type}
 use Rattle.zst_absence.specs.dnw_codes.declared.record_type.RecordType.{RecordType}
 use Rattle.zst_absence.specs.dnw_name.DomainName.{name_eq}

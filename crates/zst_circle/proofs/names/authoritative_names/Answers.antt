@@ -1,8 +1,7 @@
-use Rattle.std.proofs.Common.{◌≡◌, ◌∙◌, [], ◌∷◌, ◌++◌, List, sym, subst}
-use Rattle.std.specs.Prelude.{MatchOption, IfSome, Option, Some, None}
+use Rattle.std.proofs.Common.{◌≡◌, [], List, sym, subst}
+use Rattle.std.specs.Prelude.{MatchOption, IfSome, Option}
 use Rattle.zst_absence.specs.dnw_name.DomainName.{DomainName, lowercase_name}
-use Rattle.zst_absence.specs.zst_handler.Zones.{Zone}
-use Rattle.zst_circle.specs.Securing.{IsAuthoritativeOwner, IsZoneAt}
+use Rattle.zst_circle.specs.Securing.{IsAuthoritativeOwner}
 use Rattle.zst_circle.proofs.Authoritative.{Listing, listed_all, lists_all, lists_none, lists_one}
 use Rattle.zst_circle.proofs.names.authoritative_names.Goals as goal
 

@@ -1,4 +1,4 @@
-use Rattle.std.proofs.Common.{◌≡◌, ◌∙◌, Bool, true, not, ◌&&◌, ap, sym}
+use Rattle.std.proofs.Common.{◌∙◌, Bool, not, ◌&&◌, ap, sym}
 use Rattle.zst_absence.specs.dnw_name.DomainName.{is_at_or_below}
 use Rattle.zst_circle.proofs.Authoritative.{strictly}
 use Rattle.zst_circle.proofs.names.is_below.Goals as goal

@@ -1,4 +1,4 @@
-use Rattle.std.proofs.Common.{◌≡◌, ◌∙◌, Bool, ◌&&◌, ap, sym}
+use Rattle.std.proofs.Common.{◌∙◌, Bool, ◌&&◌, ap, sym}
 use Rattle.std.specs.Prelude.{is_some}
 use Rattle.zst_absence.specs.dnw_codes.declared.record_type.RecordType.TheVariants as kind
 use Rattle.zst_absence.specs.zst_handler.Zones.{rrset_at}

@@ -1,7 +1,6 @@
 use Rattle.std.proofs.Common.{◌≡◌, ◌∙◌, ◌&&◌, Bool, ap, refl, subst, sym, true, false}
 use Rattle.std.specs.Prelude.{Some, None, option_copied}
 use Rattle.std.proofs.lemmas.Result.{err_from_is_err_and}
-use Rattle.zst_absence.specs.dnw_name.DomainName.{name_eq}
 use Rattle.zst_absence.specs.zst_record.RecordSets.{RRset}
 use Rattle.zst_absence.proofs.zst_map_lemmas.Replacing.{one}
 use Rattle.zst_circle.specs.Resigning.{IsResigning, IsSignedBy, is_soa_set, risen}

@@ -1,4 +1,4 @@
-use Rattle.std.proofs.Common.{◌≡◌, true, false, Vec, Global}
+use Rattle.std.proofs.Common.{◌≡◌, true, false}
 use Rattle.zst_absence.specs.zst_denial.Signing.{AreSignatures, any_fails}
 use Rattle.zst_circle.specs.Resigning.{IsSignedBy}
 use Rattle.zst_circle.proofs.Signatures.{are_unsigned, ok_both}

@@ -1,6 +1,4 @@
-use Rattle.std.proofs.Common.{[], ◌≡◌, ◌∙◌, ap, refl, subst, sym, inl, inr}
-use Rattle.std.specs.Prelude.{is_some, Option, Some}
-use Rattle.zst_absence.specs.dnw_codes.declared.record_type.RecordType.TheVariants as kind
+use Rattle.std.proofs.Common.{[], refl, inl, inr}
 use Rattle.zst_circle.proofs.Placing.{can_still, listed_all}
 use Rattle.zst_circle.proofs.Settled.{made_bare}
 use Rattle.zst_circle.proofs.Signatures.{err_as, ok_as}

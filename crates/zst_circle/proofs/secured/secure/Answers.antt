@@ -1,10 +1,9 @@
 use Rattle.std.proofs.Common.{◌≡◌, ◌∙◌, ap, refl, subst, sym, false, List}
 use Rattle.std.specs.Prelude.{IfSome, Option, option_copied}
-use Rattle.zst_absence.specs.dnw_codes.declared.record_type.RecordType.{RecordType}
-use Rattle.zst_absence.specs.dnw_name.DomainName.{DomainName, lowercase_name}
+use Rattle.zst_absence.specs.dnw_name.DomainName.{lowercase_name}
 use Rattle.zst_absence.specs.zst_codes.declared.nx_proof.NxProofKind.{NxProofKind}
 use Rattle.zst_absence.specs.zst_denial.Signing.{any_fails}
-use Rattle.zst_absence.specs.zst_handler.Zones.{IsStored, Zone, rrset_at}
+use Rattle.zst_absence.specs.zst_handler.Zones.{IsStored, rrset_at}
 use Rattle.zst_absence.specs.zst_record.RecordSets.{RRset}
 use Rattle.zst_circle.specs.Resigning.{IsResigning}
 use Rattle.zst_circle.specs.Secures.{IsCircledBy, KeepsSet, Secures}

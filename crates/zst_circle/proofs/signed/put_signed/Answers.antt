@@ -1,10 +1,7 @@
-use Rattle.std.proofs.Common.{◌≡◌, List, [], ◌∷◌, ℕ, subst, sym}
+use Rattle.std.proofs.Common.{subst}
 use Rattle.std.specs.Prelude.{Some}
-use Rattle.zst_absence.specs.drd_denial.Rrsig.{Signing}
-use Rattle.zst_absence.specs.zst_denial.Signing.{AreSignatures, IsSignatureBy, unsigned}
 use Rattle.zst_absence.specs.zst_handler.Updates.{Replaces}
 use Rattle.zst_absence.specs.zst_record.RecordSets.{RRset}
-use Rattle.zst_absence.specs.zst_record.declared.records.Record.{Record}
 use Rattle.zst_circle.proofs.Signatures.{are_unsigned}
 use Rattle.zst_circle.proofs.signed.put_signed.Goals as goal
 
