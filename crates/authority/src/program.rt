@@ -8,10 +8,10 @@ ghost use Rattle.authority_server.specs.zsv_catalog.zsv_answer.zst_request.Views
 ghost use Rattle.authority_server.specs.zsv_catalog.zsv_update.Keys.{no_keys};
 ghost use Rattle.authority.specs.Programs.{Answers, IsLoopback, StatusIs, TextGives, WordsGive, one_zone, out_of_memory, read_or_usage, status_of};
 
-use authority_server::{Authority, Name, NoSuite, StreamError};
+use authority_server::{Authority, Name, NoSuite, RecordSet, StreamError};
 use authority_transfer::{
-    AxfrPolicy, InMemoryZoneHandler, LoadError, TextError, ZoneSettings, ZoneType, load_zone,
-    parse_owner, parse_u64,
+    AxfrPolicy, InMemoryZoneHandler, LoadError, SignerFault, TextError, ZoneSettings,
+    ZoneSignature, ZoneSigner, ZoneType, load_zone, parse_owner, parse_u64,
 };
 use std::alloc::{AllocError, AllocFailed, Global};
 use std::io::{Read, Write};
@@ -21,6 +21,24 @@ use thiserror::Error;
 /// The program's zone is signed by nobody.
 #[derive(Clone, Copy, Debug)]
 pub struct NoSigner;
+
+impl ZoneSigner for NoSigner {
+    ghost use Rattle.std.specs.Prelude.{true};
+
+    ghost gives = { λ _ _ _ _. ⊥ };
+
+    ghost fails = { λ _ _ _. true };
+
+    /// It fails for every set.
+    fn sign(
+        &self,
+        _alloc: Global,
+        _set: &RecordSet,
+        _now: u64,
+    ) -> Result<ZoneSignature, SignerFault> {
+        Err(SignerFault::Failed)
+    }
+}
 
 /// Why the program ends before its input does.
 #[derive(Clone, Copy, Debug, Error)]
