@@ -286,10 +286,10 @@ impl<K: ZoneSigner> DnssecZoneHandler<K> for SqliteZoneHandler<K> {
     ghost keys = { λ handler. handler.in_memory.keys.items };
 
     fn add_zone_signing_key(&mut self, alloc: Global, key: K) -> Result<(), AllocError> {
-        self.in_memory.add_zone_signing_key(alloc, key)
+        self.add_zone_signing_key(alloc, key)
     }
 
     fn secure_zone(&mut self, alloc: Global, now: u64) -> Result<(), ZoneError> {
-        self.in_memory.secure_zone(alloc, now)
+        self.secure_zone(alloc, now)
     }
 }
