@@ -8,7 +8,7 @@ use zst_request::ZoneHandler;
 
 /// A handler whose zone is signed by keys. A contract sees its zone and the list of its keys.
 pub trait DnssecZoneHandler<K: ZoneSigner>: ZoneHandler {
-    ghost use Rattle.std.specs.Prelude.{◌≡◌, ◌∷◌, ◌++◌, [], List, IfErr, OnErr, OnOk};
+    ghost use Rattle.std.specs.Prelude.{◌≡◌, ◌∷◌, ◌++◌, [], List, IfErr, IsOk, OnErr, OnOk};
     ghost use Rattle.zst_circle.specs.zst_handler.Zones.{Zone};
     ghost use Rattle.zst_zone.specs.Securings.{RefusesToSecure, SecuresBy};
 
@@ -25,6 +25,7 @@ pub trait DnssecZoneHandler<K: ZoneSigner>: ZoneHandler {
     /// Secures the zone by its keys at a moment in seconds since 1970. Without keys it changes nothing.
     fn secure_zone(&mut self, alloc: Global, now: u64) -> Result<(), ZoneError>
         ensures ok { OnOk result (SecuresBy K.gives K.fails (keys self.old) now (zone self.old) (zone self.new)) }
+        ensures none { keys self.old ≡ [] → IsOk result }
         ensures keys { OnOk result (keys self.new ≡ keys self.old) }
         ensures refused { IfErr result (RefusesToSecure K.fails (keys self.old) now (zone self.old)) }
         ensures err { OnErr result (self.new ≡ self.old) };

@@ -284,11 +284,25 @@ impl<K: ZoneSigner> DnssecZoneHandler<K> for SqliteZoneHandler<K> {
 
     ghost keys = { λ handler. handler.in_memory.keys.items };
 
-    fn add_zone_signing_key(&mut self, alloc: Global, key: K) -> Result<(), AllocError> {
+    /// The guard stays.
+    fn add_zone_signing_key(&mut self, alloc: Global, key: K) -> Result<(), AllocError>
+        ensures keys { OnOk result (self.new.in_memory.keys.items ≡ self.old.in_memory.keys.items ++ key ∷ []) }
+        ensures zone { OnOk result (self.new.in_memory.zone ≡ self.old.in_memory.zone) }
+        ensures guard { self.new ≡ record self.old { in_memory = self.new.in_memory } }
+        ensures err { OnErr result (self.new ≡ self.old) }
+    {
         self.in_memory.add_zone_signing_key(alloc, key)
     }
 
-    fn secure_zone(&mut self, alloc: Global, now: u64) -> Result<(), ZoneError> {
+    /// The guard stays.
+    fn secure_zone(&mut self, alloc: Global, now: u64) -> Result<(), ZoneError>
+        ensures ok { OnOk result (SecuresBy K.gives K.fails self.old.in_memory.keys.items now self.old.in_memory.zone self.new.in_memory.zone) }
+        ensures none { self.old.in_memory.keys.items ≡ [] → IsOk result }
+        ensures keys { OnOk result (self.new.in_memory.keys.items ≡ self.old.in_memory.keys.items) }
+        ensures refused { IfErr result (RefusesToSecure K.fails self.old.in_memory.keys.items now self.old.in_memory.zone) }
+        ensures guard { self.new ≡ record self.old { in_memory = self.new.in_memory } }
+        ensures err { OnErr result (self.new ≡ self.old) }
+    {
         self.in_memory.secure_zone(alloc, now)
     }
 }
