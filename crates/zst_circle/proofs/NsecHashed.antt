@@ -30,7 +30,7 @@ use Rattle.zst_absence.specs.zst_record.declared.records.Record.{Record}
 use Rattle.zst_absence.proofs.zst_map_lemmas.Replacing.{both_same, one}
 use Rattle.zst_absence.proofs.zst_denial_lemmas.zst_key_lemmas.KeyLemmas.{eq-lower}
 use Rattle.zst_absence.proofs.zst_denial_lemmas.zst_key_lemmas.NamesAbove.{name_total}
-use Rattle.zst_circle.specs.Nsec3Circle.{AreHashed, IsHashedName, IsNsec3In, IsNsec3SetOn, IsSetWith, hash_cmp, next_place, with_digest}
+use Rattle.zst_circle.specs.Nsec3Circle.{AreHashed, IsHashedName, IsNsec3In, IsNsec3Made, IsSetWith, hash_cmp, next_place, with_digest}
 use Rattle.zst_circle.specs.NsecCircle.{IsNext, is_among}
 use Rattle.zst_circle.specs.Securing.{ChangesOnly, HasNone, IsMade, IsSigned, IsZoneAt, SomeFails}
 use Rattle.zst_circle.specs.declared.hashed.HashedName.{HashedName}
@@ -410,14 +410,14 @@ module _ (by : Hashing) (opt_out : Bool) where
         pub some_fails : (sets : List RRset) (place : ℕ) (set : RRset) → place < length names
             → ((name : HashedName) → slice_get names place ≡ Some name → IsNsec3In by opt_out sets key origin names ttl name set) → any_fails fails keys set now ≡ true → ChangesOnly kind.NSEC3 old sets
             → ((zone : Zone) → IsZoneAt old key zone → AreHashed by opt_out zone origin names)
-            → (zone : Zone) → IsZoneAt old key zone → SomeFails fails keys now (IsNsec3SetOn by opt_out zone)
+            → (zone : Zone) → IsZoneAt old key zone → SomeFails fails keys now (IsNsec3Made by opt_out ttl zone)
         some_fails sets place set within n failed others are zone at =
             let it = some_at names place within in
             let is = n it.0 it.1 in
             let on : IsHashedName by opt_out zone it.0 = at_place (IsHashedName by opt_out zone) names place it.0 (are zone at).each it.1 in
             record {
               set = unsigned set;
-              is = record {
+              is = (record {
                 name = it.0.key;
                 on = on.on;
                 owner = ap (λ (o : DomainName). name_eq o (hashed_name by zone it.0.key)) is.is.name
@@ -425,7 +425,7 @@ module _ (by : Hashing) (opt_out : Bool) where
                     ∙ owner_alike (digest_of by it.0.key) origin zone.origin (sym (at.has_origin ∙ spelled));
                 is = is_nsec3_set old key origin names ttl zone at spelled (are zone at) it.0 on (unsigned set)
                     (as_before old sets key origin names ttl it.0 (unsigned set) others (of_unsigned sets key origin names ttl it.0 set [] is));
-              };
+              }, record { record_type = is.is.record_type; class = is.is.class; lasts = ap least_ttl is.is.one ∙ is.is.lasts });
               failed = failed;
             }
 

@@ -23,7 +23,7 @@ use Rattle.zst_absence.specs.zst_record.RecordLaws.{name_eq_equiv}
 use Rattle.zst_absence.specs.zst_record.RecordSets.{RRset, least_ttl, none_left}
 use Rattle.zst_absence.specs.zst_record.declared.records.Record.{Record}
 use Rattle.zst_absence.proofs.zst_map_lemmas.Replacing.{both_same}
-use Rattle.zst_circle.specs.NsecCircle.{IsNsecIn, is_among}
+use Rattle.zst_circle.specs.NsecCircle.{IsNext, IsNsecIn, IsNsecMade, IsNsecOf, is_among}
 use Rattle.zst_circle.specs.Securing.{AreAuthoritative, ChangesOnly, HasNone, IsMade, IsSigned, IsZoneAt, SomeFails}
 use Rattle.zst_absence.proofs.zst_denial_lemmas.zst_key_lemmas.NamesAbove.{is-equal, name_total}
 use Rattle.zst_circle.proofs.Authoritative.{all_and, any_front, any_last, any_named, below_alike, cut_alike, delegation_alike, same_type}
@@ -106,6 +106,7 @@ pub of_unsigned : (sets : List RRset) (origin : DomainName) (names : List Domain
 of_unsigned sets origin names ttl owner set signatures n = record {
   next = n.next;
   follows = n.follows;
+  lower = n.lower;
   types = n.types;
   lists = n.lists;
   is = record {
@@ -174,6 +175,7 @@ pub as_before : (old sets : List RRset) (origin : DomainName) (names : List Doma
 as_before old sets origin names ttl owner set others n = record {
   next = n.next;
   follows = n.follows;
+  lower = n.lower;
   types = n.types;
   lists = λ zone at t.
       let now : Zone = record zone { sets = sets } in
@@ -197,7 +199,7 @@ one_more [] i x e = absurd (cc e)
 one_more (y ∷ ys) zero x e = let same : y ≡ x = cc e in ap (λ (z : _). z ∷ []) same
 one_more (y ∷ ys) (suc i) x e = ap (λ zs. y ∷ zs) (one_more ys i x e)
 
-all_in : (owner : DomainName) (names : List DomainName) (P : DomainName → Type 0) (i : ℕ) → AllByRecursion P names → slice_get names i ≡ Some owner → P owner
+pub all_in : (owner : DomainName) (names : List DomainName) (P : DomainName → Type 0) (i : ℕ) → AllByRecursion P names → slice_get names i ≡ Some owner → P owner
 all_in owner [] P i all e = absurd (cc e)
 all_in owner (n ∷ names) P zero all e = let same : n ≡ owner = cc e in subst P same all.0
 all_in owner (n ∷ names) P (suc i) all e = all_in owner names P i all.1 e
@@ -394,14 +396,18 @@ module _ {K : Type 0} (gives : K → RRset → ℕ → Signing → Type 0) (fail
   pub some_fails : (old sets : List RRset) (origin : DomainName) (names : List DomainName) (ttl : ℕ) (place : ℕ) (set : RRset) → place < length names
       → ((owner : DomainName) → slice_get names place ≡ Some owner → IsNsecIn sets origin names ttl owner set) → any_fails fails keys set now ≡ true → ChangesOnly kind.NSEC old sets
       → ((zone : Zone) → IsZoneAt old origin zone → AreAuthoritative kind.NSEC zone names)
-      → (zone : Zone) → IsZoneAt old origin zone → SomeFails fails keys now (λ s. IsNsecSet zone s.name s)
+      → (zone : Zone) → IsZoneAt old origin zone → SomeFails fails keys now (IsNsecMade ttl zone)
   some_fails old sets origin names ttl place set within n failed others are zone at =
       let it = some_at names place within in
       let is = n it.0 it.1 in
       record {
         set = unsigned set;
-        is = subst (λ (o : DomainName). IsNsecSet zone o (unsigned set)) (sym is.is.name)
-            (is_nsec_set old origin names ttl zone at (are zone at) it.0 (unsigned set)
-            (as_before old sets origin names ttl it.0 (unsigned set) others (of_unsigned sets origin names ttl it.0 set [] is)));
+        is = (
+          subst (IsAuthoritativeName kind.NSEC zone) (sym is.is.name) (all_in it.0 names (IsAuthoritativeName kind.NSEC zone) place (are zone at).each it.1),
+          subst (λ (o : DomainName). IsNsecSet zone o (unsigned set)) (sym is.is.name)
+              (is_nsec_set old origin names ttl zone at (are zone at) it.0 (unsigned set)
+              (as_before old sets origin names ttl it.0 (unsigned set) others (of_unsigned sets origin names ttl it.0 set [] is))),
+          record { record_type = is.is.record_type; class = is.is.class; lasts = ap least_ttl is.is.one ∙ is.is.lasts },
+        );
         failed = failed;
       }

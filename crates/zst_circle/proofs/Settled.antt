@@ -28,7 +28,7 @@ use Rattle.zst_circle.specs.declared.moves.Placeholder.{Placeholder}
 use Rattle.zst_circle.proofs.Authoritative.{below_alike, cut_alike, delegation_alike}
 use Rattle.zst_circle.proofs.HashCircled.{made_still}
 use Rattle.zst_circle.proofs.Moving.{find_all}
-use Rattle.zst_circle.proofs.NsecSecured.{now_nsec}
+use Rattle.zst_circle.proofs.NsecSecured.{AlikeBut, now_nsec, same_authoritative}
 
 -- ---- what is signed, under equal names
 pub to_sign_alike : (zone : Zone) (a b : DomainName) (t u : RecordType) → name_eq a b ≡ true → same_record_type u t ≡ true → IsToBeSigned zone a t → IsToBeSigned zone b u
@@ -108,8 +108,9 @@ module _ (old new final : List RRset) (list : List Placeholder)
   circled_then (Some (proofs.Nsec3 algorithm salt iterations opt_out)) zone is =
       let by : Hashing = record { salt = salt; iterations = iterations } in (
         has_none kind.NSEC refl is.0,
+        λ name some. is.1 name (ap is_some (sym (circle_stays name kind.NSEC3PARAM refl)) ∙ some),
         λ apart. hash_still by opt_out (record zone { sets = new }) (record zone { sets = final }) (same_circle zone)
-            (is.1 (apart_still by opt_out (record zone { sets = new }) (record zone { sets = final }) (same_circle zone) apart)),
+            (is.2 (apart_still by opt_out (record zone { sets = new }) (record zone { sets = final }) (same_circle zone) apart)),
       )
 
   pub made_then : (P : RRset → Type 0) → ((name : DomainName) (t : RecordType) → is_circle_type t ≡ true → IfSome (rrset_at new name t) P)
@@ -213,22 +214,27 @@ stripped_owned (set ∷ sets) name t = by (is_circle_type set.record_type) refl 
     by false e more = kept (filter (λ s. not (is_circle_type s.record_type)) sets) (name_eq name set.name) (same_record_type set.record_type t) (both false e) more
 
 -- What is made for a zone of placeholders is made for the zone without its circle.
-pub made_bare : {K : Type 0} (gives : K → RRset → ℕ → Signing → Type 0) (fails : K → RRset → ℕ → Bool) (keys : List K) (now : ℕ) (proof : Option NxProofKind) (old new : List RRset) (zone : Zone)
+pub made_bare : {K : Type 0} (gives : K → RRset → ℕ → Signing → Type 0) (fails : K → RRset → ℕ → Bool) (keys : List K) (now : ℕ) (proof : Option NxProofKind) (ttl : ℕ) (old new : List RRset) (zone : Zone)
     → zone.sets ≡ old → ((name : DomainName) (t : RecordType) → is_some (rrset_at new name t) ≡ (is_some (rrset_at old name t) && not (is_circle_type t)))
-    → SomeFails fails keys now (IsMadeFor proof (record zone { sets = new })) → SomeFails fails keys now (IsMadeFor proof (stripped zone))
-made_bare gives fails keys now None old new zone has there some = absurd some.is
-made_bare gives fails keys now (Some proofs.Nsec) old new zone has there some = record {
+    → SomeFails fails keys now (IsMadeFor proof ttl (record zone { sets = new })) → SomeFails fails keys now (IsMadeFor proof ttl (stripped zone))
+made_bare gives fails keys now None ttl old new zone has there some = absurd some.is
+made_bare gives fails keys now (Some proofs.Nsec) ttl old new zone has there some = record {
   set = some.set;
-  is = now_nsec gives fails keys now (record zone { sets = new }) (stripped zone) (record {
-    origin = refl;
-    owned = λ name t other.
-        stripped_owned zone.sets name t ∙ ap (λ (l : List RRset). is_some (rrset_at l name t) && not (is_circle_type t)) has ∙ sym (there name t);
-  }) some.set.name some.set some.is;
+  is =
+      let same : AlikeBut kind.NSEC (record zone { sets = new }) (stripped zone) = record {
+        origin = refl;
+        owned = λ name t other.
+            stripped_owned zone.sets name t ∙ ap (λ (l : List RRset). is_some (rrset_at l name t) && not (is_circle_type t)) has ∙ sym (there name t);
+      } in (
+        same_authoritative kind.NSEC refl (record zone { sets = new }) (stripped zone) same some.set.name some.is.0,
+        now_nsec gives fails keys now (record zone { sets = new }) (stripped zone) same some.set.name some.set some.is.1,
+        some.is.2,
+      );
   failed = some.failed;
 }
-made_bare gives fails keys now (Some (proofs.Nsec3 algorithm salt iterations opt_out)) old new zone has there some = record {
+made_bare gives fails keys now (Some (proofs.Nsec3 algorithm salt iterations opt_out)) ttl old new zone has there some = record {
   set = some.set;
-  is = made_still (record { salt = salt; iterations = iterations }) opt_out zone new (stripped zone).sets
+  is = made_still (record { salt = salt; iterations = iterations }) opt_out ttl zone new (stripped zone).sets
       (λ name t. stripped_owned zone.sets name t ∙ ap (λ (l : List RRset). is_some (rrset_at l name t) && not (is_circle_type t)) has ∙ sym (there name t)) some.set some.is;
   failed = some.failed;
 }

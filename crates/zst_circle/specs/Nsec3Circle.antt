@@ -21,7 +21,7 @@ use Rattle.zst_absence.specs.zst_key.Ancestors.{up}
 use Rattle.zst_absence.specs.zst_record.RecordSets.{RRset}
 use Rattle.zst_absence.specs.zst_record.declared.records.Record.{Record}
 use Rattle.zst_circle.specs.NsecCircle.{IsNext, is_among}
-use Rattle.zst_circle.specs.Securing.{IsZoneAt}
+use Rattle.zst_circle.specs.Securing.{IsMadeAs, IsZoneAt}
 use Rattle.zst_circle.specs.declared.hashed.HashedName.{HashedName}
 use Rattle.zst_circle.specs.declared.hashed.Nsec3Parameters.{Nsec3Parameters}
 
@@ -155,3 +155,8 @@ pub record IsNsec3SetOn (by : Hashing) (opt_out : Bool) (zone : Zone) (set : RRs
   pub on : IsOnHashCircle opt_out zone name
   pub owner : name_eq set.name (hashed_name by zone name) ≡ true
   pub is : IsNsec3Set by opt_out zone name set
+
+-- It is as it is made.
+abbrev pub IsNsec3Made : Hashing → Bool → ℕ → Zone → RRset → Type 0
+IsNsec3Made by opt_out ttl zone set =
+    IsNsec3SetOn by opt_out zone set × IsMadeAs kind.NSEC3 ttl set

@@ -10,13 +10,13 @@ use Rattle.zst_absence.specs.dnw_codes.declared.dns_class.DNSClass.TheVariants.{
 use Rattle.zst_absence.specs.dnw_codes.declared.record_type.RecordType.{RecordType}
 use Rattle.zst_absence.specs.dnw_codes.declared.record_type.RecordType.TheVariants as kind
 use Rattle.zst_absence.specs.dnw_codes.RecordType.{record_type_number, same_record_type}
-use Rattle.zst_absence.specs.dnw_name.DomainName.{DomainName, domain_name, name_cmp}
-use Rattle.zst_absence.specs.zst_denial.Circles.{is_listed}
+use Rattle.zst_absence.specs.dnw_name.DomainName.{DomainName, domain_name, lowercase_name, name_cmp}
+use Rattle.zst_absence.specs.zst_denial.Circles.{IsAuthoritativeName, IsNsecSet, is_listed}
 use Rattle.zst_absence.specs.zst_denial.Octets.{nsec_octets}
 use Rattle.zst_absence.specs.zst_handler.Zones.{Zone}
 use Rattle.zst_absence.specs.zst_record.RecordSets.{RRset}
 use Rattle.zst_absence.specs.zst_record.declared.records.Record.{Record}
-use Rattle.zst_circle.specs.Securing.{IsZoneAt}
+use Rattle.zst_circle.specs.Securing.{IsMadeAs, IsZoneAt}
 
 -- ---- the next name
 module _ {X : Type 0} (cmp : X → X → Ordering) where
@@ -52,11 +52,19 @@ pub record IsNsecOf (owner next : DomainName) (types : List ℕ) (ttl : ℕ) (se
     pub are : IsNsecData octets (domain_name true next.labels) types
     pub bare : set.signatures ≡ []
 
--- The NSEC set of one of these names, in a zone of these sets at an origin with this key.
+-- The NSEC set of an authoritative name of a zone, as it is made.
+abbrev pub IsNsecMade : ℕ → Zone → RRset → Type 0
+IsNsecMade ttl zone set =
+    IsAuthoritativeName kind.NSEC zone set.name × IsNsecSet zone set.name set
+    × IsMadeAs kind.NSEC ttl set
+
+-- The NSEC set of one of these names, in a zone of these sets at an origin with this key. The next
+-- name is in lower case (RFC 4034, section 6.2).
 pub record IsNsecIn (sets : List RRset) (origin : DomainName) (names : List DomainName) (ttl : ℕ)
     (owner : DomainName) (set : RRset) : Type 0 where
   pub next : DomainName
   pub follows : IsNext name_cmp (is_among name_cmp names) owner next
+  pub lower : lowercase_name next ≡ next
   pub types : List ℕ
   pub lists : (zone : Zone) → IsZoneAt sets origin zone → (t : RecordType)
       → list_any (λ code. code == record_type_number t) types ≡ is_listed zone owner t

@@ -1,6 +1,6 @@
 -- A zone that is secured: its circle, and the signatures of its sets (RFC 4035, section 2;
 -- RFC 5155, section 7.1).
-use Rattle.std.specs.Prelude.{◌≡◌, ◌⊎◌, ℕ, ◌+◌, Bool, true, false, not, nat_le, List, [], ◌∷◌, Option, Some, None, IfSome}
+use Rattle.std.specs.Prelude.{◌≡◌, ◌⊎◌, ℕ, ◌+◌, Bool, true, false, not, nat_le, List, [], ◌∷◌, Option, Some, None, IfSome, IsSome}
 use Rattle.std.specs.List.{filter}
 use Rattle.zst_absence.specs.drd_denial.Rrsig.{Signing}
 use Rattle.zst_absence.specs.dnw_codes.declared.record_type.RecordType.{RecordType}
@@ -8,15 +8,16 @@ use Rattle.zst_absence.specs.dnw_codes.declared.record_type.RecordType.TheVarian
 use Rattle.zst_absence.specs.dnw_name.DomainName.{DomainName, labels_len, lowercase_name, name_eq}
 use Rattle.zst_absence.specs.zst_codes.declared.nx_proof.NxProofKind.{NxProofKind}
 use Rattle.zst_absence.specs.zst_codes.declared.nx_proof.NxProofKind.TheVariants as proofs
-use Rattle.zst_absence.specs.zst_denial.Circles.{IsNsecSet, IsSecured}
+use Rattle.zst_absence.specs.zst_denial.Circles.{IsSecured}
 use Rattle.zst_absence.specs.zst_denial.Hashed.{AreApart, Hashing, IsParameterSet, IsSecuredByHash}
 use Rattle.zst_absence.specs.zst_denial.Kept.{is_circle_type}
 use Rattle.zst_absence.specs.zst_denial.Signing.{any_fails}
 use Rattle.zst_absence.specs.zst_handler.Zones.{AreInOrder, Zone, rrset_at}
 use Rattle.zst_absence.specs.zst_record.RecordSets.{RRset, empty_set}
-use Rattle.zst_circle.specs.Nsec3Circle.{IsNsec3SetOn}
+use Rattle.zst_circle.specs.Nsec3Circle.{IsNsec3Made}
+use Rattle.zst_circle.specs.NsecCircle.{IsNsecMade}
 use Rattle.zst_circle.specs.Resigning.{IsSignedBy, IsStoredToSign, risen}
-use Rattle.zst_circle.specs.Securing.{HasNone, IsMade, IsToBeSigned, SomeFails}
+use Rattle.zst_circle.specs.Securing.{HasNone, IsMade, IsMadeAs, IsToBeSigned, SomeFails}
 
 -- What is secured: sets, the zone's origin and how it proves that a name is absent.
 pub record IsZoneOf (sets : List RRset) (origin : DomainName) (proof : Option NxProofKind)
@@ -31,6 +32,11 @@ stripped zone =
     record zone { sets = filter (λ set. not (is_circle_type set.record_type)) zone.sets }
 
 -- ---- the circle, by the zone's kind of proof
+-- No owner but the origin has a set of this type.
+abbrev pub IsAtOriginAlone : Zone → RecordType → Type 0
+IsAtOriginAlone zone t =
+    (name : DomainName) → IsSome (rrset_at zone.sets name t) → name_eq name zone.origin ≡ true
+
 abbrev pub IsCircledBy : Option NxProofKind → Zone → Type 0
 IsCircledBy None zone =
     HasNone zone.sets kind.NSEC × HasNone zone.sets kind.NSEC3
@@ -38,7 +44,7 @@ IsCircledBy None zone =
 IsCircledBy (Some proofs.Nsec) zone =
     IsSecured zone × HasNone zone.sets kind.NSEC3 × HasNone zone.sets kind.NSEC3PARAM
 IsCircledBy (Some (proofs.Nsec3 algorithm salt iterations opt_out)) zone =
-    HasNone zone.sets kind.NSEC
+    HasNone zone.sets kind.NSEC × IsAtOriginAlone zone kind.NSEC3PARAM
     × (AreApart (record { salt = salt; iterations = iterations }) opt_out zone
     → IsSecuredByHash (record { salt = salt; iterations = iterations }) opt_out zone)
 
@@ -77,17 +83,18 @@ with_parameters zone =
     record zone { sets = empty_set zone.origin kind.NSEC3PARAM ∷ zone.sets }
 
 -- The NSEC3PARAM set at the origin, or an NSEC3 set.
-abbrev pub IsMadeByHash : Hashing → Bool → Zone → RRset → Type 0
-IsMadeByHash by opt_out zone set =
+abbrev pub IsMadeByHash : Hashing → Bool → ℕ → Zone → RRset → Type 0
+IsMadeByHash by opt_out ttl zone set =
     (name_eq set.name zone.origin ≡ true) × IsParameterSet by set
-    ⊎ IsNsec3SetOn by opt_out (with_parameters zone) set
+    × IsMadeAs kind.NSEC3PARAM ttl set
+    ⊎ IsNsec3Made by opt_out ttl (with_parameters zone) set
 
 -- A set that is made for the circle of a zone, which has no circle yet.
-abbrev pub IsMadeFor : Option NxProofKind → Zone → RRset → Type 0
-IsMadeFor None zone set = ⊥
-IsMadeFor (Some proofs.Nsec) zone set = IsNsecSet zone set.name set
-IsMadeFor (Some (proofs.Nsec3 algorithm salt iterations opt_out)) zone set =
-    IsMadeByHash (record { salt = salt; iterations = iterations }) opt_out zone set
+abbrev pub IsMadeFor : Option NxProofKind → ℕ → Zone → RRset → Type 0
+IsMadeFor None ttl zone set = ⊥
+IsMadeFor (Some proofs.Nsec) ttl zone set = IsNsecMade ttl zone set
+IsMadeFor (Some (proofs.Nsec3 algorithm salt iterations opt_out)) ttl zone set =
+    IsMadeByHash (record { salt = salt; iterations = iterations }) opt_out ttl zone set
 
 -- A circle by hash has room for its owners, one label of 32 octets below the origin.
 abbrev pub has_room : Option NxProofKind → DomainName → Bool
@@ -98,8 +105,8 @@ has_room other origin = true
 -- Some key fails for a set that is to be signed, a stored one or one of the circle; or owners of
 -- the circle would have more than 255 octets.
 abbrev pub FailsToSecure : {K : Type 0} → (K → RRset → ℕ → Bool) → List K → ℕ
-    → Option NxProofKind → Zone → Type 0
-FailsToSecure fails keys now proof zone =
+    → Option NxProofKind → ℕ → Zone → Type 0
+FailsToSecure fails keys now proof ttl zone =
     SomeFails fails keys now (IsStoredToSign zone.sets (lowercase_name zone.origin))
-    ⊎ (SomeFails fails keys now (IsMadeFor proof (stripped zone))
+    ⊎ (SomeFails fails keys now (IsMadeFor proof ttl (stripped zone))
     ⊎ (has_room proof zone.origin ≡ false))

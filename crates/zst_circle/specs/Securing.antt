@@ -68,6 +68,12 @@ module _ {K : Type 0} (gives : K → RRset → ℕ → Signing → Type 0) (keys
     pub lasts : least_ttl set.records ≡ ttl
     pub signed : IsSigned set
 
+-- A set as it is made for the circle: of this type and class IN, and with this TTL.
+pub record IsMadeAs (t : RecordType) (ttl : ℕ) (set : RRset) : Type 0 where
+  pub record_type : set.record_type ≡ t
+  pub class : set.dns_class ≡ IN
+  pub lasts : least_ttl set.records ≡ ttl
+
 -- Some key fails to sign a set of this kind.
 pub record SomeFails {K : Type 0} (fails : K → RRset → ℕ → Bool) (keys : List K) (now : ℕ)
     (Is : RRset → Type 0) : Type 0 where

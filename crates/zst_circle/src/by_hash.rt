@@ -8,7 +8,7 @@ ghost use Rattle.zst_absence.specs.zst_denial.Hashed.{AreApart, IsParameterSet, 
 ghost use Rattle.zst_absence.specs.zst_denial.Signing.{any_fails};
 ghost use Rattle.zst_absence.specs.zst_handler.Zones.{AreInOrder, IsStored, Zone, rrset_at};
 ghost use Rattle.zst_circle.specs.declared.hashed.HashedName.{HashedName};
-ghost use Rattle.zst_circle.specs.Nsec3Circle.{IsNsec3In, IsNsec3SetOn, IsParametersOf, IsSetWith, hash_cmp, hashing_of, next_place};
+ghost use Rattle.zst_circle.specs.Nsec3Circle.{IsNsec3In, IsNsec3Made, IsParametersOf, IsSetWith, hash_cmp, hashing_of, next_place};
 ghost use Rattle.zst_circle.specs.Securing.{AreAuthoritative, ChangesOnly, HasNone, IsMade, IsZoneAt, SomeFails};
 
 use crate::hash_types::nsec3_types;
@@ -96,7 +96,7 @@ pub fn put_nsec3<K: ZoneSigner>(
     ensures fits { OnOk result (labels_len origin.now.labels + 34 ≤ 255) }
     ensures failed { IfErr result (λ e. e ≡ SignerFault.Failed → (255 < labels_len origin.now.labels + 34)
         ⊎ ((zone : Zone) → IsZoneAt sets.old key.now zone
-        → SomeFails K.fails keys.now now (IsNsec3SetOn (hashing_of by.entry) by.entry.opt_out zone))) }
+        → SomeFails K.fails keys.now now (IsNsec3Made (hashing_of by.entry) by.entry.opt_out ttl zone))) }
     ensures memory { IfErr result (λ e. e ≡ SignerFault.OutOfMemory → labels_len origin.now.labels + 34 ≤ 255) }
 {
     if !has_room(origin) {

@@ -5,10 +5,10 @@ ghost use Rattle.std.specs.List.{AllByRecursion};
 ghost use Rattle.std.specs.List.Sorted.{IsStrictlySortedBy};
 ghost use Rattle.zst_absence.specs.dnw_codes.declared.record_type.RecordType.TheVariants as kind;
 ghost use Rattle.zst_absence.specs.dnw_name.DomainName.{DomainName, lowercase_name, name_cmp};
-ghost use Rattle.zst_absence.specs.zst_denial.Circles.{IsNsecSet, IsSecured};
+ghost use Rattle.zst_absence.specs.zst_denial.Circles.{IsSecured};
 ghost use Rattle.zst_absence.specs.zst_denial.Signing.{any_fails};
 ghost use Rattle.zst_absence.specs.zst_handler.Zones.{AreInOrder, IsStored, Zone, rrset_at};
-ghost use Rattle.zst_circle.specs.NsecCircle.{IsNext, IsNsecIn, IsNsecOf, is_among};
+ghost use Rattle.zst_circle.specs.NsecCircle.{IsNext, IsNsecIn, IsNsecMade, IsNsecOf, is_among};
 ghost use Rattle.zst_circle.specs.Securing.{AreAuthoritative, ChangesOnly, HasNone, IsMade, IsZoneAt, SomeFails};
 
 use crate::names::is_delegation;
@@ -43,7 +43,7 @@ pub fn put_nsec<K: ZoneSigner>(
     ensures stored { OnOk result ((name : DomainName) → IfSome (rrset_at sets.new name kind.NSEC) IsStored) }
     ensures ordered { OnOk result (AreInOrder sets.new) }
     ensures failed { IfErr result (λ e. e ≡ SignerFault.Failed → (zone : Zone) → IsZoneAt sets.old origin.now zone
-        → SomeFails K.fails keys.now now (λ set. IsNsecSet zone set.name set)) }
+        → SomeFails K.fails keys.now now (IsNsecMade ttl zone)) }
 {
     'places: for place in 0..names.len() {
         let set = nsec_set(alloc, origin, ttl, names, place, sets)?;
@@ -77,7 +77,9 @@ fn nsec_set(
 fn next_on(names: &[Name], place: usize) -> &Name
     requires place { place < length names.now }
     requires sorted { IsStrictlySortedBy name_cmp names.now }
-    ensures { (owner : DomainName) → slice_get names.now place ≡ Some owner → IsNext name_cmp (is_among name_cmp names.now) owner result.now }
+    requires lower { AllByRecursion (λ name. lowercase_name name ≡ name) names.now }
+    ensures follows { (owner : DomainName) → slice_get names.now place ≡ Some owner → IsNext name_cmp (is_among name_cmp names.now) owner result.now }
+    ensures lower { lowercase_name result.now ≡ result.now }
 {
     let after = place + 1;
     if after < names.len() {

@@ -1,13 +1,13 @@
 //! Zones that are secured: all sets are signed anew around a circle that is made anew (RFC 4035 section 2, RFC 5155 section
 //! 7.1).
 
-ghost use Rattle.std.specs.Prelude.{◌≡◌, ◌+◌, ◌≤◌, [], false, true, not, ◌&&◌, length, nat_le, IfErr, IfSome, OnErr, OnOk, is_some, option_copied};
+ghost use Rattle.std.specs.Prelude.{◌≡◌, ◌+◌, ◌≤◌, [], false, true, not, ◌&&◌, length, nat_le, IfErr, IfSome, IsSome, OnErr, OnOk, is_some, option_copied};
 ghost use Rattle.std.specs.List.{AllByRecursion};
 ghost use Rattle.zst_absence.specs.dnw_codes.declared.record_type.RecordType.{RecordType};
 ghost use Rattle.zst_absence.specs.dnw_codes.declared.record_type.RecordType.TheVariants as kind;
 ghost use Rattle.zst_absence.specs.dnw_codes.RecordType.{same_record_type};
-ghost use Rattle.zst_absence.specs.dnw_name.DomainName.{DomainName, labels_len, lowercase_name};
-ghost use Rattle.zst_absence.specs.zst_denial.Circles.{IsNsecSet, IsSecured};
+ghost use Rattle.zst_absence.specs.dnw_name.DomainName.{DomainName, labels_len, lowercase_name, name_eq};
+ghost use Rattle.zst_absence.specs.zst_denial.Circles.{IsSecured};
 ghost use Rattle.zst_absence.specs.zst_denial.Hashed.{AreApart, IsSecuredByHash};
 ghost use Rattle.zst_absence.specs.zst_denial.Kept.{is_circle_type};
 ghost use Rattle.zst_absence.specs.zst_denial.Signing.{any_fails};
@@ -16,6 +16,7 @@ ghost use Rattle.zst_circle.specs.Moves.{CanMove, placeholder_of};
 ghost use Rattle.zst_circle.specs.Resigning.{IsStoredToSign, Resigns};
 ghost use Rattle.zst_circle.specs.Secures.{FailsToSecure, IsCircledBy, IsMadeByHash, IsMadeFor, IsZoneOf, Secures, has_room};
 ghost use Rattle.zst_circle.specs.Nsec3Circle.{hashing_of};
+ghost use Rattle.zst_circle.specs.NsecCircle.{IsNsecMade};
 ghost use Rattle.zst_circle.specs.Securing.{ChangesOnly, HasNone, IsMade, IsZoneAt, SomeFails};
 
 use crate::by_hash::{self, put_nsec3, put_parameters};
@@ -46,7 +47,7 @@ pub fn secure<K: ZoneSigner>(
     ensures ordered { OnOk result (AreInOrder sets.new) }
     ensures stored { OnOk result (AreStored sets.old → (name : DomainName) → (t : RecordType) → IfSome (rrset_at sets.new name t) IsStored) }
     ensures failed { IfErr result (λ e. e ≡ SignerFault.Failed → (zone : Zone) → IsZoneOf sets.old origin.now (option_copied proof.entry) zone
-        → FailsToSecure K.fails keys.now now (option_copied proof.entry) zone) }
+        → FailsToSecure K.fails keys.now now (option_copied proof.entry) ttl zone) }
     ensures room { OnOk result (has_room (option_copied proof.entry) origin.now ≡ true) }
     ensures memory { IfErr result (λ e. e ≡ SignerFault.OutOfMemory → has_room (option_copied proof.entry) origin.now ≡ true) }
     ensures err { OnErr result (sets.new ≡ sets.old) }
@@ -106,7 +107,7 @@ fn make<K: ZoneSigner>(
     ensures stored { OnOk result ((name : DomainName) → (t : RecordType) → is_circle_type t ≡ true → IfSome (rrset_at new.new name t) IsStored) }
     ensures ordered { OnOk result (AreInOrder new.new) }
     ensures failed { IfErr result (λ e. e ≡ SignerFault.Failed → (zone : Zone) → IsZoneAt old.now key.now zone
-        → FailsToSecure K.fails keys.now now (option_copied proof.entry) zone) }
+        → FailsToSecure K.fails keys.now now (option_copied proof.entry) ttl zone) }
 {
     placeholders(alloc, key, keys, now, old, new, list)?;
     put_circle(alloc, origin, key, proof, ttl, keys, now, new)
@@ -134,7 +135,7 @@ fn put_circle<K: ZoneSigner>(
     ensures stored { OnOk result ((name : DomainName) → (t : RecordType) → is_circle_type t ≡ true → IfSome (rrset_at sets.new name t) IsStored) }
     ensures ordered { OnOk result (AreInOrder sets.new) }
     ensures failed { IfErr result (λ e. e ≡ SignerFault.Failed → (zone : Zone) → IsZoneAt sets.old key.now zone
-        → SomeFails K.fails keys.now now (IsMadeFor (option_copied proof.entry) zone)) }
+        → SomeFails K.fails keys.now now (IsMadeFor (option_copied proof.entry) ttl zone)) }
 {
     match proof {
         None => Ok(()),
@@ -175,7 +176,7 @@ fn put_nsec_circle<K: ZoneSigner>(
     ensures stored { OnOk result ((name : DomainName) → IfSome (rrset_at sets.new name kind.NSEC) IsStored) }
     ensures ordered { OnOk result (AreInOrder sets.new) }
     ensures failed { IfErr result (λ e. e ≡ SignerFault.Failed → (zone : Zone) → IsZoneAt sets.old origin.now zone
-        → SomeFails K.fails keys.now now (λ set. IsNsecSet zone set.name set)) }
+        → SomeFails K.fails keys.now now (IsNsecMade ttl zone)) }
 {
     let names = authoritative_names(alloc, origin, sets)?;
     put_nsec(alloc, origin, ttl, &names, keys, now, sets)
@@ -205,12 +206,13 @@ fn put_nsec3_circle<K: ZoneSigner>(
     ensures made { OnOk result ((name : DomainName) → IfSome (rrset_at sets.new name kind.NSEC3) (λ set. IsMade K.gives keys.now now ttl set
         × (any_fails K.fails keys.now set now ≡ false))) }
     ensures stored { OnOk result ((name : DomainName) → IfSome (rrset_at sets.new name kind.NSEC3) IsStored) }
+    ensures parameters_alone { OnOk result ((name : DomainName) → IsSome (rrset_at sets.new name kind.NSEC3PARAM) → name_eq name origin.now ≡ true) }
     ensures parameters_made { OnOk result ((name : DomainName) → IfSome (rrset_at sets.new name kind.NSEC3PARAM) (λ set. IsMade K.gives keys.now now ttl set
         × (any_fails K.fails keys.now set now ≡ false))) }
     ensures parameters_stored { OnOk result ((name : DomainName) → IfSome (rrset_at sets.new name kind.NSEC3PARAM) IsStored) }
     ensures ordered { OnOk result (AreInOrder sets.new) }
     ensures failed { IfErr result (λ e. e ≡ SignerFault.Failed → (zone : Zone) → IsZoneAt sets.old key.now zone
-        → SomeFails K.fails keys.now now (IsMadeByHash (hashing_of by.entry) by.entry.opt_out zone)) }
+        → SomeFails K.fails keys.now now (IsMadeByHash (hashing_of by.entry) by.entry.opt_out ttl zone)) }
 {
     put_parameters(alloc, origin, ttl, by, keys, now, sets)?;
     let names = authoritative_names(alloc, key, sets)?;

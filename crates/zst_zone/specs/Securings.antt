@@ -25,7 +25,7 @@ module _ {K : Type 0} where
   -- refused, and these wouldn't.
   abbrev pub RefusesToSecure : (K → RRset → ℕ → Bool) → List K → ℕ → Zone → ZoneError → Type 0
   RefusesToSecure fails keys now zone errors.SignerFailed =
-      FailsToSecure fails keys now zone.nx_proof_kind zone
+      FailsToSecure fails keys now zone.nx_proof_kind (denial_ttl zone) zone
   RefusesToSecure fails keys now zone errors.OutOfMemory =
       has_room zone.nx_proof_kind zone.origin ≡ true
   RefusesToSecure fails keys now zone other = ⊥

@@ -16,7 +16,8 @@ returns c =
     let same : here ≡ owner = one_at names c.args.place here owner c.requires.place c.index-names-place.is at in
     subst (λ (o : DomainName). IsNsecIn sets c.args.origin.now names c.args.ttl o set) same (record {
       next = c.next_on.result.now;
-      follows = c.next_on.ensures here (slice_at names c.args.place here c.requires.place c.index-names-place.is);
+      follows = c.next_on.ensures.follows here (slice_at names c.args.place here c.requires.place c.index-names-place.is);
+      lower = c.next_on.ensures.lower;
       types = c.in_ok-types.types;
       lists = λ zone in_zone t.
           c.in_ok-types.ensures t ∙ ap (λ (l : List RRset). is_nsec_type l c.is_delegation-delegated.result t) c.sets_at.ensures

@@ -15,6 +15,6 @@ pub returns-clause-failed : goal.returns-clause-failed
 returns-clause-failed g c =
     let placed = c.in_ok-placeholders.ensures in
     err_as c.put_circle.result (λ e failed is zone at.
-    inr (inl (made_bare g.K.ZoneSigner.gives g.K.ZoneSigner.fails c.args.keys.now c.args.now _ c.args.old.now c.placeholders.new.new zone at.has_sets placed.there
+    inr (inl (made_bare g.K.ZoneSigner.gives g.K.ZoneSigner.fails c.args.keys.now c.args.now _ c.args.ttl c.args.old.now c.placeholders.new.new zone at.has_sets placed.there
     (failed is (record zone { sets = c.placeholders.new.new }) (record { has_sets = refl; has_origin = at.has_origin })))))
     c.put_circle.ensures.failed

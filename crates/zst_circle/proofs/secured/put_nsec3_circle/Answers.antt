@@ -1,12 +1,12 @@
 use Rattle.std.proofs.Common.{arith, ◌+◌, ◌≤◌, ◌≡◌, ◌∙◌, ap, refl, subst, sym, false, inl, inr, List}
-use Rattle.std.specs.Prelude.{IfSome, IsSome, IsSomeAnd, Option, Some, None}
+use Rattle.std.specs.Prelude.{IfSome, IsSome, IsSomeAnd, Option, Some, None, is_some}
 use Rattle.std.proofs.lemmas.Bool.Decides.{nat_tests}
 use Rattle.std.proofs.lemmas.Result.{err_from_is_err_and}
 use Rattle.zst_absence.specs.dnw_codes.declared.record_type.RecordType.TheVariants as kind
 use Rattle.zst_absence.specs.dnw_name.DomainName.{DomainName, labels_len, name_eq}
 use Rattle.zst_absence.specs.zst_denial.Signing.{any_fails}
 use Rattle.zst_absence.specs.zst_handler.Zones.{IsStored, rrset_at}
-use Rattle.zst_absence.specs.zst_record.RecordSets.{RRset}
+use Rattle.zst_absence.specs.zst_record.RecordSets.{RRset, least_ttl}
 use Rattle.zst_circle.specs.Nsec3Circle.{hashing_of}
 use Rattle.zst_circle.specs.Secures.{with_parameters}
 use Rattle.zst_circle.specs.Securing.{AreAuthoritative, IsMade}
@@ -32,6 +32,7 @@ returns-in_err-put_parameters-clause-failed g c =
       is = inl (
         ap (λ (n : DomainName). name_eq n zone.origin) f.is.name ∙ same_origin c.args.origin.now c.args.key.now zone at.has_origin c.requires.key,
         record { only = f.is.only; one = f.is.one; held = f.is.held },
+        record { record_type = f.is.record_type; class = f.is.class; lasts = ap least_ttl f.is.one ∙ f.is.lasts },
       );
       failed = f.failed;
     })
@@ -40,6 +41,11 @@ pub put_nsec3-requires-clause-names : goal.put_nsec3-requires-clause-names
 put_nsec3-requires-clause-names g c = λ zone at.
     subst (λ (l : List DomainName). AreAuthoritative kind.NSEC3 zone l) (sym c.deref.ensures.value)
     (c.in_ok-names.ensures.are kind.NSEC3 zone at (λ name. c.in_ok-put_parameters.ensures.others name kind.NSEC3 refl ∙ c.requires.none name))
+
+pub returns-clause-parameters_alone : goal.returns-clause-parameters_alone
+returns-clause-parameters_alone g c =
+    ok_as c.put_nsec3.result (λ others name some. c.in_ok-put_parameters.ensures.only name (ap is_some (sym (others name kind.NSEC3PARAM refl)) ∙ some))
+    c.put_nsec3.ensures.others
 
 pub returns-clause-parameters_made : goal.returns-clause-parameters_made
 returns-clause-parameters_made g c =
@@ -73,7 +79,7 @@ returns-clause-failed g c =
             set = f.set;
             is = inr (on_still (hashing_of c.args.by) c.args.by.opt_out (record zone { sets = mid }) (with_parameters zone)
                 (alike_with c.args.sets.now mid c.args.origin.now put.others c.requires.parameters put.only zone at.has_sets
-                (same_origin c.args.origin.now c.args.key.now zone at.has_origin c.requires.key) (some_is _ (rrset_at mid c.args.origin.now kind.NSEC3PARAM) put.made)) f.set f.is);
+                (same_origin c.args.origin.now c.args.key.now zone at.has_origin c.requires.key) (some_is _ (rrset_at mid c.args.origin.now kind.NSEC3PARAM) put.made)) f.set f.is.0, f.is.1);
             failed = f.failed;
           }
     ])
