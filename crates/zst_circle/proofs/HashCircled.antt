@@ -1,6 +1,6 @@
 -- The circle by hash of a zone with its NSEC3PARAM set.
 use Rattle.std.proofs.Common.{◌≡◌, ◌∙◌, ℕ, refl, ap, sym, subst, inl, inr}
-use Rattle.std.specs.Prelude.{Bool, true, false, ◌&&◌, List, [], ◌∷◌, Option, Some, None, IfSome, IsSome, IsSomeAnd, cond, is_some}
+use Rattle.std.specs.Prelude.{Bool, true, false, ◌&&◌, List, Option, Some, None, IfSome, IsSome, IsSomeAnd, cond, is_some}
 use Rattle.std.proofs.lemmas.Bool.{true≢false}
 use Rattle.zst_absence.specs.dnw_codes.declared.record_type.RecordType.{RecordType}
 use Rattle.zst_absence.specs.dnw_codes.declared.record_type.RecordType.TheVariants as kind
@@ -42,11 +42,14 @@ pub made_still : (by : Hashing) (opt_out : Bool) (ttl : ℕ) (zone : Zone) (a b 
     → (set : RRset) → IsMadeByHash by opt_out ttl (record zone { sets = a }) set → IsMadeByHash by opt_out ttl (record zone { sets = b }) set
 made_still by opt_out ttl zone a b same set (inl made) = inl made
 made_still by opt_out ttl zone a b same set (inr made) =
-    inr (on_still by opt_out (with_parameters (record zone { sets = a })) (with_parameters (record zone { sets = b })) (record {
-      origin = refl;
-      owned = λ name t other.
-          with_one (name_eq name zone.origin && same_record_type kind.NSEC3PARAM t) (empty_set zone.origin kind.NSEC3PARAM) (empty_set zone.origin kind.NSEC3PARAM) (rrset_at b name t) (rrset_at a name t) (same name t);
-    }) set made.0, made.1)
+    inr (
+      on_still by opt_out (with_parameters (record zone { sets = a })) (with_parameters (record zone { sets = b })) (record {
+        origin = refl;
+        owned = λ name t other.
+            with_one (name_eq name zone.origin && same_record_type kind.NSEC3PARAM t) (empty_set zone.origin kind.NSEC3PARAM) (empty_set zone.origin kind.NSEC3PARAM) (rrset_at b name t) (rrset_at a name t) (same name t);
+      }) set made.0,
+      made.1,
+    )
 
 -- ---- the NSEC3PARAM set that was put
 module _ (old new : List RRset) (origin : DomainName) (others : ChangesOnly kind.NSEC3PARAM old new) (none : HasNone old kind.NSEC3PARAM)

@@ -417,15 +417,18 @@ module _ (by : Hashing) (opt_out : Bool) where
             let on : IsHashedName by opt_out zone it.0 = at_place (IsHashedName by opt_out zone) names place it.0 (are zone at).each it.1 in
             record {
               set = unsigned set;
-              is = (record {
-                name = it.0.key;
-                on = on.on;
-                owner = ap (λ (o : DomainName). name_eq o (hashed_name by zone it.0.key)) is.is.name
-                    ∙ ap (λ (d : List ℕ). name_eq (hashed_owner d origin) (hashed_name by zone it.0.key)) on.digest
-                    ∙ owner_alike (digest_of by it.0.key) origin zone.origin (sym (at.has_origin ∙ spelled));
-                is = is_nsec3_set old key origin names ttl zone at spelled (are zone at) it.0 on (unsigned set)
-                    (as_before old sets key origin names ttl it.0 (unsigned set) others (of_unsigned sets key origin names ttl it.0 set [] is));
-              }, record { record_type = is.is.record_type; class = is.is.class; lasts = ap least_ttl is.is.one ∙ is.is.lasts });
+              is = (
+                record {
+                  name = it.0.key;
+                  on = on.on;
+                  owner = ap (λ (o : DomainName). name_eq o (hashed_name by zone it.0.key)) is.is.name
+                      ∙ ap (λ (d : List ℕ). name_eq (hashed_owner d origin) (hashed_name by zone it.0.key)) on.digest
+                      ∙ owner_alike (digest_of by it.0.key) origin zone.origin (sym (at.has_origin ∙ spelled));
+                  is = is_nsec3_set old key origin names ttl zone at spelled (are zone at) it.0 on (unsigned set)
+                      (as_before old sets key origin names ttl it.0 (unsigned set) others (of_unsigned sets key origin names ttl it.0 set [] is));
+                },
+                record { record_type = is.is.record_type; class = is.is.class; lasts = ap least_ttl is.is.one ∙ is.is.lasts },
+              );
               failed = failed;
             }
 

@@ -23,7 +23,7 @@ use Rattle.zst_absence.specs.zst_record.RecordLaws.{name_eq_equiv}
 use Rattle.zst_absence.specs.zst_record.RecordSets.{RRset, least_ttl, none_left}
 use Rattle.zst_absence.specs.zst_record.declared.records.Record.{Record}
 use Rattle.zst_absence.proofs.zst_map_lemmas.Replacing.{both_same}
-use Rattle.zst_circle.specs.NsecCircle.{IsNext, IsNsecIn, IsNsecMade, IsNsecOf, is_among}
+use Rattle.zst_circle.specs.NsecCircle.{IsNsecIn, IsNsecMade, is_among}
 use Rattle.zst_circle.specs.Securing.{AreAuthoritative, ChangesOnly, HasNone, IsMade, IsSigned, IsZoneAt, SomeFails}
 use Rattle.zst_absence.proofs.zst_denial_lemmas.zst_key_lemmas.NamesAbove.{is-equal, name_total}
 use Rattle.zst_circle.proofs.Authoritative.{all_and, any_front, any_last, any_named, below_alike, cut_alike, delegation_alike, same_type}

@@ -77,9 +77,12 @@ returns-clause-failed g c =
           let f = some (record zone { sets = mid }) (record { has_sets = refl; has_origin = at.has_origin }) in
           record {
             set = f.set;
-            is = inr (on_still (hashing_of c.args.by) c.args.by.opt_out (record zone { sets = mid }) (with_parameters zone)
-                (alike_with c.args.sets.now mid c.args.origin.now put.others c.requires.parameters put.only zone at.has_sets
-                (same_origin c.args.origin.now c.args.key.now zone at.has_origin c.requires.key) (some_is _ (rrset_at mid c.args.origin.now kind.NSEC3PARAM) put.made)) f.set f.is.0, f.is.1);
+            is = inr (
+              on_still (hashing_of c.args.by) c.args.by.opt_out (record zone { sets = mid }) (with_parameters zone)
+                  (alike_with c.args.sets.now mid c.args.origin.now put.others c.requires.parameters put.only zone at.has_sets
+                  (same_origin c.args.origin.now c.args.key.now zone at.has_origin c.requires.key) (some_is _ (rrset_at mid c.args.origin.now kind.NSEC3PARAM) put.made)) f.set f.is.0,
+              f.is.1,
+            );
             failed = f.failed;
           }
     ])
