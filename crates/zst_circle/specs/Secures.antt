@@ -48,6 +48,12 @@ IsCircledBy (Some (proofs.Nsec3 algorithm salt iterations opt_out)) zone =
     × (AreApart (record { salt = salt; iterations = iterations }) opt_out zone
     → IsSecuredByHash (record { salt = salt; iterations = iterations }) opt_out zone)
 
+-- A circle by hash has room for its owners, one label of 32 octets below the origin.
+abbrev pub has_room : Option NxProofKind → DomainName → Bool
+has_room (Some (proofs.Nsec3 algorithm salt iterations opt_out)) origin =
+    nat_le (labels_len origin.labels + 34) 255
+has_room other origin = true
+
 module _ {K : Type 0} (gives : K → RRset → ℕ → Signing → Type 0) (fails : K → RRset → ℕ → Bool)
     (keys : List K) (now : ℕ) where
   -- A stored set has its records, but for the next serial number, and new signatures, if it is to
@@ -68,6 +74,7 @@ module _ {K : Type 0} (gives : K → RRset → ℕ → Signing → Type 0) (fail
   -- circle are made.
   pub record Secures (old : Zone) (ttl : ℕ) (new : Zone) : Type 0 where
     pub rest : new ≡ record old { sets = new.sets }
+    pub room : has_room old.nx_proof_kind old.origin ≡ true
     pub ordered : AreInOrder new.sets
     pub kept : (name : DomainName) (t : RecordType) → is_circle_type t ≡ false
         → KeepsSet old name t (rrset_at old.sets name t) (rrset_at new.sets name t)
@@ -95,12 +102,6 @@ IsMadeFor None ttl zone set = ⊥
 IsMadeFor (Some proofs.Nsec) ttl zone set = IsNsecMade ttl zone set
 IsMadeFor (Some (proofs.Nsec3 algorithm salt iterations opt_out)) ttl zone set =
     IsMadeByHash (record { salt = salt; iterations = iterations }) opt_out ttl zone set
-
--- A circle by hash has room for its owners, one label of 32 octets below the origin.
-abbrev pub has_room : Option NxProofKind → DomainName → Bool
-has_room (Some (proofs.Nsec3 algorithm salt iterations opt_out)) origin =
-    nat_le (labels_len origin.labels + 34) 255
-has_room other origin = true
 
 -- Some key fails for a set that is to be signed, a stored one or one of the circle; or owners of
 -- the circle would have more than 255 octets.

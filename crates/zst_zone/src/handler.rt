@@ -13,7 +13,7 @@ ghost use Rattle.zst_circle.specs.zst_handler.Zones.{exists_in, rrset_at, empty_
 ghost use Rattle.zst_request.specs.Handed.{transfer_records};
 ghost use Rattle.zst_request.specs.Transfers.{own_refused, transfer_of};
 ghost use Rattle.zst_zone.specs.Makings.{PutsAll, RefusesAll, first_refusal, is_own_key, refusal};
-ghost use Rattle.zst_circle.specs.Secures.{Secures, has_room};
+ghost use Rattle.zst_circle.specs.Secures.{Secures};
 ghost use Rattle.zst_zone.specs.Securings.{RefusesToSecure, denial_ttl};
 ghost use Rattle.zst_zone.specs.Starts.{RefusesSet, first_data, minimum_of, serial_of};
 
@@ -506,7 +506,6 @@ impl StoredZone {
         now: u64,
     ) -> Result<(), ZoneError>
         ensures ok { OnOk result (Secures K.gives K.fails keys.now now self.old (denial_ttl self.old) self.new) }
-        ensures room { OnOk result (has_room self.old.nx_proof_kind self.old.origin ≡ true) }
         ensures refused { IfErr result (RefusesToSecure K.fails keys.now now self.old) }
         ensures err { OnErr result (self.new ≡ self.old) }
     {

@@ -6,7 +6,7 @@ use Rattle.zst_absence.specs.zst_denial.Signing.{any_fails}
 use Rattle.zst_absence.specs.zst_handler.Zones.{IsStored, rrset_at}
 use Rattle.zst_absence.specs.zst_record.RecordSets.{RRset}
 use Rattle.zst_circle.specs.Resigning.{IsResigning}
-use Rattle.zst_circle.specs.Secures.{IsCircledBy, KeepsSet, Secures}
+use Rattle.zst_circle.specs.Secures.{has_room, IsCircledBy, KeepsSet, Secures}
 use Rattle.zst_circle.specs.Securing.{IsMade, IsZoneAt}
 use Rattle.zst_circle.proofs.StoredSets.{all_stored}
 use Rattle.zst_circle.proofs.Settled.{circled_then, kept_then, made_then}
@@ -30,6 +30,7 @@ returns-clause-ok g c = λ zone of.
     let P : RRset → Type 0 = λ set. IsMade gives keys now c.args.ttl set × (any_fails fails keys set now ≡ false) in
     let is : Secures gives fails keys now zone c.args.ttl (record zone { sets = final }) = record {
       rest = refl;
+      room = (λ i. has_room (of.has_proof i) (of.has_origin i)) ∙ sym c.has_room.ensures ∙ c.if-not-has_room.false;
       ordered = c.commit.ensures.ordered;
       kept = λ name t other.
           subst (λ (l : List RRset). KeepsSet gives fails keys now zone name t (rrset_at l name t) (rrset_at final name t)) (sym of.has_sets)
