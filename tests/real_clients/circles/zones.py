@@ -108,6 +108,10 @@ class Zone:
     def is_below_cut(self, name):
         return any(name != it and name.is_subdomain(it) for it in self.cuts)
 
+    def insecure_delegations(self):
+        """Those without DS, which may be left out with opt-out (RFC 5155, section 6)."""
+        return {it for it in self.cuts if "DS" not in self.kinds[it] and not self.is_below_cut(it)}
+
     def names_above_insecure_alone(self):
         """The empty names that are above nothing but delegations without DS, which may be left out (RFC 5155, section 7.1)."""
         found, kept = set(), set()
