@@ -13,7 +13,7 @@ are_unsigned gives [] set now (r ∷ rs) all = absurd all
 are_unsigned gives (k ∷ ks) set now [] all = absurd all
 are_unsigned gives (k ∷ ks) set now (r ∷ rs) all =
     let it = all.0 in
-    ((it.0, it.1, record { owner = it.2.owner; class = it.2.class; ttl = it.2.ttl; held = it.2.held }), are_unsigned gives ks set now rs all.1)
+    ((it.0, it.1, record { owner = it.2.owner; class = it.2.class; ttl = it.2.ttl; record_type = it.2.record_type; held = it.2.held }), are_unsigned gives ks set now rs all.1)
 
 pub ok_both : {T E : Type 0} (P R : T → Type 0) (Q : Type 0) (r : Result T E) → ((x : T) → P x → Q → R x) → IfOk r P → OnOk r Q → IfOk r R
 ok_both P R Q (Ok x) f p q = f x p q
