@@ -152,14 +152,16 @@ WordsGive words origin now (Err faults.ZoneFile) = ⊥
 WordsGive words origin now (Err (faults.Zone error)) = ⊥
 WordsGive words origin now (Err (faults.Stream error)) = error ≡ streams.OutOfMemory false
 
--- What the text gives.
-abbrev pub TextGives : DomainName → List ℕ → Result Zone Fault → Type 0
-TextGives origin text (Ok zone) =
-    IsZoneText (first_zone origin) text zone × (zone.zone_type ≡ kinds.Primary)
-TextGives origin text (Err faults.Words) = ⊥
-TextGives origin text (Err faults.ZoneFile) = ⊥
-TextGives origin text (Err (faults.Zone error)) = IsLoadFault (first_zone origin) text error
-TextGives origin text (Err (faults.Stream error)) = ⊥
+-- What the text gives; `zone_of` gives the zone of what is made.
+abbrev pub TextGives : {X : Type 0} → DomainName → List ℕ → (X → Zone) → Result X Fault → Type 0
+TextGives origin text zone_of (Ok made) =
+    IsZoneText (first_zone origin) text (zone_of made)
+    × ((zone_of made).zone_type ≡ kinds.Primary)
+TextGives origin text zone_of (Err faults.Words) = ⊥
+TextGives origin text zone_of (Err faults.ZoneFile) = ⊥
+TextGives origin text zone_of (Err (faults.Zone error)) =
+    IsLoadFault (first_zone origin) text error
+TextGives origin text zone_of (Err (faults.Stream error)) = ⊥
 
 -- A status that stands for some words, file and streams: those of a process have no value in a
 -- clause.

@@ -18,7 +18,7 @@ pub fn record_reads_back(stored: &Record) -> bool
 /// Whether each record of a zone and each signature can be served: it reads back alone, and is no OPT, SIG or TSIG. It
 /// takes no memory.
 pub fn zone_reads_back<K>(zone: &InMemoryZoneHandler<K>) -> bool
-    ensures { IsTrue result ↔ ZoneReadsBack zone.now }
+    ensures { IsTrue result ↔ ZoneReadsBack zone.now.zone }
 {
     zone.reads_back()
 }

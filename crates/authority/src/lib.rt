@@ -8,10 +8,10 @@ pub use authority_server::{
     ZoneHandler,
 };
 pub use authority_transfer::{
-    AuthLookup, AxfrPolicy, InMemoryZoneHandler, LoadCause, LoadError, LookupControlFlow,
-    LookupError, LookupOptions, LowerName, Nsec3HashAlgorithm, NxProofKind, ProtoError,
-    ResponseCode, RrKey, Salt, TransferError, ZoneError, ZoneSettings, ZoneTransfer, ZoneType,
-    load_zone,
+    AuthLookup, AxfrPolicy, DnssecZoneHandler, InMemoryZoneHandler, LoadCause, LoadError,
+    LookupControlFlow, LookupError, LookupOptions, LowerName, Nsec3HashAlgorithm, NxProofKind,
+    ProtoError, ResponseCode, RrKey, Salt, SignerFault, StoredZone, TransferError, ZoneError,
+    ZoneSettings, ZoneSignature, ZoneSigner, ZoneTransfer, ZoneType, load_zone,
 };
 
 mod back;

@@ -8,10 +8,10 @@ ghost use Rattle.authority_server.specs.zsv_catalog.zsv_answer.zst_request.Views
 ghost use Rattle.authority_server.specs.zsv_catalog.zsv_update.Keys.{no_keys};
 ghost use Rattle.authority.specs.Programs.{Answers, IsLoopback, StatusIs, TextGives, WordsGive, one_zone, out_of_memory, read_or_usage, status_of};
 
-use authority_server::{Authority, Name, NoSuite, StreamError};
+use authority_server::{Authority, Name, NoSuite, RecordSet, StreamError};
 use authority_transfer::{
-    AxfrPolicy, InMemoryZoneHandler, LoadError, TextError, ZoneSettings, ZoneType, load_zone,
-    parse_owner, parse_u64,
+    AxfrPolicy, InMemoryZoneHandler, LoadError, SignerFault, TextError, ZoneSettings,
+    ZoneSignature, ZoneSigner, ZoneType, load_zone, parse_owner, parse_u64,
 };
 use std::alloc::{AllocError, AllocFailed, Global};
 use std::io::{Read, Write};
@@ -21,6 +21,24 @@ use thiserror::Error;
 /// The program's zone is signed by nobody.
 #[derive(Clone, Copy, Debug)]
 pub struct NoSigner;
+
+impl ZoneSigner for NoSigner {
+    ghost use Rattle.std.specs.Prelude.{true};
+
+    ghost gives = { λ _ _ _ _. ⊥ };
+
+    ghost fails = { λ _ _ _. true };
+
+    /// It fails for every set.
+    fn sign(
+        &self,
+        _alloc: Global,
+        _set: &RecordSet,
+        _now: u64,
+    ) -> Result<ZoneSignature, SignerFault> {
+        Err(SignerFault::Failed)
+    }
+}
 
 /// Why the program ends before its input does.
 #[derive(Clone, Copy, Debug, Error)]
@@ -135,9 +153,9 @@ fn server_of(
     alloc: Global,
     zone: InMemoryZoneHandler<NoSigner>,
 ) -> Result<Authority<NoSuite, InMemoryZoneHandler<NoSigner>>, Fault>
-    requires { ZoneReadsBack zone }
-    ensures server { IfOk result (λ server. world_of (λ suite. no_keys) (λ handler. Stored handler) server ≡ one_zone zone) }
-    ensures stored { AreStored zone.sets }
+    requires { ZoneReadsBack zone.zone }
+    ensures server { IfOk result (λ server. world_of (λ suite. no_keys) (λ handler. Stored handler.zone) server ≡ one_zone zone.zone) }
+    ensures stored { AreStored zone.zone.sets }
     ensures memory { IfErr result (λ fault. fault ≡ out_of_memory) }
 {
     let origin = zone.origin().clone()?;
@@ -157,9 +175,9 @@ fn loopback() -> SocketAddr
 
 /// The zone of the text: kept here, to be transferred by everybody, without proofs of absence.
 fn load(alloc: Global, origin: Name, text: &str) -> Result<InMemoryZoneHandler<NoSigner>, Fault>
-    ensures text { TextGives origin text.now result }
-    ensures reads_back { IfOk result ZoneReadsBack }
-    ensures unguarded { IfOk result (λ zone. zone.guard ≡ None) }
+    ensures text { TextGives origin text.now (λ handler. handler.zone) result }
+    ensures reads_back { IfOk result (λ handler. ZoneReadsBack handler.zone) }
+    ensures unguarded { IfOk result (λ handler. handler.zone.guard ≡ None) }
 {
     let settings = ZoneSettings {
         zone_type: ZoneType::Primary,

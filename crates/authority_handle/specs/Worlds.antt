@@ -9,7 +9,7 @@ use Rattle.authority_server.specs.zsv_catalog.zsv_update.Keys.{no_keys}
 
 -- The view of a handler.
 abbrev pub view_of : Handler → View
-view_of (handlers.Zone zone) = Stored zone
+view_of (handlers.Zone handler) = Stored handler.zone
 view_of (handlers.Blocklist list) = Blocked list
 
 -- The state of a server, which has no keys.

@@ -64,8 +64,8 @@ fn load(
     origin: Name,
     text: &str,
 ) -> Result<InMemoryZoneHandler<()>, Refusal>
-    ensures loaded { IfOk result (IsZoneText (bare_zone origin zone_type) text.now) }
-    ensures reads_back { IfOk result (λ zone. ViewReadsBack (Stored zone)) }
+    ensures loaded { IfOk result (λ handler. IsZoneText (bare_zone origin zone_type) text.now handler.zone) }
+    ensures reads_back { IfOk result (λ handler. ViewReadsBack (Stored handler.zone)) }
     ensures err { IfErr result (RefusesLoad origin zone_type text.now) }
 {
     let settings = ZoneSettings {
@@ -88,8 +88,8 @@ fn zone_of(
     origin: &[u8],
     text: &[u8],
 ) -> Result<(Name, InMemoryZoneHandler<()>), Refusal>
-    ensures ok { IfOk result (λ made. IsZoneOf kind origin.now text.now made.0 made.1) }
-    ensures reads_back { IfOk result (λ made. ViewReadsBack (Stored made.1)) }
+    ensures ok { IfOk result (λ made. IsZoneOf kind origin.now text.now made.0 made.1.zone) }
+    ensures reads_back { IfOk result (λ made. ViewReadsBack (Stored made.1.zone)) }
     ensures err { IfErr result (RefusesZone kind origin.now text.now) }
 {
     let Some(zone_type) = kind_of(kind) else {

@@ -280,7 +280,7 @@ IsLoadFault empty text error =
     IsRefusedAt empty text error.line error.cause
     ⊎ ((error.line ≡ 1) × (error.cause ≡ causes.OutOfMemory))
 
--- The result of loading.
-abbrev pub LoadAnswers : Zone → List ℕ → Result Zone LoadError → Type 0
-LoadAnswers empty text (Ok zone) = IsZoneText empty text zone
-LoadAnswers empty text (Err error) = IsLoadFault empty text error
+-- The result of loading a text; `zone_of` gives the zone of what is made.
+abbrev pub LoadAnswers : {X : Type 0} → Zone → List ℕ → (X → Zone) → Result X LoadError → Type 0
+LoadAnswers empty text zone_of (Ok made) = IsZoneText empty text (zone_of made)
+LoadAnswers empty text zone_of (Err error) = IsLoadFault empty text error

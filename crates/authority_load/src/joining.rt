@@ -11,7 +11,7 @@ ghost use Rattle.authority_load.specs.ZoneText.{MayJoin, RefusesValue};
 use crate::loader::LoadCause;
 use std::alloc::Global;
 use std::mem;
-use zst_zone::{InMemoryZoneHandler, NameKey, Record, RecordSet, RecordType};
+use zst_zone::{NameKey, Record, RecordSet, RecordType, StoredZone};
 
 // Whether an owner of an alias may own a set of this type too.
 fn may_be_beside_alias(record_type: RecordType) -> bool
@@ -56,7 +56,7 @@ fn is_other_alias(alias: Option<&RecordSet>, next: &Record) -> bool
 }
 
 /// Whether the record's owner owns an alias, or the record is an alias and its owner owns something else.
-pub fn is_beside_alias<K>(zone: &InMemoryZoneHandler<K>, key: &NameKey, next: &Record) -> bool
+pub fn is_beside_alias(zone: &StoredZone, key: &NameKey, next: &Record) -> bool
     requires { key.now ≡ lowercase_name next.now.name }
     ensures { result ≡ is_beside_alias zone.now.sets next.now }
 {
@@ -68,14 +68,14 @@ pub fn is_beside_alias<K>(zone: &InMemoryZoneHandler<K>, key: &NameKey, next: &R
 }
 
 // Whether the name of a key owns an SOA.
-fn has_start<K>(zone: &InMemoryZoneHandler<K>, key: &NameKey) -> bool
+fn has_start(zone: &StoredZone, key: &NameKey) -> bool
     ensures { result ≡ is_some (rrset_at zone.now.sets key.now types.SOA) }
 {
     zone.get_at(key, RecordType::SOA).is_some()
 }
 
 /// Whether the record is an SOA and its owner owns one.
-pub fn is_second_start<K>(zone: &InMemoryZoneHandler<K>, key: &NameKey, next: &Record) -> bool
+pub fn is_second_start(zone: &StoredZone, key: &NameKey, next: &Record) -> bool
     requires { key.now ≡ lowercase_name next.now.name }
     ensures { result ≡ is_second_start zone.now.sets next.now }
 {
@@ -83,9 +83,9 @@ pub fn is_second_start<K>(zone: &InMemoryZoneHandler<K>, key: &NameKey, next: &R
 }
 
 /// Adds a record whose owner has this key. An ANAME replaces the owner's ANAME. Where memory runs out the zone stays as it was.
-pub fn join<K>(
+pub fn join(
     alloc: Global,
-    zone: &mut InMemoryZoneHandler<K>,
+    zone: &mut StoredZone,
     key: NameKey,
     next: Record,
 ) -> Result<(), LoadCause>
@@ -104,7 +104,7 @@ pub fn join<K>(
 }
 
 /// The first cause why a record may not join the zone, if there is one.
-pub fn fault_of<K>(zone: &InMemoryZoneHandler<K>, key: &NameKey, next: &Record) -> Option<LoadCause>
+pub fn fault_of(zone: &StoredZone, key: &NameKey, next: &Record) -> Option<LoadCause>
     requires { key.now ≡ lowercase_name next.now.name }
     ensures { MatchOption result (MayJoin zone.now next.now) (λ cause. RefusesValue zone.now next.now cause) }
 {

@@ -5,9 +5,10 @@
 #![tactic(auto)]
 
 pub use zst_zone::{
-    AuthLookup, AxfrPolicy, InMemoryZoneHandler, LookupControlFlow, LookupError, LookupOptions,
-    LowerName, NameKey, Nsec3HashAlgorithm, NxProofKind, ProtoError, ResponseCode, RrKey, Salt,
-    ZoneError, ZoneSettings, ZoneTransfer, ZoneType,
+    AuthLookup, AxfrPolicy, DnssecZoneHandler, InMemoryZoneHandler, LookupControlFlow, LookupError,
+    LookupOptions, LowerName, NameKey, Nsec3HashAlgorithm, NxProofKind, ProtoError, ResponseCode,
+    RrKey, Salt, SignerFault, StoredZone, ZoneError, ZoneSettings, ZoneSignature, ZoneSigner,
+    ZoneTransfer, ZoneType,
 };
 
 mod joining;

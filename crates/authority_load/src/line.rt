@@ -13,7 +13,7 @@ use crate::words::first_word;
 use drd_record_data::numbers_fit;
 use std::alloc::Global;
 use std::mem;
-use zst_zone::{DNSClass, InMemoryZoneHandler, Name, NameKey, RData, Record, RecordType};
+use zst_zone::{DNSClass, Name, NameKey, RData, Record, RecordType, StoredZone};
 
 /// The fields of a line: the first four words, and the text after them.
 #[derive(Clone, Copy)]
@@ -42,11 +42,7 @@ pub struct KeyedRecord {
 }
 
 /// The record of a line, which may join the zone, with its owner's key; or the first cause why the line is refused.
-pub fn record_of<K>(
-    alloc: Global,
-    zone: &InMemoryZoneHandler<K>,
-    line: &str,
-) -> Result<KeyedRecord, LoadCause>
+pub fn record_of(alloc: Global, zone: &StoredZone, line: &str) -> Result<KeyedRecord, LoadCause>
     ensures gives { LineGives zone.now line.now (λ taken. taken.next) result }
     ensures keyed { IfOk result (λ taken. taken.key ≡ lowercase_name taken.next.name) }
 {
@@ -67,11 +63,7 @@ pub fn record_of<K>(
 }
 
 /// A record that may join the zone, with its owner's key; or the first cause that keeps it out.
-fn tested<K>(
-    zone: &InMemoryZoneHandler<K>,
-    key: NameKey,
-    next: Record,
-) -> Result<KeyedRecord, LoadCause>
+fn tested(zone: &StoredZone, key: NameKey, next: Record) -> Result<KeyedRecord, LoadCause>
     requires { key ≡ lowercase_name next.name }
     ensures ok { IfOk result (λ taken. (taken.next ≡ next) × (taken.key ≡ key) × MayJoin zone.now next) }
     ensures refused { IfErr result (λ cause. RefusesValue zone.now next cause) }
@@ -87,9 +79,9 @@ fn tested<K>(
 }
 
 /// The data of a line whose owner has this key; or that the owner is outside the zone, or the text malformed.
-fn data_at<K>(
+fn data_at(
     alloc: Global,
-    zone: &InMemoryZoneHandler<K>,
+    zone: &StoredZone,
     key: &NameKey,
     header: &Header<'_>,
 ) -> Result<RData, LoadCause>

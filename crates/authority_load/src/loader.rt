@@ -1,6 +1,6 @@
 //! The lines of a zone's text, in order.
 
-ghost use Rattle.std.specs.Prelude.{◌≡◌, IfErr, IfOk, OnOk};
+ghost use Rattle.std.specs.Prelude.{◌≡◌, [], IfErr, IfOk, OnOk};
 ghost use Rattle.zst_zone.specs.zst_handler.Zones.{ZoneReadsBack, empty_zone};
 ghost use Rattle.authority_load.specs.Loaded.{IsLoaded};
 ghost use Rattle.authority_load.specs.ZoneText.{IsRefusedAt, IsZoneText, LineLoads, LoadAnswers};
@@ -11,7 +11,7 @@ use crate::words::is_skipped;
 use std::alloc::Global;
 use std::mem;
 use thiserror::Error;
-use zst_zone::{InMemoryZoneHandler, Name, ZoneSettings};
+use zst_zone::{InMemoryZoneHandler, Name, StoredZone, ZoneSettings};
 
 /// Why a line is refused. The numbers are stable; the causes are tested in their order, but for `TypeNotLoaded` and
 /// `OutsideZone`, which come before `Data`. `OutOfMemory` hides no cause that is tested before the step that ran out.
@@ -59,19 +59,39 @@ pub struct LoadError {
 /// Lines end at LF or CR LF. Empty lines, lines of spaces and tabs, and lines that begin with `;` are skipped. Every other
 /// line is a record: owner, TTL, class and type, then the words of the data, quoted or not, perhaps in parentheses, up to a
 /// comment. A TTL is in seconds or has units, as `1h30m`; class and type are in any case, and a type may be `TYPE` and its
-/// number. A repeated record is taken once, with the later TTL; of the ANAME records of an owner the last is.
+/// number. A repeated record is taken once, with the later TTL; of the ANAME records of an owner the last is. No key signs the
+/// zone.
 pub fn load_zone<K>(
     alloc: Global,
     origin: Name,
     settings: ZoneSettings,
     text: &str,
 ) -> Result<InMemoryZoneHandler<K>, LoadError>
-    ensures answers { LoadAnswers (empty_zone origin settings) text.now result }
+    ensures answers { LoadAnswers (empty_zone origin settings) text.now (λ handler. handler.zone) result }
+    ensures settings { IfOk result (λ handler. handler.zone ≡ record (empty_zone origin settings) { sets = handler.zone.sets }) }
+    ensures reads_back { IfOk result (λ handler. ZoneReadsBack handler.zone) }
+    ensures loaded { IfOk result (λ handler. IsLoaded handler.zone) }
+    ensures keys { IfOk result (λ handler. handler.keys.items ≡ []) }
+{
+    match load_stored(alloc, origin, settings, text) {
+        Ok(zone) => Ok(InMemoryZoneHandler::of(alloc, zone)),
+        Err(error) => Err(error),
+    }
+}
+
+/// The zone of a text, without the keys that a handler of it has.
+fn load_stored(
+    alloc: Global,
+    origin: Name,
+    settings: ZoneSettings,
+    text: &str,
+) -> Result<StoredZone, LoadError>
+    ensures answers { LoadAnswers (empty_zone origin settings) text.now (λ zone. zone) result }
     ensures settings { IfOk result (λ zone. zone ≡ record (empty_zone origin settings) { sets = zone.sets }) }
     ensures reads_back { IfOk result ZoneReadsBack }
     ensures loaded { IfOk result IsLoaded }
 {
-    let mut zone = match InMemoryZoneHandler::empty(alloc, origin, settings) {
+    let mut zone = match StoredZone::empty(alloc, origin, settings) {
         Ok(zone) => zone,
         Err(_) => return Err(LoadError {
             line: 1,
@@ -92,11 +112,7 @@ pub fn load_zone<K>(
 }
 
 /// Adds the records of the lines, up to the first line that is refused.
-fn load_lines<K>(
-    alloc: Global,
-    zone: &mut InMemoryZoneHandler<K>,
-    text: &str,
-) -> Result<(), LoadError>
+fn load_lines(alloc: Global, zone: &mut StoredZone, text: &str) -> Result<(), LoadError>
     ensures loads { OnOk result (IsZoneText zone.old text.now zone.new) }
     ensures refused { IfErr result (λ error. IsRefusedAt zone.old text.now error.line error.cause) }
 {
@@ -115,11 +131,7 @@ fn load_lines<K>(
 }
 
 /// Adds the record of a line, unless the line is skipped.
-fn load_line<K>(
-    alloc: Global,
-    zone: &mut InMemoryZoneHandler<K>,
-    line: &str,
-) -> Result<(), LoadCause>
+fn load_line(alloc: Global, zone: &mut StoredZone, line: &str) -> Result<(), LoadCause>
     ensures { LineLoads zone.old line.now zone.new result }
 {
     if is_skipped(line.as_bytes()) {

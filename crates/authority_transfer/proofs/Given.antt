@@ -1,6 +1,6 @@
 -- What the steps of a loader give together.
 use Rattle.std.proofs.Common.{inl, inr, ◌≡◌, ◌∙◌, ◌⊎◌, refl, sym, ap, subst, ℕ, ◌<◌, ◌≤◌, length, arith, true≢false}
-use Rattle.std.specs.Prelude.{Bool, true, false, not, List, [], ◌∷◌, ◌++◌, Err, IfErr, IfOk, MatchOption, Option, Result, Ok, Some, None, cond, slice_get}
+use Rattle.std.specs.Prelude.{Bool, true, false, not, List, [], ◌∷◌, Err, IfErr, IfOk, MatchOption, Option, Result, Ok, Some, None, cond, slice_get}
 use Rattle.std.specs.List.{AllByRecursion}
 use Rattle.zsv_message.specs.Messages.{IsMessage, Message, ReadsMessage, RefusesMessage, no_additionals, no_answers, no_authorities, no_header, no_questions}
 use Rattle.zsv_message.specs.zst_record.declared.records.Record.{Record}
@@ -14,7 +14,7 @@ use Rattle.authority_transfer.specs.Transfers.{AllNumbersFit, IsReplyFault, IsTr
 use Rattle.authority_transfer.specs.declared.error.TransferError.{TransferError}
 use Rattle.authority_transfer.specs.declared.error.TransferError.TheVariants as errors
 use Rattle.authority_transfer.proofs.Asked.{asks, faultless, said}
-use Rattle.authority_transfer.proofs.Frames.{but_pushed, first_in, framed_pushed}
+use Rattle.authority_transfer.proofs.Frames.{first_in}
 use Rattle.authority_transfer.proofs.Loading.{all_but, takes_loaded}
 use Rattle.authority_transfer.proofs.Received.{IsReceived, answers_received}
 

@@ -184,6 +184,8 @@ abbrev pub IsTransferFault : Zone → List ℕ → TransferError → Type 0
 IsTransferFault empty octets e =
     IsReplyFault empty.origin octets e ⊎ RefusesTransfer empty octets e
 
-abbrev pub TransferGives : Zone → List ℕ → Result Zone TransferError → Type 0
-TransferGives empty octets (Ok zone) = IsTransferOf empty octets zone
-TransferGives empty octets (Err e) = IsTransferFault empty octets e
+-- The result of loading a transfer; `zone_of` gives the zone of what is made.
+abbrev pub TransferGives : {X : Type 0} → Zone → List ℕ → (X → Zone) → Result X TransferError
+    → Type 0
+TransferGives empty octets zone_of (Ok made) = IsTransferOf empty octets (zone_of made)
+TransferGives empty octets zone_of (Err e) = IsTransferFault empty octets e

@@ -22,9 +22,9 @@ pub record HandsOverAll (zone : Zone) (dnssec_ok : Bool) (octets : List ℕ) : T
 
 -- Of the transfer of a loaded zone, given its origin and settings, the zone is made again: of the
 -- same records, and it answers every question as that zone does. Only memory can be refused.
-abbrev pub TwoRoads : Zone → List ℕ → Result Zone TransferError → Type 0
-TwoRoads empty octets result =
+abbrev pub TwoRoads : {X : Type 0} → Zone → List ℕ → (X → Zone) → Result X TransferError → Type 0
+TwoRoads empty octets zone_of result =
     (zone : Zone) (dnssec_ok : Bool) → IsLoaded zone → zone ≡ record empty { sets = zone.sets }
     → HandsOverAll zone dnssec_ok octets
-    → MatchResult result (λ made. IsSameZone zone made × AnswersAlike zone made)
+    → MatchResult result (λ made. IsSameZone zone (zone_of made) × AnswersAlike zone (zone_of made))
     (λ e. e ≡ errors.OutOfMemory)

@@ -6,7 +6,7 @@ ghost use Rattle.authority_load.specs.Loaded.{added_by_signing};
 ghost use Rattle.authority_transfer.specs.Transfers.{may_join, record_fault};
 
 use crate::error::TransferError;
-use authority_load::{InMemoryZoneHandler, NameKey, is_beside_alias, is_second_start};
+use authority_load::{NameKey, StoredZone, is_beside_alias, is_second_start};
 use zsv_message::{DNSClass, Record, RecordType};
 
 // Whether signing adds records of a type.
@@ -20,7 +20,7 @@ fn is_added_by_signing(record_type: RecordType) -> bool
 }
 
 // Whether a record may join the zone, by its class and by what its owner has.
-fn may_join<K>(zone: &InMemoryZoneHandler<K>, key: &NameKey, next: &Record) -> bool
+fn may_join(zone: &StoredZone, key: &NameKey, next: &Record) -> bool
     requires { key.now ≡ lowercase_name next.now.name }
     ensures { result ≡ may_join zone.now.sets next.now }
 {
@@ -30,8 +30,8 @@ fn may_join<K>(zone: &InMemoryZoneHandler<K>, key: &NameKey, next: &Record) -> b
 }
 
 /// The first cause that refuses a record, whose index among the answers this is.
-pub fn record_fault<K>(
-    zone: &InMemoryZoneHandler<K>,
+pub fn record_fault(
+    zone: &StoredZone,
     key: &NameKey,
     index: usize,
     next: &Record,

@@ -6,10 +6,11 @@
 #![tactic(auto)]
 
 pub use authority_load::{
-    AuthLookup, AxfrPolicy, InMemoryZoneHandler, LoadCause, LoadError, LookupControlFlow,
-    LookupError, LookupOptions, LowerName, Nsec3HashAlgorithm, NxProofKind, ProtoError,
-    ResponseCode, RrKey, Salt, TextError, ZoneError, ZoneSettings, ZoneTransfer, ZoneType,
-    load_zone, parse_owner, parse_u64,
+    AuthLookup, AxfrPolicy, DnssecZoneHandler, InMemoryZoneHandler, LoadCause, LoadError,
+    LookupControlFlow, LookupError, LookupOptions, LowerName, Nsec3HashAlgorithm, NxProofKind,
+    ProtoError, ResponseCode, RrKey, Salt, SignerFault, StoredZone, TextError, ZoneError,
+    ZoneSettings, ZoneSignature, ZoneSigner, ZoneTransfer, ZoneType, load_zone, parse_owner,
+    parse_u64,
 };
 pub use zsv_message::Name;
 

@@ -9,9 +9,10 @@ pub use zst_codes::{LookupControlFlow, LookupError, Nsec3QueryInfo, ResponseCode
 pub use zst_edns::{Edns, EdnsFlags};
 pub use zst_zone::{
     AnswerSet, AuthLookup, AxfrPolicy, AxfrRecords, AxfrRecordsIter, BlocklistConsultAction,
-    DNSClass, InMemoryZoneHandler, LookupOptions, LookupRecords, LookupRecordsIter, LowerName,
-    Name, NameKey, Nsec3HashAlgorithm, NxProofKind, ProtoError, RData, Record, RecordRef,
-    RecordSet, RecordType, RequestTsig, RrKey, RrsetRecords, Salt, SaltLenError,
-    TSigResponseContext, ZoneError, ZoneHandler, ZoneRequest, ZoneSets, ZoneSetsIter, ZoneSettings,
-    ZoneTransfer, ZoneTransferIter, ZoneType,
+    DNSClass, DnssecZoneHandler, InMemoryZoneHandler, LookupOptions, LookupRecords,
+    LookupRecordsIter, LowerName, Name, NameKey, Nsec3HashAlgorithm, NxProofKind, ProtoError,
+    RData, Record, RecordRef, RecordSet, RecordType, RequestTsig, RrKey, RrsetRecords, Salt,
+    SaltLenError, SignerFault, StoredZone, TSigResponseContext, ZoneError, ZoneHandler,
+    ZoneRequest, ZoneSets, ZoneSetsIter, ZoneSettings, ZoneSignature, ZoneSigner, ZoneTransfer,
+    ZoneTransferIter, ZoneType,
 };

@@ -1,3 +1,4 @@
+pub use Rattle.zst_map.proofs.NamedSets
 pub use Rattle.zst_map.proofs.OwnCodes
 pub use Rattle.zst_map.proofs.PutRecords
 pub use Rattle.zst_map.proofs.Replacing

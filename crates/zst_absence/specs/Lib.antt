@@ -1,4 +1,5 @@
 pub mod Absences
+pub use Rattle.zst_denial.specs.dnw_label
 pub use Rattle.zst_denial.specs.drd_denial
 pub use Rattle.zst_denial.specs.zst_hash
 pub use Rattle.zst_map.specs.dnw_codes

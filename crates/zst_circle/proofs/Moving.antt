@@ -1,13 +1,12 @@
 -- Sets that move, one placeholder's after the other's: what two zones have under each owner and type.
-use Rattle.std.proofs.Common.{◌≡◌, ℕ, refl, ap, sym, subst, ◌∙◌}
-use Rattle.std.specs.Prelude.{Bool, true, false, ◌&&◌, ◌==◌, List, [], ◌∷◌, Option, Some, None, cond, find, is_some, IsSome, option_map}
+use Rattle.std.proofs.Common.{◌≡◌, refl, ap, sym, subst, ◌∙◌}
+use Rattle.std.specs.Prelude.{Bool, true, false, ◌&&◌, List, [], ◌∷◌, Option, Some, None, cond, find, is_some, IsSome, option_map}
 use Rattle.std.specs.List.{AllByRecursion}
-use Rattle.std.proofs.lemmas.Bool.{and_parts, eqb-true, true≢false}
+use Rattle.std.proofs.lemmas.Bool.{and_parts, true≢false}
 use Rattle.zst_absence.specs.dnw_codes.declared.record_type.RecordType.{RecordType}
-use Rattle.zst_absence.specs.dnw_codes.RecordType.{record_type_number, same_record_type}
+use Rattle.zst_absence.specs.dnw_codes.RecordType.{same_record_type}
 use Rattle.zst_absence.specs.dnw_name.DomainName.{DomainName, name_eq}
-use Rattle.zst_absence.specs.zst_record.RecordLaws.{name_eq_equiv}
-use Rattle.zst_absence.specs.zst_record.RecordSets.{RRset, is_signature_of}
+use Rattle.zst_absence.specs.zst_record.RecordSets.{RRset, is_signature_of, raised_set}
 use Rattle.zst_absence.specs.zst_handler.Updates.{Replaces}
 use Rattle.zst_absence.specs.zst_handler.Zones.{rrset_at}
 use Rattle.zst_absence.proofs.zst_map_lemmas.Replacing.{both_same, one}
@@ -16,6 +15,21 @@ use Rattle.zst_circle.specs.declared.moves.Placeholder.{Placeholder}
 
 none_some : {X : Type 0} (o : Option X) (x : X) → o ≡ Some x → o ≡ None → ⊥
 none_some o x some none = let h = sym some ∙ none in cc
+
+-- A set that moves keeps its owner and its type.
+pub resigned_name : (p : Placeholder) (s : RRset) → (resigned p s).name ≡ s.name
+resigned_name p s = by p.rises
+  where
+    by : (b : Bool) → (cond b (raised_set s) s).name ≡ s.name
+    by true = refl
+    by false = refl
+
+pub resigned_type : (p : Placeholder) (s : RRset) → (resigned p s).record_type ≡ s.record_type
+resigned_type p s = by p.rises
+  where
+    by : (b : Bool) → (cond b (raised_set s) s).record_type ≡ s.record_type
+    by true = refl
+    by false = refl
 
 -- ---- one owner and type
 -- By its placeholder among all, and among those to come: what the zones had, and what they have.

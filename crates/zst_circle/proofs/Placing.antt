@@ -9,7 +9,8 @@ use Rattle.zst_absence.specs.dnw_name.DomainName.{DomainName, name_eq}
 use Rattle.zst_absence.specs.zst_record.RecordLaws.{name_eq_equiv}
 use Rattle.zst_absence.specs.zst_record.RecordSets.{RRset, is_signature_of}
 use Rattle.zst_absence.specs.zst_handler.Zones.{rrset_at}
-use Rattle.zst_circle.specs.Moves.{CanMove, IsUnsigned, is_placeholder_of, moves, placeholder_of}
+use Rattle.zst_absence.specs.zst_denial.Kept.{is_circle_type}
+use Rattle.zst_circle.specs.Moves.{CanMove, is_placeholder_of, placeholder_of}
 use Rattle.zst_circle.specs.declared.moves.Placeholder.{Placeholder}
 
 -- ---- by tests alone
@@ -54,18 +55,13 @@ all_with P [] x all p = (p, tt)
 all_with P (y ∷ ys) x all p = (all.0, all_with P ys x all.1 p)
 
 -- ---- what moves
--- Under equal names and types of one number, both move or neither does.
-pub moves_alike : (origin a b : DomainName) (t u : RecordType) → name_eq a b ≡ true → same_record_type u t ≡ true → moves origin a t ≡ moves origin b u
-moves_alike origin a b t u named typed =
-    ap (λ (c : Bool). not ((record_type_number t == 47) || ((record_type_number t == 50) || (record_type_number t == 51))) && not (c && (record_type_number t == 6))) (name_eq_equiv.congr a b origin named)
-    ∙ ap (λ (n : ℕ). not ((n == 47) || ((n == 50) || (n == 51))) && not (name_eq b origin && (n == 6))) (sym (eqb-true (record_type_number u) (record_type_number t) typed))
+-- Of types of one number both move or neither does.
+pub moves_alike : (t u : RecordType) → same_record_type u t ≡ true → not (is_circle_type t) ≡ not (is_circle_type u)
+moves_alike t u typed =
+    ap (λ (n : ℕ). not ((n == 47) || ((n == 50) || (n == 51)))) (sym (eqb-true (record_type_number u) (record_type_number t) typed))
 
-pub hit_moves : (origin key name : DomainName) (set : RRset) (t : RecordType) → name_eq key set.name ≡ true → (name_eq name set.name && same_record_type set.record_type t) ≡ true
-    → moves origin name t ≡ moves origin key set.record_type
-hit_moves origin key name set t same hit =
-    let parts = and_parts (name_eq name set.name) (same_record_type set.record_type t) hit in
-    moves_alike origin name set.name t set.record_type parts.0 parts.1
-    ∙ sym (moves_alike origin key set.name set.record_type set.record_type same (eq-eqb (record_type_number set.record_type) (record_type_number set.record_type) refl))
+pub hit_moves : (name : DomainName) (set : RRset) (t : RecordType) → (name_eq name set.name && same_record_type set.record_type t) ≡ true → not (is_circle_type t) ≡ not (is_circle_type set.record_type)
+hit_moves name set t hit = moves_alike t set.record_type (and_parts (name_eq name set.name) (same_record_type set.record_type t) hit).1
 
 -- ---- a turn of the loop: what has been put in, and what is to come
 pub put_turn : (n n' hit rest moving all : Bool) → n' ≡ ((hit && moving) || n) → (n || ((hit || rest) && moving)) ≡ all → (n' || (rest && moving)) ≡ all
@@ -89,7 +85,7 @@ found_there [] p later =
 found_there (q ∷ front) p later =
     some_later (is_placeholder_of p.key p.record_type q) q (placeholder_of (front ++ p ∷ later) p.key p.record_type) (found_there front p later)
 
-listed_all : (front list : List Placeholder) → AllByRecursion (λ p. IsSome (placeholder_of (front ++ list) p.key p.record_type)) list
+pub listed_all : (front list : List Placeholder) → AllByRecursion (λ p. IsSome (placeholder_of (front ++ list) p.key p.record_type)) list
 listed_all front [] = tt
 listed_all front (p ∷ later) = (
   found_there front p later,
@@ -101,24 +97,45 @@ the_set None some = absurd (true≢false (sym some))
 the_set (Some set) some = (set, refl)
 
 -- Each can move, since there is a set in both zones.
-pub can_all : (old new : List RRset) (origin : DomainName) (whole list : List Placeholder)
-    → ((name : DomainName) (t : RecordType) → is_some (rrset_at new name t) ≡ (is_some (rrset_at old name t) && moves origin name t))
-    → ((name : DomainName) (t : RecordType) → is_some (placeholder_of whole name t) ≡ (is_some (rrset_at old name t) && moves origin name t))
-    → AllByRecursion (λ p. IsSome (placeholder_of whole p.key p.record_type)) list → AllByRecursion IsUnsigned list → AllByRecursion (CanMove old new) list
-can_all old new origin whole [] there listed is unsigned = tt
-can_all old new origin whole (p ∷ later) there listed is unsigned =
+pub can_all : (fits : Placeholder → Type 0) (old new : List RRset) (whole list : List Placeholder)
+    → ((p : Placeholder) (set : RRset) → fits p → rrset_at old p.key p.record_type ≡ Some set → AllByRecursion (λ r. is_signature_of set r ≡ true) p.signatures.items)
+    → ((name : DomainName) (t : RecordType) → is_some (rrset_at new name t) ≡ (is_some (rrset_at old name t) && not (is_circle_type t)))
+    → ((name : DomainName) (t : RecordType) → is_some (placeholder_of whole name t) ≡ (is_some (rrset_at old name t) && not (is_circle_type t)))
+    → AllByRecursion (λ p. IsSome (placeholder_of whole p.key p.record_type)) list → AllByRecursion fits list → AllByRecursion (CanMove old new) list
+can_all fits old new whole [] fit there listed is each = tt
+can_all fits old new whole (p ∷ later) fit there listed is each =
     let both = sym (listed p.key p.record_type) ∙ is.0 in
-    let set = the_set (rrset_at old p.key p.record_type) (and_parts (is_some (rrset_at old p.key p.record_type)) (moves origin p.key p.record_type) both).0 in
+    let set = the_set (rrset_at old p.key p.record_type) (and_parts (is_some (rrset_at old p.key p.record_type)) (not (is_circle_type p.record_type)) both).0 in
     let can : CanMove old new p = record {
       set = set.0;
       stored = set.1;
       placed = there p.key p.record_type ∙ both;
-      signed = subst (AllByRecursion (λ r. is_signature_of set.0 r ≡ true)) (sym unsigned.0) tt;
+      signed = fit p set.0 each.0 set.1;
     } in
-    (can, can_all old new origin whole later there listed is.1 unsigned.1)
+    (can, can_all fits old new whole later fit there listed is.1 each.1)
 
-pub all_can : (old new : List RRset) (origin : DomainName) (list : List Placeholder)
-    → ((name : DomainName) (t : RecordType) → is_some (rrset_at new name t) ≡ (is_some (rrset_at old name t) && moves origin name t))
-    → ((name : DomainName) (t : RecordType) → is_some (placeholder_of list name t) ≡ (is_some (rrset_at old name t) && moves origin name t))
-    → AllByRecursion IsUnsigned list → AllByRecursion (CanMove old new) list
-all_can old new origin list there listed unsigned = can_all old new origin list list there listed (listed_all [] list) unsigned
+pub all_can : (fits : Placeholder → Type 0) (old new : List RRset) (list : List Placeholder)
+    → ((p : Placeholder) (set : RRset) → fits p → rrset_at old p.key p.record_type ≡ Some set → AllByRecursion (λ r. is_signature_of set r ≡ true) p.signatures.items)
+    → ((name : DomainName) (t : RecordType) → is_some (rrset_at new name t) ≡ (is_some (rrset_at old name t) && not (is_circle_type t)))
+    → ((name : DomainName) (t : RecordType) → is_some (placeholder_of list name t) ≡ (is_some (rrset_at old name t) && not (is_circle_type t)))
+    → AllByRecursion fits list → AllByRecursion (CanMove old new) list
+all_can fits old new list fit there listed each = can_all fits old new list list fit there listed (listed_all [] list) each
+
+-- A set of the circle that is put among them keeps none from moving.
+pub can_still : (old new after : List RRset) (whole list : List Placeholder) → ((name : DomainName) (t : RecordType) → is_circle_type t ≡ false → rrset_at after name t ≡ rrset_at new name t)
+    → ((name : DomainName) (t : RecordType) → is_some (placeholder_of whole name t) ≡ (is_some (rrset_at old name t) && not (is_circle_type t)))
+    → AllByRecursion (λ p. IsSome (placeholder_of whole p.key p.record_type)) list → AllByRecursion (CanMove old new) list → AllByRecursion (CanMove old after) list
+can_still old new after whole [] others listed is can = tt
+can_still old new after whole (p ∷ later) others listed is can =
+    let both = and_parts (is_some (rrset_at old p.key p.record_type)) (not (is_circle_type p.record_type)) (sym (listed p.key p.record_type) ∙ is.0) in
+    let here : CanMove old after p = record {
+      set = can.0.set;
+      stored = can.0.stored;
+      placed = ap is_some (others p.key p.record_type (not_true (is_circle_type p.record_type) both.1)) ∙ can.0.placed;
+      signed = can.0.signed;
+    } in
+    (here, can_still old new after whole later others listed is.1 can.1)
+  where
+    not_true : (b : Bool) → not b ≡ true → b ≡ false
+    not_true false e = refl
+    not_true true e = absurd (true≢false (sym e))

@@ -1,26 +1,12 @@
 -- Sets that move from one zone's sets to another's, each to where its placeholder is.
-use Rattle.std.specs.Prelude.{◌≡◌, ◌&&◌, ◌||◌, true, not, Bool, List, [], Option, Some, None, IsSome, find, option_map}
+use Rattle.std.specs.Prelude.{◌≡◌, ◌&&◌, true, Bool, List, Option, Some, None, IsSome, find, option_map, if◌then◌else◌}
 use Rattle.std.specs.List.{AllByRecursion}
 use Rattle.zst_absence.specs.dnw_codes.declared.record_type.RecordType.{RecordType}
-use Rattle.zst_absence.specs.dnw_codes.declared.record_type.RecordType.TheVariants as kind
 use Rattle.zst_absence.specs.dnw_codes.RecordType.{same_record_type}
 use Rattle.zst_absence.specs.dnw_name.DomainName.{DomainName, name_eq}
 use Rattle.zst_absence.specs.zst_handler.Zones.{rrset_at}
-use Rattle.zst_absence.specs.zst_record.RecordSets.{RRset, is_signature_of}
+use Rattle.zst_absence.specs.zst_record.RecordSets.{RRset, is_signature_of, raised_set}
 use Rattle.zst_circle.specs.declared.moves.Placeholder.{Placeholder}
-
--- Sets of these types are made anew where a zone is signed (RFC 4034, section 4; RFC 5155, sections
--- 3 and 4).
-abbrev pub is_circle_type : RecordType → Bool
-is_circle_type record_type =
-    same_record_type record_type kind.NSEC
-    || (same_record_type record_type kind.NSEC3 || same_record_type record_type kind.NSEC3PARAM)
-
--- The other sets move, but for the SOA at the origin, whose serial number rises.
-abbrev pub moves : DomainName → DomainName → RecordType → Bool
-moves origin name record_type =
-    not (is_circle_type record_type)
-    && not (name_eq name origin && same_record_type record_type kind.SOA)
 
 abbrev pub is_placeholder_of : DomainName → RecordType → Placeholder → Bool
 is_placeholder_of name record_type placeholder =
@@ -31,9 +17,6 @@ abbrev pub placeholder_of : List Placeholder → DomainName → RecordType → O
 placeholder_of placeholders name record_type =
     find (is_placeholder_of name record_type) placeholders
 
-abbrev pub IsUnsigned : Placeholder → Type 0
-IsUnsigned placeholder = placeholder.signatures.items ≡ []
-
 -- There is a set to move, and one in whose place it comes. The signatures may be the set's.
 pub record CanMove (old new : List RRset) (placeholder : Placeholder) : Type 0 where
   pub set : RRset
@@ -43,7 +26,10 @@ pub record CanMove (old new : List RRset) (placeholder : Placeholder) : Type 0 w
 
 -- The set as it is then.
 abbrev pub resigned : Placeholder → RRset → RRset
-resigned placeholder set = record set { signatures = placeholder.signatures.items }
+resigned placeholder set =
+    record (if placeholder.rises then raised_set set else set) {
+      signatures = placeholder.signatures.items;
+    }
 
 -- What is under an owner and a type then, by the set that was to move and the one that was there.
 abbrev pub moved : Option Placeholder → Option RRset → Option RRset → Option RRset

@@ -1,19 +1,25 @@
 //! Sets that move from one zone's sets to another's, each to where its placeholder is. What takes memory comes first, and
 //! moving takes none.
 
-ghost use Rattle.std.specs.Prelude.{◌≡◌, ◌&&◌, ◌||◌, [], true, not, None, Some, IsSome, OnErr, OnOk, is_some, if◌then◌else◌};
+ghost use Rattle.std.specs.Prelude.{◌≡◌, ◌&&◌, ◌||◌, [], true, not, None, Some, IfErr, IsSome, OnOk, is_some, if◌then◌else◌};
 ghost use Rattle.std.specs.List.{AllByRecursion};
 ghost use Rattle.zst_absence.specs.dnw_codes.RecordType.{same_record_type};
 ghost use Rattle.zst_absence.specs.dnw_codes.declared.record_type.RecordType.{RecordType};
 ghost use Rattle.zst_absence.specs.dnw_name.DomainName.{DomainName, name_eq};
-ghost use Rattle.zst_absence.specs.zst_record.RecordSets.{RRset, is_signature_of};
+ghost use Rattle.zst_absence.specs.zst_record.RecordSets.{RRset, is_signature_of, raised_set};
 ghost use Rattle.zst_absence.specs.zst_handler.Updates.{Replaces};
 ghost use Rattle.zst_absence.specs.zst_handler.Zones.{AreInOrder, rrset_at};
-ghost use Rattle.zst_circle.specs.Moves.{CanMove, IsUnsigned, is_circle_type, moved, moves, placeholder_of, resigned};
+ghost use Rattle.zst_absence.specs.zst_denial.Kept.{is_circle_type};
+ghost use Rattle.zst_circle.specs.Moves.{CanMove, moved, placeholder_of, resigned};
+ghost use Rattle.zst_circle.specs.Resigning.{IsStoredToSign, Resigns};
+ghost use Rattle.zst_circle.specs.Securing.{SomeFails};
 
-use std::alloc::{AllocError, Global};
+use crate::resigned::placeholder_for;
+use std::alloc::Global;
 use std::mem;
-use zst_absence::{NameKey, Record, RecordSet, RecordType, ZoneSets, push};
+use zst_absence::{
+    NameKey, Record, RecordSet, RecordType, SignerFault, ZoneSets, ZoneSigner, push,
+};
 
 /// A set that is to move to where an empty one of its owner and type is.
 #[derive(Drop)]
@@ -22,75 +28,75 @@ pub struct Placeholder {
     pub key: NameKey,
     /// The type.
     pub record_type: RecordType,
+    /// Whether its serial number rises.
+    pub rises: bool,
     /// The signatures that the set has then.
     pub signatures: Vec<Record>,
 }
 
-/// Puts an empty set into `new` for each set that moves, and lists these. All sets move but those of NSEC, NSEC3 and
-/// NSEC3PARAM, and the SOA at the origin.
-pub fn placeholders(
+/// Puts an empty set into `new` for each set that moves, and lists these with the signatures that they have then. All sets
+/// move but those of NSEC, NSEC3 and NSEC3PARAM.
+pub fn placeholders<K: ZoneSigner>(
     alloc: Global,
     origin: &NameKey,
+    keys: &[K],
+    now: u64,
     old: &ZoneSets,
     new: &mut ZoneSets,
     list: &mut Vec<Placeholder>,
-) -> Result<(), AllocError>
+) -> Result<(), SignerFault>
     requires new { new.old ≡ [] }
     requires list { list.old.items ≡ [] }
     ensures there { OnOk result ((name : DomainName) → (record_type : RecordType)
-        → is_some (rrset_at new.new name record_type) ≡ (is_some (rrset_at old.now name record_type) && moves origin.now name record_type)) }
+        → is_some (rrset_at new.new name record_type) ≡ (is_some (rrset_at old.now name record_type) && not (is_circle_type record_type))) }
     ensures listed { OnOk result ((name : DomainName) → (record_type : RecordType)
-        → is_some (placeholder_of list.new.items name record_type) ≡ (is_some (rrset_at old.now name record_type) && moves origin.now name record_type)) }
+        → is_some (placeholder_of list.new.items name record_type) ≡ (is_some (rrset_at old.now name record_type) && not (is_circle_type record_type))) }
     ensures can { OnOk result (AllByRecursion (CanMove old.now new.new) list.new.items) }
-    ensures unsigned { OnOk result (AllByRecursion IsUnsigned list.new.items) }
+    ensures resigned { OnOk result (AllByRecursion (Resigns K.gives K.fails keys.now now old.now origin.now) list.new.items) }
     ensures ordered { OnOk result (AreInOrder new.new) }
+    ensures failed { IfErr result (λ e. e ≡ SignerFault.Failed → SomeFails K.fails keys.now now (IsStoredToSign old.now origin.now)) }
 {
     'sets: for set in old.iter() {
-        put_placeholder(alloc, origin, set, new, list)?;
+        put_placeholder(alloc, origin, keys, now, old, set, new, list)?;
     }
     Ok(())
 }
 
 // Puts an empty set into `new` for a set, and lists that, if it moves.
-fn put_placeholder(
+fn put_placeholder<K: ZoneSigner>(
     alloc: Global,
     origin: &NameKey,
+    keys: &[K],
+    now: u64,
+    old: &ZoneSets,
     set: &RecordSet,
     new: &mut ZoneSets,
     list: &mut Vec<Placeholder>,
-) -> Result<(), AllocError>
+) -> Result<(), SignerFault>
     ensures there { OnOk result ((name : DomainName) → (record_type : RecordType) → is_some (rrset_at new.new name record_type)
-        ≡ (((name_eq name set.now.name && same_record_type set.now.record_type record_type) && moves origin.now name record_type)
+        ≡ (((name_eq name set.now.name && same_record_type set.now.record_type record_type) && not (is_circle_type record_type))
         || is_some (rrset_at new.old name record_type))) }
     ensures listed { OnOk result ((name : DomainName) → (record_type : RecordType) → is_some (placeholder_of list.new.items name record_type)
-        ≡ (((name_eq name set.now.name && same_record_type set.now.record_type record_type) && moves origin.now name record_type)
+        ≡ (((name_eq name set.now.name && same_record_type set.now.record_type record_type) && not (is_circle_type record_type))
         || is_some (placeholder_of list.old.items name record_type))) }
-    ensures unsigned { OnOk result (AllByRecursion IsUnsigned list.old.items → AllByRecursion IsUnsigned list.new.items) }
+    ensures resigned { OnOk result (AllByRecursion (Resigns K.gives K.fails keys.now now old.now origin.now) list.old.items
+        → AllByRecursion (Resigns K.gives K.fails keys.now now old.now origin.now) list.new.items) }
     ensures ordered { OnOk result (AreInOrder new.old → AreInOrder new.new) }
+    ensures failed { IfErr result (λ e. e ≡ SignerFault.Failed → SomeFails K.fails keys.now now (IsStoredToSign old.now origin.now)) }
 {
     let record_type = set.record_type();
-    let key = NameKey::of(alloc, set.name())?;
-    if !moves(origin, &key, record_type) {
+    if is_circle_type(record_type) {
         return Ok(());
     }
+    let key = NameKey::of(alloc, set.name())?;
     let name = set.name().clone()?;
-    let placeholder = Placeholder {
-        key: key.clone()?,
-        record_type,
-        signatures: Vec::new(alloc),
-    };
+    let placeholder = placeholder_for(alloc, origin, keys, now, old, key.clone()?, record_type)?;
     push(list, placeholder)?;
-    new.put(alloc, key, RecordSet::new(alloc, name, record_type))
+    new.put(alloc, key, RecordSet::new(alloc, name, record_type))?;
+    Ok(())
 }
 
-// Whether the set of a type at the name of a key moves.
-fn moves(origin: &NameKey, key: &NameKey, record_type: RecordType) -> bool
-    ensures { result ≡ moves origin.now key.now record_type }
-{
-    !is_circle_type(record_type) && !(*key == *origin && record_type == RecordType::SOA)
-}
-
-// Whether sets of a type are made anew where a zone is signed.
+// Whether sets of a type are made anew where a zone is secured.
 fn is_circle_type(record_type: RecordType) -> bool
     ensures { result ≡ is_circle_type record_type }
 {
@@ -99,8 +105,8 @@ fn is_circle_type(record_type: RecordType) -> bool
         || record_type == RecordType::NSEC3PARAM
 }
 
-/// Moves the sets of these placeholders from `old` to `new`, each with its placeholder's signatures in place of its own. It
-/// takes no memory.
+/// Moves the sets of these placeholders from `old` to `new`, each with its placeholder's signatures in place of its own, and
+/// with the next serial number where that rises. It takes no memory.
 pub fn commit(list: Vec<Placeholder>, old: &mut ZoneSets, new: &mut ZoneSets)
     requires can { AllByRecursion (CanMove old.old new.old) list.items }
     requires ordered { AreInOrder new.old }
@@ -130,12 +136,24 @@ fn move_one(placeholder: Placeholder, old: &mut ZoneSets, new: &mut ZoneSets)
     let Placeholder {
         key,
         record_type,
+        rises,
         signatures,
     } = placeholder;
     let Some(mut set) = old.remove(&key, record_type) else {
         mem::drop(signatures);
         return;
     };
-    set.sign_with(signatures);
+    renew(&mut set, rises, signatures);
     new.replace(&key, set);
+}
+
+// Gives a set new signatures, and the next serial number if that rises.
+fn renew(set: &mut RecordSet, rises: bool, signatures: Vec<Record>)
+    requires { AllByRecursion (λ r. is_signature_of set.old r ≡ true) signatures.items }
+    ensures { set.new ≡ record (if rises then raised_set set.old else set.old) { signatures = signatures.items } }
+{
+    if rises {
+        set.raise_serial();
+    }
+    set.sign_with(signatures);
 }

@@ -4,6 +4,7 @@ use Rattle.std.specs.List.{list_any}
 use Rattle.zst_handler.specs.dnw_codes.declared.record_type.RecordType.TheVariants.{RRSIG}
 use Rattle.zst_handler.specs.dnw_codes.RecordType.{record_type_number}
 use Rattle.zst_handler.specs.dnw_name.DomainName.{num_labels}
+use Rattle.zst_handler.specs.drd_rdata.Types.{type_of}
 use Rattle.zst_handler.specs.zst_record.RecordSets.{RRset, least_ttl}
 use Rattle.zst_handler.specs.zst_record.declared.records.Record.{Record}
 use Rattle.drd_denial.specs.Rrsig.{Signing, rrsig_octets}
@@ -18,6 +19,7 @@ pub record IsSignatureBy (set : RRset) (given : Signing) (r : Record) : Type 0 w
   pub owner : r.name ≡ set.name
   pub class : r.dns_class ≡ set.dns_class
   pub ttl : r.ttl ≡ least_ttl set.records
+  pub record_type : type_of r.rdata ≡ RRSIG
   pub held : octets_of RRSIG r.rdata
       ≡ Some
       (rrsig_octets (record_type_number set.record_type) (num_labels set.name)

@@ -1,7 +1,7 @@
 //! What signs the sets of a zone.
 
 use drd_denial::ZoneSignature;
-use std::alloc::Global;
+use std::alloc::{AllocError, Global};
 use thiserror::Error;
 use zst_handler::RecordSet;
 
@@ -14,6 +14,17 @@ pub enum SignerFault {
     /// Memory was refused.
     #[error("OutOfMemory")]
     OutOfMemory,
+}
+
+impl From<AllocError> for SignerFault {
+    ghost use Rattle.std.specs.Prelude.{◌≡◌};
+    ghost use Rattle.zst_denial.specs.declared.signer.SignerFault.TheVariants.{OutOfMemory};
+
+    ghost from_gives = { λ _ fault. fault ≡ OutOfMemory };
+
+    fn from(_refused: AllocError) -> SignerFault {
+        SignerFault::OutOfMemory
+    }
 }
 
 /// What signs the sets of a zone. It signs the records of a set, and looks at none of the signatures that the set has.

@@ -12,3 +12,4 @@ pub use Rattle.zst_zone.specs.zst_handler
 pub use Rattle.zst_zone.specs.zst_key
 pub use Rattle.zst_zone.specs.zst_record
 pub mod zst_request
+pub mod zst_zone

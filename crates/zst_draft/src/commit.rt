@@ -14,13 +14,13 @@ use std::alloc::{AllocError, Global};
 use std::collections::HashMap;
 use std::mem;
 use zst_map::push;
-use zst_zone::{Edit, InMemoryZoneHandler, NameKey};
+use zst_zone::{Edit, NameKey, StoredZone};
 
 /// Puts the drafts of all owners into the zone, or none of them.
-pub(crate) fn commit_owners<K>(
+pub(crate) fn commit_owners(
     alloc: Global,
     owners: HashMap<NameKey, OwnerDraft>,
-    zone: &mut InMemoryZoneHandler<K>,
+    zone: &mut StoredZone,
 ) -> Result<(), AllocError>
     requires { CanSettleAll zone.old.sets owners.entries }
     ensures ok { OnOk result ((name : DomainName) (record_type : RecordType)
@@ -43,10 +43,10 @@ pub(crate) fn commit_owners<K>(
 }
 
 // Puts all drafted sets whose owner has no set of their type.
-fn put_owners<K>(
+fn put_owners(
     alloc: Global,
     owners: HashMap<NameKey, OwnerDraft>,
-    zone: &mut InMemoryZoneHandler<K>,
+    zone: &mut StoredZone,
     puts: &mut Puts,
 ) -> Result<Vec<(NameKey, OwnerDraft)>, AllocError>
     requires { CanSettleAll zone.old.sets owners.entries }
@@ -65,11 +65,11 @@ fn put_owners<K>(
 }
 
 // Puts the drafted sets of one owner that has no set of their type.
-fn put_owner<K>(
+fn put_owner(
     alloc: Global,
     key: &NameKey,
     owner: &mut OwnerDraft,
-    zone: &mut InMemoryZoneHandler<K>,
+    zone: &mut StoredZone,
     puts: &mut Puts,
 ) -> Result<(), AllocError>
     requires { CanSettleOwner zone.old.sets key.now owner.old.sets.items }
@@ -85,7 +85,7 @@ fn put_owner<K>(
 }
 
 // Replaces stored sets by drafted ones, for all owners. It takes no memory.
-fn settle_owners<K>(owners: Vec<(NameKey, OwnerDraft)>, zone: &mut InMemoryZoneHandler<K>)
+fn settle_owners(owners: Vec<(NameKey, OwnerDraft)>, zone: &mut StoredZone)
     requires can { CanSettleAll zone.old.sets owners.items }
     requires ready { AreReady zone.old.sets owners.items }
     ensures values { (name : DomainName) (record_type : RecordType)
@@ -101,7 +101,7 @@ fn settle_owners<K>(owners: Vec<(NameKey, OwnerDraft)>, zone: &mut InMemoryZoneH
 }
 
 // Replaces the stored sets of one owner by drafted ones.
-fn settle_owner<K>(key: &NameKey, owner: &mut OwnerDraft, zone: &mut InMemoryZoneHandler<K>)
+fn settle_owner(key: &NameKey, owner: &mut OwnerDraft, zone: &mut StoredZone)
     requires can { CanSettleOwner zone.old.sets key.now owner.old.sets.items }
     requires ready { AllByRecursion (IsReady zone.old.sets key.now) owner.old.sets.items }
     ensures settles { SettlesOwner zone.old key.now owner.old.sets.items zone.new owner.new.sets.items }
@@ -113,7 +113,7 @@ fn settle_owner<K>(key: &NameKey, owner: &mut OwnerDraft, zone: &mut InMemoryZon
 }
 
 // Replaces a stored set by the drafted one, or deletes it if that has no records.
-fn settle<K>(key: &NameKey, draft: &mut SetDraft, zone: &mut InMemoryZoneHandler<K>)
+fn settle(key: &NameKey, draft: &mut SetDraft, zone: &mut StoredZone)
     requires can { CanSettle zone.old.sets key.now draft.old }
     requires ready { IsReady zone.old.sets key.now draft.old }
     ensures settles { Settles zone.old key.now draft.old zone.new draft.new }

@@ -7,11 +7,12 @@
 
 pub use zst_zone::{
     AnswerSet, AuthLookup, AxfrPolicy, AxfrRecords, AxfrRecordsIter, BlocklistConsultAction,
-    DNSClass, Draft, Edit, InMemoryZoneHandler, LookupControlFlow, LookupError, LookupOptions,
-    LookupRecords, LookupRecordsIter, LowerName, Name, NameKey, Nsec3HashAlgorithm, NxProofKind,
-    ProtoError, RData, Record, RecordRef, RecordSet, RecordType, RequestTsig, ResponseCode, RrKey,
-    RrsetRecords, Salt, SaltLenError, TSigResponseContext, ZoneError, ZoneHandler, ZoneRequest,
-    ZoneSets, ZoneSetsIter, ZoneSettings, ZoneTransfer, ZoneTransferIter, ZoneType,
+    DNSClass, DnssecZoneHandler, Draft, Edit, InMemoryZoneHandler, LookupControlFlow, LookupError,
+    LookupOptions, LookupRecords, LookupRecordsIter, LowerName, Name, NameKey, Nsec3HashAlgorithm,
+    NxProofKind, ProtoError, RData, Record, RecordRef, RecordSet, RecordType, RequestTsig,
+    ResponseCode, RrKey, RrsetRecords, Salt, SaltLenError, SignerFault, StoredZone,
+    TSigResponseContext, ZoneError, ZoneHandler, ZoneRequest, ZoneSets, ZoneSetsIter, ZoneSettings,
+    ZoneSignature, ZoneSigner, ZoneTransfer, ZoneTransferIter, ZoneType,
 };
 
 mod commit;

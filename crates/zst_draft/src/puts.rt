@@ -10,7 +10,7 @@ ghost use Rattle.zst_draft.specs.Settling.{CanSettle, IsReady, Returns, Settles}
 use crate::set::SetDraft;
 use std::alloc::{AllocError, Global};
 use std::mem;
-use zst_zone::{InMemoryZoneHandler, NameKey, RecordSet, RecordType};
+use zst_zone::{NameKey, RecordSet, RecordType, StoredZone};
 
 /// The owners and types of the sets that were put, in order.
 #[derive(Drop)]
@@ -29,12 +29,12 @@ impl Puts {
     }
 
     /// Puts a drafted set into the zone, if the owner has no set of its type.
-    pub(crate) fn put<K>(
+    pub(crate) fn put(
         &mut self,
         alloc: Global,
         key: &NameKey,
         draft: &mut SetDraft,
-        zone: &mut InMemoryZoneHandler<K>,
+        zone: &mut StoredZone,
     ) -> Result<(), AllocError>
         requires can { CanSettle zone.old.sets key.now draft.old }
         requires lower { lowercase_name key.now ≡ key.now }
@@ -53,12 +53,12 @@ impl Puts {
     }
 
     // Puts a set into a zone that has none of its owner and type. The key is its owner's.
-    fn put_set<K>(
+    fn put_set(
         &mut self,
         alloc: Global,
         at: &NameKey,
         set: RecordSet,
-        zone: &mut InMemoryZoneHandler<K>,
+        zone: &mut StoredZone,
     ) -> Result<(), AllocError>
         requires key { at.now ≡ lowercase_name set.name }
         requires none { rrset_at zone.old.sets set.name set.record_type ≡ None }
@@ -91,7 +91,7 @@ impl Puts {
     }
 
     /// Removes the sets again, the last one first. It takes no memory.
-    pub(crate) fn take_back<K>(self, zone: &mut InMemoryZoneHandler<K>)
+    pub(crate) fn take_back(self, zone: &mut StoredZone)
         ensures { (start : Zone) → Returns start (reverse self.done.items) zone.old → zone.new ≡ start }
     {
         let mut left = self.done;

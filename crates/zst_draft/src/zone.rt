@@ -13,7 +13,7 @@ use std::alloc::{AllocError, Global};
 use std::collections::HashMap;
 use std::hash::Hash;
 use std::mem;
-use zst_zone::{InMemoryZoneHandler, NameKey, Record, ZoneSets};
+use zst_zone::{NameKey, Record, StoredZone, ZoneSets};
 
 /// The sets that a zone is to have after an update. Until `commit` the zone is only read.
 #[derive(Drop)]
@@ -34,9 +34,9 @@ impl ZoneDraft {
 
     /// Applies a record of an update (RFC 2136 section 3.4.2), and returns whether it changes what the records before it left.
     /// A draft that ran out of memory can only be dropped.
-    pub fn apply<K>(
+    pub fn apply(
         &mut self,
-        zone: &InMemoryZoneHandler<K>,
+        zone: &StoredZone,
         alloc: Global,
         change: Record,
     ) -> Result<bool, AllocError>
@@ -80,9 +80,9 @@ impl ZoneDraft {
     }
 
     /// Applies the records of an update in order, and returns whether one of them changes what the records before it left.
-    pub fn apply_all<K>(
+    pub fn apply_all(
         &mut self,
-        zone: &InMemoryZoneHandler<K>,
+        zone: &StoredZone,
         alloc: Global,
         records: Vec<Record>,
     ) -> Result<bool, AllocError>
@@ -101,11 +101,7 @@ impl ZoneDraft {
     }
 
     /// Puts the drafted sets into the zone: all of them, or none if memory runs out.
-    pub fn commit<K>(
-        self,
-        zone: &mut InMemoryZoneHandler<K>,
-        alloc: Global,
-    ) -> Result<(), AllocError>
+    pub fn commit(self, zone: &mut StoredZone, alloc: Global) -> Result<(), AllocError>
         requires { IsDraftOfZone zone.old self }
         ensures ok { OnOk result ((at : Owned) → DraftsZone zone.old self at → LeavesZone zone.old at zone.new) }
         ensures err { OnErr result (zone.new ≡ zone.old) }

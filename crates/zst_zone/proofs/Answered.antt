@@ -2,23 +2,23 @@
 use Rattle.std.proofs.Common.{◌≡◌, ◌++◌, Bool, true, false, ◌&&◌, not, cond, List, [], ◌∷◌, map, length, ℕ, eqb, refl, ap, sym, subst, ◌∙◌, append-nil, true≢false, eqb-true}
 use Rattle.std.specs.Prelude.{Option, Some, None}
 use Rattle.std.specs.List.{flat_map}
-use Rattle.zst_absence.specs.dnw_codes.declared.record_type.RecordType.{RecordType}
-use Rattle.zst_absence.specs.dnw_codes.declared.record_type.RecordType.TheVariants as kind
-use Rattle.zst_absence.specs.dnw_codes.RecordType.{record_type_number, same_record_type}
-use Rattle.zst_absence.specs.dnw_name.DomainName.{DomainName, lowercase_name}
-use Rattle.zst_absence.specs.zst_record.RecordSets.{RRset, flattened_set}
-use Rattle.zst_absence.specs.zst_record.declared.records.Record.{Record}
-use Rattle.zst_absence.specs.zst_handler.declared.answer_set.AnswerSet.{AnswerSet}
-use Rattle.zst_absence.specs.zst_handler.declared.auth_lookup.AuthLookup.{AuthLookup}
-use Rattle.zst_absence.specs.zst_handler.declared.auth_lookup.AuthLookup.TheVariants as auths
-use Rattle.zst_absence.specs.zst_handler.declared.lookup_options.LookupOptions.{LookupOptions}
-use Rattle.zst_absence.specs.zst_handler.declared.lookup_records.LookupRecords.{LookupRecords}
-use Rattle.zst_absence.specs.zst_handler.Answers.{ShowsAnswer, all_shown, records_if, records_in, set_in, sets_shown, shown}
-use Rattle.zst_absence.specs.zst_handler.Chains.{IsAliasChain, first_target, leads}
-use Rattle.zst_absence.specs.zst_handler.Found.{found, is_address}
-use Rattle.zst_absence.specs.zst_handler.Lookups.{Answer, additionals, addresses, alias_answer, alias_ttl, behind_alias, flattened, has_additionals, is_flattened, of_type, once}
-use Rattle.zst_absence.specs.zst_map.declared.zone_sets.Match.{Match}
-use Rattle.zst_absence.specs.zst_map.Searches.{match_set}
+use Rattle.zst_circle.specs.dnw_codes.declared.record_type.RecordType.{RecordType}
+use Rattle.zst_circle.specs.dnw_codes.declared.record_type.RecordType.TheVariants as kind
+use Rattle.zst_circle.specs.dnw_codes.RecordType.{record_type_number, same_record_type}
+use Rattle.zst_circle.specs.dnw_name.DomainName.{DomainName, lowercase_name}
+use Rattle.zst_circle.specs.zst_record.RecordSets.{RRset, flattened_set}
+use Rattle.zst_circle.specs.zst_record.declared.records.Record.{Record}
+use Rattle.zst_circle.specs.zst_handler.declared.answer_set.AnswerSet.{AnswerSet}
+use Rattle.zst_circle.specs.zst_handler.declared.auth_lookup.AuthLookup.{AuthLookup}
+use Rattle.zst_circle.specs.zst_handler.declared.auth_lookup.AuthLookup.TheVariants as auths
+use Rattle.zst_circle.specs.zst_handler.declared.lookup_options.LookupOptions.{LookupOptions}
+use Rattle.zst_circle.specs.zst_handler.declared.lookup_records.LookupRecords.{LookupRecords}
+use Rattle.zst_circle.specs.zst_handler.Answers.{ShowsAnswer, all_shown, records_if, records_in, set_in, sets_shown, shown}
+use Rattle.zst_circle.specs.zst_handler.Chains.{IsAliasChain, first_target, leads}
+use Rattle.zst_circle.specs.zst_handler.Found.{found, is_address}
+use Rattle.zst_circle.specs.zst_handler.Lookups.{Answer, additionals, addresses, alias_answer, alias_ttl, behind_alias, flattened, has_additionals, is_flattened, of_type, once}
+use Rattle.zst_circle.specs.zst_map.declared.zone_sets.Match.{Match}
+use Rattle.zst_circle.specs.zst_map.Searches.{match_set}
 use Rattle.zst_zone.specs.Answering.{AnswersAll, AnswersSet, IsBehind, target_addresses}
 use Rattle.zst_zone.proofs.ChainLinks.{one-set}
 use Rattle.zst_zone.proofs.Matches.{match-flattened, match-leads, match-targets, match-ttl, match-type}

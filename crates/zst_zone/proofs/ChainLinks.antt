@@ -2,13 +2,13 @@
 use Rattle.std.proofs.Common.{◌≡◌, ℕ, ◌+◌, ◌<◌, ◌≤◌, ◌++◌, Bool, true, false, ◌||◌, List, [], ◌∷◌, map, length, refl, ap, sym, ◌∙◌, subst, arith, length-append}
 use Rattle.std.specs.Prelude.{Option, Some, None}
 use Rattle.std.specs.List.{list_any}
-use Rattle.zst_absence.specs.dnw_codes.declared.record_type.RecordType.{RecordType}
-use Rattle.zst_absence.specs.dnw_name.DomainName.{DomainName, lowercase_name, name_eq}
-use Rattle.zst_absence.specs.zst_record.RecordSets.{RRset}
-use Rattle.zst_absence.specs.zst_handler.declared.answer_set.AnswerSet.{AnswerSet}
-use Rattle.zst_absence.specs.zst_handler.Answers.{set_in}
-use Rattle.zst_absence.specs.zst_handler.Chains.{IsAliasChain, Links, NoneTwice, Stops, asked_names, end_of, leads, long, loops, nothing}
-use Rattle.zst_absence.specs.zst_handler.Found.{found}
+use Rattle.zst_circle.specs.dnw_codes.declared.record_type.RecordType.{RecordType}
+use Rattle.zst_circle.specs.dnw_name.DomainName.{DomainName, lowercase_name, name_eq}
+use Rattle.zst_circle.specs.zst_record.RecordSets.{RRset}
+use Rattle.zst_circle.specs.zst_handler.declared.answer_set.AnswerSet.{AnswerSet}
+use Rattle.zst_circle.specs.zst_handler.Answers.{set_in}
+use Rattle.zst_circle.specs.zst_handler.Chains.{IsAliasChain, Links, NoneTwice, Stops, asked_names, end_of, leads, long, loops, nothing}
+use Rattle.zst_circle.specs.zst_handler.Found.{found}
 use Rattle.zst_key.proofs.KeyLemmas.{eq-lower, eq-lower-first}
 use Rattle.zst_zone.specs.Answering.{LeadsOn, LeadsTo}
 

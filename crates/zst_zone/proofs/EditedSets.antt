@@ -3,21 +3,21 @@ use Rattle.std.proofs.Common.{◌≡◌, ◌<◌, refl, ap, sym, subst, ◌∙�
 use Rattle.std.specs.Prelude.{true, false, List, [], ◌∷◌}
 use Rattle.std.specs.List.{AllByRecursion}
 use Rattle.std.proofs.lemmas.Bool.{true≢false}
-use Rattle.zst_absence.specs.dnw_codes.DNSClass.{same_class}
-use Rattle.zst_absence.specs.dnw_codes.RecordType.{same_record_type}
-use Rattle.zst_absence.specs.dnw_codes.declared.dns_class.DNSClass.{DNSClass}
-use Rattle.zst_absence.specs.dnw_codes.declared.record_type.RecordType.{RecordType}
-use Rattle.zst_absence.specs.dnw_name.DomainName.{DomainName, name_eq}
-use Rattle.zst_absence.specs.drd_rdata.Types.{type_of}
-use Rattle.zst_absence.specs.drd_rdata.declared.rdata.RData.{RData}
-use Rattle.zst_absence.specs.drd_rdata.declared.rdata.RData.TheVariants as rdata
-use Rattle.zst_absence.specs.zst_record.Drafts.{drafted}
-use Rattle.zst_absence.specs.zst_record.RecordSets.{IsRRset, IsRecordOf, RRset, none_left, raised_data, raised_first, raised_set}
-use Rattle.zst_absence.specs.zst_record.declared.records.Record.{Record}
-use Rattle.zst_absence.specs.zst_handler.Zones.{IsStored}
-use Rattle.zst_absence.specs.zst_map.Edits.{CanEdit, edited}
-use Rattle.zst_absence.specs.zst_map.declared.edit.Edit.{Edit}
-use Rattle.zst_absence.specs.zst_map.declared.edit.Edit.TheVariants as edits
+use Rattle.zst_circle.specs.dnw_codes.DNSClass.{same_class}
+use Rattle.zst_circle.specs.dnw_codes.RecordType.{same_record_type}
+use Rattle.zst_circle.specs.dnw_codes.declared.dns_class.DNSClass.{DNSClass}
+use Rattle.zst_circle.specs.dnw_codes.declared.record_type.RecordType.{RecordType}
+use Rattle.zst_circle.specs.dnw_name.DomainName.{DomainName, name_eq}
+use Rattle.zst_circle.specs.drd_rdata.Types.{type_of}
+use Rattle.zst_circle.specs.drd_rdata.declared.rdata.RData.{RData}
+use Rattle.zst_circle.specs.drd_rdata.declared.rdata.RData.TheVariants as rdata
+use Rattle.zst_circle.specs.zst_record.Drafts.{drafted}
+use Rattle.zst_circle.specs.zst_record.RecordSets.{IsRRset, IsRecordOf, RRset, none_left, raised_data, raised_first, raised_set}
+use Rattle.zst_circle.specs.zst_record.declared.records.Record.{Record}
+use Rattle.zst_circle.specs.zst_handler.Zones.{IsStored}
+use Rattle.zst_circle.specs.zst_map.Edits.{CanEdit, edited}
+use Rattle.zst_circle.specs.zst_map.declared.edit.Edit.{Edit}
+use Rattle.zst_circle.specs.zst_map.declared.edit.Edit.TheVariants as edits
 
 some_left : (rs : List Record) → 0 < length rs → none_left rs ≡ false
 some_left [] some = absurd (omega (arith, some))

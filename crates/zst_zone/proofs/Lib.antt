@@ -10,7 +10,7 @@ pub mod Targets
 pub mod SeenKeys
 pub mod Told
 mod Unguarded
-pub use Rattle.zst_absence.proofs.zst_map_lemmas.dnw_name_lemmas
-pub use Rattle.zst_absence.proofs.zst_map_lemmas.drd_words_lemmas
-pub use Rattle.zst_absence.proofs.zst_map_lemmas.drd_rdata_lemmas
-pub use Rattle.zst_absence.proofs.zst_map_lemmas.OwnCodes
+pub use Rattle.zst_circle.proofs.zst_map_lemmas.dnw_name_lemmas
+pub use Rattle.zst_circle.proofs.zst_map_lemmas.drd_words_lemmas
+pub use Rattle.zst_circle.proofs.zst_map_lemmas.drd_rdata_lemmas
+pub use Rattle.zst_circle.proofs.zst_map_lemmas.OwnCodes

@@ -3,16 +3,16 @@ use Rattle.std.proofs.Common.{◌≡◌, ◌∙◌, refl, ap, sym}
 use Rattle.std.specs.Prelude.{ℕ, Bool, ◌&&◌, ◌||◌, List, [], ◌∷◌, Option, Some, None, cond, is_some, map, option_map}
 use Rattle.std.specs.Option.{option_flatten}
 use Rattle.std.specs.Str.{str_to_ascii_lowercase}
-use Rattle.zst_absence.specs.dnw_codes.declared.record_type.RecordType.{RecordType}
-use Rattle.zst_absence.specs.dnw_codes.declared.record_type.RecordType.TheVariants as kind
-use Rattle.zst_absence.specs.dnw_codes.RecordType.{same_record_type}
-use Rattle.zst_absence.specs.dnw_name.DomainName.{DomainName, domain_name, is_at_or_below, lowercase_name, name_eq}
-use Rattle.zst_absence.specs.zst_record.RecordSets.{RRset, renamed}
+use Rattle.zst_circle.specs.dnw_codes.declared.record_type.RecordType.{RecordType}
+use Rattle.zst_circle.specs.dnw_codes.declared.record_type.RecordType.TheVariants as kind
+use Rattle.zst_circle.specs.dnw_codes.RecordType.{same_record_type}
+use Rattle.zst_circle.specs.dnw_name.DomainName.{DomainName, domain_name, is_at_or_below, lowercase_name, name_eq}
+use Rattle.zst_circle.specs.zst_record.RecordSets.{RRset, renamed}
 use Rattle.zst_key.specs.Ancestors.{nearest_from, nearest_in, or_else, star}
 use Rattle.zst_key.proofs.KeyLemmas.{above-lower, below-lower, eq-lower-first, lower-twice}
-use Rattle.zst_absence.specs.zst_handler.Found.{above, cut_at, cut_found, delegation, found, found_set, here, is_address, nearest_above, wildcard_answer}
-use Rattle.zst_absence.specs.zst_handler.Lookups.{denial, name_error, name_exists, out_of_zone, sets_of_name}
-use Rattle.zst_absence.specs.zst_handler.Zones.{Zone, exists_in, rrset_at}
+use Rattle.zst_circle.specs.zst_handler.Found.{above, cut_at, cut_found, delegation, found, found_set, here, is_address, nearest_above, wildcard_answer}
+use Rattle.zst_circle.specs.zst_handler.Lookups.{denial, name_error, name_exists, out_of_zone, sets_of_name}
+use Rattle.zst_circle.specs.zst_handler.Zones.{Zone, exists_in, rrset_at}
 
 rrset-lower : (sets : List RRset) (name : DomainName) (t : RecordType) → rrset_at sets (lowercase_name name) t ≡ rrset_at sets name t
 rrset-lower [] name t = refl

@@ -3,7 +3,7 @@ use Rattle.std.proofs.Common.{◌≡◌, ◌<◌, refl, ◌∙◌, arith, length
 use Rattle.std.specs.Prelude.{Bool, true, false, not, List, [], ◌∷◌, Option, Some, None, cond}
 use Rattle.zst_key.specs.Ancestors.{or_else}
 use Rattle.zst_key.specs.dnw_name.declared.rr_key.RrKey.{RrKey}
-use Rattle.zst_absence.specs.zst_record.RecordSets.{RRset, none_left}
+use Rattle.zst_circle.specs.zst_record.RecordSets.{RRset, none_left}
 use Rattle.zst_zone.specs.Makings.{RefusesAll, first_refusal, is_own_key, refusal}
 use Rattle.zst_zone.specs.declared.handler.ZoneError.{ZoneError}
 use Rattle.zst_zone.specs.declared.handler.ZoneError.TheVariants as errors
@@ -49,6 +49,7 @@ refused-is (entry ∷ entries) e some memory = by (refusal entry) refl some (ref
 pub refuses-first : (entries : List (RrKey × RRset)) (e : ZoneError) → first_refusal entries ≡ Some e → RefusesAll entries e
 refuses-first entries errors.WrongKey some = some
 refuses-first entries errors.EmptySet some = some
+refuses-first entries errors.SignerFailed some = some
 refuses-first entries errors.OutOfMemory some = absurd (refused-is entries errors.OutOfMemory some refl)
 
 pub none-left : {X : Type 0} (entries : List X) → (0 < length entries → ⊥) → entries ≡ []

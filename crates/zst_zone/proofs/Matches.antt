@@ -2,17 +2,17 @@
 use Rattle.std.proofs.Common.{◌≡◌, ℕ, Bool, true, false, ◌&&◌, not, cond, List, [], ◌∷◌, map, refl, ap, sym, ◌∙◌}
 use Rattle.std.specs.Prelude.{Option, Some, None, option_map}
 use Rattle.std.specs.List.{cons_option}
-use Rattle.zst_absence.specs.dnw_codes.declared.record_type.RecordType.{RecordType}
-use Rattle.zst_absence.specs.dnw_codes.declared.record_type.RecordType.TheVariants as kind
-use Rattle.zst_absence.specs.dnw_codes.RecordType.{same_record_type}
-use Rattle.zst_absence.specs.dnw_name.DomainName.{DomainName, lowercase_name}
-use Rattle.zst_absence.specs.zst_record.RecordSets.{RRset, flattened_record, flattened_set, renamed, renamed_record}
-use Rattle.zst_absence.specs.zst_record.declared.records.Record.{Record}
-use Rattle.zst_absence.specs.zst_handler.Chains.{first_target, leads, target_of}
-use Rattle.zst_absence.specs.zst_handler.Found.{found}
-use Rattle.zst_absence.specs.zst_handler.Lookups.{alias_ttl, targets}
-use Rattle.zst_absence.specs.zst_map.declared.zone_sets.Match.{Match}
-use Rattle.zst_absence.specs.zst_map.Searches.{match_set}
+use Rattle.zst_circle.specs.dnw_codes.declared.record_type.RecordType.{RecordType}
+use Rattle.zst_circle.specs.dnw_codes.declared.record_type.RecordType.TheVariants as kind
+use Rattle.zst_circle.specs.dnw_codes.RecordType.{same_record_type}
+use Rattle.zst_circle.specs.dnw_name.DomainName.{DomainName, lowercase_name}
+use Rattle.zst_circle.specs.zst_record.RecordSets.{RRset, flattened_record, flattened_set, renamed, renamed_record}
+use Rattle.zst_circle.specs.zst_record.declared.records.Record.{Record}
+use Rattle.zst_circle.specs.zst_handler.Chains.{first_target, leads, target_of}
+use Rattle.zst_circle.specs.zst_handler.Found.{found}
+use Rattle.zst_circle.specs.zst_handler.Lookups.{alias_ttl, targets}
+use Rattle.zst_circle.specs.zst_map.declared.zone_sets.Match.{Match}
+use Rattle.zst_circle.specs.zst_map.Searches.{match_set}
 use Rattle.zst_key.proofs.KeyLemmas.{lower-twice}
 use Rattle.zst_zone.proofs.LowerNames.{found-keyed}
 

@@ -3,18 +3,18 @@ use Rattle.std.proofs.Common.{◌≡◌, refl, sym, ◌∙◌, subst}
 use Rattle.std.specs.Prelude.{Bool, true, false, not, ◌&&◌, List, [], ◌∷◌, Option, Some, None, cond, find}
 use Rattle.std.specs.List.{AllByRecursion}
 use Rattle.std.specs.declared.cmp.Ordering.TheVariants.{Less, Equal}
-use Rattle.zst_absence.specs.dnw_codes.declared.record_type.RecordType.{RecordType}
-use Rattle.zst_absence.specs.dnw_codes.DNSClass.{same_class}
-use Rattle.zst_absence.specs.dnw_codes.RecordType.{same_record_type}
-use Rattle.zst_absence.specs.dnw_name.DomainName.{DomainName, name_eq}
-use Rattle.zst_absence.specs.drd_rdata.Order.{rdata_eq}
-use Rattle.zst_absence.specs.drd_rdata.Types.{type_of}
-use Rattle.zst_absence.specs.zst_record.Records.{IsServable}
-use Rattle.zst_absence.specs.zst_record.RecordSets.{RRset, put_record, set_with}
-use Rattle.zst_absence.specs.zst_record.declared.records.Record.{Record}
-use Rattle.zst_absence.specs.zst_handler.Zones.{AddsTo, AreInOrder, SetReadsBack, Zone, ZoneReadsBack, rrset_at}
-use Rattle.zst_absence.proofs.zst_map_lemmas.ZoneNodes.{is_set_at}
-use Rattle.zst_absence.proofs.zst_map_lemmas.ZoneOnce.{find_in, found_first, tied}
+use Rattle.zst_circle.specs.dnw_codes.declared.record_type.RecordType.{RecordType}
+use Rattle.zst_circle.specs.dnw_codes.DNSClass.{same_class}
+use Rattle.zst_circle.specs.dnw_codes.RecordType.{same_record_type}
+use Rattle.zst_circle.specs.dnw_name.DomainName.{DomainName, name_eq}
+use Rattle.zst_circle.specs.drd_rdata.Order.{rdata_eq}
+use Rattle.zst_circle.specs.drd_rdata.Types.{type_of}
+use Rattle.zst_circle.specs.zst_record.Records.{IsServable}
+use Rattle.zst_circle.specs.zst_record.RecordSets.{RRset, put_record, set_with}
+use Rattle.zst_circle.specs.zst_record.declared.records.Record.{Record}
+use Rattle.zst_circle.specs.zst_handler.Zones.{AddsTo, AreInOrder, SetReadsBack, Zone, ZoneReadsBack, rrset_at}
+use Rattle.zst_circle.proofs.zst_map_lemmas.ZoneNodes.{is_set_at}
+use Rattle.zst_circle.proofs.zst_map_lemmas.ZoneOnce.{find_in, found_first, tied}
 
 -- ---- the sets of a list, each as it is found
 find_step : (P : RRset → Type 0) (b : Bool) (x s : RRset) (rest : Option RRset) → cond b (Some x) rest ≡ Some s → (b ≡ true → P x) → (rest ≡ Some s → P s) → P s

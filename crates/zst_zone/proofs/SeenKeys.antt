@@ -10,8 +10,8 @@ use Rattle.std.specs.declared.cmp.Ordering.{Ordering}
 use Rattle.std.specs.declared.cmp.Ordering.TheVariants.{Less, Equal, Greater}
 use Rattle.zst_zone.specs.Seen.{AreRising, are_before}
 use Rattle.zst_key.proofs.NamesAbove.{name_total}
-use Rattle.zst_absence.specs.dnw_name.DomainName.{DomainName, name_cmp, name_eq}
-use Rattle.zst_absence.specs.dnw_name.NameOrderLaws.{name_eq-by_cmp}
+use Rattle.zst_circle.specs.dnw_name.DomainName.{DomainName, name_cmp, name_eq}
+use Rattle.zst_circle.specs.dnw_name.NameOrderLaws.{name_eq-by_cmp}
 
 is-less : (o : Ordering) → is_lt o ≡ true → o ≡ Less
 is-less Less e = refl

@@ -2,20 +2,20 @@
 use Rattle.std.proofs.Common.{◌≡◌, ◌⊎◌, ◌<◌, inl, inr, refl, sym, ◌∙◌, ap, subst, arith, length}
 use Rattle.std.specs.Prelude.{Bool, true, false, not, ◌&&◌, List, [], ◌∷◌, Option, Some, None, Result, Ok, Err, OnOk, OnErr, cond}
 use Rattle.std.proofs.lemmas.Bool.{and_parts, true≢false, eqb-true, eq-eqb}
-use Rattle.zst_absence.specs.dnw_codes.declared.record_type.RecordType.{RecordType}
-use Rattle.zst_absence.specs.dnw_codes.declared.dns_class.DNSClass.{DNSClass}
-use Rattle.zst_absence.specs.dnw_codes.declared.dns_class.DNSClass.TheVariants.{IN}
-use Rattle.zst_absence.specs.dnw_codes.DNSClass.{same_class}
-use Rattle.zst_absence.specs.dnw_codes.RecordType.{record_type_number, same_record_type}
-use Rattle.zst_absence.specs.dnw_name.DomainName.{DomainName, lowercase_name, name_eq}
-use Rattle.zst_absence.specs.drd_rdata.Order.{rdata_eq}
-use Rattle.zst_absence.specs.drd_rdata.Types.{type_of}
-use Rattle.zst_absence.specs.zst_record.RecordSets.{IsHeld, IsRRset, RRset, first_class, first_name, held_set, is_single, none_left, put_record, set_of, set_with, with_one}
-use Rattle.zst_absence.specs.zst_record.declared.records.Record.{Record}
-use Rattle.zst_absence.specs.zst_handler.Updates.{Replaces, Upserts, joins, upsert_changes, upserted}
-use Rattle.zst_absence.specs.zst_handler.Zones.{Adds, AreInOrder, AreStored, IsStored, Zone, rrset_at}
-use Rattle.zst_absence.proofs.zst_map_lemmas.PutRecords.{held_after, held_one, put_is, same_type}
-use Rattle.zst_absence.specs.zst_record.RecordLaws.{name_eq_equiv}
+use Rattle.zst_circle.specs.dnw_codes.declared.record_type.RecordType.{RecordType}
+use Rattle.zst_circle.specs.dnw_codes.declared.dns_class.DNSClass.{DNSClass}
+use Rattle.zst_circle.specs.dnw_codes.declared.dns_class.DNSClass.TheVariants.{IN}
+use Rattle.zst_circle.specs.dnw_codes.DNSClass.{same_class}
+use Rattle.zst_circle.specs.dnw_codes.RecordType.{record_type_number, same_record_type}
+use Rattle.zst_circle.specs.dnw_name.DomainName.{DomainName, lowercase_name, name_eq}
+use Rattle.zst_circle.specs.drd_rdata.Order.{rdata_eq}
+use Rattle.zst_circle.specs.drd_rdata.Types.{type_of}
+use Rattle.zst_circle.specs.zst_record.RecordSets.{IsHeld, IsRRset, RRset, first_class, first_name, held_set, is_single, none_left, put_record, set_of, set_with, with_one}
+use Rattle.zst_circle.specs.zst_record.declared.records.Record.{Record}
+use Rattle.zst_circle.specs.zst_handler.Updates.{Replaces, Upserts, joins, upsert_changes, upserted}
+use Rattle.zst_circle.specs.zst_handler.Zones.{Adds, AreInOrder, AreStored, IsStored, Zone, rrset_at}
+use Rattle.zst_circle.proofs.zst_map_lemmas.PutRecords.{held_after, held_one, put_is, same_type}
+use Rattle.zst_circle.specs.zst_record.RecordLaws.{name_eq_equiv}
 use Rattle.zst_key.proofs.KeyLemmas.{eq-lower}
 use Rattle.zst_zone.specs.Answering.{IsKept}
 use Rattle.zst_zone.proofs.ReadBack.{each_found, found_is, found_of}

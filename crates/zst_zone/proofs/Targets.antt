@@ -3,13 +3,13 @@ use Rattle.std.proofs.Common.{◌≡◌, ◌++◌, ◌≤◌, ℕ, drop, length,
 use Rattle.std.specs.Prelude.{Bool, true, false, not, cond, ◌||◌, List, [], ◌∷◌, Option, Some, None}
 use Rattle.std.proofs.lemmas.List.{drop_all}
 use Rattle.std.specs.List.{cons_option, filter, flat_map, list_any}
-use Rattle.zst_absence.specs.dnw_codes.declared.record_type.RecordType.TheVariants as kind
-use Rattle.zst_absence.specs.dnw_name.DomainName.{DomainName, lowercase_name, name_eq}
-use Rattle.zst_absence.specs.zst_record.RecordSets.{RRset}
-use Rattle.zst_absence.specs.zst_record.declared.records.Record.{Record}
-use Rattle.zst_absence.specs.zst_handler.Chains.{target_of}
-use Rattle.zst_absence.specs.zst_handler.Lookups.{additionals, addresses, has_additionals, listed, once, targets}
-use Rattle.zst_absence.specs.zst_handler.Zones.{rrset_at}
+use Rattle.zst_circle.specs.dnw_codes.declared.record_type.RecordType.TheVariants as kind
+use Rattle.zst_circle.specs.dnw_name.DomainName.{DomainName, lowercase_name, name_eq}
+use Rattle.zst_circle.specs.zst_record.RecordSets.{RRset}
+use Rattle.zst_circle.specs.zst_record.declared.records.Record.{Record}
+use Rattle.zst_circle.specs.zst_handler.Chains.{target_of}
+use Rattle.zst_circle.specs.zst_handler.Lookups.{additionals, addresses, has_additionals, listed, once, targets}
+use Rattle.zst_circle.specs.zst_handler.Zones.{rrset_at}
 use Rattle.zst_key.proofs.KeyLemmas.{eq-lower-first, one-lower}
 use Rattle.zst_zone.specs.Answering.{left_to_list, target_addresses, unseen}
 use Rattle.zst_zone.proofs.LowerNames.{rrset-keyed}

@@ -1,20 +1,20 @@
 -- What a zone's handler tells of a lookup.
 use Rattle.std.proofs.Common.{◌≡◌, Bool, true, false, cond, List, [], ◌∷◌, refl, sym, ◌∙◌, true≢false}
 use Rattle.std.specs.Prelude.{Option, Some, None, Ok, Err}
-use Rattle.zst_absence.specs.dnw_codes.declared.record_type.RecordType.{RecordType}
-use Rattle.zst_absence.specs.dnw_codes.declared.record_type.RecordType.TheVariants as kind
-use Rattle.zst_absence.specs.dnw_codes.RecordType.{same_record_type}
-use Rattle.zst_absence.specs.dnw_name.DomainName.{DomainName, is_at_or_below}
-use Rattle.zst_absence.specs.zst_record.RecordSets.{RRset}
-use Rattle.zst_absence.specs.zst_codes.declared.lookup_control_flow.LookupControlFlow.{LookupControlFlow}
-use Rattle.zst_absence.specs.zst_codes.declared.lookup_control_flow.LookupControlFlow.TheVariants as flows
-use Rattle.zst_absence.specs.zst_codes.declared.lookup_error.LookupError.{LookupError}
-use Rattle.zst_absence.specs.zst_handler.declared.auth_lookup.AuthLookup.{AuthLookup}
-use Rattle.zst_absence.specs.zst_handler.declared.lookup_options.LookupOptions.{LookupOptions}
-use Rattle.zst_absence.specs.zst_handler.Answers.{LookupAnswers, Tells, denial_error}
-use Rattle.zst_absence.specs.zst_handler.Found.{found}
-use Rattle.zst_absence.specs.zst_handler.Lookups.{LookupFrom, Outcome, all_outcome, answered, denial, name_error, name_exists, out_of_zone, sets_of_name}
-use Rattle.zst_absence.specs.zst_handler.Zones.{Zone, exists_in}
+use Rattle.zst_circle.specs.dnw_codes.declared.record_type.RecordType.{RecordType}
+use Rattle.zst_circle.specs.dnw_codes.declared.record_type.RecordType.TheVariants as kind
+use Rattle.zst_circle.specs.dnw_codes.RecordType.{same_record_type}
+use Rattle.zst_circle.specs.dnw_name.DomainName.{DomainName, is_at_or_below}
+use Rattle.zst_circle.specs.zst_record.RecordSets.{RRset}
+use Rattle.zst_circle.specs.zst_codes.declared.lookup_control_flow.LookupControlFlow.{LookupControlFlow}
+use Rattle.zst_circle.specs.zst_codes.declared.lookup_control_flow.LookupControlFlow.TheVariants as flows
+use Rattle.zst_circle.specs.zst_codes.declared.lookup_error.LookupError.{LookupError}
+use Rattle.zst_circle.specs.zst_handler.declared.auth_lookup.AuthLookup.{AuthLookup}
+use Rattle.zst_circle.specs.zst_handler.declared.lookup_options.LookupOptions.{LookupOptions}
+use Rattle.zst_circle.specs.zst_handler.Answers.{LookupAnswers, Tells, denial_error}
+use Rattle.zst_circle.specs.zst_handler.Found.{found}
+use Rattle.zst_circle.specs.zst_handler.Lookups.{LookupFrom, Outcome, all_outcome, answered, denial, name_error, name_exists, out_of_zone, sets_of_name}
+use Rattle.zst_circle.specs.zst_handler.Zones.{Zone, exists_in}
 use Rattle.zst_zone.specs.Answering.{AnswersAll, AnswersOne}
 
 module _ (zone : Zone) (name : DomainName) (t : RecordType) (options : LookupOptions) where

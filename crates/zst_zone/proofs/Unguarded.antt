@@ -1,7 +1,7 @@
 -- No message changes a zone without a guard, and its own policy alone says who may transfer it.
 use Rattle.std.proofs.Common.{◌≡◌, ℕ, refl, ap, subst, sym}
 use Rattle.std.specs.Prelude.{Bool, true, Option, None, Some, Result, Err, IsOkAnd, MatchOption}
-use Rattle.zst_absence.specs.zst_handler.Zones.{Guard, Zone}
+use Rattle.zst_circle.specs.zst_handler.Zones.{Guard, Zone}
 use Rattle.zst_request.specs.Handed.{TransfersView, transfer_records}
 use Rattle.zst_request.specs.Transfers.{own_refused, transfer_of}
 use Rattle.zst_request.specs.declared.transfer.ZoneTransfer.{ZoneTransfer}

@@ -1,16 +1,16 @@
 -- What the sets of a zone answer, as a lookup gives it.
 use Rattle.std.specs.Prelude.{◌≡◌, ℕ, List, [], ◌∷◌, map, length, Option, Some, None, IsSomeAnd, if◌then◌else◌}
 use Rattle.std.specs.List.{flat_map, list_any}
-use Rattle.zst_absence.specs.dnw_codes.declared.record_type.RecordType.{RecordType}
-use Rattle.zst_absence.specs.dnw_name.DomainName.{DomainName, lowercase_name, name_eq}
-use Rattle.zst_absence.specs.zst_record.RecordSets.{RRset}
-use Rattle.zst_absence.specs.zst_record.declared.records.Record.{Record}
-use Rattle.zst_absence.specs.zst_handler.declared.auth_lookup.AuthLookup.{AuthLookup}
-use Rattle.zst_absence.specs.zst_handler.declared.lookup_options.LookupOptions.{LookupOptions}
-use Rattle.zst_absence.specs.zst_handler.Answers.{ShowsAnswer}
-use Rattle.zst_absence.specs.zst_handler.Chains.{IsAliasChain, Links, NoneTwice, asked_names, end_of}
-use Rattle.zst_absence.specs.zst_handler.Lookups.{Answer, AnswersFrom, addresses, flattened, once, targets}
-use Rattle.zst_absence.specs.zst_handler.Zones.{AreInOrder, AreStored}
+use Rattle.zst_circle.specs.dnw_codes.declared.record_type.RecordType.{RecordType}
+use Rattle.zst_circle.specs.dnw_name.DomainName.{DomainName, lowercase_name, name_eq}
+use Rattle.zst_circle.specs.zst_record.RecordSets.{RRset}
+use Rattle.zst_circle.specs.zst_record.declared.records.Record.{Record}
+use Rattle.zst_circle.specs.zst_handler.declared.auth_lookup.AuthLookup.{AuthLookup}
+use Rattle.zst_circle.specs.zst_handler.declared.lookup_options.LookupOptions.{LookupOptions}
+use Rattle.zst_circle.specs.zst_handler.Answers.{ShowsAnswer}
+use Rattle.zst_circle.specs.zst_handler.Chains.{IsAliasChain, Links, NoneTwice, asked_names, end_of}
+use Rattle.zst_circle.specs.zst_handler.Lookups.{Answer, AnswersFrom, addresses, flattened, once, targets}
+use Rattle.zst_circle.specs.zst_handler.Zones.{AreInOrder, AreStored}
 
 -- A set, or its records under another name: both are the same where they stand in for an alias.
 abbrev pub IsBehind : Option RRset → Option RRset → Type 0

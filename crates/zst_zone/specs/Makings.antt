@@ -2,11 +2,11 @@
 use Rattle.std.specs.Prelude.{◌≡◌, Bool, not, ◌&&◌, List, [], ◌∷◌, Option, Some, None, if◌then◌else◌}
 use Rattle.zst_key.specs.Ancestors.{or_else}
 use Rattle.zst_key.specs.dnw_name.declared.rr_key.RrKey.{RrKey}
-use Rattle.zst_absence.specs.dnw_codes.RecordType.{same_record_type}
-use Rattle.zst_absence.specs.dnw_name.DomainName.{name_eq}
-use Rattle.zst_absence.specs.zst_record.RecordSets.{RRset, none_left}
-use Rattle.zst_absence.specs.zst_handler.Updates.{ZoneReplaces}
-use Rattle.zst_absence.specs.zst_handler.Zones.{Zone}
+use Rattle.zst_circle.specs.dnw_codes.RecordType.{same_record_type}
+use Rattle.zst_circle.specs.dnw_name.DomainName.{name_eq}
+use Rattle.zst_circle.specs.zst_record.RecordSets.{RRset, none_left}
+use Rattle.zst_circle.specs.zst_handler.Updates.{ZoneReplaces}
+use Rattle.zst_circle.specs.zst_handler.Zones.{Zone}
 use Rattle.zst_zone.specs.declared.handler.ZoneError.{ZoneError}
 use Rattle.zst_zone.specs.declared.handler.ZoneError.TheVariants as errors
 

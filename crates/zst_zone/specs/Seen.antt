@@ -3,7 +3,7 @@ use Rattle.std.specs.Prelude.{◌≡◌, ◌++◌, ◌-◌, Bool, true, List, []
 use Rattle.std.specs.List.{list_all, list_any}
 use Rattle.std.specs.Ordering.{is_le, is_lt}
 use Rattle.zst_zone.specs.declared.seen.Seen.{Seen}
-use Rattle.zst_absence.specs.dnw_name.DomainName.{DomainName, name_cmp, name_eq}
+use Rattle.zst_circle.specs.dnw_name.DomainName.{DomainName, name_cmp, name_eq}
 
 -- The keys of both lists.
 abbrev pub seen_keys : Seen → List DomainName

@@ -1,9 +1,9 @@
 -- What is read off the start of a zone (RFC 1035, section 3.3.13), and which sets a zone refuses.
 use Rattle.std.specs.Prelude.{◌≡◌, ℕ, true, List, [], ◌∷◌, false, Option, Some, None}
-use Rattle.zst_absence.specs.drd_rdata.declared.rdata.RData.{RData}
-use Rattle.zst_absence.specs.drd_rdata.declared.rdata.RData.TheVariants.{SOA}
-use Rattle.zst_absence.specs.zst_record.declared.records.Record.{Record}
-use Rattle.zst_absence.specs.zst_record.RecordSets.{RRset, none_left}
+use Rattle.zst_circle.specs.drd_rdata.declared.rdata.RData.{RData}
+use Rattle.zst_circle.specs.drd_rdata.declared.rdata.RData.TheVariants.{SOA}
+use Rattle.zst_circle.specs.zst_record.declared.records.Record.{Record}
+use Rattle.zst_circle.specs.zst_record.RecordSets.{RRset, none_left}
 use Rattle.zst_zone.specs.declared.handler.ZoneError.{ZoneError}
 use Rattle.zst_zone.specs.declared.handler.ZoneError.TheVariants as errors
 
@@ -31,3 +31,4 @@ abbrev pub RefusesSet : RRset → ZoneError → Type 0
 RefusesSet set errors.EmptySet = none_left set.records ≡ true
 RefusesSet set errors.OutOfMemory = none_left set.records ≡ false
 RefusesSet set errors.WrongKey = ⊥
+RefusesSet set errors.SignerFailed = ⊥

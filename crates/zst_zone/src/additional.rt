@@ -1,17 +1,17 @@
 //! The additional data of an answer (RFC 1034 section 4.3.2 step 6).
 
 ghost use Rattle.std.specs.Prelude.{◌≡◌, ◌∷◌, ◌++◌, IfOk, OnOk, List, Some, map, option_copied};
-ghost use Rattle.zst_absence.specs.zst_handler.Answers.{records_if, set_in, sets_shown};
-ghost use Rattle.zst_absence.specs.zst_handler.Chains.{target_of};
-ghost use Rattle.zst_absence.specs.zst_handler.Lookups.{additionals, addresses, has_additionals, listed};
-ghost use Rattle.zst_absence.specs.zst_record.declared.records.Record.{Record as Stored};
+ghost use Rattle.zst_circle.specs.zst_handler.Answers.{records_if, set_in, sets_shown};
+ghost use Rattle.zst_circle.specs.zst_handler.Chains.{target_of};
+ghost use Rattle.zst_circle.specs.zst_handler.Lookups.{additionals, addresses, has_additionals, listed};
+ghost use Rattle.zst_circle.specs.zst_record.declared.records.Record.{Record as Stored};
 ghost use Rattle.zst_zone.specs.Answering.{left_to_list, target_addresses};
 ghost use Rattle.zst_zone.specs.Seen.{AreRising, seen_keys};
 
 use crate::chain::target_of;
 use crate::seen::Seen;
 use std::alloc::{AllocError, Global};
-use zst_absence::{
+use zst_circle::{
     AnswerSet, LookupOptions, LookupRecords, NameKey, Record, RecordSet, RecordType, ZoneSets, push,
 };
 

@@ -2,10 +2,10 @@
 
 ghost use Rattle.std.specs.Prelude.{◌↔◌, IsTrue};
 ghost use Rattle.std.specs.List.{AllByRecursion};
-ghost use Rattle.zst_absence.specs.zst_record.Records.{IsServable};
-ghost use Rattle.zst_absence.specs.zst_handler.Zones.{SetReadsBack};
+ghost use Rattle.zst_circle.specs.zst_record.Records.{IsServable};
+ghost use Rattle.zst_circle.specs.zst_handler.Zones.{SetReadsBack};
 
-use zst_absence::{Record, RecordSet, ZoneSets};
+use zst_circle::{Record, RecordSet, ZoneSets};
 
 /// Whether each record of the sets and each signature may be served.
 pub(crate) fn all_read_back(sets: &ZoneSets) -> bool

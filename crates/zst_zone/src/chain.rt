@@ -2,15 +2,15 @@
 
 ghost use Rattle.std.specs.Prelude.{◌≡◌, ℕ, ◌+◌, ◌<◌, Some, IfOk, OnOk, map, option_copied};
 ghost use Rattle.std.specs.List.{list_any};
-ghost use Rattle.zst_absence.specs.dnw_name.DomainName.{DomainName, name_eq};
-ghost use Rattle.zst_absence.specs.zst_handler.Answers.{set_in};
-ghost use Rattle.zst_absence.specs.zst_handler.Chains.{IsAliasChain, first_target, leads, target_of};
-ghost use Rattle.zst_absence.specs.zst_handler.Found.{found};
-ghost use Rattle.zst_absence.specs.zst_map.Searches.{match_set};
+ghost use Rattle.zst_circle.specs.dnw_name.DomainName.{DomainName, name_eq};
+ghost use Rattle.zst_circle.specs.zst_handler.Answers.{set_in};
+ghost use Rattle.zst_circle.specs.zst_handler.Chains.{IsAliasChain, first_target, leads, target_of};
+ghost use Rattle.zst_circle.specs.zst_handler.Found.{found};
+ghost use Rattle.zst_circle.specs.zst_map.Searches.{match_set};
 ghost use Rattle.zst_zone.specs.Answering.{LeadsOn, LeadsTo};
 
 use std::alloc::{AllocError, Global};
-use zst_absence::{AnswerSet, Match, Name, NameKey, RData, RecordSet, RecordType, ZoneSets, push};
+use zst_circle::{AnswerSet, Match, Name, NameKey, RData, RecordSet, RecordType, ZoneSets, push};
 
 /// How many sets an alias chain has at most.
 const LONGEST_CHAIN: u8 = 8;

@@ -3,12 +3,12 @@
 ghost use Rattle.std.specs.Prelude.{IfOk};
 ghost use Rattle.zst_request.specs.Denying.{ShowsNsec, ShowsNsec3};
 
-use crate::handler::InMemoryZoneHandler;
+use crate::handler::StoredZone;
 use std::alloc::{AllocError, Global};
-use zst_absence::{AuthLookup, HashedQuery, LookupOptions, Name, nsec_denial, nsec3_denial};
+use zst_circle::{AuthLookup, HashedQuery, LookupOptions, Name, nsec_denial, nsec3_denial};
 use zst_request::Nsec3QueryInfo;
 
-impl<K> InMemoryZoneHandler<K> {
+impl StoredZone {
     /// The NSEC sets that deny a name or a type of it: the one for the name, and the one for the wildcard at its closest
     /// encloser. They are shown whatever the zone's kind of proof is.
     pub fn nsec_denial(

@@ -1,36 +1,37 @@
 //! A zone kept in memory, and what it answers.
 
 ghost use Rattle.std.specs.Prelude.{◌≡◌, ◌↔◌, [], true, false, Some, None, Err, IsTrue, option_copied, IfOk, IfErr, IsOkAnd, MatchOption, OnOk, OnErr};
-ghost use Rattle.zst_absence.specs.dnw_name.DomainName.{is_at_or_below, lowercase_name};
-ghost use Rattle.zst_absence.specs.zst_handler.Answers.{LookupAnswers, denial_error, records_in};
-ghost use Rattle.zst_absence.specs.zst_handler.Lookups.{denial};
-ghost use Rattle.zst_absence.specs.dnw_codes.declared.dns_class.DNSClass.TheVariants.{IN};
-ghost use Rattle.zst_absence.specs.dnw_codes.RecordType.{same_record_type};
-ghost use Rattle.zst_absence.specs.dnw_codes.declared.record_type.RecordType.TheVariants as types;
-ghost use Rattle.zst_absence.specs.zst_map.Edits.{CanEdit, edited};
-ghost use Rattle.zst_absence.specs.zst_record.RecordSets.{RRset, none_left};
-ghost use Rattle.zst_absence.specs.zst_handler.Updates.{Upserts, ZoneReplaces, upsert_changes};
-ghost use Rattle.zst_absence.specs.zst_handler.Zones.{exists_in, rrset_at, empty_zone, AddsTo, AreInOrder, AreStored, ZoneReadsBack};
+ghost use Rattle.zst_circle.specs.dnw_name.DomainName.{is_at_or_below, lowercase_name};
+ghost use Rattle.zst_circle.specs.zst_handler.Answers.{LookupAnswers, denial_error, records_in};
+ghost use Rattle.zst_circle.specs.zst_handler.Lookups.{denial};
+ghost use Rattle.zst_circle.specs.dnw_codes.RecordType.{same_record_type};
+ghost use Rattle.zst_circle.specs.dnw_codes.declared.record_type.RecordType.TheVariants as types;
+ghost use Rattle.zst_circle.specs.zst_map.Edits.{CanEdit, edited};
+ghost use Rattle.zst_circle.specs.zst_record.RecordSets.{RRset, none_left};
+ghost use Rattle.zst_circle.specs.zst_handler.Updates.{Upserts, ZoneReplaces, upsert_changes};
+ghost use Rattle.zst_circle.specs.zst_handler.Zones.{exists_in, rrset_at, empty_zone, AddsTo, AreInOrder, AreStored, ZoneReadsBack};
 ghost use Rattle.zst_request.specs.Handed.{transfer_records};
 ghost use Rattle.zst_request.specs.Transfers.{own_refused, transfer_of};
 ghost use Rattle.zst_zone.specs.Makings.{PutsAll, RefusesAll, first_refusal, is_own_key, refusal};
+ghost use Rattle.zst_circle.specs.Secures.{Secures};
+ghost use Rattle.zst_zone.specs.Securings.{RefusesToSecure, denial_ttl};
 ghost use Rattle.zst_zone.specs.Starts.{RefusesSet, first_data, minimum_of, serial_of};
 
 use crate::back::all_read_back;
 use crate::lookup::{all_of, answer_alone, answer_from};
 use std::alloc::{AllocError, Global};
 use std::collections::BTreeMap;
-use std::marker::{Model, PhantomData};
+use std::marker::Model;
 use std::mem;
 use thiserror::Error;
-use zst_absence::{
-    AnswerSet, AuthLookup, AxfrPolicy, DNSClass, Edit, LookupControlFlow, LookupError,
-    LookupOptions, LookupRecords, Name, NameKey, NxProofKind, RData, Record, RecordSet, RecordType,
-    ResponseCode, RrKey, Search, ZoneSets, ZoneSettings, ZoneType,
+use zst_circle::{
+    AnswerSet, AuthLookup, AxfrPolicy, Edit, LookupControlFlow, LookupError, LookupOptions,
+    LookupRecords, Name, NameKey, NxProofKind, RData, Record, RecordSet, RecordType, ResponseCode,
+    RrKey, Search, SignerFault, ZoneSets, ZoneSettings, ZoneSigner, ZoneType, secure,
 };
 use zst_request::{AxfrRecords, ZoneTransfer};
 
-/// Why a zone is not changed or made. The numbers are stable; 3 is free.
+/// Why a zone is not changed or made. The numbers are stable.
 #[derive(Clone, Copy, Debug, PartialEq, Eq, Error)]
 pub enum ZoneError {
     /// A set is under another owner or type than its own.
@@ -39,14 +40,17 @@ pub enum ZoneError {
     /// A set has no records.
     #[error("EmptySet")]
     EmptySet = 2,
+    /// A signer gave no signature, or a hashed owner would pass 255 octets.
+    #[error("SignerFailed")]
+    SignerFailed = 3,
     /// Memory was refused.
     #[error("OutOfMemory")]
     OutOfMemory = 4,
 }
 
-/// A zone kept in memory. `K` is to sign it.
+/// A zone kept in memory: where it begins, how it may be used, and its sets.
 #[derive(Drop)]
-pub struct InMemoryZoneHandler<K> {
+pub struct StoredZone {
     origin: Name,
     /// The origin's key, made once.
     origin_key: NameKey,
@@ -54,12 +58,11 @@ pub struct InMemoryZoneHandler<K> {
     axfr_policy: AxfrPolicy,
     nx_proof_kind: Option<NxProofKind>,
     sets: ZoneSets,
-    signer: PhantomData<K>,
 }
 
-impl<K> Model for InMemoryZoneHandler<K> {
+impl Model for StoredZone {
     ghost use Rattle.std.specs.Prelude.{None};
-    ghost use Rattle.zst_absence.specs.zst_handler.Zones.{Zone};
+    ghost use Rattle.zst_circle.specs.zst_handler.Zones.{Zone};
     ghost use Rattle.zst_zone.specs.Answering.{IsKept};
 
     ghost Value = { Zone };
@@ -69,24 +72,23 @@ impl<K> Model for InMemoryZoneHandler<K> {
     ghost invariant = { λ zone. IsKept zone.origin zone.origin_key zone.sets };
 }
 
-impl<K> InMemoryZoneHandler<K> {
+impl StoredZone {
     /// A zone without records.
     pub fn empty(
         alloc: Global,
         origin: Name,
         settings: ZoneSettings,
-    ) -> Result<InMemoryZoneHandler<K>, AllocError>
+    ) -> Result<StoredZone, AllocError>
         ensures { IfOk result (λ zone. zone ≡ empty_zone origin settings) }
     {
         let origin_key = NameKey::of(alloc, &origin)?;
-        Ok(InMemoryZoneHandler {
+        Ok(StoredZone {
             origin,
             origin_key,
             zone_type: settings.zone_type,
             axfr_policy: settings.axfr_policy,
             nx_proof_kind: settings.nx_proof_kind,
             sets: ZoneSets::new(alloc),
-            signer: PhantomData,
         })
     }
 
@@ -98,7 +100,7 @@ impl<K> InMemoryZoneHandler<K> {
         origin: Name,
         records: BTreeMap<RrKey, RecordSet>,
         settings: ZoneSettings,
-    ) -> Result<InMemoryZoneHandler<K>, ZoneError>
+    ) -> Result<StoredZone, ZoneError>
         ensures ok { IfOk result (λ zone. (first_refusal records.entries ≡ None) × PutsAll (empty_zone origin settings) records.entries zone) }
         ensures refused { IfErr result (RefusesAll records.entries) }
     {
@@ -106,7 +108,7 @@ impl<K> InMemoryZoneHandler<K> {
             mem::drop(records);
             return Err(refused);
         }
-        let Ok(mut zone) = InMemoryZoneHandler::empty(alloc, origin, settings) else {
+        let Ok(mut zone) = StoredZone::empty(alloc, origin, settings) else {
             mem::drop(records);
             return Err(ZoneError::OutOfMemory);
         };
@@ -127,13 +129,6 @@ impl<K> InMemoryZoneHandler<K> {
         ensures stored { AreStored self.now.sets }
     {
         &self.origin
-    }
-
-    /// The class of the zone, that of the Internet.
-    pub fn class(&self) -> DNSClass
-        ensures { result ≡ IN }
-    {
-        DNSClass::IN
     }
 
     /// The sets of the zone, by owner in canonical order, then by type.
@@ -188,7 +183,8 @@ impl<K> InMemoryZoneHandler<K> {
         alloc: Global,
         options: LookupOptions,
     ) -> Result<ZoneTransfer<'_>, LookupError>
-        ensures answer { MatchOption (own_refused self.now.axfr_policy) (IsOkAnd result (λ transfer. transfer_records transfer ≡ transfer_of self.now options.dnssec_ok))
+        ensures answer { MatchOption (own_refused self.now.axfr_policy)
+            (IsOkAnd result (λ transfer. transfer_records transfer ≡ transfer_of self.now options.dnssec_ok))
             (λ code. result ≡ Err (LookupError.ResponseCode code)) }
         ensures guard { self.now.guard ≡ None }
     {
@@ -436,20 +432,6 @@ impl<K> InMemoryZoneHandler<K> {
         self.sets.upsert(alloc, key, next)
     }
 
-    /// What `upsert` does: a zone is changed by whoever holds it alone.
-    pub fn upsert_mut(
-        &mut self,
-        alloc: Global,
-        next: Record,
-        serial: u32,
-    ) -> Result<bool, AllocError>
-        ensures changed { IfOk result (λ changed. changed ≡ upsert_changes self.old.sets next) }
-        ensures ok { OnOk result (Upserts self.old next self.new) }
-        ensures err { OnErr result (self.new ≡ self.old) }
-    {
-        self.upsert(alloc, next, serial)
-    }
-
     /// Puts a set in place of the one of its owner and type.
     pub fn put_set(&mut self, alloc: Global, set: RecordSet) -> Result<(), ZoneError>
         ensures ok { OnOk result ((none_left set.records ≡ false) × ZoneReplaces self.old set.name set.record_type (Some set) self.new) }
@@ -514,18 +496,34 @@ impl<K> InMemoryZoneHandler<K> {
         Ok(self.remove_at(&key, at.record_type))
     }
 
+    /// Secures the zone: makes the circle of its kind of proof with the time to live of a denial, raises the serial number of
+    /// its SOA, and signs the sets of authoritative names by each key (RFC 4035 section 2, RFC 5155 section 7.1). Sets move,
+    /// and no record is copied.
+    pub fn secure<K: ZoneSigner>(
+        &mut self,
+        alloc: Global,
+        keys: &[K],
+        now: u64,
+    ) -> Result<(), ZoneError>
+        ensures ok { OnOk result (Secures K.gives K.fails keys.now now self.old (denial_ttl self.old) self.new) }
+        ensures refused { IfErr result (RefusesToSecure K.fails keys.now now self.old) }
+        ensures err { OnErr result (self.new ≡ self.old) }
+    {
+        let ttl = self.minimum_ttl();
+        let proof = self.nx_proof_kind.as_ref();
+        let (origin, key) = (&self.origin, &self.origin_key);
+        match secure(alloc, origin, key, proof, ttl, keys, now, &mut self.sets) {
+            Ok(()) => Ok(()),
+            Err(SignerFault::Failed) => Err(ZoneError::SignerFailed),
+            Err(SignerFault::OutOfMemory) => Err(ZoneError::OutOfMemory),
+        }
+    }
+
     /// Takes out all sets.
     pub fn clear(&mut self)
         ensures { self.new ≡ record self.old { sets = [] } }
     {
         self.sets.clear();
-    }
-
-    /// What signs the zone: nothing yet.
-    pub fn secure_keys(&self) -> &[K]
-        ensures { result.now ≡ [] }
-    {
-        &[]
     }
 }
 

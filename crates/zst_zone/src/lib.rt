@@ -1,15 +1,15 @@
 //! A zone in memory: the sets of its records, and what a lookup answers (RFC 1034 section 4.3.2, RFC 2308).
 //!
-//! A contract sees a zone as a `Zone`: where it begins, how it may be used, and its sets. `IsLookup` says what is answered
-//! to a name and a type, or why nothing is.
+//! A contract sees a `StoredZone` as a `Zone`: where it begins, how it may be used, and its sets; an `InMemoryZoneHandler` is
+//! that and the keys that sign it. `IsLookup` says what is answered to a name and a type, or why nothing is.
 #![tactic(auto)]
 
-pub use zst_absence::{
+pub use zst_circle::{
     AnswerSet, AuthLookup, AxfrPolicy, DNSClass, Draft, Edit, LentSets, LookupControlFlow,
     LookupError, LookupOptions, LookupRecords, LookupRecordsIter, LowerName, Name, NameKey,
     Nsec3HashAlgorithm, NxProofKind, ProtoError, RData, Record, RecordRef, RecordSet, RecordType,
-    ResponseCode, RrKey, RrsetRecords, Salt, SaltLenError, ZoneSets, ZoneSetsIter, ZoneSettings,
-    ZoneType,
+    ResponseCode, RrKey, RrsetRecords, Salt, SaltLenError, SignerFault, ZoneSets, ZoneSetsIter,
+    ZoneSettings, ZoneSignature, ZoneSigner, ZoneType,
 };
 pub use zst_request::{
     AxfrRecords, AxfrRecordsIter, BlocklistConsultAction, Nsec3QueryInfo, RequestTsig,
@@ -21,8 +21,12 @@ mod back;
 mod chain;
 mod denial;
 mod handler;
+mod in_memory;
 mod lookup;
 mod seen;
+mod signed;
 mod zone_handler;
 
-pub use handler::{InMemoryZoneHandler, ZoneError};
+pub use handler::{StoredZone, ZoneError};
+pub use in_memory::InMemoryZoneHandler;
+pub use signed::DnssecZoneHandler;

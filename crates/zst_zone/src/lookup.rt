@@ -1,17 +1,17 @@
 //! What the sets of a zone answer to a name and a type (RFC 1034 section 4.3.2).
 
 ghost use Rattle.std.specs.Prelude.{◌≡◌, false, None, Some, IfOk, option_copied};
-ghost use Rattle.zst_absence.specs.zst_handler.Answers.{ShowsAnswer};
-ghost use Rattle.zst_absence.specs.zst_handler.Chains.{first_target, leads};
-ghost use Rattle.zst_absence.specs.zst_handler.Found.{found, is_address};
-ghost use Rattle.zst_absence.specs.zst_handler.Lookups.{alias_answer, alias_ttl, behind_alias, has_additionals, is_flattened};
-ghost use Rattle.zst_absence.specs.zst_map.Searches.{match_set};
+ghost use Rattle.zst_circle.specs.zst_handler.Answers.{ShowsAnswer};
+ghost use Rattle.zst_circle.specs.zst_handler.Chains.{first_target, leads};
+ghost use Rattle.zst_circle.specs.zst_handler.Found.{found, is_address};
+ghost use Rattle.zst_circle.specs.zst_handler.Lookups.{alias_answer, alias_ttl, behind_alias, has_additionals, is_flattened};
+ghost use Rattle.zst_circle.specs.zst_map.Searches.{match_set};
 ghost use Rattle.zst_zone.specs.Answering.{AnswersAll, AnswersSet, IsBehind};
 
 use crate::additional::additionals;
 use crate::chain::{alias_chain, first_target, leads};
 use std::alloc::{AllocError, Global};
-use zst_absence::{
+use zst_circle::{
     AnswerSet, AuthLookup, LookupOptions, LookupRecords, Match, Name, NameKey, RecordSet,
     RecordType, ZoneSets,
 };

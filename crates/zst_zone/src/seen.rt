@@ -2,12 +2,12 @@
 
 ghost use Rattle.std.specs.Prelude.{◌≡◌, ◌∷◌, ◌++◌, [], Bool, IfOk, OnOk, false, not, true, if◌then◌else◌};
 ghost use Rattle.std.specs.List.{AllByRecursion, list_any};
-ghost use Rattle.zst_absence.specs.dnw_name.DomainName.{DomainName, name_cmp, name_eq};
+ghost use Rattle.zst_circle.specs.dnw_name.DomainName.{DomainName, name_cmp, name_eq};
 ghost use Rattle.zst_zone.specs.Seen.{AreRising, are_before, seen_keys, was_seen};
 
 use std::alloc::{AllocError, Global};
 use std::collections::HashSet;
-use zst_absence::{NameKey, push};
+use zst_circle::{NameKey, push};
 
 /// The keys seen so far: a list while they come in canonical order (RFC 4034 6.1), where comparing with the last one shows
 /// that a key is new; a hash set from the first key out of order.

@@ -6,7 +6,7 @@ ghost use Rattle.zst_request.specs.Requested.{asked_of, context_of};
 ghost use Rattle.zst_request.specs.Updating.{UpdatesView, update_context};
 ghost use Rattle.zst_request.specs.Views.{Stored};
 
-use crate::handler::InMemoryZoneHandler;
+use crate::in_memory::InMemoryZoneHandler;
 use std::alloc::{AllocError, Global};
 use std::mem;
 use zst_request::{
@@ -18,22 +18,22 @@ use zst_request::{
 impl<K: Drop> ZoneHandler for InMemoryZoneHandler<K> {
     ghost use Rattle.zst_request.specs.Views.{Stored};
 
-    ghost view = { λ zone. Stored zone };
+    ghost view = { λ handler. Stored handler.zone };
 
     fn zone_type(&self) -> ZoneType {
-        self.zone_type()
+        self.zone.zone_type()
     }
 
     fn axfr_policy(&self) -> AxfrPolicy {
-        self.axfr_policy()
+        self.zone.axfr_policy()
     }
 
     fn origin(&self) -> &Name {
-        self.origin()
+        self.zone.origin()
     }
 
     fn nx_proof_kind(&self) -> Option<&NxProofKind> {
-        self.nx_proof_kind()
+        self.zone.nx_proof_kind()
     }
 
     /// What `search_at` answers.
@@ -71,7 +71,9 @@ impl<K: Drop> ZoneHandler for InMemoryZoneHandler<K> {
         if request.query_type == RecordType::AXFR {
             return Ok((LookupControlFlow::Break(Err(LookupError::NetError)), None));
         }
-        let flow = self.lookup_at(alloc, request.name, key, request.query_type, options)?;
+        let flow = self
+            .zone
+            .lookup_at(alloc, request.name, key, request.query_type, options)?;
         Ok((flow, None))
     }
 
@@ -82,7 +84,7 @@ impl<K: Drop> ZoneHandler for InMemoryZoneHandler<K> {
         record_type: RecordType,
         options: LookupOptions,
     ) -> Result<LookupControlFlow<AuthLookup<'z>>, AllocError> {
-        self.lookup(alloc, name, record_type, options)
+        self.zone.lookup(alloc, name, record_type, options)
     }
 
     /// It makes no key for the origin.
@@ -92,7 +94,7 @@ impl<K: Drop> ZoneHandler for InMemoryZoneHandler<K> {
         record_type: RecordType,
         options: LookupOptions,
     ) -> Result<LookupControlFlow<AuthLookup<'z>>, AllocError> {
-        self.lookup_origin(alloc, record_type, options)
+        self.zone.lookup_origin(alloc, record_type, options)
     }
 
     /// The last result: a stored zone replaces none.
@@ -129,11 +131,11 @@ impl<K: Drop> ZoneHandler for InMemoryZoneHandler<K> {
         >,
         AllocError,
     >
-        ensures given { IfOk result (TransfersView (Stored self.now) (asked_of request.now) options.dnssec_ok now) }
-        ensures unsigned { view_context (Stored self.now) (asked_of request.now) now ≡ None → IsOk result }
+        ensures given { IfOk result (TransfersView (Stored self.now.zone) (asked_of request.now) options.dnssec_ok now) }
+        ensures unsigned { view_context (Stored self.now.zone) (asked_of request.now) now ≡ None → IsOk result }
         ensures memory { IsOk result }
     {
-        Ok(Some((self.transfer(alloc, options), None)))
+        Ok(Some((self.zone.transfer(alloc, options), None)))
     }
 
     fn nsec_records<'z>(
@@ -142,7 +144,7 @@ impl<K: Drop> ZoneHandler for InMemoryZoneHandler<K> {
         name: &Name,
         options: LookupOptions,
     ) -> Result<LookupControlFlow<AuthLookup<'z>>, AllocError> {
-        let found = self.nsec_denial(alloc, name, options)?;
+        let found = self.zone.nsec_denial(alloc, name, options)?;
         Ok(LookupControlFlow::Continue(Ok(found)))
     }
 
@@ -152,7 +154,7 @@ impl<K: Drop> ZoneHandler for InMemoryZoneHandler<K> {
         info: Nsec3QueryInfo<'_>,
         options: LookupOptions,
     ) -> Result<LookupControlFlow<AuthLookup<'z>>, AllocError> {
-        let found = self.nsec3_denial(alloc, info, options)?;
+        let found = self.zone.nsec3_denial(alloc, info, options)?;
         Ok(LookupControlFlow::Continue(Ok(found)))
     }
 
@@ -164,11 +166,12 @@ impl<K: Drop> ZoneHandler for InMemoryZoneHandler<K> {
         now: u64,
     ) -> Result<(Result<bool, ResponseCode>, Option<TSigResponseContext>), AllocError>
         ensures refused { result ≡ Ok (Err ResponseCode.NotImp, None) }
-        ensures told { IfOk result (λ given. UpdatesView (Stored self.old) (asked_of request.entry) given.0 (Stored self.new)) }
-        ensures context { IfOk result (λ given. option_map context_of given.1 ≡ update_context (Stored self.old) (asked_of request.entry) now) }
-        ensures err { OnErr result (Stored self.new ≡ Stored self.old) }
+        ensures told { IfOk result (λ given. UpdatesView (Stored self.old.zone) (asked_of request.entry) given.0 (Stored self.new.zone)) }
+        ensures context { IfOk result (λ given. option_map context_of given.1 ≡ update_context (Stored self.old.zone) (asked_of request.entry) now) }
+        ensures keys { self.new.keys ≡ self.old.keys }
+        ensures err { OnErr result (Stored self.new.zone ≡ Stored self.old.zone) }
     {
         mem::drop(request);
-        Ok((Err(self.update_code()), None))
+        Ok((Err(self.zone.update_code()), None))
     }
 }

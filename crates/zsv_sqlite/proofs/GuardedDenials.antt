@@ -1,9 +1,9 @@
 -- A guard changes no denial.
-use Rattle.std.proofs.Common.{◌≡◌, Bool, List, refl, subst}
+use Rattle.std.proofs.Common.{◌≡◌, Bool, List, subst}
 use Rattle.std.specs.Prelude.{Option, Some, None}
+use Rattle.zst_draft.specs.declared.InMemoryZoneHandler.{InMemoryZoneHandler}
 use Rattle.zst_map.specs.zst_handler.Zones.{Guard, Zone}
 use Rattle.zst_request.specs.zst_codes.declared.nx_proof.Nsec3QueryInfo.{Nsec3QueryInfo}
-use Rattle.zst_map.specs.zst_handler.declared.auth_lookup.AuthLookup.{AuthLookup}
 use Rattle.zst_map.specs.dnw_codes.declared.record_type.RecordType.{RecordType}
 use Rattle.zst_map.specs.dnw_codes.declared.record_type.RecordType.TheVariants as kind
 use Rattle.zst_map.specs.dnw_name.DomainName.{DomainName}
@@ -56,15 +56,15 @@ module _ (guard : Option Guard) (zone : Zone) where
     no_ancestor = is.no_ancestor;
   }
 
-module _ {K : Type 0} (handler : SqliteZoneHandler K) (zone : Zone) (same : zone ≡ handler.in_memory) (dnssec_ok : Bool) (flow : Flow) where
-  pub handler_nsec : (name : DomainName) → Denies (Stored zone) (ShowsNsec name dnssec_ok) flow → Denies (Stored (guarded_zone handler)) (ShowsNsec name dnssec_ok) flow
+module _ {K : Type 0} (handler : SqliteZoneHandler K) (kept : InMemoryZoneHandler K) (same : kept ≡ handler.in_memory) (dnssec_ok : Bool) (flow : Flow) where
+  pub handler_nsec : (name : DomainName) → Denies (Stored kept.zone) (ShowsNsec name dnssec_ok) flow → Denies (Stored (guarded_zone handler)) (ShowsNsec name dnssec_ok) flow
   handler_nsec name is =
-      let own = subst (λ (z : Zone). Denies (Stored z) (ShowsNsec name dnssec_ok) flow) same is in
+      let own = subst (λ (k : InMemoryZoneHandler K). Denies (Stored k.zone) (ShowsNsec name dnssec_ok) flow) same is in
       let shows = own.2 in
-      (own.0, own.1, (shows.0, by_name (guard_of handler) handler.in_memory name shows.0 shows.1, shows.2, shows.3, shows.4))
+      (own.0, own.1, (shows.0, by_name (guard_of handler) handler.in_memory.zone name shows.0 shows.1, shows.2, shows.3, shows.4))
 
-  pub handler_nsec3 : (info : Nsec3QueryInfo) → Denies (Stored zone) (ShowsNsec3 info dnssec_ok) flow → Denies (Stored (guarded_zone handler)) (ShowsNsec3 info dnssec_ok) flow
+  pub handler_nsec3 : (info : Nsec3QueryInfo) → Denies (Stored kept.zone) (ShowsNsec3 info dnssec_ok) flow → Denies (Stored (guarded_zone handler)) (ShowsNsec3 info dnssec_ok) flow
   handler_nsec3 info is =
-      let own = subst (λ (z : Zone). Denies (Stored z) (ShowsNsec3 info dnssec_ok) flow) same is in
+      let own = subst (λ (k : InMemoryZoneHandler K). Denies (Stored k.zone) (ShowsNsec3 info dnssec_ok) flow) same is in
       let shows = own.2 in
-      (own.0, own.1, (shows.0, by_hash (guard_of handler) handler.in_memory (hashing_of info) info.qname.now info.qtype info.has_wildcard_match shows.0 shows.1, shows.2, shows.3, shows.4))
+      (own.0, own.1, (shows.0, by_hash (guard_of handler) handler.in_memory.zone (hashing_of info) info.qname.now info.qtype info.has_wildcard_match shows.0 shows.1, shows.2, shows.3, shows.4))

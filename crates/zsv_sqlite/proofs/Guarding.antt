@@ -1,6 +1,7 @@
 -- A guard changes no look-up, and it stays when the zone is changed.
 use Rattle.std.proofs.Common.{◌≡◌, refl, ap, sym, subst, ◌∙◌}
 use Rattle.std.specs.Prelude.{ℕ, Bool, true, List, [], ◌∷◌, Option, Some, None, Result, Ok, Err, IsOkAnd, MatchOption, option_map}
+use Rattle.zst_draft.specs.declared.InMemoryZoneHandler.{InMemoryZoneHandler}
 use Rattle.zst_map.specs.dnw_codes.declared.record_type.RecordType.{RecordType}
 use Rattle.zst_map.specs.dnw_name.DomainName.{DomainName}
 use Rattle.zst_map.specs.zst_key.Ancestors.{or_else}
@@ -56,15 +57,15 @@ module _ (guard : Option Guard) (zone : Zone) (name : DomainName) (t : RecordTyp
 abbrev pub guard_of : {K : Type 0} → SqliteZoneHandler K → Option Guard
 guard_of handler = Some (record { axfr_policy = handler.axfr_policy; allow_update = handler.allow_update })
 
-module _ {K : Type 0} (handler : SqliteZoneHandler K) (zone : Zone) (same : zone ≡ handler.in_memory) (t : RecordType) (options : LookupOptions) (flow : Flow) where
-  pub handler_lookup : (name : DomainName) → LookupAnswers zone name t options flow → LookupAnswers (guarded_zone handler) name t options flow
-  handler_lookup name is = guarded_lookup (guard_of handler) handler.in_memory name t options flow (subst (λ (z : Zone). LookupAnswers z name t options flow) same is)
+module _ {K : Type 0} (handler : SqliteZoneHandler K) (kept : InMemoryZoneHandler K) (same : kept ≡ handler.in_memory) (t : RecordType) (options : LookupOptions) (flow : Flow) where
+  pub handler_lookup : (name : DomainName) → LookupAnswers kept.zone name t options flow → LookupAnswers (guarded_zone handler) name t options flow
+  handler_lookup name is = guarded_lookup (guard_of handler) handler.in_memory.zone name t options flow (subst (λ (k : InMemoryZoneHandler K). LookupAnswers k.zone name t options flow) same is)
 
-  pub handler_origin : LookupAnswers zone zone.origin t options flow → LookupAnswers (guarded_zone handler) handler.in_memory.origin t options flow
-  handler_origin is = guarded_lookup (guard_of handler) handler.in_memory handler.in_memory.origin t options flow (subst (λ (z : Zone). LookupAnswers z z.origin t options flow) same is)
+  pub handler_origin : LookupAnswers kept.zone kept.zone.origin t options flow → LookupAnswers (guarded_zone handler) handler.in_memory.zone.origin t options flow
+  handler_origin is = guarded_lookup (guard_of handler) handler.in_memory.zone handler.in_memory.zone.origin t options flow (subst (λ (k : InMemoryZoneHandler K). LookupAnswers k.zone k.zone.origin t options flow) same is)
 
-  pub handler_question : (name : DomainName) → AnswersQuestion (Stored zone) name t options flow → AnswersQuestion (Stored (guarded_zone handler)) name t options flow
-  handler_question name is = guarded_question (guard_of handler) handler.in_memory name t options flow (subst (λ (z : Zone). AnswersQuestion (Stored z) name t options flow) same is)
+  pub handler_question : (name : DomainName) → AnswersQuestion (Stored kept.zone) name t options flow → AnswersQuestion (Stored (guarded_zone handler)) name t options flow
+  handler_question name is = guarded_question (guard_of handler) handler.in_memory.zone name t options flow (subst (λ (k : InMemoryZoneHandler K). AnswersQuestion (Stored k.zone) name t options flow) same is)
 
 -- ---- changes
 guarded_leaves : (guard : Option Guard) (old new : Zone) (at : Owned) → LeavesZone old at new → LeavesZone (guarded guard old) at (guarded guard new)
@@ -155,6 +156,6 @@ module _ (zone : Zone) (asked : Asked) (dnssec_ok : Bool) (moment : ℕ) (contex
   pub guard_passes : (answer : Result ZoneTransfer LookupError) → guard_refused zone.guard asked ≡ None → Answered (own_refused zone.axfr_policy) (transfer_of zone dnssec_ok) answer → TransfersView (Stored zone) asked dnssec_ok moment (Some (answer, context))
   guard_passes answer e is = (subst (λ (o : Option ResponseCode). Answered (or_else o (own_refused zone.axfr_policy)) (transfer_of zone dnssec_ok) answer) (sym e) is, signs)
 
-pub handler_transfer : {K : Type 0} (handler : SqliteZoneHandler K) (zone : Zone) → zone ≡ handler.in_memory → (dnssec_ok : Bool) (answer : Result ZoneTransfer LookupError)
-    → Answered (own_refused zone.axfr_policy) (transfer_of zone dnssec_ok) answer → Answered (own_refused (guarded_zone handler).axfr_policy) (transfer_of (guarded_zone handler) dnssec_ok) answer
-handler_transfer handler zone same dnssec_ok answer is = subst (λ (z : Zone). Answered (own_refused z.axfr_policy) (transfer_of z dnssec_ok) answer) same is
+pub handler_transfer : {K : Type 0} (handler : SqliteZoneHandler K) (kept : InMemoryZoneHandler K) → kept ≡ handler.in_memory → (dnssec_ok : Bool) (answer : Result ZoneTransfer LookupError)
+    → Answered (own_refused kept.zone.axfr_policy) (transfer_of kept.zone dnssec_ok) answer → Answered (own_refused (guarded_zone handler).axfr_policy) (transfer_of (guarded_zone handler) dnssec_ok) answer
+handler_transfer {K} handler kept same dnssec_ok answer is = subst (λ (k : InMemoryZoneHandler K). Answered (own_refused k.zone.axfr_policy) (transfer_of k.zone dnssec_ok) answer) same is

@@ -2,6 +2,7 @@
 use Rattle.std.specs.Prelude.{◌==◌, Bool, not, List, [], ◌∷◌, Option, Some, None, Result, Ok, Err, if◌then◌else◌}
 use Rattle.std.specs.Borrow.{Fml, Lends, MutBor, RattleType}
 use Rattle.zst_draft.specs.contracts.InMemoryZoneHandler as in_memory
+use Rattle.zst_draft.specs.declared.InMemoryZoneHandler.{InMemoryZoneHandler}
 use Rattle.zst_map.specs.dnw_codes.declared.dns_class.DNSClass.{DNSClass}
 use Rattle.zst_map.specs.dnw_codes.declared.dns_class.DNSClass.TheVariants as classes
 use Rattle.zst_map.specs.dnw_name.DomainName.{DomainName, is_at_or_below}
@@ -17,7 +18,7 @@ use Rattle.zsv_sqlite.specs.declared.handler.SqliteZoneHandler.{SqliteZoneHandle
 
 -- The zone that is kept, with the guard's policy and whether messages may change it.
 abbrev pub guarded_zone : {K : Type 0} → SqliteZoneHandler K → Zone
-guarded_zone handler = record handler.in_memory {
+guarded_zone handler = record handler.in_memory.zone {
   guard = Some (record { axfr_policy = handler.axfr_policy; allow_update = handler.allow_update });
 }
 
@@ -64,7 +65,8 @@ AppliesAll increment old rs answer new =
     ChangesBy (if increment then soa_refused old rs else None) increment old rs answer new
 
 -- The handler ends with the zone that its borrower leaves.
-abbrev pub LendsZone : (R : RattleType) → MutBor (SqliteZoneHandler R.Denot) → MutBor Zone → Fml
+abbrev pub LendsZone : (R : RattleType) → MutBor (SqliteZoneHandler R.Denot)
+    → MutBor (InMemoryZoneHandler R.Denot) → Fml
 LendsZone R handler zone =
     Lends (the_row R) (in_memory.the_row R) handler zone
     (λ left. record handler.now { in_memory = left })

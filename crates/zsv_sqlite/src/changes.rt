@@ -8,13 +8,13 @@ ghost use Rattle.zsv_sqlite.specs.Guarded.{AppliesAll};
 
 use std::alloc::{AllocError, Global};
 use std::mem;
-use zst_draft::{Edit, InMemoryZoneHandler, NameKey, Record, RecordType, ResponseCode, ZoneDraft};
+use zst_draft::{Edit, NameKey, Record, RecordType, ResponseCode, StoredZone, ZoneDraft};
 
 /// Applies records in order, all or none. Where the serial number is to be raised, an update that changes something needs an
 /// SOA at the apex, and it says whether it did.
-pub(crate) fn apply_changes<K>(
+pub(crate) fn apply_changes(
     alloc: Global,
-    zone: &mut InMemoryZoneHandler<K>,
+    zone: &mut StoredZone,
     changes: Vec<Record>,
     increment: bool,
 ) -> Result<Result<bool, ResponseCode>, AllocError>
@@ -49,7 +49,7 @@ pub(crate) fn apply_changes<K>(
 }
 
 // Raises the serial number of the SOA at the apex, if there is one (RFC 2136 section 3.6). It takes no memory.
-fn raise_serial<K>(zone: &mut InMemoryZoneHandler<K>, apex: &NameKey)
+fn raise_serial(zone: &mut StoredZone, apex: &NameKey)
     requires { apex.now ≡ lowercase_name zone.old.origin }
     ensures { LeavesZone zone.old (raised zone.old.origin (sets_of_name zone.old.sets)) zone.new }
 {

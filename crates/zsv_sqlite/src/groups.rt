@@ -9,7 +9,7 @@ ghost use Rattle.zsv_sqlite.specs.Groups.{Gathers, is_group_met, is_met_by};
 
 use std::alloc::{AllocError, Global};
 use std::collections::BTreeMap;
-use zst_draft::{DNSClass, InMemoryZoneHandler, NameKey, Record, RecordType};
+use zst_draft::{DNSClass, NameKey, Record, RecordType, StoredZone};
 
 /// The owner and the type of a set, in the order of owners, then of types.
 #[derive(PartialEq, Eq, PartialOrd, Ord, Drop)]
@@ -58,10 +58,7 @@ fn gather<'r>(
 }
 
 /// Whether each set has exactly the records that are asked for. It takes no memory.
-pub(crate) fn are_met<'r, K>(
-    zone: &InMemoryZoneHandler<K>,
-    groups: &BTreeMap<SetKey, Vec<&'r Record>>,
-) -> bool
+pub(crate) fn are_met<'r>(zone: &StoredZone, groups: &BTreeMap<SetKey, Vec<&'r Record>>) -> bool
     ensures { (rs : List Record) → Gathers rs groups.now → result ≡ list_all (is_met zone.now.sets rs) rs }
 {
     // (wakes the order of the keys)
@@ -69,10 +66,7 @@ pub(crate) fn are_met<'r, K>(
     are_all_met(zone, groups)
 }
 
-fn are_all_met<'r, K>(
-    zone: &InMemoryZoneHandler<K>,
-    groups: &BTreeMap<SetKey, Vec<&'r Record>>,
-) -> bool
+fn are_all_met<'r>(zone: &StoredZone, groups: &BTreeMap<SetKey, Vec<&'r Record>>) -> bool
     ensures { result ≡ list_all (is_group_met zone.now.sets) groups.now.entries }
 {
     for (key, wanted) in groups.iter() {
@@ -84,7 +78,7 @@ fn are_all_met<'r, K>(
 }
 
 // Whether the set of a key has exactly these records.
-fn is_met<K>(zone: &InMemoryZoneHandler<K>, key: &SetKey, wanted: &[&Record]) -> bool
+fn is_met(zone: &StoredZone, key: &SetKey, wanted: &[&Record]) -> bool
     ensures { result ≡ is_met_by zone.now.sets key.now (map (λ r. r.now) wanted.now) }
 {
     match zone.get_at(&key.owner, key.record_type) {

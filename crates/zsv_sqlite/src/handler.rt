@@ -1,6 +1,6 @@
 //! A zone kept in memory, with a guard that says who may transfer and change it.
 
-ghost use Rattle.std.specs.Prelude.{◌≡◌, [], true, not, None, Some, Ok, Err, IfOk, IsOk, OnErr, option_map};
+ghost use Rattle.std.specs.Prelude.{◌≡◌, ◌∷◌, ◌++◌, IfErr, OnOk, [], true, not, None, Some, Ok, Err, IfOk, IsOk, OnErr, option_map};
 ghost use Rattle.std.specs.Borrow.{sem};
 ghost use Rattle.zst_request.specs.Prerequisites.{first_refused, prerequisites_refused, prescan_refused, refused_if};
 ghost use Rattle.zst_request.specs.Requested.{asked_of, context_of, signed_by};
@@ -8,6 +8,7 @@ ghost use Rattle.zst_request.specs.Transfers.{guard_refused, policy_refused, tra
 ghost use Rattle.zst_request.specs.Updating.{ChangesBy, context_for, is_good, soa_refused, update_context};
 ghost use Rattle.zst_request.specs.Views.{Stored};
 ghost use Rattle.zst_request.specs.zst_codes.declared.response_code.ResponseCode.TheVariants as codes;
+ghost use Rattle.zst_draft.specs.zst_zone.Securings.{RefusesToSecure, SecuresBy};
 ghost use Rattle.zst_map.specs.zst_key.Ancestors.{or_else};
 ghost use Rattle.zsv_sqlite.specs.Guarded.{AppliesAll, LendsZone, forbidden, guarded_zone, refused_before, refused_unasked, unless_refused};
 ghost use Rattle.zsv_sqlite.specs.Laws.{AliasesAlone, HasNs, HasOneSoa};
@@ -18,10 +19,13 @@ use crate::prerequisites::prerequisites_refusal;
 use crate::prescan::prescan;
 use std::alloc::{AllocError, Global};
 use std::mem;
-use zst_draft::{AxfrPolicy, InMemoryZoneHandler, Record, ResponseCode};
+use zst_draft::{
+    AxfrPolicy, DnssecZoneHandler, InMemoryZoneHandler, Record, ResponseCode, ZoneError, ZoneSigner,
+};
 use zst_request::{TSigResponseContext, TsigVerdict, ZoneRequest};
 
-/// A zone kept in memory that messages may change (RFC 2136), if its guard allows it. Changes are kept nowhere else.
+/// A zone kept in memory with its keys, which messages may change (RFC 2136), if its guard allows it. Changes are kept nowhere
+/// else.
 #[derive(Drop)]
 pub struct SqliteZoneHandler<K> {
     in_memory: InMemoryZoneHandler<K>,
@@ -92,7 +96,7 @@ impl<K> SqliteZoneHandler<K> {
         ensures none { prerequisites.now ≡ [] → IsOk result }
         ensures form { (code : ResponseCode) → refused_unasked (guarded_zone self.now).origin prerequisites.now ≡ Some code → result ≡ Ok (Err code) }
     {
-        let refused = prerequisites_refusal(alloc, &self.in_memory, prerequisites)?;
+        let refused = prerequisites_refusal(alloc, &self.in_memory.zone, prerequisites)?;
         Ok(unless_refused(refused))
     }
 
@@ -159,7 +163,7 @@ impl<K> SqliteZoneHandler<K> {
         ensures none { prerequisites.now ≡ [] → result ≡ Ok (first_refused (prescan_refused (guarded_zone self.now).origin) changes.now) }
         ensures form { (code : ResponseCode) → refused_unasked (guarded_zone self.now).origin prerequisites.now ≡ Some code → result ≡ Ok (Some code) }
     {
-        let refused = prerequisites_refusal(alloc, &self.in_memory, prerequisites)?;
+        let refused = prerequisites_refusal(alloc, &self.in_memory.zone, prerequisites)?;
         if refused.is_some() {
             return Ok(refused);
         }
@@ -176,6 +180,7 @@ impl<K> SqliteZoneHandler<K> {
     ) -> Result<Result<bool, ResponseCode>, AllocError>
         ensures ok { IfOk result (λ answer. ChangesBy (or_else (refused_before (guarded_zone self.old) prerequisites.now changes.items)
             (soa_refused (guarded_zone self.old) changes.items)) true (guarded_zone self.old) changes.items answer (guarded_zone self.new)) }
+        ensures keys { self.new.in_memory.keys ≡ self.old.in_memory.keys }
         ensures err { OnErr result (self.new ≡ self.old) }
         ensures form { prerequisites.now ≡ [] → (code : ResponseCode) → first_refused (prescan_refused (guarded_zone self.old).origin) changes.items ≡ Some code
             → result ≡ Ok (Err code) }
@@ -203,12 +208,13 @@ impl<K> SqliteZoneHandler<K> {
     ) -> Result<Result<bool, ResponseCode>, AllocError>
         requires { first_refused (prescan_refused (guarded_zone self.old).origin) records.items ≡ None }
         ensures ok { IfOk result (λ answer. AppliesAll increment (guarded_zone self.old) records.items answer (guarded_zone self.new)) }
+        ensures keys { self.new.in_memory.keys ≡ self.old.in_memory.keys }
         ensures err { OnErr result (self.new ≡ self.old) }
         ensures alias { AliasesAlone (guarded_zone self.old) → AliasesAlone (guarded_zone self.new) }
         ensures soa { HasOneSoa (guarded_zone self.old) → HasOneSoa (guarded_zone self.new) }
         ensures ns { HasNs (guarded_zone self.old) → HasNs (guarded_zone self.new) }
     {
-        apply_changes(alloc, &mut self.in_memory, records, increment)
+        apply_changes(alloc, &mut self.in_memory.zone, records, increment)
     }
 }
 
@@ -219,7 +225,8 @@ fn authorize_signed(
     request: &ZoneRequest<'_>,
     now: u64,
 ) -> Result<(Result<(), ResponseCode>, Option<TSigResponseContext>), AllocError>
-    ensures permitted { IfOk result (λ given. given.0 ≡ unless_refused (policy_refused AxfrPolicy.AllowSigned (option_map signed_by request.now.tsig) request.now.verdict)) }
+    ensures permitted { IfOk result (λ given. given.0
+        ≡ unless_refused (policy_refused AxfrPolicy.AllowSigned (option_map signed_by request.now.tsig) request.now.verdict)) }
     ensures context { IfOk result (λ given. option_map context_of given.1
         ≡ option_map (context_for request.now.id request.now.verdict now) (option_map signed_by request.now.tsig)) }
     ensures unsigned { request.now.tsig ≡ None → IsOk result }
@@ -248,5 +255,57 @@ fn if_good(verdict: TsigVerdict) -> Result<(), ResponseCode>
     match verdict {
         TsigVerdict::Good => Ok(()),
         _ => Err(ResponseCode::NotAuth),
+    }
+}
+
+impl<K: ZoneSigner> SqliteZoneHandler<K> {
+    /// Adds a key after the others. It signs nothing yet. The guard stays.
+    pub fn add_zone_signing_key(&mut self, alloc: Global, key: K) -> Result<(), AllocError>
+        ensures keys { OnOk result (self.new.in_memory.keys.items ≡ self.old.in_memory.keys.items ++ key ∷ []) }
+        ensures zone { OnOk result (self.new.in_memory.zone ≡ self.old.in_memory.zone) }
+        ensures guard { self.new ≡ record self.old { in_memory = self.new.in_memory } }
+        ensures err { OnErr result (self.new ≡ self.old) }
+    {
+        self.in_memory.add_zone_signing_key(alloc, key)
+    }
+
+    /// Secures the zone by its keys, as `StoredZone::secure` does. Without keys it changes nothing. The guard stays.
+    pub fn secure_zone(&mut self, alloc: Global, now: u64) -> Result<(), ZoneError>
+        ensures ok { OnOk result (SecuresBy K.gives K.fails self.old.in_memory.keys.items now self.old.in_memory.zone self.new.in_memory.zone) }
+        ensures none { self.old.in_memory.keys.items ≡ [] → IsOk result }
+        ensures keys { self.new.in_memory.keys ≡ self.old.in_memory.keys }
+        ensures guard { self.new ≡ record self.old { in_memory = self.new.in_memory } }
+        ensures refused { IfErr result (RefusesToSecure K.fails self.old.in_memory.keys.items now self.old.in_memory.zone) }
+        ensures err { OnErr result (self.new ≡ self.old) }
+    {
+        self.in_memory.secure_zone(alloc, now)
+    }
+}
+
+impl<K: ZoneSigner> DnssecZoneHandler<K> for SqliteZoneHandler<K> {
+    ghost zone = { λ handler. handler.in_memory.zone };
+
+    ghost keys = { λ handler. handler.in_memory.keys.items };
+
+    /// The guard stays.
+    fn add_zone_signing_key(&mut self, alloc: Global, key: K) -> Result<(), AllocError>
+        ensures keys { OnOk result (self.new.in_memory.keys.items ≡ self.old.in_memory.keys.items ++ key ∷ []) }
+        ensures zone { OnOk result (self.new.in_memory.zone ≡ self.old.in_memory.zone) }
+        ensures guard { self.new ≡ record self.old { in_memory = self.new.in_memory } }
+        ensures err { OnErr result (self.new ≡ self.old) }
+    {
+        self.add_zone_signing_key(alloc, key)
+    }
+
+    /// The guard stays.
+    fn secure_zone(&mut self, alloc: Global, now: u64) -> Result<(), ZoneError>
+        ensures ok { OnOk result (SecuresBy K.gives K.fails self.old.in_memory.keys.items now self.old.in_memory.zone self.new.in_memory.zone) }
+        ensures none { self.old.in_memory.keys.items ≡ [] → IsOk result }
+        ensures keys { OnOk result (self.new.in_memory.keys.items ≡ self.old.in_memory.keys.items) }
+        ensures refused { IfErr result (RefusesToSecure K.fails self.old.in_memory.keys.items now self.old.in_memory.zone) }
+        ensures guard { self.new ≡ record self.old { in_memory = self.new.in_memory } }
+        ensures err { OnErr result (self.new ≡ self.old) }
+    {
+        self.secure_zone(alloc, now)
     }
 }

@@ -5,8 +5,8 @@
 #![tactic(auto)]
 
 pub use zst_draft::{
-    AxfrPolicy, InMemoryZoneHandler, Name, NameKey, Record, RecordSet, RecordType, ResponseCode,
-    ZoneHandler,
+    AxfrPolicy, DnssecZoneHandler, InMemoryZoneHandler, Name, NameKey, Record, RecordSet,
+    RecordType, ResponseCode, SignerFault, ZoneError, ZoneHandler, ZoneSignature, ZoneSigner,
 };
 pub use zst_request::{RequestTsig, TSigResponseContext, TsigVerdict, ZoneRequest};
 

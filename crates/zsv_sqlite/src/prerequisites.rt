@@ -8,13 +8,13 @@ ghost use Rattle.zsv_sqlite.specs.Guarded.{form_by_class, form_refused, refused_
 use crate::groups::{are_met, gathered};
 use crate::prescan::{asks_any, has_data};
 use std::alloc::{AllocError, Global};
-use zst_draft::{DNSClass, InMemoryZoneHandler, NameKey, Record, ResponseCode};
+use zst_draft::{DNSClass, NameKey, Record, ResponseCode, StoredZone};
 
 /// Why prerequisites are refused: the first one that is, and after all the sets that are asked for by value. It takes no memory
 /// to refuse one by its form before one asks what the zone has.
-pub(crate) fn prerequisites_refusal<K>(
+pub(crate) fn prerequisites_refusal(
     alloc: Global,
-    zone: &InMemoryZoneHandler<K>,
+    zone: &StoredZone,
     prerequisites: &[Record],
 ) -> Result<Option<ResponseCode>, AllocError>
     ensures refused { IfOk result (λ refused. refused ≡ prerequisites_refused zone.now prerequisites.now) }
@@ -36,9 +36,9 @@ pub(crate) fn prerequisites_refusal<K>(
 }
 
 // Why the first prerequisite is refused that is.
-fn first_refusal<K>(
+fn first_refusal(
     alloc: Global,
-    zone: &InMemoryZoneHandler<K>,
+    zone: &StoredZone,
     prerequisites: &[Record],
 ) -> Result<Option<ResponseCode>, AllocError>
     ensures refused { IfOk result (λ refused. refused ≡ first_refused (prerequisite_refused zone.now.origin zone.now.sets) prerequisites.now) }
@@ -54,9 +54,9 @@ fn first_refusal<K>(
 }
 
 // Why one prerequisite is refused (RFC 2136 section 3.2.5).
-fn refusal<K>(
+fn refusal(
     alloc: Global,
-    zone: &InMemoryZoneHandler<K>,
+    zone: &StoredZone,
     asked: &Record,
 ) -> Result<Option<ResponseCode>, AllocError>
     ensures refused { IfOk result (λ refused. refused ≡ prerequisite_refused zone.now.origin zone.now.sets asked.now) }
@@ -78,9 +78,9 @@ fn refusal<K>(
 }
 
 // Why a prerequisite of class ANY is refused: it has RDATA, or what it asks for isn't in use.
-fn refusal_if_absent<K>(
+fn refusal_if_absent(
     alloc: Global,
-    zone: &InMemoryZoneHandler<K>,
+    zone: &StoredZone,
     asked: &Record,
 ) -> Result<Option<ResponseCode>, AllocError>
     ensures refused { IfOk result (λ refused. refused ≡ refused_by_class zone.now.sets asked.now classes.ANY) }
@@ -96,9 +96,9 @@ fn refusal_if_absent<K>(
 }
 
 // Why a prerequisite of class NONE is refused: it has RDATA, or what it asks for is in use.
-fn refusal_if_present<K>(
+fn refusal_if_present(
     alloc: Global,
-    zone: &InMemoryZoneHandler<K>,
+    zone: &StoredZone,
     asked: &Record,
 ) -> Result<Option<ResponseCode>, AllocError>
     ensures refused { IfOk result (λ refused. refused ≡ refused_by_class zone.now.sets asked.now classes.NONE) }
@@ -114,11 +114,7 @@ fn refusal_if_present<K>(
 }
 
 // Whether the name has a set of the type, or of any type where that is asked for.
-fn is_in_use<K>(
-    alloc: Global,
-    zone: &InMemoryZoneHandler<K>,
-    asked: &Record,
-) -> Result<bool, AllocError>
+fn is_in_use(alloc: Global, zone: &StoredZone, asked: &Record) -> Result<bool, AllocError>
     ensures { IfOk result (λ there. there ≡ is_in_use zone.now.sets asked.now) }
 {
     let key = NameKey::of(alloc, &asked.name)?;

@@ -130,7 +130,7 @@ impl<K: Drop> ZoneHandler for SqliteZoneHandler<K> {
     {
         let (permitted, context) = self.authorize_transfer(alloc, request, now)?;
         match permitted {
-            Ok(()) => Ok(Some((self.in_memory().transfer(alloc, options), context))),
+            Ok(()) => Ok(Some((self.in_memory().zone.transfer(alloc, options), context))),
             Err(code) => Ok(Some((Err(LookupError::ResponseCode(code)), context))),
         }
     }
@@ -166,6 +166,7 @@ impl<K: Drop> ZoneHandler for SqliteZoneHandler<K> {
         ensures err { OnErr result (Stored (guarded_zone self.new) ≡ Stored (guarded_zone self.old)) }
         ensures unsigned { update_context (Stored (guarded_zone self.old)) (asked_of request.entry) now ≡ None
             → result ≡ Ok (Err ResponseCode.Refused, None) }
+        ensures keys { self.new.in_memory.keys ≡ self.old.in_memory.keys }
         ensures alias { AliasesAlone (guarded_zone self.old) → AliasesAlone (guarded_zone self.new) }
         ensures soa { HasOneSoa (guarded_zone self.old) → HasOneSoa (guarded_zone self.new) }
         ensures ns { HasNs (guarded_zone self.old) → HasNs (guarded_zone self.new) }

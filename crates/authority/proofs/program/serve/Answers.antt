@@ -24,7 +24,7 @@ returns-in-Ok g c = record {
     origin = c.in_ok-command.command.origin;
     now = c.in_ok-command.command.now;
     text = c.in-Some.text.now;
-    zone = c.in_ok-zone.zone;
+    zone = c.in_ok-zone.zone.zone;
     right_words = c.in_ok-command.ensures;
     readable = ap option_copied c.in-Some.is;
     loaded = c.in_ok-zone.ensures.text.0;
@@ -32,7 +32,7 @@ returns-in-Ok g c = record {
   };
   source = _;
   from_here = c.loopback.ensures;
-  frames = over_same c.in_ok-server.ensures.server (c.in-Ok.ensures.fixed (unguarded c.in_ok-zone.zone c.in_ok-zone.ensures.unguarded c.in_ok-server.ensures.server)) c.in-Ok.ensures.served;
+  frames = over_same c.in_ok-server.ensures.server (c.in-Ok.ensures.fixed (unguarded c.in_ok-zone.zone.zone c.in_ok-zone.ensures.unguarded c.in_ok-server.ensures.server)) c.in-Ok.ensures.served;
   ended = c.in-Ok.ensures.ended;
 }
 
@@ -50,7 +50,7 @@ returns g c = inr (
       origin = c.in_ok-command.command.origin;
       now = c.in_ok-command.command.now;
       text = c.in-Some.text.now;
-      zone = c.in_ok-zone.zone;
+      zone = c.in_ok-zone.zone.zone;
       right_words = c.in_ok-command.ensures;
       readable = ap option_copied c.in-Some.is;
       loaded = c.in_ok-zone.ensures.text.0;
@@ -58,6 +58,6 @@ returns g c = inr (
     };
     source = _;
     from_here = c.loopback.ensures;
-    frames = until_same c.in_ok-server.ensures.server (c.in-Err.ensures.fixed (unguarded c.in_ok-zone.zone c.in_ok-zone.ensures.unguarded c.in_ok-server.ensures.server)) (rw c.in-Err.is at c.serve_stream.ensures.left);
+    frames = until_same c.in_ok-server.ensures.server (c.in-Err.ensures.fixed (unguarded c.in_ok-zone.zone.zone c.in_ok-zone.ensures.unguarded c.in_ok-server.ensures.server)) (rw c.in-Err.is at c.serve_stream.ensures.left);
   },
 )

@@ -22,7 +22,7 @@ not_beside : (sets : List RRset) (r : Record) (x : Bool) → is_kept_out (sets_o
 not_beside sets r x e f = f ∙ sym (ap (λ (b : Bool). b || other sets r) e)
 
 pub returns-then-is_kept_out : goal.returns-then-is_kept_out
-returns-then-is_kept_out g c =
+returns-then-is_kept_out c =
     let sets = c.args.zone.now.sets in
     let r = c.args.next.now in
     let all = c.sets_at.ensures ∙ ap (λ (ss : List RRset). sets_of_name ss c.args.key.now) c.records.ensures ∙ sets-keyed sets c.args.key.now r.name c.requires in
@@ -30,7 +30,7 @@ returns-then-is_kept_out g c =
     beside sets r (sym kept ∙ c.if-is_kept_out.true)
 
 pub returns-then-eq : goal.returns-then-eq
-returns-then-eq g c =
+returns-then-eq c =
     let sets = c.args.zone.now.sets in
     let r = c.args.next.now in
     let all = c.sets_at.ensures ∙ ap (λ (ss : List RRset). sets_of_name ss c.args.key.now) c.records.ensures ∙ sets-keyed sets c.args.key.now r.name c.requires in
@@ -41,7 +41,7 @@ returns-then-eq g c =
     (alias ∙ sym (ap (λ (b : Bool). b && is_other_alias (rrset_at sets r.name kind.CNAME) r) same))
 
 pub returns-else-eq : goal.returns-else-eq
-returns-else-eq g c =
+returns-else-eq c =
     let sets = c.args.zone.now.sets in
     let r = c.args.next.now in
     let all = c.sets_at.ensures ∙ ap (λ (ss : List RRset). sets_of_name ss c.args.key.now) c.records.ensures ∙ sets-keyed sets c.args.key.now r.name c.requires in

@@ -7,7 +7,7 @@ use Rattle.zst_zone.proofs.LowerNames.{rrset-keyed}
 use Rattle.authority_load.proofs.joining.is_second_start.Goals as goal
 
 pub returns-then-eq : goal.returns-then-eq
-returns-then-eq g c =
+returns-then-eq c =
     let sets = c.args.zone.now.sets in
     let name = c.args.next.now.name in
     let same = ap (λ t. same_record_type t kind.SOA) (sym c.record_type.ensures) ∙ sym c.eq.ensures ∙ c.if-eq.true in

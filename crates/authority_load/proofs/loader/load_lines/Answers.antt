@@ -9,13 +9,13 @@ use Rattle.authority_load.proofs.Loads.{loads_more, refused_at}
 use Rattle.authority_load.proofs.loader.load_lines.Goals as goal
 
 pub returns-in-Err-clause-refused : goal.returns-in-Err-clause-refused
-returns-in-Err-clause-refused g c =
+returns-in-Err-clause-refused c =
     let t = YieldsList-turn (YieldsList-from_lines c.args.text.now (search rules)) c.loop-line.yielded _ c.loop-line.yielded_by _ _ c.in-Some.line c.in-Some.is c.next.ensures.steps in
     refused_at c.args.zone.now c.loop-line.zone c.args.text.now (length c.loop-line.yielded) c.loop-line.number c.in-Some.line.now c.in-Err.cause t c.loop-line.invariant.count c.loop-line.invariant.loads
     c.in-Err.ensures
 
 pub loop-line-preserved : goal.loop-line-preserved
-loop-line-preserved g c =
+loop-line-preserved c =
     let t = YieldsList-turn (YieldsList-from_lines c.args.text.now (search rules)) c.loop-line.yielded _ c.loop-line.yielded_by _ _ c.in-Some.line c.in-Some.is c.next.ensures.steps in
     let n = length_push c.loop-line.yielded c.in-Some.line in
     record {
@@ -25,6 +25,6 @@ loop-line-preserved g c =
     }
 
 pub returns-clause-loads : goal.returns-clause-loads
-returns-clause-loads g c =
+returns-clause-loads c =
     let t = YieldsList-end (YieldsList-from_lines c.args.text.now (search rules)) c.loop-line.yielded _ c.loop-line.yielded_by _ _ c.in-None.is c.next.ensures.steps in
     subst (λ xs. Loads c.args.zone.now xs c.loop-line.zone) (ap (λ k. take k (lines c.args.text.now)) t.1 ∙ take-length (lines c.args.text.now)) c.loop-line.invariant.loads

@@ -10,13 +10,13 @@ use Rattle.authority_transfer.proofs.Taken.{takes_next}
 use Rattle.authority_transfer.proofs.loader.take_records.Goals as goal
 
 pub returns-in_err-take_record-clause-refused : goal.returns-in_err-take_record-clause-refused
-returns-in_err-take_record-clause-refused g c =
+returns-in_err-take_record-clause-refused c =
     let p = err_from_is_err_and c.from_residual.result c.from_residual.ensures.1 in
     let t = YieldsList-turn (YieldsList-from_vec {s = c.into_iter-next-iterator.result} c.args.records.items (search rules) (search rules)) c.answers.yielded c.answers.next-iterator c.answers.yielded_by c.next.result c.next.new.self c.in-Some.next c.in-Some.is c.next.ensures.steps in
     rw (p.1, p.2) (refused_at c.args.zone.now c.answers.zone c.args.records.items (length c.answers.yielded) c.answers.index c.in-Some.next _ t c.answers.invariant.count c.answers.invariant.takes c.in_err-take_record.ensures.refused)
 
 pub answers-preserved : goal.answers-preserved
-answers-preserved g c =
+answers-preserved c =
     let t = YieldsList-turn (YieldsList-from_vec {s = c.into_iter-next-iterator.result} c.args.records.items (search rules) (search rules)) c.answers.yielded c.answers.next-iterator c.answers.yielded_by c.next.result c.next.new.self c.in-Some.next c.in-Some.is c.next.ensures.steps in
     let n = length_push c.answers.yielded c.in-Some.next in
     let none = ap (λ i. i) c.in_ok-take_record.ensures.ok.0 in
@@ -28,6 +28,6 @@ answers-preserved g c =
     }
 
 pub returns-clause-ok : goal.returns-clause-ok
-returns-clause-ok g c =
+returns-clause-ok c =
     let t = YieldsList-end (YieldsList-from_vec {s = c.into_iter-next-iterator.result} c.args.records.items (search rules) (search rules)) c.answers.yielded c.answers.next-iterator c.answers.yielded_by c.next.result c.next.new.self c.in-None.is c.next.ensures.steps in
     subst (λ xs. TakesAll c.args.zone.now xs c.answers.zone) (ap (λ k. take k c.args.records.items) t.1 ∙ take-length c.args.records.items) c.answers.invariant.takes

@@ -1,7 +1,7 @@
 use Rattle.std.proofs.Common.{refl, sym, ap, ◌∙◌}
 use Rattle.authority_transfer.specs.Transfers.{but_last, is_framed}
 use Rattle.authority_transfer.proofs.Frames.{but_pushed, framed_pushed}
-use Rattle.authority_transfer.proofs.Given.{none_popped, starts}
+use Rattle.authority_transfer.proofs.Given.{starts}
 use Rattle.authority_transfer.proofs.reply.between.Goals as goal
 
 pub returns-then-framed-clause-ok : goal.returns-then-framed-clause-ok

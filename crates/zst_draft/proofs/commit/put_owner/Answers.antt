@@ -5,7 +5,7 @@ use Rattle.zst_draft.proofs.Loops.{puts_next}
 use Rattle.zst_draft.proofs.commit.put_owner.Goals as goal
 
 pub loop-at-preserved : goal.loop-at-preserved
-loop-at-preserved g c =
+loop-at-preserved c =
     let fs = c.loop-at.owner.sets.items in
     let i = c.loop-at.at in
     let small : i < length fs = omega (arith, c.loop-at-test.true, c.len-at-end.ensures, c.loop-at.invariant.long) in

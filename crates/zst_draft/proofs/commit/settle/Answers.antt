@@ -8,13 +8,13 @@ use Rattle.zst_draft.proofs.Settled.{settles_replaced}
 use Rattle.zst_draft.proofs.commit.settle.Goals as goal
 
 pub returns-then-len-eq0-clause-settles : goal.returns-then-len-eq0-clause-settles
-returns-then-len-eq0-clause-settles g c =
+returns-then-len-eq0-clause-settles c =
     settles_replaced c.args.zone.now c.remove_at.new.self c.args.key.now c.args.draft.now (record c.args.draft.now { records = c.take.new.self }) _ c.remove_at.ensures.set
     (emptied c.args.zone.now.sets c.args.key.now c.args.draft.now c.in-Some.records (sym c.take.ensures.value ∙ c.in-Some.is) c.requires.can (sym c.len.ensures ∙ c.if-len-eq0.true))
     refl c.take.ensures.after c.requires.can
 
 pub edit_at-requires : goal.edit_at-requires
-edit_at-requires g c =
+edit_at-requires c =
     let e = c.args.draft.now in
     let sets = c.args.zone.now.sets in
     let records_is : e.records ≡ Some c.in-Some.records = sym c.take.ensures.value ∙ c.in-Some.is in
@@ -24,7 +24,7 @@ edit_at-requires g c =
     (edit.set, edit.there, edit.can_edit)
 
 pub returns-clause-settles : goal.returns-clause-settles
-returns-clause-settles g c =
+returns-clause-settles c =
     let e = c.args.draft.now in
     let sets = c.args.zone.now.sets in
     let records_is : e.records ≡ Some c.in-Some.records = sym c.take.ensures.value ∙ c.in-Some.is in

@@ -6,7 +6,7 @@ use Rattle.zst_draft.proofs.Settled.{ready_none}
 use Rattle.zst_draft.proofs.commit.settle_owner.Goals as goal
 
 pub loop-at-preserved : goal.loop-at-preserved
-loop-at-preserved g c =
+loop-at-preserved c =
     let fs = c.loop-at.owner.sets.items in
     let i = c.loop-at.at in
     let small : i < length fs = omega (arith, c.loop-at-test.true, c.len-at-end.ensures, c.loop-at.invariant.long) in

@@ -3,7 +3,7 @@ use Rattle.zst_draft.proofs.Settled.{Remains}
 use Rattle.zst_draft.proofs.commit.settle_owners.Given as goal
 
 abbrev pub invariant-owners : goal.invariant-owners
-invariant-owners g l = Remains l.initial.zone l.zone l.fn.owners.items l.left.items
+invariant-owners l = Remains l.initial.zone l.zone l.fn.owners.items l.left.items
 
 abbrev pub decreases-owners : goal.decreases-owners
-decreases-owners g l = length l.left.items
+decreases-owners l = length l.left.items

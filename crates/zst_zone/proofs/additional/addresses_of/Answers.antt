@@ -1,7 +1,7 @@
 use Rattle.std.proofs.Common.{◌≡◌, ◌∙◌, ap, subst, IfOk, List, option_copied}
-use Rattle.zst_absence.specs.zst_handler.Answers.{records_if, sets_shown}
-use Rattle.zst_absence.specs.zst_handler.Lookups.{addresses}
-use Rattle.zst_absence.specs.zst_record.RecordSets.{RRset}
+use Rattle.zst_circle.specs.zst_handler.Answers.{records_if, sets_shown}
+use Rattle.zst_circle.specs.zst_handler.Lookups.{addresses}
+use Rattle.zst_circle.specs.zst_record.RecordSets.{RRset}
 use Rattle.zst_zone.proofs.Targets.{addresses-found}
 use Rattle.zst_zone.proofs.additional.addresses_of.Goals as goal
 

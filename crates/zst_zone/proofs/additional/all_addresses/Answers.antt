@@ -1,5 +1,5 @@
 use Rattle.std.proofs.Common.{map}
-use Rattle.zst_absence.specs.zst_handler.Answers.{set_in}
+use Rattle.zst_circle.specs.zst_handler.Answers.{set_in}
 use Rattle.zst_zone.specs.Answering.{target_addresses}
 use Rattle.zst_zone.specs.Seen.{seen_keys}
 use Rattle.zst_zone.proofs.Answered.{shows-many}

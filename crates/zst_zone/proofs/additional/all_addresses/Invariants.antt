@@ -1,5 +1,5 @@
 use Rattle.std.proofs.Common.{◌≡◌, ◌++◌, drop, map}
-use Rattle.zst_absence.specs.zst_handler.Answers.{set_in}
+use Rattle.zst_circle.specs.zst_handler.Answers.{set_in}
 use Rattle.zst_zone.specs.Answering.{left_to_list, target_addresses}
 use Rattle.zst_zone.specs.Seen.{AreRising, seen_keys}
 use Rattle.zst_zone.proofs.additional.all_addresses.Given as goal

@@ -2,8 +2,8 @@ use Rattle.std.proofs.Common.{◌≡◌, ◌∙◌, ap, map, refl, sym, option_c
 use Rattle.std.specs.Prelude.{Bool, Option, None, Some, is_some}
 use Rattle.std.specs.Borrow.{Bor}
 use Rattle.std.proofs.lemmas.Result.{on_ok_weaker}
-use Rattle.zst_absence.specs.zst_handler.Answers.{set_in}
-use Rattle.zst_absence.specs.zst_record.RecordSets.{RRset}
+use Rattle.zst_circle.specs.zst_handler.Answers.{set_in}
+use Rattle.zst_circle.specs.zst_record.RecordSets.{RRset}
 use Rattle.zst_zone.specs.Seen.{seen_keys}
 use Rattle.zst_zone.proofs.Targets.{left-new, left-seen, left-without}
 use Rattle.zst_zone.proofs.additional.list_target.Goals as goal

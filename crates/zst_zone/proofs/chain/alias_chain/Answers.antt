@@ -1,8 +1,8 @@
 use Rattle.std.proofs.Common.{◌≡◌, ◌∙◌, ◌++◌, [], ◌∷◌, map, ap, List}
-use Rattle.zst_absence.specs.dnw_name.DomainName.{DomainName}
-use Rattle.zst_absence.specs.zst_handler.declared.answer_set.AnswerSet.{AnswerSet}
-use Rattle.zst_absence.specs.zst_handler.Answers.{set_in}
-use Rattle.zst_absence.specs.zst_map.Searches.{match_set}
+use Rattle.zst_circle.specs.dnw_name.DomainName.{DomainName}
+use Rattle.zst_circle.specs.zst_handler.declared.answer_set.AnswerSet.{AnswerSet}
+use Rattle.zst_circle.specs.zst_handler.Answers.{set_in}
+use Rattle.zst_circle.specs.zst_map.Searches.{match_set}
 use Rattle.zst_zone.proofs.ChainLinks.{first-link, sets-more}
 use Rattle.zst_zone.proofs.Matches.{match-leads}
 use Rattle.zst_zone.proofs.chain.alias_chain.Goals as goal

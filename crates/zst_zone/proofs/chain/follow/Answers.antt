@@ -1,5 +1,5 @@
 use Rattle.std.proofs.Common.{map, arith}
-use Rattle.zst_absence.specs.zst_handler.Answers.{set_in}
+use Rattle.zst_circle.specs.zst_handler.Answers.{set_in}
 use Rattle.zst_zone.proofs.ChainLinks.{ends-long}
 use Rattle.zst_zone.proofs.chain.follow.Goals as goal
 

@@ -1,6 +1,6 @@
 use Rattle.std.proofs.Common.{map}
-use Rattle.zst_absence.specs.dnw_name.DomainName.{DomainName}
-use Rattle.zst_absence.specs.zst_handler.Answers.{set_in}
+use Rattle.zst_circle.specs.dnw_name.DomainName.{DomainName}
+use Rattle.zst_circle.specs.zst_handler.Answers.{set_in}
 use Rattle.zst_zone.specs.Answering.{LeadsTo}
 use Rattle.zst_zone.proofs.chain.follow.Given as goal
 

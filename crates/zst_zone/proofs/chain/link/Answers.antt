@@ -1,8 +1,8 @@
 use Rattle.std.proofs.Common.{◌≡◌, ◌∙◌, ◌++◌, [], ◌∷◌, map, ap, sym, true, false}
 use Rattle.std.specs.List.{list_any}
-use Rattle.zst_absence.specs.dnw_name.DomainName.{name_eq}
-use Rattle.zst_absence.specs.zst_handler.Answers.{set_in}
-use Rattle.zst_absence.specs.zst_map.Searches.{match_set}
+use Rattle.zst_circle.specs.dnw_name.DomainName.{name_eq}
+use Rattle.zst_circle.specs.zst_handler.Answers.{set_in}
+use Rattle.zst_circle.specs.zst_map.Searches.{match_set}
 use Rattle.zst_zone.proofs.ChainLinks.{ends-absent, ends-asked, one-more, sets-more}
 use Rattle.zst_zone.proofs.Matches.{found-match, found-none, match-leads}
 use Rattle.zst_zone.proofs.chain.link.Goals as goal

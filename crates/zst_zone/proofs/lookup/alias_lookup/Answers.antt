@@ -1,10 +1,10 @@
 use Rattle.std.proofs.Common.{◌∙◌, ap, sym, subst, ℕ, Some, None}
 use Rattle.std.specs.Prelude.{Option}
-use Rattle.zst_absence.specs.dnw_name.DomainName.{DomainName, lowercase_name}
-use Rattle.zst_absence.specs.zst_record.RecordSets.{flattened_set}
-use Rattle.zst_absence.specs.zst_handler.Chains.{first_target}
-use Rattle.zst_absence.specs.zst_handler.Lookups.{behind_alias}
-use Rattle.zst_absence.specs.zst_map.Searches.{match_set}
+use Rattle.zst_circle.specs.dnw_name.DomainName.{DomainName, lowercase_name}
+use Rattle.zst_circle.specs.zst_record.RecordSets.{flattened_set}
+use Rattle.zst_circle.specs.zst_handler.Chains.{first_target}
+use Rattle.zst_circle.specs.zst_handler.Lookups.{behind_alias}
+use Rattle.zst_circle.specs.zst_map.Searches.{match_set}
 use Rattle.zst_zone.specs.Answering.{IsBehind}
 use Rattle.zst_zone.proofs.Answered.{alias-alone, alias-beside}
 use Rattle.zst_zone.proofs.Matches.{match-target}

@@ -1,5 +1,5 @@
 use Rattle.std.proofs.Common.{◌≡◌, ◌∙◌, map, sym, take_all}
-use Rattle.zst_absence.specs.zst_handler.Answers.{set_in}
+use Rattle.zst_circle.specs.zst_handler.Answers.{set_in}
 use Rattle.zst_zone.proofs.Answered.{shows-all, shows-many}
 use Rattle.zst_zone.proofs.lookup.all_of.Goals as goal
 

@@ -1,5 +1,5 @@
 use Rattle.std.proofs.Common.{◌≡◌, ◌≤◌, take, map, length, vec_len, vec_capacity}
-use Rattle.zst_absence.specs.zst_handler.Answers.{set_in}
+use Rattle.zst_circle.specs.zst_handler.Answers.{set_in}
 use Rattle.zst_zone.proofs.lookup.all_of.Given as goal
 
 abbrev pub invariant-loop-set : goal.invariant-loop-set

@@ -1,7 +1,7 @@
 use Rattle.std.proofs.Common.{◌≡◌, ◌∙◌, ap, sym, true, false}
-use Rattle.zst_absence.specs.dnw_codes.declared.record_type.RecordType.{RecordType}
-use Rattle.zst_absence.specs.dnw_codes.RecordType.{same_record_type}
-use Rattle.zst_absence.specs.zst_handler.Chains.{first_target}
+use Rattle.zst_circle.specs.dnw_codes.declared.record_type.RecordType.{RecordType}
+use Rattle.zst_circle.specs.dnw_codes.RecordType.{same_record_type}
+use Rattle.zst_circle.specs.zst_handler.Chains.{first_target}
 use Rattle.zst_zone.proofs.Answered.{behind-none, behind-other, behind-some}
 use Rattle.zst_zone.proofs.Matches.{found-match, found-none}
 use Rattle.zst_zone.proofs.lookup.set_behind.Goals as goal

@@ -11,7 +11,7 @@ use Rattle.zsv_sqlite.proofs.Unasked.{err_alone, unasked_by, valued_passes}
 use Rattle.zsv_sqlite.proofs.prerequisites.first_refusal.Goals as goal
 
 pub returns-in_err-refused-clause-form : goal.returns-in_err-refused-clause-form
-returns-in_err-refused-clause-form g c code e =
+returns-in_err-refused-clause-form c code e =
     let rs = c.args.prerequisites.now in
     let i = c.loop-asked.asked-index in
     let at : drop i rs ≡ c.asked-item.result ∷ drop (i + 1) rs = drop_more rs i c.asked-item.result c.loop-asked-test.true ∙ ap (λ (s : Record). s ∷ drop (i + 1) rs) (sym c.asked-item.is) in
@@ -22,7 +22,7 @@ returns-in_err-refused-clause-form g c code e =
     by (inr later) = absurd (true≢false (sym (c.in_err-refused.ensures.valued later.1)))
 
 pub returns-then-is_some-clause-form : goal.returns-then-is_some-clause-form
-returns-then-is_some-clause-form g c code e =
+returns-then-is_some-clause-form c code e =
     let rs = c.args.prerequisites.now in
     let i = c.loop-asked.asked-index in
     let at : drop i rs ≡ c.asked-item.result ∷ drop (i + 1) rs = drop_more rs i c.asked-item.result c.loop-asked-test.true ∙ ap (λ (s : Record). s ∷ drop (i + 1) rs) (sym c.asked-item.is) in

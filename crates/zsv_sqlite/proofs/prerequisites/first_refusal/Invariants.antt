@@ -6,6 +6,6 @@ use Rattle.zsv_sqlite.specs.Guarded.{refused_unasked}
 use Rattle.zsv_sqlite.proofs.prerequisites.first_refusal.Given as goal
 
 abbrev pub invariant-loop-asked : goal.invariant-loop-asked
-invariant-loop-asked g l =
+invariant-loop-asked l =
     (first_refused (prerequisite_refused l.zone.origin l.zone.sets) (drop l.asked-index l.prerequisites) ≡ first_refused (prerequisite_refused l.zone.origin l.zone.sets) l.prerequisites)
     × ((code : ResponseCode) → refused_unasked l.zone.origin l.prerequisites ≡ Some code → refused_unasked l.zone.origin (drop l.asked-index l.prerequisites) ≡ Some code)

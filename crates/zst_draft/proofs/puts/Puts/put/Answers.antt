@@ -13,14 +13,14 @@ use Rattle.zst_draft.proofs.Settled.{same_kind, settles_replaced}
 use Rattle.zst_draft.proofs.puts.Puts.put.Goals as goal
 
 pub take_set-requires-clause-set : goal.take_set-requires-clause-set
-take_set-requires-clause-set g c =
+take_set-requires-clause-set c =
     let key = c.args.key.now in
     let e = c.args.draft.now in
     let none = none_is (rrset_at c.args.zone.now.sets key e.record_type) c.get_at.result c.is_some.result c.get_at.ensures c.is_some.ensures c.if-is_some.false in
     (key, subst (λ (o : Option RRset). IsSetOf key (set_in o e)) none c.requires.can.set)
 
 pub put_set-requires-clause-key : goal.put_set-requires-clause-key
-put_set-requires-clause-key g c =
+put_set-requires-clause-key c =
     let key = c.args.key.now in
     let e = c.args.draft.now in
     let set = c.in-Some.set in
@@ -31,7 +31,7 @@ put_set-requires-clause-key g c =
     sym c.requires.lower ∙ one_lower key set.name owned.1
 
 pub put_set-requires-clause-none : goal.put_set-requires-clause-none
-put_set-requires-clause-none g c =
+put_set-requires-clause-none c =
     let key = c.args.key.now in
     let e = c.args.draft.now in
     let set = c.in-Some.set in
@@ -43,7 +43,7 @@ put_set-requires-clause-none g c =
     ∙ ap (rrset_at c.args.zone.now.sets key) (type_taken e.record_type e.records set taken) ∙ none
 
 pub returns-in-Some-clause-settles : goal.returns-in-Some-clause-settles
-returns-in-Some-clause-settles g c =
+returns-in-Some-clause-settles c =
     let key = c.args.key.now in
     let e = c.args.draft.now in
     let set = c.in-Some.set in
@@ -62,7 +62,7 @@ returns-in-Some-clause-settles g c =
     c.put_set.ensures.ok
 
 pub returns-in-None-clause-ready : goal.returns-in-None-clause-ready
-returns-in-None-clause-ready g c = λ records is.
+returns-in-None-clause-ready c = λ records is.
     let key = c.args.key.now in
     let e = c.args.draft.now in
     let none = none_is (rrset_at c.args.zone.now.sets key e.record_type) c.get_at.result c.is_some.result c.get_at.ensures c.is_some.ensures c.if-is_some.false in

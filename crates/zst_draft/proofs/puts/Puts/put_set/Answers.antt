@@ -7,7 +7,7 @@ use Rattle.zst_draft.proofs.Backing.{from_ok, way_back}
 use Rattle.zst_draft.proofs.puts.Puts.put_set.Goals as goal
 
 pub returns-clause-back : goal.returns-clause-back
-returns-clause-back g c = λ start returns.
+returns-clause-back c = λ start returns.
     let entry : DomainName × RecordType = (c.in-Ok.key, c.record_type-record_type.result) in
     let done = c.args.self.now.done.items in
     let items : c.push_reserved.new.self.items ≡ done ++ entry ∷ []

@@ -4,7 +4,7 @@ use Rattle.zst_draft.specs.Settling.{Returns}
 use Rattle.zst_draft.proofs.puts.Puts.take_back.Given as goal
 
 abbrev pub invariant-sets : goal.invariant-sets
-invariant-sets g l = (start : Zone) → Returns start (reverse l.fn.self.done.items) l.initial.zone → Returns start (reverse l.left.items) l.zone
+invariant-sets l = (start : Zone) → Returns start (reverse l.fn.self.done.items) l.initial.zone → Returns start (reverse l.left.items) l.zone
 
 abbrev pub decreases-sets : goal.decreases-sets
-decreases-sets g l = length l.left.items
+decreases-sets l = length l.left.items

@@ -19,7 +19,7 @@ begins_as {S = S} {b = b} {m = m} key at_apex r changed new sets owners begins =
     (subst (λ (l : List RRset). Begins l m key at_apex r changed new) sets begins)
 
 pub returns-in-Some-clause-changed : goal.returns-in-Some-clause-changed
-returns-in-Some-clause-changed g c =
+returns-in-Some-clause-changed c =
     let w = c.apply.new.self in
     let there = c.in-Some.ensures.value in
     if_ok c.apply.result _ _
@@ -32,7 +32,7 @@ returns-in-Some-clause-changed g c =
     c.apply.ensures
 
 pub returns-in-Some-clause-applied : goal.returns-in-Some-clause-applied
-returns-in-Some-clause-applied g c =
+returns-in-Some-clause-applied c =
     let w = c.apply.new.self in
     let there = c.in-Some.ensures.value in
     ok_on c.apply.result _
@@ -45,7 +45,7 @@ returns-in-Some-clause-applied g c =
     c.apply.ensures
 
 pub returns-clause-changed : goal.returns-clause-changed
-returns-clause-changed g c =
+returns-clause-changed c =
     if_ok c.begin.result _ _
     (λ changed begins. λ at drafts.
     (applied_begun c.args.zone.now c.args.self.now c.begin.new.self c.in-Ok.key c.args.change c.eq-at_apex.result changed at
@@ -55,7 +55,7 @@ returns-clause-changed g c =
     c.begin.ensures
 
 pub returns-clause-applied : goal.returns-clause-applied
-returns-clause-applied g c =
+returns-clause-applied c =
     ok_on c.begin.result _
     (λ changed begins. λ at drafts.
     (applied_begun c.args.zone.now c.args.self.now c.begin.new.self c.in-Ok.key c.args.change c.eq-at_apex.result changed at

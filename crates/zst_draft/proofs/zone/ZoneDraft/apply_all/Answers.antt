@@ -8,7 +8,7 @@ use Rattle.zst_draft.proofs.Loops.{all_yielded}
 use Rattle.zst_draft.proofs.zone.ZoneDraft.apply_all.Goals as goal
 
 pub loop-change-init : goal.loop-change-init
-loop-change-init g c =
+loop-change-init c =
     record {
       is = (c.requires.0, moved_zone c.args.zone.now c.args.self.now (record { owners = c.reserve.new.self }) c.requires.0 c.reserve.ensures.entries c.requires.1);
       changed = λ at drafts. refl;
@@ -16,7 +16,7 @@ loop-change-init g c =
     }
 
 pub loop-change-preserved : goal.loop-change-preserved
-loop-change-preserved g c =
+loop-change-preserved c =
     let origin = c.args.zone.now.origin in
     let rs = c.loop-change.yielded in
     let r = c.in-Some.change in
@@ -34,14 +34,14 @@ loop-change-preserved g c =
     }
 
 pub returns-clause-changed : goal.returns-clause-changed
-returns-clause-changed g c = λ at drafts.
+returns-clause-changed c = λ at drafts.
     let all = all_yielded c.into_iter-change-iterator.result c.loop-change.change-iterator c.next.new.self c.loop-change.yielded c.args.records.items c.next.result
     c.into_iter-change-iterator.ensures.into_iter_gives.0 (c.into_iter-change-iterator.ensures.into_iter_gives.1 ∙ c.args.records.ok.0) c.loop-change.yielded_by c.in-None.is c.next.ensures.steps in
     c.loop-change.invariant.changed at (moved_zone c.args.zone.now c.args.self.now (record { owners = c.reserve.new.self }) at c.reserve.ensures.entries drafts)
     ∙ ap (any_changes c.args.zone.now.origin at) all
 
 pub returns-clause-applied : goal.returns-clause-applied
-returns-clause-applied g c = λ at drafts.
+returns-clause-applied c = λ at drafts.
     let all = all_yielded c.into_iter-change-iterator.result c.loop-change.change-iterator c.next.new.self c.loop-change.yielded c.args.records.items c.next.result
     c.into_iter-change-iterator.ensures.into_iter_gives.0 (c.into_iter-change-iterator.ensures.into_iter_gives.1 ∙ c.args.records.ok.0) c.loop-change.yielded_by c.in-None.is c.next.ensures.steps in
     subst (λ (rs : List Record). DraftsZone c.args.zone.now c.loop-change.self (all_applied c.args.zone.now.origin at rs)) all

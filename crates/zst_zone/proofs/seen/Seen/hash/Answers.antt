@@ -1,6 +1,6 @@
 use Rattle.std.proofs.Common.{◌∙◌, ◌++◌, ap}
 use Rattle.std.specs.Prelude.{Option, option_to_list}
-use Rattle.zst_absence.specs.dnw_name.DomainName.{DomainName}
+use Rattle.zst_circle.specs.dnw_name.DomainName.{DomainName}
 use Rattle.zst_zone.proofs.SeenKeys.{moved}
 use Rattle.zst_zone.proofs.seen.Seen.hash.Goals as goal
 

@@ -1,6 +1,6 @@
 use Rattle.std.proofs.Common.{◌≡◌}
 use Rattle.zst_zone.specs.Seen.{was_seen}
-use Rattle.zst_absence.specs.dnw_name.DomainName.{DomainName}
+use Rattle.zst_circle.specs.dnw_name.DomainName.{DomainName}
 use Rattle.zst_zone.proofs.seen.Seen.hash.Given as goal
 
 -- All that was seen is there.

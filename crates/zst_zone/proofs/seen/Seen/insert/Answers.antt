@@ -3,7 +3,7 @@ use Rattle.std.proofs.lemmas.Result.{on_ok_weaker}
 use Rattle.std.specs.Prelude.{Bool, cond}
 use Rattle.std.specs.List.{list_any}
 use Rattle.zst_zone.specs.Seen.{AreRising}
-use Rattle.zst_absence.specs.dnw_name.DomainName.{DomainName, name_eq}
+use Rattle.zst_circle.specs.dnw_name.DomainName.{DomainName, name_eq}
 use Rattle.zst_zone.proofs.SeenKeys.{appended, new-key, no-items, rises, second-tells}
 use Rattle.zst_zone.proofs.seen.Seen.insert.Goals as goal
 

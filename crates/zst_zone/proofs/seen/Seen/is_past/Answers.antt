@@ -2,7 +2,7 @@ use Rattle.std.proofs.Common.{◌∙◌, ◌-◌, List, ap, length, sym}
 use Rattle.std.specs.Prelude.{option_copied, slice_get}
 use Rattle.zst_zone.proofs.SeenKeys.{past-last}
 use Rattle.zst_zone.proofs.seen.Seen.is_past.Goals as goal
-use Rattle.zst_absence.specs.dnw_name.DomainName.{DomainName}
+use Rattle.zst_circle.specs.dnw_name.DomainName.{DomainName}
 
 pub returns-in-Some : goal.returns-in-Some
 returns-in-Some c = λ past.

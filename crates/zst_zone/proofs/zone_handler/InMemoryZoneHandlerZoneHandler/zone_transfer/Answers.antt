@@ -4,4 +4,4 @@ use Rattle.zst_zone.proofs.zone_handler.InMemoryZoneHandlerZoneHandler.zone_tran
 
 pub returns-clause-given : goal.returns-clause-given
 returns-clause-given g c =
-    unguarded_transfer c.args.self.now (asked_of c.args.request.now) c.args.options.dnssec_ok c.args.now c.transfer.result c.transfer.ensures.guard c.transfer.ensures.answer
+    unguarded_transfer c.args.self.now.zone (asked_of c.args.request.now) c.args.options.dnssec_ok c.args.now c.transfer.result c.transfer.ensures.guard c.transfer.ensures.answer

@@ -6,7 +6,7 @@ use Rattle.zsv_sqlite.proofs.handler.SqliteZoneHandler.update_records.Goals as g
 
 pub returns-clause-alias : goal.returns-clause-alias
 returns-clause-alias g c =
-    let old = c.args.self.now.in_memory in
+    let old = c.args.self.now.in_memory.zone in
     let new = c.apply_changes.new.zone in
     let refused = cond c.args.increment (soa_refused old c.args.records.items) None in
     kept_result AliasesAlone refused c.args.increment old c.args.records.items new c.apply_changes.result
@@ -15,7 +15,7 @@ returns-clause-alias g c =
 
 pub returns-clause-soa : goal.returns-clause-soa
 returns-clause-soa g c =
-    let old = c.args.self.now.in_memory in
+    let old = c.args.self.now.in_memory.zone in
     let new = c.apply_changes.new.zone in
     let refused = cond c.args.increment (soa_refused old c.args.records.items) None in
     kept_result HasOneSoa refused c.args.increment old c.args.records.items new c.apply_changes.result
@@ -24,7 +24,7 @@ returns-clause-soa g c =
 
 pub returns-clause-ns : goal.returns-clause-ns
 returns-clause-ns g c =
-    let old = c.args.self.now.in_memory in
+    let old = c.args.self.now.in_memory.zone in
     let new = c.apply_changes.new.zone in
     let refused = cond c.args.increment (soa_refused old c.args.records.items) None in
     kept_result HasNs refused c.args.increment old c.args.records.items new c.apply_changes.result

@@ -1,0 +1,1 @@
+pub use Rattle.zst_zone.specs.Securings

@@ -1,4 +1,0 @@
-use Rattle.zst_zone.proofs.handler.InMemoryZoneHandler.lookup_origin.Goals as goal
-
-pub returns-in-SOA : goal.returns-in-SOA
-returns-in-SOA g c = rw c.in-SOA.is c.lookup_start.ensures
