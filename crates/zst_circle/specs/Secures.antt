@@ -37,6 +37,8 @@ abbrev pub IsAtOriginAlone : Zone → RecordType → Type 0
 IsAtOriginAlone zone t =
     (name : DomainName) → IsSome (rrset_at zone.sets name t) → name_eq name zone.origin ≡ true
 
+-- The sets of one kind of proof alone: NSEC (RFC 4035, section 2.3), or NSEC3 with NSEC3PARAM (RFC
+-- 5155, section 7.1), which make a circle where digests differ.
 abbrev pub IsCircledBy : Option NxProofKind → Zone → Type 0
 IsCircledBy None zone =
     HasNone zone.sets kind.NSEC × HasNone zone.sets kind.NSEC3
@@ -48,7 +50,8 @@ IsCircledBy (Some (proofs.Nsec3 algorithm salt iterations opt_out)) zone =
     × (AreApart (record { salt = salt; iterations = iterations }) opt_out zone
     → IsSecuredByHash (record { salt = salt; iterations = iterations }) opt_out zone)
 
--- A circle by hash has room for its owners, one label of 32 octets below the origin.
+-- A circle by hash has room for its owners, one label of 32 octets below the origin (RFC 1035,
+-- section 2.3.4).
 abbrev pub has_room : Option NxProofKind → DomainName → Bool
 has_room (Some (proofs.Nsec3 algorithm salt iterations opt_out)) origin =
     nat_le (labels_len origin.labels + 34) 255
@@ -65,6 +68,7 @@ module _ {K : Type 0} (gives : K → RRset → ℕ → Signing → Type 0) (fail
         → IsSignedBy gives fails keys now (risen (name_eq name old.origin) stored) set.signatures
     pub bare : (IsToBeSigned old name t → ⊥) → set.signatures ≡ []
 
+  -- What a name has of a type: nothing as before, or the stored set kept so.
   abbrev pub KeepsSet : Zone → DomainName → RecordType → Option RRset → Option RRset → Type 0
   KeepsSet old name t None new = new ≡ None
   KeepsSet old name t (Some stored) new =

@@ -1,6 +1,6 @@
 -- How a zone is secured: which names its circle has, which sets are signed, and what is made for it
 -- (RFC 4035, sections 2.2 and 2.3; RFC 5155, section 7.1).
-use Rattle.std.specs.Prelude.{◌≡◌, ℕ, ◌&&◌, Bool, true, false, List, [], length, nat_lt, None}
+use Rattle.std.specs.Prelude.{◌≡◌, ℕ, ◌&&◌, Bool, true, false, List, length, nat_lt, None}
 use Rattle.std.specs.List.{AllByRecursion, list_any}
 use Rattle.std.specs.List.Sorted.{IsStrictlySortedBy}
 use Rattle.zst_absence.specs.drd_denial.Rrsig.{Signing}
@@ -56,11 +56,6 @@ module _ {K : Type 0} (gives : K → RRset → ℕ → Signing → Type 0) (keys
   -- A set has one signature by each key, made of its records.
   abbrev pub IsSigned : RRset → Type 0
   IsSigned set = AreSignatures gives keys (unsigned set) now set.signatures
-
-  -- A set that is to be signed is, any other isn't.
-  pub record IsSignedIn (zone : Zone) (set : RRset) : Type 0 where
-    pub signed : IsToBeSigned zone set.name set.record_type → IsSigned set
-    pub bare : (IsToBeSigned zone set.name set.record_type → ⊥) → set.signatures ≡ []
 
   -- A set made for the circle: of class IN, with this TTL, and signed.
   pub record IsMade (ttl : ℕ) (set : RRset) : Type 0 where
